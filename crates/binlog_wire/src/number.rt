@@ -1,0 +1,20 @@
+ghost use Rattle.std.specs.Prelude.{◌≡◌, ◌+◌, ◌≤◌, length};
+ghost use Rattle.binlog_wire.specs.Numbers.{u16_at, u32_at};
+
+use byteorder::{ByteOrder, LittleEndian};
+
+/// The number of two bytes at a place of the bytes, least byte first.
+pub fn read_u16_at(bytes: &[u8], place: usize) -> u16
+    requires { place + 2 ≤ length bytes.now }
+    ensures { result ≡ u16_at place bytes.now }
+{
+    LittleEndian::read_u16(&bytes[place..])
+}
+
+/// The number of four bytes at a place of the bytes, least byte first.
+pub fn read_u32_at(bytes: &[u8], place: usize) -> u32
+    requires { place + 4 ≤ length bytes.now }
+    ensures { result ≡ u32_at place bytes.now }
+{
+    LittleEndian::read_u32(&bytes[place..])
+}
