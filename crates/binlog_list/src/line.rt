@@ -1,0 +1,69 @@
+//! A line of a listing, built in one stretch of bytes.
+ghost use Rattle.std.specs.Prelude.{◌≡◌, ◌+◌, ◌≤◌, [], ◌++◌, ℕ, List, length, decimal};
+ghost use Rattle.binlog_list.specs.Listing.{four_digits};
+
+use arrayvec::ArrayVec;
+use itoa::Buffer;
+use std::marker::Model;
+
+/// The most bytes that a line takes.
+const CAPACITY: usize = 128;
+
+/// The most digits of a number.
+const NUMBER_LEN: usize = 20;
+
+/// A line that is being built. Contracts see it as the list of its bytes.
+#[derive(Drop)]
+pub(crate) struct Line {
+    bytes: ArrayVec<u8, 128>,
+}
+
+impl Model for Line {
+    ghost Value = { List ℕ };
+
+    ghost view = { λ line. line.bytes.items };
+}
+
+impl Line {
+    pub(crate) fn new() -> Line
+        ensures { result ≡ [] }
+    {
+        Line {
+            bytes: ArrayVec::new(),
+        }
+    }
+
+    pub(crate) fn as_slice(&self) -> &[u8]
+        ensures { result.now ≡ self.now }
+    {
+        self.bytes.as_slice()
+    }
+
+    pub(crate) fn push_text(&mut self, text: &str)
+        requires { length self.old + length text.now ≤ 128 }
+        ensures { self.new ≡ self.old ++ text.now }
+    {
+        self.bytes.try_extend_from_slice(text.as_bytes()).unwrap();
+    }
+
+    // Appends the number in decimal digits.
+    pub(crate) fn push_number(&mut self, number: u64)
+        requires { length self.old + 20 ≤ 128 }
+        ensures text { self.new ≡ self.old ++ decimal number }
+        ensures room { length self.new ≤ length self.old + 20 }
+    {
+        let mut buffer = Buffer::new();
+        self.push_text(buffer.format(number));
+    }
+
+    // Appends the number in four lower-case hexadecimal digits.
+    pub(crate) fn push_four_digits(&mut self, number: u16)
+        requires { length self.old + 4 ≤ 128 }
+        ensures text { self.new ≡ self.old ++ four_digits number }
+        ensures room { length self.new ≡ length self.old + 4 }
+    {
+        let mut digits = [0; 4];
+        hex::encode_to_slice(number.to_be_bytes(), &mut digits).unwrap();
+        self.bytes.try_extend_from_slice(&digits).unwrap();
+    }
+}

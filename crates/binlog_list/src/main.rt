@@ -1,0 +1,32 @@
+//! Lists the events of the binary log on standard input.
+#![tactic(auto)]
+
+mod line;
+mod listing;
+
+use binlog_file::Error;
+use listing::{list, status};
+use std::io;
+use std::io::{BufReader, BufWriter, Write};
+use std::process::ExitCode;
+
+/// The size of the buffers of the input and the output, in bytes.
+const BUFFER_SIZE: usize = 65_536;
+
+fn run(rt: &(impl Input + Print + AllocGlobal)) -> Result<bool, Error> {
+    let Ok(input) = BufReader::with_capacity(rt.alloc(), BUFFER_SIZE, rt.reader()) else {
+        return Err(Error::Memory);
+    };
+    let Ok(mut output) = BufWriter::with_capacity(rt.alloc(), BUFFER_SIZE, io::writer(rt)) else {
+        return Err(Error::Memory);
+    };
+    let answer = list(rt.alloc(), input, &mut output);
+    if output.flush().is_err() {
+        return Err(Error::Writer);
+    }
+    answer
+}
+
+fn main(rt: HostRuntime) -> ExitCode {
+    ExitCode::from(status(&run(&rt)))
+}

@@ -1,0 +1,205 @@
+#!/usr/bin/env python3
+"""Compares the listing program with the model on the sample and damaged copies of it.
+
+Usage: damaged_copies.py [PROGRAM [SAMPLE]]
+
+PROGRAM reads a binlog on standard input; its default is the built binlog_list.
+Without SAMPLE the sample is made in memory. The last line of the output is
+`N passed, M failed`; the exit status is 1 if something failed.
+"""
+
+import argparse
+import subprocess
+import sys
+from concurrent.futures import ThreadPoolExecutor
+from pathlib import Path
+
+import listing_model
+import make_sample
+
+REPOSITORY = Path(__file__).resolve().parent.parent
+DEFAULT_PROGRAM = REPOSITORY / "crates/binlog_list/out/binlog_list"
+
+PROCESSES_AT_A_TIME = 2
+SHOWN_FAILURES = 20
+
+MAGIC = listing_model.FILE_HEADER
+HEADER_LENGTH = listing_model.HEADER_LENGTH
+SIZE_OFFSET = 9
+
+
+# A case is a name and the bytes of a file.
+
+
+def truncations(sample):
+    for length in range(len(sample)):
+        yield f"the first {length} bytes", sample[:length]
+
+
+def with_byte(sample, position, value):
+    return sample[:position] + bytes([value]) + sample[position + 1 :]
+
+
+def changed_bytes(sample):
+    """Every byte inverted, and every byte changed by a value that goes with its place."""
+    for position, byte in enumerate(sample):
+        inverted = byte ^ 0xFF
+        # From 1 to 254: neither the byte itself nor the inverted byte.
+        other = byte ^ (1 + position % 254)
+        for value in (inverted, other):
+            name = f"byte {position} is {value:#04x} instead of {byte:#04x}"
+            yield name, with_byte(sample, position, value)
+
+
+def frame_starts(sample):
+    frames, _ = listing_model.split(sample[len(MAGIC) :])
+    start = len(MAGIC)
+    for frame in frames:
+        yield start
+        start += len(frame)
+
+
+def changed_sizes(sample):
+    """Sizes at the edges: what a frame needs at least, and one off the true size."""
+    for start in frame_starts(sample):
+        position = start + SIZE_OFFSET
+        true_low_byte = sample[position]
+        for value in (0, 18, 19, 20, true_low_byte - 1, true_low_byte + 1):
+            name = f"low byte of the size at {position} is {value}"
+            yield name, with_byte(sample, position, value)
+
+
+def frame(size, length=None, fill=0):
+    """A header that says `size`, cut or filled to `length` bytes (`size` if not given)."""
+    header = make_sample.HEADER.pack(1, 2, 3, size, 4, 0x00AF)
+    length = size if length is None else length
+    return header[:length].ljust(length, bytes([fill]))
+
+
+def not_binlogs(sample):
+    yield "no byte", b""
+    yield "3 bytes of the magic", MAGIC[:3]
+    yield "3 other bytes", b"abc"
+    yield "4 other bytes", b"abcd"
+    yield "wrong last byte of the magic", b"\xfe\x62\x69\x6f" + sample[4:]
+    yield "no magic before the frames", sample[4:]
+    yield "one byte before the magic", b"\0" + sample
+
+
+def undersized_tails():
+    yield "size 18, nothing behind", frame(18, 19)
+    yield "size 18, bytes behind", frame(18, 200, fill=7)
+    yield "size 18, a whole frame behind", frame(18, 19) + frame(40)
+    yield "size 0", frame(0, 19)
+    yield "size 1, bytes behind", frame(1, 100)
+    yield "19 zero bytes", bytes(19)
+    yield "70,000 zero bytes", bytes(70_000)
+
+
+def quiet_tails():
+    yield "one byte", b"\0"
+    yield "18 zero bytes", bytes(18)
+    yield "18 bytes, size 18", frame(18, 18)
+    yield "18 bytes, size 19", frame(19, 18)
+    yield "size 20, 19 bytes", frame(20, 19)
+    yield "size 100, 99 bytes", frame(100, 99)
+    yield "size 70,000, 69,999 bytes", frame(70_000, 69_999)
+    yield "greatest size, 19 bytes", frame(0xFFFFFFFF, 19)
+    yield "greatest size, 100,000 bytes", frame(0xFFFFFFFF, 100_000)
+    yield "greatest signed size, 19 bytes", frame(0x7FFFFFFF, 19)
+
+
+def with_tails(sample):
+    for kind, tails in (("undersized", undersized_tails), ("quiet", quiet_tails)):
+        for name, tail in tails():
+            yield f"{kind} tail ({name}) alone", MAGIC + tail
+            yield f"{kind} tail ({name}) behind the sample", sample + tail
+
+
+def whole_files(sample):
+    greatest = make_sample.HEADER.pack(2**32 - 1, 255, 2**32 - 1, 19, 2**32 - 1, 0xFFFF)
+    yield "file header alone", MAGIC
+    yield "a frame of 19 bytes", MAGIC + frame(19)
+    yield "greatest fields", MAGIC + greatest
+    yield "the file header again behind it", MAGIC + MAGIC + sample[4:]
+    yield "the sample twice", sample + sample
+    # Frames on both sides of the usual buffer sizes, and more lines than a
+    # 64 KiB output buffer holds.
+    for size in (4096, 8192, 65_536):
+        for near in range(size - 5, size + 2):
+            yield f"a frame of {near} bytes between others", (
+                MAGIC + frame(50) + frame(near, fill=0xFF) + frame(50)
+            )
+            yield f"a frame of {near} bytes first", MAGIC + frame(near) + frame(19)
+    yield "a frame of 3 MB", MAGIC + frame(3_000_000, fill=0xFF) + frame(19)
+    yield "300 frames of 701 bytes", MAGIC + 300 * frame(701, fill=0x55)
+    yield "6,000 frames of 19 bytes", MAGIC + 6_000 * frame(19)
+
+
+def all_cases(sample):
+    yield "the sample", sample
+    yield from truncations(sample)
+    yield from changed_bytes(sample)
+    yield from changed_sizes(sample)
+    yield from not_binlogs(sample)
+    yield from with_tails(sample)
+    yield from whole_files(sample)
+
+
+def run(program, content):
+    finished = subprocess.run(
+        [program], input=content, stdout=subprocess.PIPE, stderr=subprocess.DEVNULL
+    )
+    return finished.stdout, finished.returncode
+
+
+def first_difference(found, wanted):
+    """The first pair of lines that differ, for the message of a failure."""
+    found_lines, wanted_lines = found.split(b"\n"), wanted.split(b"\n")
+    for number, (have, want) in enumerate(zip(found_lines, wanted_lines)):
+        if have != want:
+            return f"line {number} is {have!r}, not {want!r}"
+    return f"{len(found_lines) - 1} lines, not {len(wanted_lines) - 1}"
+
+
+def failure(program, case):
+    """None if program and model agree on the case, else what is wrong."""
+    name, content = case
+    wanted_output, wanted_status = listing_model.expected(content)
+    output, status = run(program, content)
+    faults = []
+    if status != wanted_status:
+        faults.append(f"status {status}, not {wanted_status}")
+    if output != wanted_output:
+        faults.append(first_difference(output, wanted_output))
+    return f"{name}: {'; '.join(faults)}" if faults else None
+
+
+def read_arguments():
+    parser = argparse.ArgumentParser(description="Compares a listing program with the model.")
+    parser.add_argument("program", nargs="?", type=Path, default=DEFAULT_PROGRAM)
+    parser.add_argument("sample", nargs="?", type=Path)
+    arguments = parser.parse_args()
+    if not arguments.program.is_file():
+        parser.error(f"no program at {arguments.program}")
+    return arguments
+
+
+def main():
+    arguments = read_arguments()
+    program = str(arguments.program.resolve())
+    sample = arguments.sample.read_bytes() if arguments.sample else make_sample.sample()
+    cases = list(all_cases(sample))
+    with ThreadPoolExecutor(PROCESSES_AT_A_TIME) as pool:
+        results = list(pool.map(lambda case: failure(program, case), cases))
+    failures = [result for result in results if result is not None]
+    for message in failures[:SHOWN_FAILURES]:
+        print(message)
+    if len(failures) > SHOWN_FAILURES:
+        print(f"and {len(failures) - SHOWN_FAILURES} more")
+    print(f"{len(cases) - len(failures)} passed, {len(failures)} failed")
+    return 1 if failures else 0
+
+
+if __name__ == "__main__":
+    sys.exit(main())
