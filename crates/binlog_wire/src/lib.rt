@@ -2,9 +2,15 @@
 #![tactic(auto)]
 
 mod error;
+mod int;
 mod number;
+mod parse_buf;
+mod traits;
 mod version;
 
 pub use error::{Error, Field, Invalid};
+pub use int::{IntRepr, LeU16, LeU32, LeU56, LeU64, RawInt};
 pub use number::{read_u16_at, read_u32_at};
+pub use parse_buf::ParseBuf;
+pub use traits::{MyDeserialize, MySerialize};
 pub use version::BinlogVersion;
