@@ -2,7 +2,7 @@
 -- `F s v r` says that the bytes s are a spelling of the value v, followed by the bytes r;
 -- the reading of s, from left to right, gives v and r, or why s is refused.
 -- Whole bodies are put together from these; `Laws` ties spelling and reading together, in both directions.
-use Rattle.std.specs.Prelude.{◌≡◌, ℕ, zero, suc, ◌^◌, ◌<◌, ◌≤◌, ◌⊎◌, Bool, true, List, [], ◌∷◌, ◌++◌, length, take, drop, get_or, replicate, Result, Ok, Err, nat_lt, if◌then◌else◌}
+use Rattle.std.specs.Prelude.{◌≡◌, ℕ, zero, suc, ◌-◌, ◌^◌, ◌<◌, ◌≤◌, ◌⊎◌, Bool, true, List, [], ◌∷◌, ◌++◌, length, take, drop, get_or, replicate, Result, Ok, Err, nat_lt, if◌then◌else◌}
 use Rattle.byteorder.specs.Endian.{little_number, little_bytes}
 use Rattle.binlog_wire.specs.declared.error.Invalid.{Invalid}
 use Rattle.binlog_wire.specs.Reading.{ends, invalid, Read, ◌>>=◌}
@@ -77,6 +77,10 @@ text_at k s = number_at k s >>= λ n. block_at n.0 n.1
 -- the bytes of a text behind its length in k bytes
 abbrev pub prefixed : ℕ → List ℕ → List ℕ
 prefixed k text = little_bytes k (length text) ++ text
+
+-- the first k of the bytes, and behind fewer as many zeros as are missing
+abbrev pub padded : ℕ → List ℕ → List ℕ
+padded k s = take k s ++ replicate (k - length (take k s)) 0
 
 -- ---- fields one after the other
 

@@ -3,7 +3,6 @@ use Rattle.std.proofs.Common.{◌≡◌, ℕ, ◌+◌, ◌<◌, Bool, true, fals
 use Rattle.std.proofs.lemmas.List.{get_or-drop}
 use Rattle.binlog_wire.specs.Reading.{Refusal, Read, ◌>>=◌}
 use Rattle.binlog_wire.specs.Fields.{IsBytes}
-
 pub mod Numbers
 pub mod Texts
 pub mod Sequences

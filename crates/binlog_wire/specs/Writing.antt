@@ -81,10 +81,11 @@ pub writes_then : {A B : Type 0} {MayFollow : List ℕ → Type 0} {FitsA : A �
     → Writes MayFollow (FitsThen FitsA FitsB) (Then F G) (written_then f g)
 writes_then {A} {B} {MayFollow} {FitsA} {FitsB} {F} {G} {f} {g} wf wg = record {
   spelled = λ x r fits follows.
-    let rest : List ℕ = g x.0 x.1 ++ r in
-    (rest,
-     subst (λ (s : List ℕ). F s x.0 rest) (sym (append_assoc (f x.0) (g x.0 x.1) r)) (wf.spelled x.0 rest fits.0 tt),
-     (wg x.0).spelled x.1 r fits.1 follows)
+      let rest : List ℕ = g x.0 x.1 ++ r in (
+        rest,
+        subst (λ (s : List ℕ). F s x.0 rest) (sym (append_assoc (f x.0) (g x.0 x.1) r)) (wf.spelled x.0 rest fits.0 tt),
+        (wg x.0).spelled x.1 r fits.1 follows,
+      );
 }
 
 -- skipped bytes are written as zeros
@@ -92,7 +93,7 @@ pub writes_skipped : {V : Type 0} {MayFollow : List ℕ → Type 0} {Fits : V �
     → Writes MayFollow Fits F f → Writes MayFollow Fits (Skipped k F) (behind_zeros k f)
 writes_skipped {V} {MayFollow} {Fits} {F} {f} k wf = record {
   spelled = λ v r fits follows.
-    (replicate k 0, f v ++ r, (length-replicate k 0, append_assoc (replicate k 0) (f v) r), wf.spelled v r fits follows)
+      (replicate k 0, f v ++ r, (length-replicate k 0, append_assoc (replicate k 0) (f v) r), wf.spelled v r fits follows);
 }
 
 -- ---- a field seen as another value
@@ -139,6 +140,6 @@ pub writes_present_from : {V : Type 0} {MayFollow : List ℕ → Type 0} {Fits :
     → Writes MayFollow Fits F f → Writes MayFollow Fits (IsPresentFrom n x F) f
 writes_present_from {f = f} n x long wf = record {
   spelled = λ v r fits follows.
-    let enough : n ≤ length (f v) = long v fits in
-    inr (omega (arith, length-append (f v) r), wf.spelled v r fits follows)
+      let enough : n ≤ length (f v) = long v fits in
+      inr (omega (arith, length-append (f v) r), wf.spelled v r fits follows);
 }

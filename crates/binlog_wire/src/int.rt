@@ -22,7 +22,9 @@ pub trait IntRepr {
     const SIZE: Option<usize>;
 
     ghost SIZE: { Option ℕ };
+
     ghost reads: { List ℕ → Read Self.Primitive };
+
     ghost written: { Self.Primitive → List ℕ };
 
     /// Takes a number off the front of `buf`; [`Error::EndOfBody`] where the bytes end within it. No memory is taken.
@@ -47,7 +49,8 @@ pub trait IntRepr {
         ensures err { OnErr result (buf.new.items ≡ buf.old.items) }
         ensures memory { IsOkUnless result Memory }
     {
-        buf.reserve(Self::written_len(number)).map_err(|_| Error::Memory)?;
+        buf.reserve(Self::written_len(number))
+            .map_err(|_| Error::Memory)?;
         Self::put(number, buf);
         Ok(())
     }
@@ -56,10 +59,13 @@ pub trait IntRepr {
 /// A byte.
 impl IntRepr for u8 {
     type Primitive = u8;
+
     const SIZE: Option<usize> = Some(1);
 
     ghost SIZE = { Some 1 };
+
     ghost reads = { number_at 1 };
+
     ghost written = { little_bytes 1 };
 
     #[inline]
@@ -83,10 +89,13 @@ impl IntRepr for u8 {
 /// A signed number of one byte, in two's complement.
 impl IntRepr for i8 {
     type Primitive = i8;
+
     const SIZE: Option<usize> = Some(1);
 
     ghost SIZE = { Some 1 };
+
     ghost reads = { λ s. read_as (cast_signed w8) (number_at 1 s) };
+
     ghost written = { λ number. little_bytes 1 (cast_unsigned w8 number) };
 
     #[inline]
@@ -112,10 +121,13 @@ pub struct LeU16;
 
 impl IntRepr for LeU16 {
     type Primitive = u16;
+
     const SIZE: Option<usize> = Some(2);
 
     ghost SIZE = { Some 2 };
+
     ghost reads = { number_at 2 };
+
     ghost written = { little_bytes 2 };
 
     #[inline]
@@ -145,10 +157,13 @@ pub struct LeU32;
 
 impl IntRepr for LeU32 {
     type Primitive = u32;
+
     const SIZE: Option<usize> = Some(4);
 
     ghost SIZE = { Some 4 };
+
     ghost reads = { number_at 4 };
+
     ghost written = { little_bytes 4 };
 
     #[inline]
@@ -178,10 +193,13 @@ pub struct LeU56;
 
 impl IntRepr for LeU56 {
     type Primitive = u64;
+
     const SIZE: Option<usize> = Some(7);
 
     ghost SIZE = { Some 7 };
+
     ghost reads = { number_at 7 };
+
     ghost written = { little_bytes 7 };
 
     #[inline]
@@ -211,10 +229,13 @@ pub struct LeU64;
 
 impl IntRepr for LeU64 {
     type Primitive = u64;
+
     const SIZE: Option<usize> = Some(8);
 
     ghost SIZE = { Some 8 };
+
     ghost reads = { number_at 8 };
+
     ghost written = { little_bytes 8 };
 
     #[inline]
@@ -240,7 +261,7 @@ impl IntRepr for LeU64 {
 
 /// A number, in the bytes that its kind `K` says: `u8`, `i8`, [`LeU16`], [`LeU32`], [`LeU56`] or [`LeU64`].
 #[derive(Drop)]
-#[derive_where(Debug, PartialEq, Eq, Hash; K::Primitive)]
+#[derive_where(Clone, Debug, PartialEq, Eq, Hash; K::Primitive)]
 pub struct RawInt<K: IntRepr>(pub K::Primitive, #[derive_where(skip)] PhantomData<K>);
 
 impl<K: IntRepr> RawInt<K> {
@@ -266,9 +287,11 @@ where
 
 impl<'de, K: IntRepr> MyDeserialize<'de> for RawInt<K> {
     const SIZE: Option<usize> = K::SIZE;
+
     type Ctx = ();
 
     ghost reads = { λ _ s. read_as (λ number. record { 0 = number; 1 = record {} }) (K.reads s) };
+
     ghost size = { K.SIZE };
 
     #[inline]

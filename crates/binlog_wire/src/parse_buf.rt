@@ -17,6 +17,7 @@ impl<'a> Model for ParseBuf<'a> {
     ghost use Rattle.std.specs.Prelude.{ℕ, List};
 
     ghost Value = { List ℕ };
+
     ghost view = { λ buf. buf.0.now };
 }
 
@@ -112,6 +113,7 @@ impl<'a> ParseBuf<'a> {
 /// As many bytes as the context says; [`Error::EndOfBody`] where fewer are left.
 impl<'de> MyDeserialize<'de> for ParseBuf<'de> {
     const SIZE: Option<usize> = None;
+
     type Ctx = usize;
 
     ghost reads = { block_at };

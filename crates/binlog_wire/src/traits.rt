@@ -19,7 +19,9 @@ pub trait MyDeserialize<'de>: Sized {
     type Ctx;
 
     ghost reads: { Self.Ctx → List ℕ → Read Self };
+
     ghost size: { Option ℕ } = { None };
+
     ghost grows: { Type 0 } = { ⊥ };
 
     /// Reads a value from the front of `buf`, and leaves what is behind it.
@@ -36,6 +38,7 @@ pub trait MyDeserialize<'de>: Sized {
 /// Its contract is `written`, the bytes of a value, and `refusal`, why a value can't be written; by default each can.
 pub trait MySerialize {
     ghost written: { Self → List ℕ };
+
     ghost refusal: { Self → Option Error } = { λ _. None };
 
     /// Appends the bytes of the value to `buf`.

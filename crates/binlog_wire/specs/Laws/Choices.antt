@@ -8,9 +8,9 @@ use Rattle.binlog_wire.specs.Laws.{Keeps}
 pub keeps_silent : {V : Type 0} (x : V) → Keeps (IsSilent x) (silent_at x)
 keeps_silent {V} x = record {
   sound = λ s y fits e.
-    let same : ◌≡◌ {A = V × List ℕ} (x, s) y = cc in
-    subst (λ (z : V × List ℕ). IsSilent x s z.0 z.1 × IsBytes z.1) same ((refl, refl), fits);
-  complete = λ s v r h. rw (h.0, h.1) refl
+      let same : ◌≡◌ {A = V × List ℕ} (x, s) y = cc in
+      subst (λ (z : V × List ℕ). IsSilent x s z.0 z.1 × IsBytes z.1) same ((refl, refl), fits);
+  complete = λ s v r h. rw (h.0, h.1) refl;
 }
 
 -- ---- a byte chooses
@@ -68,5 +68,5 @@ pub keeps_present_from : {V : Type 0} {F : List ℕ → V → List ℕ → Type 
     → Keeps F f → Keeps (IsPresentFrom n x F) (present_from_at n x f)
 keeps_present_from n x kf = record {
   sound = λ s y fits e. present_from_sound n x kf s y fits _ refl e;
-  complete = present_from_complete n x kf
+  complete = present_from_complete n x kf;
 }

@@ -42,25 +42,25 @@ length-number k s n r h = ap length h.1 ∙ length-append (little_bytes k n) r �
 pub keeps_number : (k : ℕ) → Keeps (IsNumber k) (number_at k)
 keeps_number k = record {
   sound = λ s x fits e.
-    let g = guard_ok (ltb (length s) k) ends (Ok (little_number k s, drop k s)) x e in
-    let long : k ≤ length s = ltb-false _ _ g.0 in
-    let same : ◌≡◌ {A = ℕ × List ℕ} (little_number k s, drop k s) x = cc in
-    subst (λ (y : ℕ × List ℕ). IsNumber k s y.0 y.1 × IsBytes y.1) same
+      let g = guard_ok (ltb (length s) k) ends (Ok (little_number k s, drop k s)) x e in
+      let long : k ≤ length s = ltb-false _ _ g.0 in
+      let same : ◌≡◌ {A = ℕ × List ℕ} (little_number k s, drop k s) x = cc in
+      subst (λ (y : ℕ × List ℕ). IsNumber k s y.0 y.1 × IsBytes y.1) same
       ((little_from-lt 0 k s fits, rw (little_bytes-little_number k s fits long) (sym (take-append-drop k s))), IsBytes-drop k s fits);
   complete = λ s n r h.
-    let long : ltb (length (little_bytes k n ++ r)) k ≡ false = le-ltb _ _ (omega (arith, length-append (little_bytes k n) r, length-little_bytes k n)) in
-    rw (h.1, long, little_number-reads_back k n r h.0, drop_at (little_bytes k n) r k (length-little_bytes k n)) refl
+      let long : ltb (length (little_bytes k n ++ r)) k ≡ false = le-ltb _ _ (omega (arith, length-append (little_bytes k n) r, length-little_bytes k n)) in
+      rw (h.1, long, little_number-reads_back k n r h.0, drop_at (little_bytes k n) r k (length-little_bytes k n)) refl;
 }
 
 pub keeps_allowed : (k : ℕ) (allowed : ℕ → Bool) (why : ℕ → Invalid) → Keeps (IsAllowed k allowed) (allowed_at k allowed why)
 keeps_allowed k allowed why = record {
   sound = λ s x fits e.
-    let b = bind_ok (number_at k s) (allow allowed why) x e in
-    let n = (keeps_number k).sound s b.0 fits b.1 in
-    let g = allow_ok (allowed b.0.0) (invalid (why b.0.0)) (Ok b.0) x b.2 in
-    let same : b.0 ≡ x = cc in
-    subst (λ (y : ℕ × List ℕ). IsAllowed k allowed s y.0 y.1 × IsBytes y.1) same ((n.0, g.0), n.1);
-  complete = λ s n r h. rw ((keeps_number k).complete s n r h.0, h.1) refl
+      let b = bind_ok (number_at k s) (allow allowed why) x e in
+      let n = (keeps_number k).sound s b.0 fits b.1 in
+      let g = allow_ok (allowed b.0.0) (invalid (why b.0.0)) (Ok b.0) x b.2 in
+      let same : b.0 ≡ x = cc in
+      subst (λ (y : ℕ × List ℕ). IsAllowed k allowed s y.0 y.1 × IsBytes y.1) same ((n.0, g.0), n.1);
+  complete = λ s n r h. rw ((keeps_number k).complete s n r h.0, h.1) refl;
 }
 
 -- decoding undoes the code, and nothing else is decoded
@@ -79,10 +79,11 @@ meant_ok {E} (Err why) rest x h = absurd cc
 pub keeps_coded : {E : Type 0} (k : ℕ) (code : E → ℕ) (decoded : ℕ → Result E Invalid) → IsCode k code decoded → Keeps (IsCoded k code) (coded_at k decoded)
 keeps_coded {E} k code decoded law = record {
   sound = λ s x fits e.
-    let b = bind_ok (number_at k s) (λ n. meant (decoded n.0) n.1) x e in
-    let n = (keeps_number k).sound s b.0 fits b.1 in
-    let m = meant_ok (decoded b.0.0) b.0.1 x b.2 in
-    (subst (λ (y : List ℕ). IsNumber k s (code x.0) y) m.1 (subst (λ (z : ℕ). IsNumber k s z b.0.1) (law.only b.0.0 x.0 m.0) n.0),
-     subst (λ (y : List ℕ). IsBytes y) m.1 n.1);
-  complete = λ s v r h. rw ((keeps_number k).complete s (code v) r h, law.again v) refl
+      let b = bind_ok (number_at k s) (λ n. meant (decoded n.0) n.1) x e in
+      let n = (keeps_number k).sound s b.0 fits b.1 in
+      let m = meant_ok (decoded b.0.0) b.0.1 x b.2 in (
+        subst (λ (y : List ℕ). IsNumber k s (code x.0) y) m.1 (subst (λ (z : ℕ). IsNumber k s z b.0.1) (law.only b.0.0 x.0 m.0) n.0),
+        subst (λ (y : List ℕ). IsBytes y) m.1 n.1,
+      );
+  complete = λ s v r h. rw ((keeps_number k).complete s (code v) r h, law.again v) refl;
 }
