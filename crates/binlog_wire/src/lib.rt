@@ -1,10 +1,18 @@
 //! The lowest layer of a MySQL binary log: why a call was refused, and the numbers of the format.
 #![tactic(auto)]
 
+mod bytes;
 mod error;
+mod int;
 mod number;
+mod parse_buf;
+mod traits;
 mod version;
 
+pub use bytes::{BytesRepr, EofBytes, FixedLengthText, RawBytes, U8Bytes, U32Bytes};
 pub use error::{Error, Field, Invalid};
+pub use int::{IntRepr, LeU16, LeU32, LeU56, LeU64, RawInt};
 pub use number::{read_u16_at, read_u32_at};
+pub use parse_buf::ParseBuf;
+pub use traits::{MyDeserialize, MySerialize};
 pub use version::BinlogVersion;
