@@ -4,5 +4,6 @@ pub mod Fields
 pub mod Laws
 pub mod Numbers
 pub mod Reading
+pub mod VersionSplit
 pub mod Versions
 pub mod Writing

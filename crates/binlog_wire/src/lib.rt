@@ -8,6 +8,7 @@ mod number;
 mod parse_buf;
 mod traits;
 mod version;
+mod version_split;
 
 pub use bytes::{BytesRepr, EofBytes, FixedLengthText, RawBytes, U8Bytes, U32Bytes};
 pub use error::{Error, Field, Invalid};
@@ -16,3 +17,4 @@ pub use number::{read_u16_at, read_u32_at};
 pub use parse_buf::ParseBuf;
 pub use traits::{MyDeserialize, MySerialize};
 pub use version::BinlogVersion;
+pub use version_split::split_version;
