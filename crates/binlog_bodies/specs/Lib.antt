@@ -1,6 +1,8 @@
 pub mod Headers
 pub mod Footers
+pub mod VersionBlock
 pub mod FormatDescription
+pub mod FormatDescriptionLaws
 pub use Rattle.binlog_wire.specs.Errors
 pub use Rattle.binlog_wire.specs.Numbers
 pub use Rattle.binlog_wire.specs.Reading
