@@ -43,9 +43,13 @@ abbrev pub meant : {E : Type 0} → Result E Invalid → List ℕ → Read E
 meant (Ok e) rest = Ok (e, rest)
 meant (Err why) rest = Err (invalid why)
 
+-- what the number that was read stands for
+abbrev pub read_decoded : {P E : Type 0} → (P → Result E Invalid) → Read P → Read E
+read_decoded decoded read = read >>= λ n. meant (decoded n.0) n.1
+
 -- what the number of the first k bytes stands for
 abbrev pub coded_at : {E : Type 0} → ℕ → (ℕ → Result E Invalid) → List ℕ → Read E
-coded_at k decoded s = number_at k s >>= λ n. meant (decoded n.0) n.1
+coded_at k decoded s = read_decoded decoded (number_at k s)
 
 -- ---- bytes
 

@@ -1,6 +1,8 @@
 pub mod Canonical
 pub mod Errors
+pub mod EventTypes
 pub mod Fields
+pub mod Flags
 pub mod Laws
 pub mod Numbers
 pub mod Reading

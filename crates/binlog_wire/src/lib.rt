@@ -2,7 +2,10 @@
 #![tactic(auto)]
 
 mod bytes;
+mod constant;
 mod error;
+mod event_type;
+mod flags;
 mod int;
 mod number;
 mod parse_buf;
@@ -11,7 +14,10 @@ mod version;
 mod version_split;
 
 pub use bytes::{BytesRepr, EofBytes, FixedLengthText, RawBytes, U8Bytes, U32Bytes};
+pub use constant::{Const, Constant, RawConst, Skip};
 pub use error::{Error, Field, Invalid};
+pub use event_type::{EventType, UnknownEventType};
+pub use flags::{EventFlags, RawFlags};
 pub use int::{IntRepr, LeU16, LeU32, LeU56, LeU64, RawInt};
 pub use number::{read_u16_at, read_u32_at};
 pub use parse_buf::ParseBuf;
