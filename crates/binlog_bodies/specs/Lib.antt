@@ -1,6 +1,8 @@
 pub mod Headers
 pub mod Footers
 pub mod VersionBlock
+pub mod PostHeaderDefaults
+pub mod PostHeaders
 pub mod FormatDescription
 pub mod FormatDescriptionLaws
 pub use Rattle.binlog_wire.specs.Errors
