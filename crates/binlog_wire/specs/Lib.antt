@@ -1,4 +1,5 @@
 pub mod Canonical
+pub mod Codes
 pub mod Errors
 pub mod EventTypes
 pub mod Fields

@@ -13,6 +13,7 @@ use std::marker::PhantomData;
 /// A value that a number stands for in a body, where any other number is invalid.
 pub trait Constant<P>: Copy {
     ghost decoded: { P → Result Self Invalid };
+
     ghost code: { Self → P };
 
     /// The value that the number stands for, or why it stands for none.
@@ -40,9 +41,11 @@ impl<E: Copy, K> Const<E, K> {
 
 impl<'de, K: IntRepr, E: Constant<K::Primitive>> MyDeserialize<'de> for Const<E, K> {
     const SIZE: Option<usize> = K::SIZE;
+
     type Ctx = ();
 
     ghost reads = { λ _ s. read_as (λ value. record { 0 = value; 1 = record {} }) (read_decoded E.decoded (K.reads s)) };
+
     ghost size = { K.SIZE };
 
     #[inline]
@@ -86,9 +89,11 @@ impl<K: IntRepr, E: TryFrom<K::Primitive>> RawConst<K, E> {
 
 impl<'de, K: IntRepr, E> MyDeserialize<'de> for RawConst<K, E> {
     const SIZE: Option<usize> = K::SIZE;
+
     type Ctx = ();
 
     ghost reads = { λ _ s. read_as (λ number. record { 0 = number; 1 = record {} }) (K.reads s) };
+
     ghost size = { K.SIZE };
 
     #[inline]
@@ -113,14 +118,20 @@ impl<'de, const N: usize> MyDeserialize<'de> for Skip<N> {
     ghost use Rattle.std.specs.Prelude.{Some};
 
     const SIZE: Option<usize> = Some(N);
+
     type Ctx = ();
 
     ghost reads = { λ _ s. read_as (λ _. record {}) (block_at N s) };
+
     ghost size = { Some N };
 
     #[inline]
     fn deserialize(_alloc: Global, _ctx: (), buf: &mut ParseBuf<'de>) -> Result<Self, Error> {
-        if buf.checked_skip(N) { Ok(Skip) } else { Err(Error::EndOfBody) }
+        if buf.checked_skip(N) {
+            Ok(Skip)
+        } else {
+            Err(Error::EndOfBody)
+        }
     }
 }
 

@@ -48,7 +48,9 @@ impl Flags for EventFlags {
     type Bits = u16;
 
     ghost exact = { ⊤ };
+
     ghost table = { event_flags };
+
     ghost set_of = { λ flags. flags.0 };
 
     fn flags<'a>() -> &'a [Flag<EventFlags>] {
@@ -67,10 +69,7 @@ impl Flags for EventFlags {
 /// The number of a set of flags `F`, in the bytes that its kind `K` says. Bits that no flag has are kept.
 #[derive(Drop)]
 #[derive_where(Clone, Debug, PartialEq, Eq, Hash; K::Primitive)]
-pub struct RawFlags<F, K: IntRepr>(
-    pub K::Primitive,
-    #[derive_where(skip)] PhantomData<F>,
-);
+pub struct RawFlags<F, K: IntRepr>(pub K::Primitive, #[derive_where(skip)] PhantomData<F>);
 
 impl<F, K: IntRepr> RawFlags<F, K> {
     /// The set with this number.
@@ -104,9 +103,11 @@ where
 
 impl<'de, F, K: IntRepr> MyDeserialize<'de> for RawFlags<F, K> {
     const SIZE: Option<usize> = K::SIZE;
+
     type Ctx = ();
 
     ghost reads = { λ _ s. read_as (λ number. record { 0 = number; 1 = record {} }) (K.reads s) };
+
     ghost size = { K.SIZE };
 
     #[inline]

@@ -2,6 +2,7 @@
 #![tactic(auto)]
 
 mod bytes;
+mod codes;
 mod constant;
 mod error;
 mod event_type;
@@ -15,6 +16,9 @@ mod version;
 mod version_split;
 
 pub use bytes::{BytesRepr, EofBytes, FixedLengthText, RawBytes, U8Bytes, U32Bytes};
+pub use codes::{
+    BinlogChecksumAlg, IncidentType, IntvarEventType, UnknownChecksumAlg, UnknownIncidentType,
+};
 pub use constant::{Const, Constant, RawConst, Skip};
 pub use error::{Error, Field, Invalid};
 pub use event_type::{EventType, UnknownEventType};
