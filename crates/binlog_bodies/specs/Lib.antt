@@ -1,4 +1,6 @@
+pub mod Bodies
 pub mod Headers
+pub mod ChecksumAlgorithms
 pub mod Footers
 pub mod VersionBlock
 pub mod PostHeaderDefaults

@@ -13,4 +13,4 @@ pub use ctx::BinlogCtx;
 pub use footer::BinlogEventFooter;
 pub use format_description::{FormatDescriptionEvent, SERVER_VER_LEN};
 pub use header::BinlogEventHeader;
-pub use traits::{BinlogStruct, MAX_BODY_LEN};
+pub use traits::{BinlogEvent, BinlogStruct, MAX_BODY_LEN, read_body};
