@@ -6,12 +6,12 @@ use Rattle.binlog_wire.specs.Fields.{padded}
 use Rattle.binlog_wire.specs.Laws.{Keeps}
 use Rattle.binlog_wire.specs.Writing.{Writes, NoRest, FitsText, spelled_whole}
 
--- The written body of v is the body of its normal form. It spells the normal form, which is its own normal form, and
--- values that fit have equal written bodies exactly if their normal forms are equal.
+-- The written body of v is the body of its normal form. Where v fits its fields, that body spells the normal form, and
+-- another value that fits has an equal written body exactly if it has an equal normal form. A normal form is its own.
 pub record IsCanonical {V : Type 0} (Fits : V → Type 0) (spells : List ℕ → V → List ℕ → Type 0) (body : V → List ℕ) (normal : V → V) (v : V) : Type 0 where
-  pub reads_back : spells (body (normal v)) (normal v) []
+  pub reads_back : Fits v → spells (body (normal v)) (normal v) []
   pub twice : normal (normal v) ≡ normal v
-  pub one_form : (w : V) → Fits w → (body (normal w) ≡ body (normal v) → normal w ≡ normal v) × (normal w ≡ normal v → body (normal w) ≡ body (normal v))
+  pub one_form : Fits v → (w : V) → Fits w → (body (normal w) ≡ body (normal v) → normal w ≡ normal v) × (normal w ≡ normal v → body (normal w) ≡ body (normal v))
 
 -- The canonical form follows from the law of reading and that of writing, where the normal form of a value that fits
 -- can be written.
@@ -20,11 +20,11 @@ pub canonical : {V : Type 0} {Fits FitsNormal : V → Type 0} {spells : List ℕ
     → Writes NoRest FitsNormal spells body
     → ((v : V) → Fits v → FitsNormal (normal v))
     → ((v : V) → normal (normal v) ≡ normal v)
-    → (v : V) → Fits v → IsCanonical Fits spells body normal v
-canonical {V} {Fits} {FitsNormal} {spells} {body} {normal} {reads} keeps writes fits_normal twice v fits = record {
-  reads_back = spelled_whole writes (normal v) (fits_normal v fits);
+    → (v : V) → IsCanonical Fits spells body normal v
+canonical {V} {Fits} {FitsNormal} {spells} {body} {normal} {reads} keeps writes fits_normal twice v = record {
+  reads_back = λ fits. spelled_whole writes (normal v) (fits_normal v fits);
   twice = twice v;
-  one_form = λ w fits_w. (
+  one_form = λ fits w fits_w. (
     (λ e.
         let a = keeps.complete (body (normal w)) (normal w) [] (spelled_whole writes (normal w) (fits_normal w fits_w)) in
         let b = keeps.complete (body (normal v)) (normal v) [] (spelled_whole writes (normal v) (fits_normal v fits)) in

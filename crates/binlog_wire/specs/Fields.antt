@@ -3,7 +3,7 @@
 -- the reading of s, from left to right, gives v and r, or why s is refused.
 -- Whole bodies are put together from these; `Laws` ties spelling and reading together, in both directions.
 use Rattle.std.specs.Prelude.{◌≡◌, ℕ, zero, suc, ◌-◌, ◌^◌, ◌<◌, ◌≤◌, ◌⊎◌, Bool, true, List, [], ◌∷◌, ◌++◌, length, take, drop, get_or, replicate, Result, Ok, Err, nat_lt, if◌then◌else◌}
-use Rattle.byteorder.specs.Endian.{little_number, little_bytes}
+pub use Rattle.byteorder.specs.Endian.{little_number, little_bytes}
 use Rattle.binlog_wire.specs.declared.error.Invalid.{Invalid}
 use Rattle.binlog_wire.specs.Reading.{ends, invalid, Read, ◌>>=◌}
 
