@@ -163,3 +163,6 @@ impl Error {
         )
     }
 }
+
+#[cfg(test)]
+mod tests;
