@@ -123,3 +123,18 @@ impl<F, K: IntRepr> MySerialize for RawFlags<F, K> {
         K::write(self.0, buf)
     }
 }
+
+#[cfg(test)]
+mod tests {
+    use super::*;
+    use crate::int::LeU16;
+
+    #[test]
+    fn gives_the_known_flags(rt: HostRuntime) {
+        let raw: RawFlags<EventFlags, LeU16> = RawFlags::new(0xfc81);
+        let flags = raw.get();
+        assert!(rt; flags.contains(EventFlags::LOG_EVENT_BINLOG_IN_USE_F));
+        assert!(rt; flags.contains(EventFlags::LOG_EVENT_IGNORABLE_F));
+        assert_eq!(rt; flags.bits(), 0x81);
+    }
+}

@@ -1,4 +1,9 @@
-//! The lowest layer of a MySQL binary log: why a call was refused, and the numbers of the format.
+//! The lowest layer of a MySQL binary log: why a call was refused, and what bodies are made of.
+//!
+//! [`ParseBuf`] is what is still to be read. What can be read from it is [`MyDeserialize`], what can be written
+//! [`MySerialize`]: numbers ([`RawInt`]), byte strings ([`RawBytes`]), sets of flags ([`RawFlags`]), numbers that stand
+//! for something ([`Const`], [`RawConst`]) and bytes that say nothing ([`Skip`]). Their contracts, and the laws by
+//! which a body is put together from fields, stand in `specs/`: `Reading`, `Fields`, `Laws`, `Writing`, `Canonical`.
 #![tactic(auto)]
 
 mod bytes;

@@ -44,7 +44,7 @@ impl<'a> ParseBuf<'a> {
         requires { IfSome T.size (λ size. size ≤ length self.old) }
         ensures { Gives T.grows self.new result (T.reads ctx self.old) }
     {
-        T::deserialize(alloc, ctx, self)
+        self.parse(alloc, ctx)
     }
 
     /// Takes this many bytes off the front, or none where fewer are left.

@@ -39,18 +39,25 @@ keeps_skipped {V} {F} {f} k kf = record {
   complete = λ s v r h. rw ((keeps_block k).complete s h.0 h.1 h.2) (kf.complete h.1 v r h.3);
 }
 
--- the same bytes seen as another value, from which the first comes back
-pub keeps_seen_as : {A B : Type 0} {F : List ℕ → A → List ℕ → Type 0} {f : List ℕ → Read A} (to : A → B) (from : B → A)
-    → ((a : A) → from (to a) ≡ a) → ((b : B) → to (from b) ≡ b)
+-- the same bytes seen as another value, from which the first comes back wherever bytes spell it
+pub keeps_seen_as_spelled : {A B : Type 0} {F : List ℕ → A → List ℕ → Type 0} {f : List ℕ → Read A} (to : A → B) (from : B → A)
+    → ((s : List ℕ) (a : A) (r : List ℕ) → F s a r → from (to a) ≡ a) → ((b : B) → to (from b) ≡ b)
     → Keeps F f → Keeps (IsSeenAs from F) (λ s. read_as to (f s))
-keeps_seen_as {A} {B} {F} {f} to from back forth k = record {
+keeps_seen_as_spelled {A} {B} {F} {f} to from back forth k = record {
   sound = λ s x fits e.
       let a = bind_ok (f s) (λ x. Ok (to x.0, x.1)) x e in
       let p = k.sound s a.0 fits a.1 in
       let same : ◌≡◌ {A = B × List ℕ} (to a.0.0, a.0.1) x = cc in
-      subst (λ (y : B × List ℕ). F s (from y.0) y.1 × IsBytes y.1) same (subst (λ (z : A). F s z a.0.1) (sym (back a.0.0)) p.0, p.1);
+      subst (λ (y : B × List ℕ). F s (from y.0) y.1 × IsBytes y.1) same
+      (subst (λ (z : A). F s z a.0.1) (sym (back s a.0.0 a.0.1 p.0)) p.0, p.1);
   complete = λ s b r h. rw (k.complete s (from b) r h) (ap (λ (z : B). Ok (z, r)) (forth b));
 }
+
+-- the same where the first always comes back
+pub keeps_seen_as : {A B : Type 0} {F : List ℕ → A → List ℕ → Type 0} {f : List ℕ → Read A} (to : A → B) (from : B → A)
+    → ((a : A) → from (to a) ≡ a) → ((b : B) → to (from b) ≡ b)
+    → Keeps F f → Keeps (IsSeenAs from F) (λ s. read_as to (f s))
+keeps_seen_as to from back forth k = keeps_seen_as_spelled to from (λ s a r h. back a) forth k
 
 -- the same bytes seen as a value that is made of the first
 pub keeps_made : {A B : Type 0} {F : List ℕ → A → List ℕ → Type 0} {f : List ℕ → Read A} (to : A → B) → Keeps F f → Keeps (IsMade to F) (λ s. read_as to (f s))
