@@ -7,6 +7,7 @@ pub mod PostHeaderDefaults
 pub mod PostHeaders
 pub mod FormatDescription
 pub mod FormatDescriptionLaws
+pub mod Rotate
 pub use Rattle.binlog_wire.specs.Errors
 pub use Rattle.binlog_wire.specs.Numbers
 pub use Rattle.binlog_wire.specs.Reading

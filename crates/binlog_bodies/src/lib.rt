@@ -6,6 +6,7 @@ mod ctx;
 mod footer;
 mod format_description;
 mod header;
+mod rotate;
 mod traits;
 
 pub use binlog_wire::{BinlogVersion, Error, Field, Invalid};
@@ -13,4 +14,5 @@ pub use ctx::BinlogCtx;
 pub use footer::BinlogEventFooter;
 pub use format_description::{FormatDescriptionEvent, SERVER_VER_LEN};
 pub use header::BinlogEventHeader;
+pub use rotate::RotateEvent;
 pub use traits::{BinlogEvent, BinlogStruct, MAX_BODY_LEN, read_body};
