@@ -1,5 +1,6 @@
 pub mod Bodies
 pub mod Headers
+pub mod HeaderLaws
 pub mod ChecksumAlgorithms
 pub mod Footers
 pub mod VersionBlock

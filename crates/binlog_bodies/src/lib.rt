@@ -9,6 +9,7 @@ mod format_description;
 mod header;
 mod incident;
 mod intvar;
+pub mod laws;
 mod rand;
 mod rotate;
 mod rows_query;
