@@ -1,5 +1,6 @@
 pub mod Bodies
 pub mod Headers
+pub mod HeaderLaws
 pub mod ChecksumAlgorithms
 pub mod Footers
 pub mod VersionBlock
@@ -7,6 +8,13 @@ pub mod PostHeaderDefaults
 pub mod PostHeaders
 pub mod FormatDescription
 pub mod FormatDescriptionLaws
+pub mod BeginLoadQuery
+pub mod Incident
+pub mod Intvar
+pub mod Rand
+pub mod Rotate
+pub mod RowsQuery
+pub mod Xid
 pub use Rattle.binlog_wire.specs.Errors
 pub use Rattle.binlog_wire.specs.Numbers
 pub use Rattle.binlog_wire.specs.Reading

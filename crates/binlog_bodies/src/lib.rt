@@ -2,15 +2,30 @@
 //! of events have in common.
 #![tactic(auto)]
 
+mod begin_load_query;
 mod ctx;
 mod footer;
 mod format_description;
 mod header;
+mod incident;
+mod intvar;
+pub mod laws;
+mod rand;
+mod rotate;
+mod rows_query;
 mod traits;
+mod xid;
 
+pub use begin_load_query::BeginLoadQueryEvent;
 pub use binlog_wire::{BinlogVersion, Error, Field, Invalid};
 pub use ctx::BinlogCtx;
 pub use footer::BinlogEventFooter;
 pub use format_description::{FormatDescriptionEvent, SERVER_VER_LEN};
 pub use header::BinlogEventHeader;
+pub use incident::IncidentEvent;
+pub use intvar::IntvarEvent;
+pub use rand::RandEvent;
+pub use rotate::RotateEvent;
+pub use rows_query::RowsQueryEvent;
 pub use traits::{BinlogEvent, BinlogStruct, MAX_BODY_LEN, read_body};
+pub use xid::XidEvent;

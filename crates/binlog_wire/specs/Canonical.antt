@@ -35,6 +35,11 @@ canonical {V} {Fits} {FitsNormal} {spells} {body} {normal} {reads} keeps writes 
   );
 }
 
+-- a value of which all is written: it is its own normal form
+pub canonical_as_is : {V : Type 0} {Fits : V → Type 0} {spells : List ℕ → V → List ℕ → Type 0} {body : V → List ℕ} {reads : List ℕ → Read V}
+    → Keeps spells reads → Writes NoRest Fits spells body → (v : V) → IsCanonical Fits spells body (λ w. w) v
+canonical_as_is keeps writes = canonical keeps writes (λ w fits. fits) (λ w. refl)
+
 -- ---- bytes that are cut to a greatest length
 
 -- cutting twice is cutting once

@@ -36,10 +36,14 @@ pub trait MyDeserialize<'de>: Sized {
 /// What can be written as bytes.
 ///
 /// Its contract is `written`, the bytes of a value, and `refusal`, why a value can't be written; by default each can.
+/// Where the bytes are a body of their own, its `canonical` says what they read back as, and which values write equal
+/// bytes; by default it says nothing.
 pub trait MySerialize {
     ghost written: { Self → List ℕ };
 
     ghost refusal: { Self → Option Error } = { λ _. None };
+
+    ghost canonical: { Self → Type 0 } = { λ _. Unit {0} };
 
     /// Appends the bytes of the value to `buf`.
     ///
@@ -48,5 +52,6 @@ pub trait MySerialize {
     fn serialize(&self, alloc: Global, buf: &mut Vec<u8>) -> Result<(), Error>
         ensures ok { OnOk result (buf.new.items ≡ buf.old.items ++ written self.now) }
         ensures err { OnErr result (buf.new.items ≡ buf.old.items) }
-        ensures refused { MatchOption (refusal self.now) (IsOkUnless result Memory) (λ why. result ≡ Err why) };
+        ensures refused { MatchOption (refusal self.now) (IsOkUnless result Memory) (λ why. result ≡ Err why) }
+        ensures canonical { canonical self.now };
 }

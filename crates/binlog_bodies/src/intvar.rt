@@ -1,0 +1,125 @@
+ghost use Rattle.std.specs.Prelude.{◌≡◌};
+
+use crate::ctx::BinlogCtx;
+use crate::traits::{BinlogEvent, BinlogStruct};
+use binlog_wire::{
+    BinlogVersion, Const, Error, EventType, IntRepr, IntvarEventType, LeU64, MyDeserialize,
+    MySerialize, ParseBuf, RawInt, reserve,
+};
+use std::alloc::Global;
+
+/// The length of the body in bytes.
+const INTVAR_LEN: usize = 9;
+
+/// An integer variable that the next statement uses: an automatic value or the last inserted id.
+///
+/// Its body is one unit of 9 bytes: which variable it is, 1 byte, 0 to 2, and its value, 8 bytes. See "INTVAR_EVENT"
+/// in MySQL's internals documentation.
+#[derive(Clone, Copy, Debug, PartialEq, Eq, Hash)]
+pub struct IntvarEvent {
+    subtype: IntvarEventType,
+    value: u64,
+}
+
+impl IntvarEvent {
+    /// This variable has this value.
+    pub fn new(subtype: IntvarEventType, value: u64) -> Self
+        ensures { result ≡ record { subtype = subtype; value = value } }
+    {
+        IntvarEvent { subtype, value }
+    }
+
+    /// The event with this variable.
+    pub fn with_subtype(mut self, subtype: IntvarEventType) -> Self
+        ensures { result ≡ record self { subtype = subtype } }
+    {
+        self.subtype = subtype;
+        self
+    }
+
+    /// The event with this value.
+    pub fn with_value(mut self, value: u64) -> Self
+        ensures { result ≡ record self { value = value } }
+    {
+        self.value = value;
+        self
+    }
+
+    /// Which variable it is.
+    pub fn subtype(&self) -> IntvarEventType
+        ensures { result ≡ self.now.subtype }
+    {
+        self.subtype
+    }
+
+    /// The variable's value.
+    pub fn value(&self) -> u64
+        ensures { result ≡ self.now.value }
+    {
+        self.value
+    }
+}
+
+/// [`Error::EndOfBody`] where fewer than 9 bytes are there, and else [`Error::InvalidData`] where the variable's number
+/// is above 2.
+impl<'de> MyDeserialize<'de> for IntvarEvent {
+    ghost use Rattle.std.specs.Prelude.{Some};
+    ghost use Rattle.binlog_bodies.specs.Intvar.{intvar_at};
+
+    const SIZE: Option<usize> = Some(9);
+
+    type Ctx = BinlogCtx<'de>;
+
+    ghost reads = { λ _ s. intvar_at s };
+
+    ghost size = { Some 9 };
+
+    fn deserialize(
+        alloc: Global,
+        _ctx: BinlogCtx<'de>,
+        buf: &mut ParseBuf<'de>,
+    ) -> Result<Self, Error> {
+        if buf.len() < INTVAR_LEN {
+            return Err(Error::EndOfBody);
+        }
+        let subtype = buf.parse::<Const<IntvarEventType, u8>>(alloc, ())?.0;
+        let value = buf.parse::<RawInt<LeU64>>(alloc, ())?.0;
+        Ok(IntvarEvent { subtype, value })
+    }
+}
+
+impl MySerialize for IntvarEvent {
+    ghost use Rattle.binlog_wire.specs.Canonical.{IsCanonical};
+    ghost use Rattle.binlog_bodies.specs.Intvar.{Fits, IsIntvar, body_of};
+
+    ghost written = { body_of };
+
+    ghost canonical = { IsCanonical Fits IsIntvar body_of (λ v. v) };
+
+    fn serialize(&self, _alloc: Global, buf: &mut Vec<u8>) -> Result<(), Error> {
+        let IntvarEvent { subtype, value } = *self;
+        reserve(buf, INTVAR_LEN)?;
+        u8::put(u8::from(subtype), buf);
+        LeU64::put(value, buf);
+        Ok(())
+    }
+}
+
+impl<'a> BinlogStruct<'a> for IntvarEvent {
+    fn len(&self, _version: BinlogVersion) -> usize {
+        INTVAR_LEN
+    }
+}
+
+impl<'a> BinlogEvent<'a> for IntvarEvent {
+    ghost use Rattle.std.specs.Prelude.{refl};
+    ghost use Rattle.binlog_bodies.specs.Intvar.{IsIntvar, keeps_intvar};
+
+    const EVENT_TYPE: EventType = EventType::INTVAR_EVENT;
+
+    ghost grammar = { λ _ _ s v r. IsIntvar s v r };
+
+    ghost keeps = { λ _. keeps_intvar };
+
+    ghost settled = { λ _ _ _ _ _ _. refl };
+}
