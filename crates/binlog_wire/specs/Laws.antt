@@ -1,5 +1,5 @@
 -- Reading keeps to a spelling, in both directions: the law of each kind of field, and of fields put together.
-use Rattle.std.proofs.Common.{◌≡◌, ℕ, ◌+◌, ◌<◌, Bool, true, false, cond, List, get_or, drop, Result, Ok, Err, refl}
+use Rattle.std.proofs.Common.{◌≡◌, ℕ, zero, suc, ◌+◌, ◌<◌, Bool, true, false, cond, List, [], ◌∷◌, get_or, take, drop, Result, Ok, Err, refl, arith}
 use Rattle.std.proofs.lemmas.List.{get_or-drop}
 use Rattle.binlog_wire.specs.Reading.{Refusal, Read, ◌>>=◌}
 use Rattle.binlog_wire.specs.Fields.{IsBytes}
@@ -7,6 +7,7 @@ pub mod Numbers
 pub mod Texts
 pub mod Sequences
 pub mod Choices
+pub mod Lengths
 
 -- The law that ties a reading to a spelling. Since a reading is a function, it follows that bytes spell at most one
 -- value with at most one rest, and that only bytes that spell nothing are refused.
@@ -19,6 +20,13 @@ pub record Keeps {V : Type 0} (spells : List ℕ → V → List ℕ → Type 0) 
 -- what is left of bytes are bytes
 pub IsBytes-drop : (n : ℕ) (bytes : List ℕ) → IsBytes bytes → IsBytes (drop n bytes)
 IsBytes-drop n bytes h i = rw get_or-drop (h (n + i))
+
+-- and so are the first of them
+pub IsBytes-take : (n : ℕ) (bytes : List ℕ) → IsBytes bytes → IsBytes (take n bytes)
+IsBytes-take zero bytes h i = omega arith
+IsBytes-take (suc n) [] h i = omega arith
+IsBytes-take (suc n) (b ∷ bytes) h zero = h 0
+IsBytes-take (suc n) (b ∷ bytes) h (suc i) = IsBytes-take n bytes (λ j. h (suc j)) i
 
 -- ---- steps that went well
 
