@@ -29,3 +29,6 @@ pub use rotate::RotateEvent;
 pub use rows_query::RowsQueryEvent;
 pub use traits::{BinlogEvent, BinlogStruct, MAX_BODY_LEN, read_body};
 pub use xid::XidEvent;
+
+#[cfg(test)]
+mod tests;
