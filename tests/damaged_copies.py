@@ -1,5 +1,5 @@
 #!/usr/bin/env python3
-"""Compares the listing program with the model on the sample and damaged copies of it.
+"""Compares the listing program with the model on samples and damaged copies of them.
 
 Usage: damaged_copies.py [PROGRAM [SAMPLE]]
 
@@ -14,6 +14,7 @@ import sys
 from concurrent.futures import ThreadPoolExecutor
 from pathlib import Path
 
+import checksummed_sample
 import listing_model
 import make_sample
 
@@ -29,6 +30,10 @@ SIZE_OFFSET = 9
 
 
 # A case is a name and the bytes of a file.
+
+
+def no_change(sample):
+    yield "the sample", sample
 
 
 def truncations(sample):
@@ -136,14 +141,111 @@ def whole_files(sample):
     yield "6,000 frames of 19 bytes", MAGIC + 6_000 * frame(19)
 
 
+# Logs whose events may have checksums.
+
+DESCRIPTION = make_sample.FORMAT_DESCRIPTION
+EVENT = frame(40, fill=0xC5)
+
+# Texts at the edges of the rule for the first server version with checksums, 5.6.1.
+SERVER_VERSIONS = [
+    b"",
+    b".6.1",
+    b"3.255.255",
+    b"5",
+    b"5.6",
+    b"5.6.",
+    b"5.6.0-log",
+    b"5.6.1",
+    b"5.6.1.",
+    b"5-6.1",
+    b"5.6-1",
+    b"5.10",
+    b"5.7.256",
+    b"5.300.1",
+    b"006.0.0",
+    b"8.0.36",
+    b"10.11.6-MariaDB-log",
+    b"256.0.0",
+    b"mysql 8.0.36",
+    # The last of the 50 bytes isn't looked at.
+    b"5.6." + 45 * b"0" + b"1",
+    b"5.6." + 44 * b"0" + b"1",
+    b"5.6." + 43 * b"0" + b"1" + b"00",
+    49 * b"0" + b".",
+    48 * b"0" + b"6.",
+    48 * b"9" + b".0",
+]
+
+
+def described(*parts, **description_parts):
+    return MAGIC + checksummed_sample.description(**description_parts) + b"".join(parts)
+
+
+def short_events():
+    return b"".join(frame(HEADER_LENGTH + length) for length in range(7))
+
+
+def stated_descriptions():
+    for version in SERVER_VERSIONS:
+        yield f"server version {version}", described(EVENT, server_version=version)
+    for algorithm in (0, 1, 2, 7, 127, 128, 255):
+        content = described(EVENT, short_events(), EVENT, algorithm=algorithm)
+        yield f"algorithm {algorithm}", content
+    for version in (0, 1, 2, 3, 4, 5, 0x0104, 0x0400, 0xFFFF):
+        yield f"binlog version {version}", described(EVENT, binlog_version=version)
+    for length in (0, 18, 19, 20, 255):
+        yield f"header length {length}", described(EVENT, header_length=length)
+
+
+def cut_description(length, server_version):
+    """A description of so many bytes behind its header, all its own."""
+    body = checksummed_sample.description_body(server_version)
+    return make_sample.frame(DESCRIPTION, body[:length].ljust(length, b"\x01"), 0)
+
+
+def cut_descriptions():
+    for server_version in (b"5.6.0", b"5.6.1"):
+        for length in range(70):
+            yield f"{length} bytes of a description of {server_version}", (
+                MAGIC + cut_description(length, server_version) + EVENT
+            )
+
+
+def changes_of_description():
+    """A description behind others, each followed by events that it may cut."""
+    events = EVENT + short_events()
+    descriptions = {
+        "with checksums": checksummed_sample.description(),
+        "without": checksummed_sample.description(algorithm=checksummed_sample.OFF),
+        "of an old server": make_sample.file_start()[len(MAGIC) :],
+        "refused for its version": checksummed_sample.description(binlog_version=9),
+        "refused for its length": cut_description(56, b"5.5.5"),
+    }
+    for first_name, first in descriptions.items():
+        for second_name, second in descriptions.items():
+            name = f"a description {first_name}, then one {second_name}"
+            yield name, MAGIC + events + first + events + second + events
+
+
+def checksummed_cases():
+    sample = checksummed_sample.sample()
+    for kind in (no_change, truncations, changed_bytes, changed_sizes, with_tails):
+        for name, content in kind(sample):
+            yield f"with checksums: {name}", content
+    yield from stated_descriptions()
+    yield from cut_descriptions()
+    yield from changes_of_description()
+
+
 def all_cases(sample):
-    yield "the sample", sample
+    yield from no_change(sample)
     yield from truncations(sample)
     yield from changed_bytes(sample)
     yield from changed_sizes(sample)
     yield from not_binlogs(sample)
     yield from with_tails(sample)
     yield from whole_files(sample)
+    yield from checksummed_cases()
 
 
 def run(program, content):
