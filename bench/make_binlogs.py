@@ -4,13 +4,15 @@
 Usage: make_binlogs.py FOLDER
 
 Of each kind there is a large file (500 MB) for times and a small one (5 MB)
-for instruction counts; `start.binlog` holds only what every file begins with.
-The contents are the same in every run.
+for instruction counts, and a start file, `start.binlog` or, of the kinds whose
+events have checksums, `start_crc32.binlog`, that holds only what every file of
+the kind begins with. The contents are the same in every run.
 """
 
 import random
 import struct
 import sys
+import zlib
 from pathlib import Path
 
 HERE = Path(__file__).resolve().parent
@@ -23,8 +25,12 @@ LONG_EVENT = 5_000_000
 
 QUERY, WRITE_ROWS, UPDATE_ROWS = 2, 30, 31
 
+SIZE_OFFSET = 9
 LOG_POS_OFFSET = 13
 U32_RANGE = 2**32
+
+CRC32_ALGORITHM = b"\1"
+CHECKSUM = struct.Struct("<I")
 
 
 # A kind is a function that gives the events of one block, which repeats.
@@ -61,7 +67,21 @@ def long_events(generator):
         yield event(type_number, rows_body(number, rows), number)
 
 
-KINDS = {"statements": statement_events, "rows": row_events, "long": long_events}
+KINDS = {
+    "statements": statement_events,
+    "rows": row_events,
+    "long": long_events,
+    "statements_crc32": statement_events,
+    "rows_crc32": row_events,
+}
+
+
+def has_checksums(kind):
+    return kind.endswith("_crc32")
+
+
+def start_name(kind):
+    return "start_crc32.binlog" if has_checksums(kind) else "start.binlog"
 
 
 def event(type_number, body, number):
@@ -76,12 +96,65 @@ def rows_body(table, rows):
     return head + b"\2\xff" + rows
 
 
-def write_binlog(path, events, target):
+def crc32_file_start():
+    """The file header and the description of a server that writes checksums.
+
+    A description ends with the algorithm byte and its checksum.
+    """
+    body = b"".join(
+        [
+            bytes.fromhex("04 00"),  # binlog version
+            b"8.0.35".ljust(50, b"\0"),  # server version
+            bytes.fromhex("fc 35 bb 4a"),  # created when the event was written
+            bytes.fromhex("13"),  # length of an event header
+            # post-header lengths of the types from 1 on
+            bytes.fromhex("00 0d 00 08 00 00 00 00 04 00 04 00 00 00 62 00 04 1a 08 00 00"),
+            bytes.fromhex("00 08 08 08 02 00 00 00 0a 0a 0a 2a 2a 00 12 34 00 0a 28 00"),
+            CRC32_ALGORITHM,
+        ]
+    )
+    length = make_sample.HEADER.size + len(body) + CHECKSUM.size
+    description = with_room_for_checksum(
+        make_sample.frame(
+            make_sample.FORMAT_DESCRIPTION,
+            body,
+            len(make_sample.FILE_HEADER) + length,
+            timestamp=make_sample.START_TIMESTAMP,
+        )
+    )
+    set_checksums(description, [length])
+    return make_sample.FILE_HEADER + description
+
+
+def with_room_for_checksum(one):
+    """The event with four bytes more, which its size counts."""
+    longer = bytearray(one) + bytes(CHECKSUM.size)
+    struct.pack_into("<I", longer, SIZE_OFFSET, len(longer))
+    return longer
+
+
+def set_checksums(block, ends):
+    """The last four bytes of each event become the CRC-32 of those before."""
+    start = 0
+    with memoryview(block) as view:
+        for end in ends:
+            checksum_start = end - CHECKSUM.size
+            CHECKSUM.pack_into(block, checksum_start, zlib.crc32(view[start:checksum_start]))
+            start = end
+
+
+def file_start(kind):
+    return crc32_file_start() if has_checksums(kind) else make_sample.file_start()
+
+
+def write_binlog(path, kind, events, target):
     """Repeats the events until the file has the target length, or just above.
 
     Each repetition gets its own positions, which grow through the file.
     """
-    start = make_sample.file_start()
+    start = file_start(kind)
+    if has_checksums(kind):
+        events = [with_room_for_checksum(one) for one in events]
     block = bytearray().join(events)
     ends = event_ends(events)
     length = len(start)
@@ -90,6 +163,8 @@ def write_binlog(path, events, target):
         file.write(start)
         while length < target:
             set_positions(block, ends, length)
+            if has_checksums(kind):
+                set_checksums(block, ends)
             used = used_length(ends, target - length)
             file.write(block[:used])
             length += used
@@ -124,7 +199,7 @@ def make_kind(folder, kind):
     if missing:
         events = list(KINDS[kind](random.Random(kind)))
         for path, target in missing.items():
-            write_binlog(path, events, target)
+            write_binlog(path, kind, events, target)
 
 
 def main(arguments):
@@ -132,8 +207,8 @@ def main(arguments):
         sys.exit("usage: make_binlogs.py FOLDER")
     folder = Path(arguments[0])
     folder.mkdir(parents=True, exist_ok=True)
-    (folder / "start.binlog").write_bytes(make_sample.file_start())
     for kind in KINDS:
+        (folder / start_name(kind)).write_bytes(file_start(kind))
         make_kind(folder, kind)
 
 

@@ -1,10 +1,11 @@
 #!/usr/bin/env python3
-"""Measures a listing program against the baseline; prints a Markdown table.
+"""Measures the listing and the writing back against the baseline; prints a Markdown table of each.
 
-Usage: measure.py PROGRAM BASELINE FOLDER
+Usage: measure.py LISTING WRITING_BACK BASELINE FOLDER
 
-FOLDER holds the files of make_binlogs.py. The exit status is 1 if the program
-and the baseline differ on one of them.
+FOLDER holds the files of make_binlogs.py. The exit status is 1 if a program
+and the baseline differ on one of them, or if one of them doesn't write back
+the very file.
 """
 
 import os
@@ -13,9 +14,12 @@ import shutil
 import subprocess
 import sys
 import time
+from collections import Counter
 from pathlib import Path
 
-KINDS = ["statements", "rows", "long"]
+import make_binlogs
+
+KINDS = list(make_binlogs.KINDS)
 ROUNDS = 3
 TIME_COMMAND = "/usr/bin/time"
 BLOCK = 1 << 20
@@ -29,7 +33,10 @@ COLUMNS = [
     "Time / baseline",
     "Peak memory, KiB",
     "Instructions / event",
+    "Allocations / event",
 ]
+
+ALLOCATING = {"malloc", "calloc", "realloc"}
 
 
 class Difference(Exception):
@@ -49,16 +56,11 @@ def run(command, path, output=subprocess.DEVNULL, errors=None):
 def listing(command, path, listing_path):
     """The exit status; the standard output goes to `listing_path`."""
     with open(listing_path, "wb") as output:
-        return run([command], path, output)
+        return run(command, path, output)
 
 
-def count_lines(path):
-    with open(path, "rb") as file:
-        return sum(block.count(b"\n") for block in iter(lambda: file.read(BLOCK), b""))
-
-
-def compare(program, baseline, path):
-    """The number of events of the file, if both programs list it equally."""
+def compare_listings(program, baseline, path):
+    """Both commands list the file, and equally."""
     program_listing = path.with_suffix(".program_listing")
     baseline_listing = path.with_suffix(".baseline_listing")
     try:
@@ -70,10 +72,27 @@ def compare(program, baseline, path):
             raise Difference(f"{path}: status {baseline_status}, though a valid binlog")
         if subprocess.run(["cmp", program_listing, baseline_listing]).returncode != 0:
             raise Difference(f"{path}: the outputs differ")
-        return count_lines(baseline_listing)
     finally:
         program_listing.unlink(missing_ok=True)
         baseline_listing.unlink(missing_ok=True)
+
+
+def compare_written_back(program, baseline, path):
+    """Both commands write back the very file."""
+    for command in (program, baseline):
+        with open(path, "rb") as file:
+            with subprocess.Popen(command, stdin=file, stdout=subprocess.PIPE) as process:
+                compared = subprocess.run(["cmp", "-", path], stdin=process.stdout)
+        if compared.returncode != 0 or process.returncode != 0:
+            raise Difference(f"{path}: not written back by {command}")
+
+
+def count_events(baseline, path):
+    """The lines of its listing."""
+    with open(path, "rb") as file:
+        with subprocess.Popen(baseline, stdin=file, stdout=subprocess.PIPE) as process:
+            blocks = iter(lambda: process.stdout.read(BLOCK), b"")
+            return sum(block.count(b"\n") for block in blocks)
 
 
 def seconds(command, path):
@@ -120,8 +139,8 @@ def peak_memory_of_child(command, path):
     return int(output)
 
 
-def instructions(command, path, name):
-    """What callgrind counts for a run, or None if it could not."""
+def counts(command, path, name):
+    """What callgrind counts for a run, instructions and allocations, or None if it could not."""
     if shutil.which("valgrind") is None:
         return None
     report = path.with_name(f"callgrind.{path.stem}.{name}.out")
@@ -131,27 +150,47 @@ def instructions(command, path, name):
     if status != 0 or not report.exists():
         progress(f"no instruction count of {name} on {path.name} (status {status})")
         return None
-    total = re.search(r"^(?:summary|totals): (\d+)", report.read_text(), re.MULTILINE)
-    return int(total.group(1)) if total else None
+    text = report.read_text()
+    total = re.search(r"^(?:summary|totals): (\d+)", text, re.MULTILINE)
+    return (int(total[1]), count_allocations(text)) if total else None
 
 
-def instructions_per_event(command, folder, kind, name, events):
+def count_allocations(report):
+    """How often a program called one of the allocating functions of the C library.
+
+    A report names a function where it stands first, as `cfn=(7) malloc`, and
+    later by its number alone. The line `calls=` follows that of the callee.
+    """
+    names, calls, callee = {}, Counter(), None
+    for kind, number, name, count in re.findall(
+        r"^(?:(c?fn)=\((\d+)\)(?: (\S+))?|calls=(\d+) )", report, re.MULTILINE
+    ):
+        if name:
+            names[number] = name
+        if kind == "cfn":
+            callee = names[number]
+        elif count:
+            calls[callee] += int(count)
+    return sum(calls[name] for name in ALLOCATING)
+
+
+def counts_per_event(command, folder, kind, name, events):
     """Without the cost of starting: a file of the first event alone is counted too."""
-    whole = instructions(command, folder / f"{kind}_small.binlog", name)
-    start = instructions(command, folder / "start.binlog", name)
+    whole = counts(command, folder / f"{kind}_small.binlog", name)
+    start = counts(command, folder / make_binlogs.start_name(kind), name)
     if whole is None or start is None:
         return None
-    return (whole - start) / (events - 1)
+    return [(one - other) / (events - 1) for one, other in zip(whole, start)]
 
 
-def row(kind, name, size, events, elapsed, baseline_elapsed, memory, instruction_count):
+def row(kind, name, size, events, elapsed, baseline_elapsed, memory, counted):
     ratio = "" if name == "cat" else f"{elapsed / baseline_elapsed:.2f}"
     if name == "cat":
-        counted = ""
-    elif instruction_count is None:
-        counted = "not counted"
+        counted_cells = ["", ""]
+    elif counted is None:
+        counted_cells = ["not counted", "not counted"]
     else:
-        counted = f"{instruction_count:,.1f}"
+        counted_cells = [f"{counted[0]:,.1f}", f"{counted[1]:,.2f}"]
     return [
         kind,
         name,
@@ -160,43 +199,51 @@ def row(kind, name, size, events, elapsed, baseline_elapsed, memory, instruction
         f"{events / elapsed:,.0f}",
         ratio,
         f"{memory:,}",
-        counted,
+        *counted_cells,
     ]
 
 
-def measure_kind(program, baseline, folder, kind):
+def measure_kind(program, baseline, events, folder, kind):
+    """The rows of a table; `events` are the numbers of events of the large and the small file."""
     path = folder / f"{kind}.binlog"
-    small_path = folder / f"{kind}_small.binlog"
-    progress(f"{kind}: comparing the outputs")
-    events = compare(program, baseline, path)
-    small_events = compare(program, baseline, small_path)
-
     progress(f"{kind}: measuring times and memory")
-    commands = {"cat": ["cat"], "program": [program], "baseline": [baseline]}
+    commands = {"cat": ["cat"], "program": program, "baseline": baseline}
     times = best_times(commands, path)
     memory = {name: peak_memory(command, path) for name, command in commands.items()}
 
     progress(f"{kind}: counting instructions")
-    counts = {
-        name: instructions_per_event([command], folder, kind, name, small_events)
+    counted = {
+        name: counts_per_event(command, folder, kind, name, events[1])
         for name, command in (("program", program), ("baseline", baseline))
     }
 
     size = path.stat().st_size
-    label = f"{kind} ({events:,} events, {size / 1e6:,.0f} MB)"
+    label = f"{kind} ({events[0]:,} events, {size / 1e6:,.0f} MB)"
     return [
         row(
             label,
             name,
             size,
-            events,
+            events[0],
             times[name],
             times["baseline"],
             memory[name],
-            counts.get(name),
+            counted.get(name),
         )
         for name in commands
     ]
+
+
+def measure(program, baseline, compare, lister, folder):
+    rows = []
+    for kind in KINDS:
+        progress(f"{kind}: comparing the outputs")
+        paths = [folder / f"{kind}.binlog", folder / f"{kind}_small.binlog"]
+        for path in paths:
+            compare(program, baseline, path)
+        events = [count_events(lister, path) for path in paths]
+        rows += measure_kind(program, baseline, events, folder, kind)
+    return rows
 
 
 def print_table(rows):
@@ -207,17 +254,23 @@ def print_table(rows):
 
 
 def main(arguments):
-    if len(arguments) != 3:
-        sys.exit("usage: measure.py PROGRAM BASELINE FOLDER")
-    program, baseline = (str(Path(argument).resolve()) for argument in arguments[:2])
-    folder = Path(arguments[2])
-    rows = []
+    if len(arguments) != 4:
+        sys.exit("usage: measure.py LISTING WRITING_BACK BASELINE FOLDER")
+    lister, copier, baseline = (str(Path(argument).resolve()) for argument in arguments[:3])
+    folder = Path(arguments[3])
+    works = {
+        "Listing": ([lister], [baseline], compare_listings),
+        "Writing back": ([copier], [baseline, "--write-back"], compare_written_back),
+    }
     try:
-        for kind in KINDS:
-            rows += measure_kind(program, baseline, folder, kind)
+        for title, (program, yardstick, compare) in works.items():
+            progress(title)
+            rows = measure(program, yardstick, compare, [baseline], folder)
+            print(f"{title}:\n")
+            print_table(rows)
+            print(flush=True)
     except Difference as difference:
         sys.exit(f"measure.py: {difference}")
-    print_table(rows)
 
 
 if __name__ == "__main__":

@@ -1,19 +1,22 @@
 #!/bin/sh
-# Measures a listing program against the baseline; see README.md.
-# Usage: run.sh [PROGRAM]
+# Measures the programs against the baseline; see README.md.
+# Usage: run.sh [LISTING [WRITING_BACK]]
 set -eu
 
 here=$(cd "$(dirname "$0")" && pwd)
-program=${1:-$here/../crates/binlog_list/out/binlog_list}
+lister=${1:-$here/../crates/binlog_list/out/binlog_list}
+copier=${2:-$here/../crates/binlog_copy/out/binlog_copy}
 baseline=$here/baseline/target/release/listing_baseline
 
-if [ ! -x "$program" ]; then
-    echo "run.sh: no program at $program" >&2
-    exit 1
-fi
+for program in "$lister" "$copier"; do
+    if [ ! -x "$program" ]; then
+        echo "run.sh: no program at $program" >&2
+        exit 1
+    fi
+done
 
 cargo build --release --offline \
     --manifest-path "$here/baseline/Cargo.toml" \
     --target-dir "$here/baseline/target" >&2
 python3 "$here/make_binlogs.py" "$here/work"
-exec python3 "$here/measure.py" "$program" "$baseline" "$here/work"
+exec python3 "$here/measure.py" "$lister" "$copier" "$baseline" "$here/work"

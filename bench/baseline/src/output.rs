@@ -5,9 +5,9 @@ use std::io::{self, Write};
 
 const CAPACITY: usize = 64 * 1024;
 
-/// Enough for a line of 20 + 3 + 10 + 10 digits, 4 hexadecimal digits, spaces
-/// and the line end; a power of two, so that `%` keeps an index in bounds.
-const LINE_CAPACITY: usize = 64;
+/// Enough for a line of 20 + 3 + 10 + 10 + 10 digits, 4 + 8 hexadecimal digits,
+/// spaces and the line end; a power of two, so that `%` keeps an index in bounds.
+const LINE_CAPACITY: usize = 128;
 
 const DECIMAL_PAIRS: [[u8; 2]; 100] = digit_pairs(10);
 const HEXADECIMAL_PAIRS: [[u8; 2]; 256] = digit_pairs(16);
@@ -109,13 +109,13 @@ impl Line<'_> {
         }
     }
 
-    /// Four lower-case digits.
+    /// Two lower-case digits for each byte.
     #[inline]
-    pub fn hexadecimal(&mut self, number: u16) {
-        let [high, low] = number.to_be_bytes();
-        self.pair_at(self.length, HEXADECIMAL_PAIRS[usize::from(high)]);
-        self.pair_at(self.length + 2, HEXADECIMAL_PAIRS[usize::from(low)]);
-        self.length += 4;
+    pub fn hexadecimal<const COUNT: usize>(&mut self, bytes: [u8; COUNT]) {
+        for byte in bytes {
+            self.pair_at(self.length, HEXADECIMAL_PAIRS[usize::from(byte)]);
+            self.length += 2;
+        }
     }
 
     #[inline]
@@ -162,7 +162,9 @@ mod tests {
         for number in 0..=u16::MAX {
             let mut bytes = Vec::new();
             let mut output = Output::new(&mut bytes);
-            output.line(|line| line.hexadecimal(number)).unwrap();
+            output
+                .line(|line| line.hexadecimal(number.to_be_bytes()))
+                .unwrap();
             output.flush().unwrap();
             assert_eq!(bytes, format!("{number:04x}\n").into_bytes());
         }
