@@ -20,7 +20,7 @@ from pathlib import Path
 import make_binlogs
 
 KINDS = list(make_binlogs.KINDS)
-ROUNDS = 3
+ROUNDS = 5
 TIME_COMMAND = "/usr/bin/time"
 BLOCK = 1 << 20
 
