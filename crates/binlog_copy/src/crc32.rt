@@ -5,7 +5,8 @@ const POLYNOMIAL: u32 = 0xedb8_8320;
 
 type Table = [u32; 256];
 
-/// Computes checksums. The table `n` holds what each byte makes of a checksum that was 0, with `n` zero bytes behind it.
+/// Computes checksums. The table `n` holds what each byte makes of a checksum that was 0, with `n` zero bytes behind
+/// it.
 #[derive(Drop)]
 pub(crate) struct Crc32 {
     tables: [Table; 8],
