@@ -227,6 +227,14 @@ def changes_of_description():
             yield name, MAGIC + events + first + events + second + events
 
 
+def rotates():
+    """Rotates of few bytes, without and with checksums, each with an event behind it."""
+    for length in range(20):
+        rotate = make_sample.frame(make_sample.ROTATE, b"\x04".ljust(length, b"\0")[:length], 0)
+        yield f"a rotate of {length} bytes", MAGIC + rotate + EVENT
+        yield f"a rotate of {length} bytes with its checksum", described(rotate, EVENT)
+
+
 def checksummed_cases():
     sample = checksummed_sample.sample()
     for kind in (no_change, truncations, changed_bytes, changed_sizes, with_tails):
@@ -235,6 +243,7 @@ def checksummed_cases():
     yield from stated_descriptions()
     yield from cut_descriptions()
     yield from changes_of_description()
+    yield from rotates()
 
 
 def all_cases(sample):
