@@ -1,11 +1,14 @@
 #!/usr/bin/env python3
-"""Counts what the listing program allocates: one buffer for each event, and nothing else that grows.
+"""Counts what the programs allocate: one buffer for each event that they own, and nothing for an event that is lent or
+given back, nor for a checksum.
 
-Usage: allocations.py [PROGRAM]
+Usage: allocations.py [LISTING [WRITING_BACK]]
 
-PROGRAM reads a binlog on standard input; its default is the built binlog_list. It runs under valgrind, which counts
-the allocations over logs of few and of many events. The last line of the output is `N passed, M failed`; the exit
-status is 1 if something failed. Without valgrind nothing is counted, and both numbers are 0.
+LISTING lists the binlog on its standard input, and gives each event back. WRITING_BACK writes it back, from events that
+are lent or, with an argument, from owned ones. Their defaults are the built binlog_list and binlog_copy. They run under
+valgrind, which counts the allocations over logs of few and of many events. The last line of the output is
+`N passed, M failed`; the exit status is 1 if something failed. Without valgrind nothing is counted, and both numbers
+are 0.
 """
 
 import re
@@ -17,6 +20,8 @@ from pathlib import Path
 import checksummed_sample
 import make_sample
 from damaged_copies import DEFAULT_PROGRAM, MAGIC
+
+DEFAULT_COPIER = Path(__file__).parent.parent / "crates/binlog_copy/out/binlog_copy"
 
 FEW, MANY = 10, 1010
 
@@ -34,9 +39,9 @@ LOGS = {
 COUNT = re.compile(rb"total heap usage: ([\d,]+) allocs")
 
 
-def allocations(program, content):
+def allocations(command, content):
     finished = subprocess.run(
-        ["valgrind", "--error-exitcode=99", program],
+        ["valgrind", "--error-exitcode=99", *command],
         input=content,
         stdout=subprocess.DEVNULL,
         stderr=subprocess.PIPE,
@@ -47,23 +52,25 @@ def allocations(program, content):
     return int(count[1].replace(b",", b""))
 
 
-def failure(program, name):
-    """None if each further event makes one further allocation, else what is wrong."""
+def failure(command, name, for_each):
+    """None if each further event makes so many further allocations, else what is wrong."""
     start, event = LOGS[name]
-    few = allocations(program, start + FEW * event)
-    many = allocations(program, start + MANY * event)
-    if many - few == MANY - FEW:
+    few = allocations(command, start + FEW * event)
+    many = allocations(command, start + MANY * event)
+    if many - few == for_each * (MANY - FEW):
         return None
-    return f"{name}: {many - few} allocations for {MANY - FEW} events"
+    return f"{' '.join(command)}: {name}: {many - few} allocations for {MANY - FEW} events"
 
 
 def main(arguments):
-    program = str(Path(arguments[0] if arguments else DEFAULT_PROGRAM).resolve())
+    lister = str(Path(arguments[0] if arguments else DEFAULT_PROGRAM).resolve())
+    copier = str(Path(arguments[1] if arguments[1:] else DEFAULT_COPIER).resolve())
     if shutil.which("valgrind") is None:
         print("valgrind is missing, so no allocation is counted")
         print("0 passed, 0 failed")
         return 0
-    results = [failure(program, name) for name in LOGS]
+    commands = [([lister], 0), ([copier], 0), ([copier, "owned"], 1)]
+    results = [failure(command, name, count) for command, count in commands for name in LOGS]
     failures = [result for result in results if result is not None]
     for message in failures:
         print(message)
