@@ -1,3 +1,4 @@
+//! The event of the first block of a loaded file.
 ghost use Rattle.std.specs.Prelude.{◌≡◌, [], IfOk, IsOkUnless};
 ghost use Rattle.std.specs.Cow.{cow_slice_items};
 ghost use Rattle.binlog_wire.specs.declared.error.Error.TheVariants.{Memory};

@@ -1,3 +1,4 @@
+//! The event of an integer variable, an auto-increment value or the last insert id.
 ghost use Rattle.std.specs.Prelude.{◌≡◌};
 
 use crate::ctx::BinlogCtx;

@@ -1,5 +1,5 @@
-//! The parts of a MySQL binary log's events: the event header and footer, the format description, and what the bodies
-//! of events have in common.
+//! The parts of a MySQL binary log's events: the event header and footer, the format description, and the typed bodies of
+//! events with what they have in common.
 #![tactic(auto)]
 
 mod begin_load_query;

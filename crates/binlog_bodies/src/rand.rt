@@ -1,3 +1,4 @@
+//! The event of the two seeds of `RAND()`.
 use crate::ctx::BinlogCtx;
 use crate::traits::{BinlogEvent, BinlogStruct};
 use binlog_wire::{

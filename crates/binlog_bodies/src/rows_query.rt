@@ -1,3 +1,4 @@
+//! The event of the statement that the row events behind it come from.
 ghost use Rattle.std.specs.Prelude.{◌≡◌, IfOk, IsOkUnless};
 ghost use Rattle.std.specs.Cow.{cow_slice_items, cow_str_bytes};
 ghost use Rattle.std.specs.Str.Lossy.{utf8_lossy};

@@ -1,3 +1,4 @@
+//! The event that ends a transaction.
 use crate::ctx::BinlogCtx;
 use crate::traits::{BinlogEvent, BinlogStruct};
 use binlog_wire::{

@@ -6,13 +6,7 @@ use arrayvec::ArrayVec;
 use itoa::Buffer;
 use std::marker::Model;
 
-/// The most bytes that a line takes.
-const CAPACITY: usize = 160;
-
-/// The most digits of a number.
-const NUMBER_LEN: usize = 20;
-
-/// A line that is being built. Contracts see it as the list of its bytes.
+/// A line that is being built, of at most 160 bytes. Contracts see it as the list of its bytes.
 #[derive(Drop)]
 pub(crate) struct Line {
     bytes: ArrayVec<u8, 160>,

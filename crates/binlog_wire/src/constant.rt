@@ -1,3 +1,4 @@
+//! Constants of the format, numbers that stand for a value of a table, and bytes that are skipped.
 ghost use Rattle.std.specs.Prelude.{◌≡◌, Result, List, ℕ};
 ghost use Rattle.binlog_wire.specs.declared.error.Invalid.{Invalid};
 ghost use Rattle.binlog_wire.specs.Reading.{read_as};

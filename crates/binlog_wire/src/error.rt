@@ -1,3 +1,4 @@
+//! Why reading or writing is refused.
 ghost use Rattle.std.specs.Prelude.{◌≡◌};
 
 use thiserror::Error;

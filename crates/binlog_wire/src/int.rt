@@ -1,3 +1,4 @@
+//! Numbers as fields: their widths, and numbers as they stand.
 ghost use Rattle.std.specs.Prelude.{◌≡◌, ◌++◌, ◌+◌, ◌≤◌, ℕ, List, Option, Some, OnOk, OnErr, IsOkUnless, length, vec_len, vec_capacity};
 ghost use Rattle.std.specs.Int.{w8, cast_signed, cast_unsigned};
 ghost use Rattle.byteorder.specs.Endian.{little_bytes};

@@ -1,3 +1,4 @@
+//! Makes room in a buffer, or answers that memory ran out.
 ghost use Rattle.std.specs.Prelude.{◌≡◌, ◌+◌, ◌≤◌, OnOk, IsOkUnless, vec_len, vec_capacity};
 ghost use Rattle.binlog_wire.specs.declared.error.Error.TheVariants.{Memory};
 
