@@ -2,13 +2,13 @@
 """Counts what the programs allocate: one buffer for each event that they own, and nothing for an event that is lent or
 given back, nor for a checksum.
 
-Usage: allocations.py [LISTING [WRITING_BACK]]
+Usage: allocations.py [LISTING [WRITING_BACK [KEEPING]]]
 
-LISTING lists the binlog on its standard input, and gives each event back. WRITING_BACK writes it back, from events that
-are lent or, with an argument, from owned ones. Their defaults are the built binlog_list and binlog_copy. They run under
-valgrind, which counts the allocations over logs of few and of many events. The last line of the output is
-`N passed, M failed`; the exit status is 1 if something failed. Without valgrind nothing is counted, and both numbers
-are 0.
+LISTING lists the binlog on its standard input, and gives each event back. WRITING_BACK writes it back from events that
+are lent, and KEEPING reads each event into memory of its own. Their defaults are the built binlog_list, binlog_copy and
+binlog_keep. They run under valgrind, which counts the allocations over logs of few and of many events. The last line of
+the output is `N passed, M failed`; the exit status is 1 if something failed. Without valgrind nothing is counted, and
+both numbers are 0.
 """
 
 import re
@@ -19,9 +19,10 @@ from pathlib import Path
 
 import checksummed_sample
 import make_sample
-from damaged_copies import DEFAULT_PROGRAM, MAGIC
+from damaged_copies import DEFAULT_PROGRAM, MAGIC, REPOSITORY
 
-DEFAULT_COPIER = Path(__file__).parent.parent / "crates/binlog_copy/out/binlog_copy"
+DEFAULT_COPIER = REPOSITORY / "crates/binlog_copy/out/binlog_copy"
+DEFAULT_KEEPER = REPOSITORY / "crates/binlog_keep/out/binlog_keep"
 
 FEW, MANY = 10, 1010
 
@@ -39,9 +40,9 @@ LOGS = {
 COUNT = re.compile(rb"total heap usage: ([\d,]+) allocs")
 
 
-def allocations(command, content):
+def allocations(program, content):
     finished = subprocess.run(
-        ["valgrind", "--error-exitcode=99", *command],
+        ["valgrind", "--error-exitcode=99", program],
         input=content,
         stdout=subprocess.DEVNULL,
         stderr=subprocess.PIPE,
@@ -52,25 +53,26 @@ def allocations(command, content):
     return int(count[1].replace(b",", b""))
 
 
-def failure(command, name, for_each):
+def failure(program, name, for_each):
     """None if each further event makes so many further allocations, else what is wrong."""
     start, event = LOGS[name]
-    few = allocations(command, start + FEW * event)
-    many = allocations(command, start + MANY * event)
+    few = allocations(program, start + FEW * event)
+    many = allocations(program, start + MANY * event)
     if many - few == for_each * (MANY - FEW):
         return None
-    return f"{' '.join(command)}: {name}: {many - few} allocations for {MANY - FEW} events"
+    return f"{program}: {name}: {many - few} allocations for {MANY - FEW} events"
 
 
 def main(arguments):
-    lister = str(Path(arguments[0] if arguments else DEFAULT_PROGRAM).resolve())
-    copier = str(Path(arguments[1] if arguments[1:] else DEFAULT_COPIER).resolve())
+    defaults = [DEFAULT_PROGRAM, DEFAULT_COPIER, DEFAULT_KEEPER]
+    paths = arguments + defaults[len(arguments) :]
+    lister, copier, keeper = (str(Path(path).resolve()) for path in paths)
     if shutil.which("valgrind") is None:
         print("valgrind is missing, so no allocation is counted")
         print("0 passed, 0 failed")
         return 0
-    commands = [([lister], 0), ([copier], 0), ([copier, "owned"], 1)]
-    results = [failure(command, name, count) for command, count in commands for name in LOGS]
+    counts = [(lister, 0), (copier, 0), (keeper, 1)]
+    results = [failure(program, name, count) for program, count in counts for name in LOGS]
     failures = [result for result in results if result is not None]
     for message in failures:
         print(message)
