@@ -11,6 +11,7 @@ mod header;
 mod incident;
 mod intvar;
 pub mod laws;
+mod post_header;
 mod rand;
 mod rotate;
 mod rows_query;

@@ -21,7 +21,10 @@ mod traits;
 mod version;
 mod version_split;
 
-pub use bytes::{BytesRepr, EofBytes, FixedLengthText, RawBytes, U8Bytes, U32Bytes};
+pub use bytes::{
+    BareBytes, BytesRepr, EofBytes, FixedLengthText, RawBytes, U8Bytes, U32Bytes, WritableBytes,
+    lossy_text,
+};
 pub use codes::{
     BinlogChecksumAlg, IncidentType, IntvarEventType, UnknownChecksumAlg, UnknownIncidentType,
 };
@@ -34,6 +37,6 @@ pub use number::{read_u16_at, read_u32_at};
 pub use output::write_bytes;
 pub use parse_buf::ParseBuf;
 pub use room::reserve;
-pub use traits::{MyDeserialize, MySerialize};
+pub use traits::{MyDeserialize, MySerialize, Put};
 pub use version::BinlogVersion;
 pub use version_split::split_version;
