@@ -2,13 +2,13 @@
 //! The benchmark measures it.
 #![tactic(auto)]
 
-mod copy;
+mod write_back;
 
 use binlog_file::Error;
-use copy::Copier;
 use std::io;
-use std::io::{BufReader, BufWriter};
+use std::io::{BufReader, BufWriter, Write};
 use std::process::ExitCode;
+use write_back::write_back;
 
 /// The size of the buffers of the input and the output, in bytes.
 const BUFFER_SIZE: usize = 65_536;
@@ -17,12 +17,13 @@ fn run(rt: &(impl Input + Print + AllocGlobal)) -> Result<(), Error> {
     let Ok(input) = BufReader::with_capacity(rt.alloc(), BUFFER_SIZE, rt.reader()) else {
         return Err(Error::Memory);
     };
-    let Ok(output) = BufWriter::with_capacity(rt.alloc(), BUFFER_SIZE, io::writer(rt)) else {
+    let Ok(mut output) = BufWriter::with_capacity(rt.alloc(), BUFFER_SIZE, io::writer(rt)) else {
         return Err(Error::Memory);
     };
-    let mut copier = Copier::new(rt.alloc(), output);
-    let answer = copier.copy(input);
-    copier.flush()?;
+    let answer = write_back(rt.alloc(), input, &mut output);
+    if output.flush().is_err() {
+        return Err(Error::Writer);
+    }
     answer
 }
 
