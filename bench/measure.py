@@ -26,13 +26,13 @@ BLOCK = 1 << 20
 
 COLUMNS = [
     "Input",
-    "Command",
-    "Seconds",
+    "cat, MB/s",
     "MB/s",
     "Events/s",
     "Time / baseline",
     "Peak memory, KiB",
     "Instructions / event",
+    "Baseline's",
     "Allocations / event",
 ]
 
@@ -183,54 +183,36 @@ def counts_per_event(command, folder, kind, name, events):
     return [(one - other) / (events - 1) for one, other in zip(whole, start)]
 
 
-def row(kind, name, size, events, elapsed, baseline_elapsed, memory, counted):
-    ratio = "" if name == "cat" else f"{elapsed / baseline_elapsed:.2f}"
-    if name == "cat":
-        counted_cells = ["", ""]
-    elif counted is None:
-        counted_cells = ["not counted", "not counted"]
-    else:
-        counted_cells = [f"{counted[0]:,.1f}", f"{counted[1]:,.2f}"]
-    return [
-        kind,
-        name,
-        f"{elapsed:.3f}",
-        f"{size / elapsed / 1e6:,.0f}",
-        f"{events / elapsed:,.0f}",
-        ratio,
-        f"{memory:,}",
-        *counted_cells,
-    ]
+def rate(amount, elapsed):
+    return f"{amount / elapsed:,.0f}"
 
 
-def measure_kind(program, baseline, events, folder, kind):
-    """The rows of a table; `events` are the numbers of events of the large and the small file."""
+def per_event(counted, place, decimals):
+    return "not counted" if counted is None else f"{counted[place]:,.{decimals}f}"
+
+
+def measured_row(program, baseline, events, folder, kind):
+    """A row of a table; `events` are the numbers of events of the large and the small file."""
     path = folder / f"{kind}.binlog"
     progress(f"{kind}: measuring times and memory")
-    commands = {"cat": ["cat"], "program": program, "baseline": baseline}
-    times = best_times(commands, path)
-    memory = {name: peak_memory(command, path) for name, command in commands.items()}
+    times = best_times({"cat": ["cat"], "program": program, "baseline": baseline}, path)
+    memory = peak_memory(program, path)
 
     progress(f"{kind}: counting instructions")
-    counted = {
-        name: counts_per_event(command, folder, kind, name, events[1])
-        for name, command in (("program", program), ("baseline", baseline))
-    }
+    counted = counts_per_event(program, folder, kind, "program", events[1])
+    baseline_counted = counts_per_event(baseline, folder, kind, "baseline", events[1])
 
-    size = path.stat().st_size
-    label = f"{kind} ({events[0]:,} events, {size / 1e6:,.0f} MB)"
+    megabytes = path.stat().st_size / 1e6
     return [
-        row(
-            label,
-            name,
-            size,
-            events[0],
-            times[name],
-            times["baseline"],
-            memory[name],
-            counted.get(name),
-        )
-        for name in commands
+        f"{kind} ({events[0]:,} events, {megabytes:,.0f} MB)",
+        rate(megabytes, times["cat"]),
+        rate(megabytes, times["program"]),
+        rate(events[0], times["program"]),
+        f"{times['program'] / times['baseline']:.2f}",
+        f"{memory:,}",
+        per_event(counted, 0, 0),
+        per_event(baseline_counted, 0, 0),
+        per_event(counted, 1, 2),
     ]
 
 
@@ -242,13 +224,13 @@ def measure(program, baseline, compare, lister, folder):
         for path in paths:
             compare(program, baseline, path)
         events = [count_events(lister, path) for path in paths]
-        rows += measure_kind(program, baseline, events, folder, kind)
+        rows.append(measured_row(program, baseline, events, folder, kind))
     return rows
 
 
 def print_table(rows):
     print("| " + " | ".join(COLUMNS) + " |")
-    print("|" + "---|" * 2 + "---:|" * (len(COLUMNS) - 2))
+    print("|---|" + "---:|" * (len(COLUMNS) - 1))
     for cells in rows:
         print("| " + " | ".join(cells) + " |")
 

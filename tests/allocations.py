@@ -1,28 +1,22 @@
 #!/usr/bin/env python3
-"""Counts what the programs allocate: one buffer for each event that they own, and nothing for an event that is lent or
-given back, nor for a checksum.
+"""Watches what the programs and the tests allocate.
 
-Usage: allocations.py [LISTING [WRITING_BACK [KEEPING]]]
+Usage: allocations.py
 
-LISTING lists the binlog on its standard input, and gives each event back. WRITING_BACK writes it back from events that
-are lent, and KEEPING reads each event into memory of its own. Their defaults are the built binlog_list, binlog_copy and
-binlog_keep. They run under valgrind, which counts the allocations over logs of few and of many events. The last line of
-the output is `N passed, M failed`; the exit status is 1 if something failed. Without valgrind nothing is counted, and
-both numbers are 0.
+The programs and tests are those that are built in crates/NAME/out. Further events take one buffer each where they are
+owned (test_owned_events), and nothing where they are lent (binlog_list, bench_write_back), nor does a checksum. Where a
+header states 4,294,967,295 bytes and few have come, in pieces of 20, no allocation grows by more than 65,536 bytes. No
+test of bytes, bodies and frames asks for more than it reads or builds. The last line is `N passed, M failed`; the exit
+status is 1 if something failed. Without the C compiler `cc` nothing is run, and both numbers are 0.
 """
 
-import re
-import shutil
-import subprocess
+import socket
 import sys
-from pathlib import Path
 
 import checksummed_sample
 import make_sample
-from damaged_copies import DEFAULT_PROGRAM, MAGIC, REPOSITORY
-
-DEFAULT_COPIER = REPOSITORY / "crates/binlog_copy/out/binlog_copy"
-DEFAULT_KEEPER = REPOSITORY / "crates/binlog_keep/out/binlog_keep"
+import watched
+from damaged_copies import MAGIC
 
 FEW, MANY = 10, 1010
 
@@ -37,48 +31,78 @@ LOGS = {
     "events with checksums": (MAGIC + checksummed_sample.description(), CHECKSUMMED_EVENT),
 }
 
-COUNT = re.compile(rb"total heap usage: ([\d,]+) allocs")
+# How many allocations each program makes for a further event.
+PROGRAMS = {"binlog_list": 0, "bench_write_back": 0, "test_owned_events": 1}
+
+# A growth may be so large, and so large an allocation of a test may be.
+LARGEST_GROWTH = 65_536
+PIECE = 20
+
+# A header that states 4,294,967,295 bytes.
+BOUNDLESS_HEADER = make_sample.HEADER.pack(0, make_sample.QUERY, 1, 0xFFFF_FFFF, 0, 0)
+BOUNDLESS_LOGS = {
+    "the header alone": MAGIC + BOUNDLESS_HEADER,
+    "100 bytes": MAGIC + BOUNDLESS_HEADER.ljust(100, b"x"),
+    "200,000 bytes": MAGIC + BOUNDLESS_HEADER.ljust(200_000, b"x"),
+}
 
 
-def allocations(program, content):
-    finished = subprocess.run(
-        ["valgrind", "--error-exitcode=99", program],
-        input=content,
-        stdout=subprocess.DEVNULL,
-        stderr=subprocess.PIPE,
-    )
-    count = COUNT.search(finished.stderr)
-    if finished.returncode != 0 or count is None:
-        sys.exit(f"the run failed:\n{finished.stderr.decode(errors='replace')}")
-    return int(count[1].replace(b",", b""))
-
-
-def failure(program, name, for_each):
+def count_failure(watch, name, log, for_each):
     """None if each further event makes so many further allocations, else what is wrong."""
-    start, event = LOGS[name]
-    few = allocations(program, start + FEW * event)
-    many = allocations(program, start + MANY * event)
+    start, event = LOGS[log]
+    few, many = (
+        len(watch.run([watched.program(name)], start + count * event).allocations)
+        for count in (FEW, MANY)
+    )
     if many - few == for_each * (MANY - FEW):
         return None
-    return f"{program}: {name}: {many - few} allocations for {MANY - FEW} events"
+    return f"{name}: {log}: {many - few} allocations for {MANY - FEW} events"
 
 
-def main(arguments):
-    defaults = [DEFAULT_PROGRAM, DEFAULT_COPIER, DEFAULT_KEEPER]
-    paths = arguments + defaults[len(arguments) :]
-    lister, copier, keeper = (str(Path(path).resolve()) for path in paths)
-    if shutil.which("valgrind") is None:
-        print("valgrind is missing, so no allocation is counted")
-        print("0 passed, 0 failed")
-        return 0
-    counts = [(lister, 0), (copier, 0), (keeper, 1)]
-    results = [failure(program, name, count) for program, count in counts for name in LOGS]
-    failures = [result for result in results if result is not None]
-    for message in failures:
-        print(message)
-    print(f"{len(results) - len(failures)} passed, {len(failures)} failed")
-    return 1 if failures else 0
+def run_over_pieces(watch, command, content):
+    """A run over an input of which each read gives at most a piece."""
+    sending, receiving = socket.socketpair(socket.AF_UNIX, socket.SOCK_SEQPACKET)
+    with sending, receiving:
+        for start in range(0, len(content), PIECE):
+            sending.send(content[start : start + PIECE])
+        sending.close()
+        return watch.run(command, stdin=receiving.fileno())
+
+
+def growth_failure(name, run):
+    """None if no allocation grew by too much, nor by anything before bytes for it had come."""
+    largest = max(new - old for old, new in run.allocations)
+    if largest <= LARGEST_GROWTH:
+        return None
+    return f"{name}: an allocation grows by {largest} bytes"
+
+
+def total_failure(name, run, came):
+    """None if no allocation is larger than what came and one growth."""
+    largest = max(new for _, new in run.allocations)
+    if largest <= came + LARGEST_GROWTH:
+        return None
+    return f"{name}: an allocation of {largest} bytes where {came} came"
+
+
+def all_failures(watch):
+    for name, for_each in PROGRAMS.items():
+        for log in LOGS:
+            yield count_failure(watch, name, log, for_each)
+        command = [watched.program(name)]
+        for log, content in BOUNDLESS_LOGS.items():
+            described = f"{name} over {log} of a boundless event"
+            run = watch.run(command, content)
+            yield growth_failure(described, run)
+            yield total_failure(described, run, len(content))
+            if len(content) < 10 * PIECE:
+                pieces = run_over_pieces(watch, command, content)
+                yield growth_failure(f"{described}, in pieces", pieces)
+    for program, name in watched.tests():
+        run = watch.run([program, name])
+        if run.allocations:
+            yield growth_failure(f"the test {name}", run)
 
 
 if __name__ == "__main__":
-    sys.exit(main(sys.argv[1:]))
+    sys.exit(watched.main(all_failures))

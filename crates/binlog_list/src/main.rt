@@ -3,6 +3,7 @@
 
 mod line;
 mod listing;
+mod output;
 
 use binlog_file::Error;
 use listing::{list, status};

@@ -1,0 +1,34 @@
+//! Reads each event of the binary log on standard input into memory of its own, as a program does that keeps events.
+//! The test of allocations counts what that takes.
+#![tactic(auto)]
+
+use binlog_file::{BinlogFile, BinlogVersion, Error};
+use std::alloc::Global;
+use std::io::{BufRead, BufReader};
+use std::process::ExitCode;
+
+/// The size of the input's buffer, in bytes.
+const BUFFER_SIZE: usize = 65_536;
+
+// Reads events up to the first item that is an error. Their number is bounded, so that the loop is proved to end.
+fn read_events<R: BufRead + Drop>(alloc: Global, input: R) -> Result<(), Error> {
+    let file = BinlogFile::new(alloc, BinlogVersion::Version4, input)?;
+    for item in file.take(usize::MAX) {
+        item?;
+    }
+    Ok(())
+}
+
+fn run(rt: &(impl Input + AllocGlobal)) -> Result<(), Error> {
+    match BufReader::with_capacity(rt.alloc(), BUFFER_SIZE, rt.reader()) {
+        Ok(input) => read_events(rt.alloc(), input),
+        Err(_) => Err(Error::Memory),
+    }
+}
+
+fn main(rt: HostRuntime) -> ExitCode {
+    match run(&rt) {
+        Ok(()) => ExitCode::SUCCESS,
+        Err(_) => ExitCode::FAILURE,
+    }
+}

@@ -1,0 +1,88 @@
+#!/usr/bin/env python3
+"""Refuses each allocation in turn, to the programs and to the tests of refused memory.
+
+Usage: refused_memory.py
+
+The programs and tests are those that are built in crates/NAME/out. Each runs with its first allocation refused, then with
+its second one, and so on until a run asks for fewer. The listing must then have the first lines and the status 3, what is
+written back must be a front of the log, and a test must pass: those run in whose full name the word `memory` stands. The
+last line is `N passed, M failed`, where each run counts; the exit status is 1 if one failed. Without the C compiler `cc`
+nothing is run, and both numbers are 0.
+"""
+
+import sys
+from itertools import count
+
+import checksummed_sample
+import listing_model
+import make_sample
+import watched
+
+SUCCESS, FAILURE, OUTSIDE = 0, 1, 3
+
+# Longer than what a buffer may grow by at a time.
+LONG_EVENT = make_sample.frame(make_sample.QUERY, make_sample.query_body(b"test", b"x" * 70_000), 0)
+LOGS = {
+    "the sample": make_sample.sample(),
+    "the sample with checksums": checksummed_sample.sample(),
+    "long events": make_sample.sample() + 3 * LONG_EVENT,
+}
+
+
+def failures(watch, name, command, content, fault):
+    """For each allocation, None or what is wrong where it is refused."""
+    for number in count(1):
+        run = watch.run(command, content, refused=number)
+        if not run.is_refused:
+            return
+        wrong = fault(run)
+        yield wrong and f"{name}, its allocation {number} refused: {wrong}"
+
+
+def status_fault(run, wanted):
+    return None if run.status == wanted else f"status {run.status}, not {wanted}"
+
+
+def listing_fault(content):
+    lines, _ = listing_model.expected(content)
+
+    def fault(run):
+        if not lines.startswith(run.output) or not (b"\n" + run.output).endswith(b"\n"):
+            return f"{len(run.output)} bytes that are no first lines of the listing"
+        return status_fault(run, OUTSIDE)
+
+    return fault
+
+
+def written_back_fault(content):
+    def fault(run):
+        if not content.startswith(run.output):
+            return "no front of the log is written back"
+        return status_fault(run, FAILURE)
+
+    return fault
+
+
+PROGRAMS = {
+    "binlog_list": listing_fault,
+    "bench_write_back": written_back_fault,
+    "test_owned_events": lambda content: lambda run: status_fault(run, FAILURE),
+}
+
+
+def test_fault(run):
+    return None if run.status == SUCCESS else f"it fails:\n{run.output.decode(errors='replace')}"
+
+
+def all_failures(watch):
+    for name, fault in PROGRAMS.items():
+        for log, content in LOGS.items():
+            command = [watched.program(name)]
+            yield from failures(watch, f"{name} over {log}", command, content, fault(content))
+    for program, name in watched.tests():
+        if "memory" in name:
+            yield from failures(watch, name, [program, name], b"", test_fault)
+
+
+if __name__ == "__main__":
+    sys.exit(watched.main(all_failures))

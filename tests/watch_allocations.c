@@ -1,0 +1,48 @@
+/* Watches the allocations of the program that it is preloaded into. It writes a line for each to the descriptor
+ * ALLOCATION_REPORT: the bytes that there were, and those that are asked for. The allocation whose number, counted from
+ * 1, is REFUSED_ALLOCATION is refused, and its line is `refused`. Both are numbers in the environment. */
+#include <errno.h>
+#include <malloc.h>
+#include <stdio.h>
+#include <stdlib.h>
+#include <string.h>
+#include <unistd.h>
+
+void *__libc_malloc(size_t size);
+void *__libc_calloc(size_t count, size_t size);
+void *__libc_realloc(void *old, size_t size);
+
+static long asked = 0;
+
+static long number(const char *name) {
+    const char *text = getenv(name);
+    return text == NULL ? -1 : atol(text);
+}
+
+static void report(const char *line) {
+    if (write((int)number("ALLOCATION_REPORT"), line, strlen(line)) != (ssize_t)strlen(line))
+        abort();
+}
+
+static int is_refused(size_t old, size_t size) {
+    char line[64];
+    asked += 1;
+    if (asked == number("REFUSED_ALLOCATION")) {
+        report("refused\n");
+        errno = ENOMEM;
+        return 1;
+    }
+    snprintf(line, sizeof line, "%zu %zu\n", old, size);
+    report(line);
+    return 0;
+}
+
+void *malloc(size_t size) { return is_refused(0, size) ? NULL : __libc_malloc(size); }
+
+void *calloc(size_t count, size_t size) {
+    return is_refused(0, count * size) ? NULL : __libc_calloc(count, size);
+}
+
+void *realloc(void *old, size_t size) {
+    return is_refused(old == NULL ? 0 : malloc_usable_size(old), size) ? NULL : __libc_realloc(old, size);
+}
