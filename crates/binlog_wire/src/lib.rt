@@ -22,8 +22,8 @@ mod version;
 mod version_split;
 
 pub use bytes::{
-    BareBytes, BytesRepr, EofBytes, FixedLengthText, RawBytes, U8Bytes, U32Bytes, WritableBytes,
-    lossy_text,
+    BareBytes, BareU8Bytes, BareU16Bytes, BytesRepr, EofBytes, FixedLengthText, NullBytes, RawBytes,
+    U8Bytes, U32Bytes, WritableBytes, lossy_text,
 };
 pub use codes::{
     BinlogChecksumAlg, IncidentType, IntvarEventType, UnknownChecksumAlg, UnknownIncidentType,
