@@ -9,11 +9,10 @@ use Rattle.binlog_wire.specs.Reading.{Read, read_as, other_type}
 use Rattle.binlog_wire.specs.Fields.{IsNumber, number_at, IsAllowed, allowed_at, IsCoded, coded_at, IsBlock, block_at, IsRest, rest_at, IsText, text_at, prefixed, padded, HasNoZero, IsTerminated, terminated_at, Then, then_at, unit_at, Skipped, skipped_at, behind_zeros, IsSeenAs, IsMade, IsSilent, silent_at, IsEither, either_at, IsPresentFrom, present_from_at}
 use Rattle.binlog_wire.specs.Laws.{Keeps}
 use Rattle.binlog_wire.specs.Laws.Numbers.{IsCode, keeps_number, keeps_allowed, keeps_coded, length-number}
-use Rattle.binlog_wire.specs.Laws.Texts.{keeps_block, keeps_rest, keeps_text}
+use Rattle.binlog_wire.specs.Laws.Texts.{keeps_block, keeps_rest, keeps_text, length-padded, padded_all}
 use Rattle.binlog_wire.specs.Laws.Terminated.{keeps_terminated, terminated_long}
 use Rattle.binlog_wire.specs.Laws.Sequences.{keeps_then, keeps_unit, keeps_skipped, keeps_seen_as, keeps_made}
 use Rattle.binlog_wire.specs.Laws.Choices.{keeps_silent, keeps_either, keeps_present_from}
-use Rattle.binlog_wire.specs.Canonical.{length-padded, padded_all}
 
 -- Where a field may stand: anywhere, or only at the end of a body, as a field that takes all bytes.
 pub data Place : Type 0 where

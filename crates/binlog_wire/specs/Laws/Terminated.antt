@@ -52,7 +52,7 @@ terminated_first (suc b ∷ s) zero first is = absurd (omega (arith, eqb-true _ 
 terminated_first (suc b ∷ s) (suc place) first is =
     let high : place < length s = omega (arith, first.high) in
     let later : NoneBefore (Passes (is_byte 0) s) 0 (length s) place
-        = record { low = omega arith; high = high; before = λ k low less at. first.before (suc k) (omega arith) (omega arith) at } in
+    = record { low = omega arith; high = high; before = λ k low less at. first.before (suc k) (omega arith) (omega arith) at } in
     rw (terminated_first s place later is) refl
 
 -- as a search answers
@@ -61,8 +61,8 @@ pub terminated_search : (s : List ℕ) (found : Option ℕ) → IsFirstByte (is_
 terminated_search s None none = terminated_nowhere s none
 terminated_search s (Some place) first =
     let all : take (length s - (place + 1)) (drop (place + 1) s) ≡ drop (place + 1) s
-        = take_all (length s - (place + 1)) (drop (place + 1) s) (omega (arith, length-drop (place + 1) s)) in
+    = take_all (length s - (place + 1)) (drop (place + 1) s) (omega (arith, length-drop (place + 1) s)) in
     let next : suc place ≡ place + 1 = omega arith in
     let here : terminated_at s ≡ Ok (take place s, drop (place + 1) s)
-        = subst (λ (n : ℕ). terminated_at s ≡ Ok (take place s, drop n s)) next (terminated_first s place first.0 first.1) in
+    = subst (λ (n : ℕ). terminated_at s ≡ Ok (take place s, drop n s)) next (terminated_first s place first.0 first.1) in
     here ∙ ap (λ (r : List ℕ). Ok (take place s, r)) (sym all)
