@@ -97,11 +97,7 @@ impl<'de> MyDeserialize<'de> for BeginLoadQueryEvent<'de> {
 
     ghost reads = { λ _. begin_load_query.reads };
 
-    fn deserialize(
-        alloc: Global,
-        _ctx: BinlogCtx<'de>,
-        buf: &mut ParseBuf<'de>,
-    ) -> Result<Self, Error> {
+    fn deserialize(alloc: Global, _ctx: Self::Ctx, buf: &mut ParseBuf<'de>) -> Result<Self, Error> {
         let file_id = buf.parse::<RawInt<LeU32>>(alloc, ())?.0;
         let block_data = buf.parse(alloc, ())?;
         Ok(BeginLoadQueryEvent {

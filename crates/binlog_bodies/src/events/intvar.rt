@@ -74,11 +74,7 @@ impl<'de> MyDeserialize<'de> for IntvarEvent {
 
     ghost size = { Some 9 };
 
-    fn deserialize(
-        alloc: Global,
-        _ctx: BinlogCtx<'de>,
-        buf: &mut ParseBuf<'de>,
-    ) -> Result<Self, Error> {
+    fn deserialize(alloc: Global, _ctx: Self::Ctx, buf: &mut ParseBuf<'de>) -> Result<Self, Error> {
         if buf.len() < INTVAR_LEN {
             return Err(Error::EndOfBody);
         }

@@ -31,11 +31,7 @@ impl<'de> MyDeserialize<'de> for RandEvent {
 
     ghost size = { Some 16 };
 
-    fn deserialize(
-        alloc: Global,
-        _ctx: BinlogCtx<'de>,
-        buf: &mut ParseBuf<'de>,
-    ) -> Result<Self, Error> {
+    fn deserialize(alloc: Global, _ctx: Self::Ctx, buf: &mut ParseBuf<'de>) -> Result<Self, Error> {
         if buf.len() < RAND_LEN {
             return Err(Error::EndOfBody);
         }

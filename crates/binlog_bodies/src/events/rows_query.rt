@@ -74,11 +74,7 @@ impl<'de> MyDeserialize<'de> for RowsQueryEvent<'de> {
 
     ghost reads = { λ _. rows_query.reads };
 
-    fn deserialize(
-        alloc: Global,
-        _ctx: BinlogCtx<'de>,
-        buf: &mut ParseBuf<'de>,
-    ) -> Result<Self, Error> {
+    fn deserialize(alloc: Global, _ctx: Self::Ctx, buf: &mut ParseBuf<'de>) -> Result<Self, Error> {
         buf.parse::<Skip<1>>(alloc, ())?;
         let query = buf.parse(alloc, ())?;
         Ok(RowsQueryEvent { query })

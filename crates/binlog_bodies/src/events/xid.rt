@@ -30,11 +30,7 @@ impl<'de> MyDeserialize<'de> for XidEvent {
 
     ghost reads = { λ ctx. (xid (post_header (description_of ctx.fde) XID_EVENT)).reads };
 
-    fn deserialize(
-        _alloc: Global,
-        ctx: BinlogCtx<'de>,
-        buf: &mut ParseBuf<'de>,
-    ) -> Result<Self, Error> {
+    fn deserialize(_alloc: Global, ctx: Self::Ctx, buf: &mut ParseBuf<'de>) -> Result<Self, Error> {
         let post_header = ctx.fde.get_event_type_header_length(EventType::XID_EVENT);
         if !buf.checked_skip(usize::from(post_header)) {
             return Err(Error::EndOfBody);
