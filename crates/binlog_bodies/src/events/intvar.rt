@@ -1,5 +1,6 @@
 //! The event of an integer variable, an auto-increment value or the last insert id.
-ghost use Rattle.std.specs.Prelude.{◌≡◌};
+ghost use Rattle.std.specs.Prelude.{◌≡◌, Some, refl};
+ghost use Rattle.binlog_bodies.specs.Intvar.{intvar};
 
 use crate::ctx::BinlogCtx;
 use crate::traits::BinlogEvent;
@@ -63,9 +64,6 @@ impl IntvarEvent {
 /// [`Error::EndOfBody`] where fewer than 9 bytes are there, and else [`Error::InvalidData`] where the variable's number
 /// is above 2.
 impl<'de> MyDeserialize<'de> for IntvarEvent {
-    ghost use Rattle.std.specs.Prelude.{Some};
-    ghost use Rattle.binlog_bodies.specs.Intvar.{intvar};
-
     const SIZE: Option<usize> = Some(9);
 
     type Ctx = BinlogCtx<'de>;
@@ -85,8 +83,6 @@ impl<'de> MyDeserialize<'de> for IntvarEvent {
 }
 
 impl Put for IntvarEvent {
-    ghost use Rattle.binlog_bodies.specs.Intvar.{intvar};
-
     ghost bytes = { intvar.written };
 
     fn check(&self) -> Result<(), Error> {
@@ -104,9 +100,6 @@ impl Put for IntvarEvent {
 }
 
 impl<'a> BinlogEvent<'a> for IntvarEvent {
-    ghost use Rattle.std.specs.Prelude.{refl};
-    ghost use Rattle.binlog_bodies.specs.Intvar.{intvar};
-
     const EVENT_TYPE: EventType = EventType::INTVAR_EVENT;
 
     ghost format = { λ _ _. intvar };

@@ -1,4 +1,7 @@
 //! The event of the two seeds of `RAND()`.
+ghost use Rattle.std.specs.Prelude.{Some, refl};
+ghost use Rattle.binlog_bodies.specs.Rand.{rand};
+
 use crate::ctx::BinlogCtx;
 use crate::traits::BinlogEvent;
 use binlog_wire::{Error, EventType, LeU64, MyDeserialize, ParseBuf, Put, RawInt};
@@ -20,9 +23,6 @@ pub struct RandEvent {
 
 /// [`Error::EndOfBody`] where fewer than 16 bytes are there, and no other error.
 impl<'de> MyDeserialize<'de> for RandEvent {
-    ghost use Rattle.std.specs.Prelude.{Some};
-    ghost use Rattle.binlog_bodies.specs.Rand.{rand};
-
     const SIZE: Option<usize> = Some(16);
 
     type Ctx = BinlogCtx<'de>;
@@ -42,8 +42,6 @@ impl<'de> MyDeserialize<'de> for RandEvent {
 }
 
 impl Put for RandEvent {
-    ghost use Rattle.binlog_bodies.specs.Rand.{rand};
-
     ghost bytes = { rand.written };
 
     fn check(&self) -> Result<(), Error> {
@@ -61,9 +59,6 @@ impl Put for RandEvent {
 }
 
 impl<'a> BinlogEvent<'a> for RandEvent {
-    ghost use Rattle.std.specs.Prelude.{refl};
-    ghost use Rattle.binlog_bodies.specs.Rand.{rand};
-
     const EVENT_TYPE: EventType = EventType::RAND_EVENT;
 
     ghost format = { λ _ _. rand };
