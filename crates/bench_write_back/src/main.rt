@@ -13,7 +13,7 @@ use write_back::write_back;
 /// The size of the buffers of the input and the output, in bytes.
 const BUFFER_SIZE: usize = 65_536;
 
-fn run(rt: &(impl Input + Print + AllocGlobal)) -> Result<u64, Error> {
+fn run(rt: &(impl Input + Print + AllocGlobal)) -> Result<(), Error> {
     let Ok(input) = BufReader::with_capacity(rt.alloc(), BUFFER_SIZE, rt.reader()) else {
         return Err(Error::Memory);
     };
@@ -29,7 +29,7 @@ fn run(rt: &(impl Input + Print + AllocGlobal)) -> Result<u64, Error> {
 
 fn main(rt: HostRuntime) -> ExitCode {
     match run(&rt) {
-        Ok(_) => ExitCode::SUCCESS,
+        Ok(()) => ExitCode::SUCCESS,
         Err(_) => ExitCode::FAILURE,
     }
 }
