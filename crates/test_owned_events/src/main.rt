@@ -32,3 +32,6 @@ fn main(rt: HostRuntime) -> ExitCode {
         Err(_) => ExitCode::FAILURE,
     }
 }
+
+#[cfg(test)]
+mod tests;
