@@ -5,9 +5,9 @@ Usage: allocations.py
 
 The programs and tests are those that are built in crates/NAME/out. Further events take one buffer each where they are
 owned (test_owned_events), and nothing where they are lent (binlog_list, bench_write_back), nor does a checksum. Where a
-header states 4,294,967,295 bytes and few have come, in pieces of 20, no allocation grows by more than 65,536 bytes. No
-test of bytes, bodies and frames asks for more than it reads or builds. The last line is `N passed, M failed`; the exit
-status is 1 if something failed. Without the C compiler `cc` nothing is run, and both numbers are 0.
+header states 4,294,967,295 bytes and few have come, in pieces of 20, no allocation of a program grows by more than 65,536
+bytes, and no allocation of any test does. The last line is `N passed, M failed`; the exit status is 1 if something
+failed. Without the C compiler `cc` nothing is run, and both numbers are 0.
 """
 
 import socket
@@ -34,7 +34,7 @@ LOGS = {
 # How many allocations each program makes for a further event.
 PROGRAMS = {"binlog_list": 0, "bench_write_back": 0, "test_owned_events": 1}
 
-# A growth may be so large, and so large an allocation of a test may be.
+# The bytes by which an allocation may grow at a time, and those that a read gives where it gives pieces.
 LARGEST_GROWTH = 65_536
 PIECE = 20
 
@@ -70,7 +70,7 @@ def run_over_pieces(watch, command, content):
 
 
 def growth_failure(name, run):
-    """None if no allocation grew by too much, nor by anything before bytes for it had come."""
+    """None if no allocation grew by too much at a time, else what is wrong."""
     largest = max(new - old for old, new in run.allocations)
     if largest <= LARGEST_GROWTH:
         return None
@@ -78,7 +78,7 @@ def growth_failure(name, run):
 
 
 def total_failure(name, run, came):
-    """None if no allocation is larger than what came and one growth."""
+    """None if no allocation is larger than what came and one growth, else what is wrong."""
     largest = max(new for _, new in run.allocations)
     if largest <= came + LARGEST_GROWTH:
         return None

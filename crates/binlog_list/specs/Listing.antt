@@ -67,14 +67,14 @@ pub record ListsAll (s : StreamState) (rest : List ℕ) (was : Bool) (old new : 
 
 -- All items are listed before the call that answered this error, since memory ran out or the reader failed: behind
 -- them the iteration stood at `state`, `unread` and `ended`, and that call left it at `after`, `left` and `is`.
-pub record ListsBefore (error : Error) (s : StreamState) (rest : List ℕ) (was : Bool) (old : Option (List ℕ)) (after : StreamState) (left : List ℕ) (is : Bool) (new : Option (List ℕ)) : Type 0 where
+pub record ListsBefore (error : Error) (s : StreamState) (rest : List ℕ) (was : Bool) (old : Option (List ℕ)) (after : StreamState) (left : Option (List ℕ)) (is : Bool) (new : Option (List ℕ)) : Type 0 where
   pub items : List (Result EventView Error)
   pub state : StreamState
   pub unread : List ℕ
   pub ended : Bool
   pub before : (more : List (Result EventView Error)) → AreLeft state unread ended more → AreLeft s rest was (items ++ more)
   pub written : Appends old new (listing 0 items)
-  pub refused : Gives Handles state after (Some unread) ended (Some (Err error)) (Some left) is
+  pub refused : Gives Handles state after (Some unread) ended (Some (Err error)) left is
   pub outside : is_outside error ≡ true
 
 -- The writer failed: it has a front of the listing.
@@ -84,7 +84,7 @@ pub record ListsFront (s : StreamState) (rest : List ℕ) (was : Bool) (old new 
   pub written : AppendsFront old new (listing 0 items)
 
 -- What listing the items that are left may answer, what is then written, and where the iteration stands.
-abbrev pub ListsItems : StreamState → List ℕ → Bool → Option (List ℕ) → Result Bool Error → StreamState → List ℕ → Bool → Option (List ℕ) → Type 0
+abbrev pub ListsItems : StreamState → List ℕ → Bool → Option (List ℕ) → Result Bool Error → StreamState → Option (List ℕ) → Bool → Option (List ℕ) → Type 0
 ListsItems s rest was old (Ok has_errors) after left is new = ListsAll s rest was old new has_errors × (is ≡ true)
 ListsItems s rest was old (Err Writer) after left is new = ListsFront s rest was old new
 ListsItems s rest was old (Err error) after left is new = ListsBefore error s rest was old after left is new
@@ -94,7 +94,7 @@ pub record ListsFile (bytes : List ℕ) (old : Option (List ℕ)) (answer : Resu
   pub stream : List ℕ
   pub file : bytes ≡ file_header ++ stream
   pub after : StreamState
-  pub left : List ℕ
+  pub left : Option (List ℕ)
   pub ended : Bool
   pub lists : ListsItems (first_state Version4) stream false old answer after left ended new
 

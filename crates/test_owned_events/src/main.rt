@@ -10,10 +10,10 @@ use std::process::ExitCode;
 /// The size of the input's buffer, in bytes.
 const BUFFER_SIZE: usize = 65_536;
 
-// Reads events up to the first item that is an error. Their number is bounded, so that the loop is proved to end.
+// Reads events up to the first item that is an error.
 fn read_events<R: BufRead + Drop>(alloc: Global, input: R) -> Result<(), Error> {
     let file = BinlogFile::new(alloc, BinlogVersion::Version4, input)?;
-    for item in file.take(usize::MAX) {
+    for item in file.items() {
         item?;
     }
     Ok(())
@@ -32,3 +32,6 @@ fn main(rt: HostRuntime) -> ExitCode {
         Err(_) => ExitCode::FAILURE,
     }
 }
+
+#[cfg(test)]
+mod tests;
