@@ -1,5 +1,5 @@
 -- Hexadecimal digits by a table, byte by byte.
-use Rattle.std.proofs.Common.{◌≡◌, ℕ, zero, suc, ◌+◌, ◌-◌, ◌*◌, ◌/◌, ◌%◌, ◌<◌, Bool, true, ◌&&◌, T, eqb, List, [], ◌∷◌, ◌++◌, length, slice_index, refl, inl, inr, arith, eq-zero-or-pos, eqb→eq, append_assoc, sym}
+use Rattle.std.proofs.Common.{◌≡◌, ℕ, zero, suc, ◌+◌, ◌-◌, ◌*◌, ◌/◌, ◌%◌, ◌<◌, Bool, true, ◌&&◌, T, eqb, List, [], ◌∷◌, ◌++◌, length, slice_index, refl, inl, inr, arith, eq-zero-or-pos, eqb→eq, append_assoc}
 use lib.Ieee.Fits.{and_l, and_r}
 use Rattle.hex.specs.Hex.{encode_lower, encode_with, lower_digits}
 use Rattle.binlog_list.specs.declared.line.TheConstants.{HEX_DIGITS}

@@ -1,4 +1,4 @@
-use Rattle.std.proofs.Common.{arith, refl}
+use Rattle.std.proofs.Common.{refl}
 use Rattle.binlog_list.proofs.Digits.{two_bytes}
 use Rattle.binlog_list.proofs.line.write_four_digits.Goals as goal
 

@@ -1,4 +1,4 @@
-use Rattle.std.proofs.Common.{ap, refl, ◌∙◌, arith, rules}
+use Rattle.std.proofs.Common.{ap, refl, ◌∙◌, rules}
 use Rattle.binlog_list.proofs.Written.{written_none, written_more, written_all, written_front, written_kept, rest_behind}
 use Rattle.binlog_list.proofs.output.write_line.Goals as goal
 use Rattle.binlog_list.proofs.output.write_line.Goals.{in-Ok, in-Err+else-ne}
