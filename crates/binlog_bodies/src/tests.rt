@@ -490,6 +490,13 @@ fn reading_takes_no_memory(rt: HostRuntime) -> Result<(), Fail> {
         read::<IntvarEvent>(alloc, &fde, b"\x02\x0b\0\0\0\0\0\0\0")?.value(),
         11
     );
+    Ok(())
+}
+
+#[test]
+fn reading_further_bodies_takes_no_memory(rt: HostRuntime) -> Result<(), Fail> {
+    let alloc = rt.alloc();
+    let fde = FormatDescriptionEvent::new(BinlogVersion::Version4);
     let rand: RandEvent = read(alloc, &fde, b"\x0b\0\0\0\0\0\0\0\x0c\0\0\0\0\0\0\0")?;
     assert_eq!(rt; rand.seed2.0, 12);
     let incident: IncidentEvent = read(alloc, &fde, b"\x01\0\x01m")?;
@@ -524,7 +531,7 @@ fn lends_a_description(rt: HostRuntime) -> Result<(), Fail> {
     let event = lent.to_event();
     assert_eq!(rt; event.as_ref(), lent);
     assert_eq!(rt;
-        DescriptionRef::read(&DESCRIPTION[..56]).err(),
+        DescriptionRef::read(b"\x04\0").err(),
         Some(Error::EndOfBody)
     );
     assert_eq!(rt;
