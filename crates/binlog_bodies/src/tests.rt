@@ -34,6 +34,11 @@ fn read<'a, T: BinlogEvent<'a> + Drop>(
     read_body(alloc, ctx, body)
 }
 
+// Lends a description from its body.
+fn lent(body: &[u8]) -> Result<DescriptionRef<'_>, Error> {
+    DescriptionRef::read(body)
+}
+
 // Writes a value behind one byte, and gives all bytes.
 fn written<T: MySerialize>(alloc: Global, value: &T) -> Result<Vec<u8>, Error> {
     let mut bytes = Vec::from_slice(alloc, b"x")?;
@@ -478,7 +483,7 @@ fn refused_memory_changes_nothing(rt: HostRuntime) -> Result<(), Fail> {
 #[test]
 fn reading_takes_no_memory(rt: HostRuntime) -> Result<(), Fail> {
     let alloc = rt.alloc();
-    let fde = DescriptionRef::read(DESCRIPTION)?.to_event();
+    let fde = lent(DESCRIPTION)?.to_event();
     let description: FormatDescriptionEvent = read(alloc, &fde, DESCRIPTION)?;
     assert_eq!(rt; description, fde);
     assert_eq!(rt;
@@ -511,29 +516,27 @@ fn reading_further_bodies_takes_no_memory(rt: HostRuntime) -> Result<(), Fail> {
 #[test]
 fn lends_a_description(rt: HostRuntime) -> Result<(), Fail> {
     let alloc = rt.alloc();
-    let lent = DescriptionRef::read(DESCRIPTION)?;
-    assert_eq!(rt; lent.binlog_version(), BinlogVersion::Version4);
-    assert_eq!(rt; lent.split_version(), (5, 0, 86));
+    let description = lent(DESCRIPTION)?;
+    assert_eq!(rt; description.binlog_version(), BinlogVersion::Version4);
+    assert_eq!(rt; description.split_version(), (5, 0, 86));
     assert!(rt;
-        lent.server_version(alloc)?
+        description
+            .server_version(alloc)?
             .as_str()
             .starts_with("5.0.86-debug-log\0")
     );
-    assert_eq!(rt; lent.server_version_raw().len(), 50);
-    assert_eq!(rt; lent.create_timestamp(), 0x4abb_35fc);
-    assert_eq!(rt; lent.event_type_header_lengths().len(), 18);
+    assert_eq!(rt; description.server_version_raw().len(), 50);
+    assert_eq!(rt; description.create_timestamp(), 0x4abb_35fc);
+    assert_eq!(rt; description.event_type_header_lengths().len(), 18);
     assert_eq!(rt;
-        lent.get_event_type_header_length(EventType::FORMAT_DESCRIPTION_EVENT),
+        description.get_event_type_header_length(EventType::FORMAT_DESCRIPTION_EVENT),
         75
     );
     let footer = BinlogEventFooter::new(BinlogChecksumAlg::BINLOG_CHECKSUM_ALG_CRC32);
-    assert_eq!(rt; lent.with_footer(footer).footer(), footer);
-    let event = lent.to_event();
-    assert_eq!(rt; event.as_ref(), lent);
-    assert_eq!(rt;
-        DescriptionRef::read(b"\x04\0").err(),
-        Some(Error::EndOfBody)
-    );
+    assert_eq!(rt; description.with_footer(footer).footer(), footer);
+    let event = description.to_event();
+    assert_eq!(rt; event.as_ref(), description);
+    assert_eq!(rt; lent(b"\x04\0").err(), Some(Error::EndOfBody));
     assert_eq!(rt;
         DescriptionRef::new(BinlogVersion::Version3).to_event(),
         FormatDescriptionEvent::new(BinlogVersion::Version3)
