@@ -7,6 +7,7 @@ pub mod VersionBlock
 pub mod PostHeaderDefaults
 pub mod PostHeaders
 pub mod FormatDescription
+pub mod DescriptionRefs
 pub mod FormatDescriptionLaws
 pub mod BeginLoadQuery
 pub mod Incident

@@ -4,10 +4,9 @@ ghost use Rattle.std.specs.Cow.{cow_slice_items};
 ghost use Rattle.binlog_wire.specs.declared.error.Error.TheVariants.{Memory};
 
 use crate::ctx::BinlogCtx;
-use crate::traits::{BinlogEvent, BinlogStruct, MAX_BODY_LEN};
+use crate::traits::BinlogEvent;
 use binlog_wire::{
-    BinlogVersion, EofBytes, Error, EventType, IntRepr, LeU32, MyDeserialize, MySerialize,
-    ParseBuf, RawBytes, RawInt, reserve,
+    EofBytes, Error, EventType, IntRepr, LeU32, MyDeserialize, ParseBuf, Put, RawBytes, RawInt,
 };
 use std::alloc::Global;
 use std::borrow::CowSlice;
@@ -90,13 +89,13 @@ impl<'a> BeginLoadQueryEvent<'a> {
 
 /// [`Error::EndOfBody`] where fewer than 4 bytes are there, and no other error.
 impl<'de> MyDeserialize<'de> for BeginLoadQueryEvent<'de> {
-    ghost use Rattle.binlog_bodies.specs.BeginLoadQuery.{begin_load_query_at};
+    ghost use Rattle.binlog_bodies.specs.BeginLoadQuery.{begin_load_query};
 
     const SIZE: Option<usize> = None;
 
     type Ctx = BinlogCtx<'de>;
 
-    ghost reads = { λ _ s. begin_load_query_at s };
+    ghost reads = { λ _. begin_load_query.reads };
 
     fn deserialize(
         alloc: Global,
@@ -112,38 +111,36 @@ impl<'de> MyDeserialize<'de> for BeginLoadQueryEvent<'de> {
     }
 }
 
-impl MySerialize for BeginLoadQueryEvent<'_> {
-    ghost use Rattle.binlog_wire.specs.Canonical.{IsCanonical};
-    ghost use Rattle.binlog_bodies.specs.BeginLoadQuery.{Fits, IsBeginLoadQuery, body_of};
+impl Put for BeginLoadQueryEvent<'_> {
+    ghost use Rattle.binlog_bodies.specs.BeginLoadQuery.{begin_load_query};
 
-    ghost written = { body_of };
+    ghost bytes = { begin_load_query.written };
 
-    ghost canonical = { IsCanonical Fits IsBeginLoadQuery body_of (λ v. v) };
-
-    fn serialize(&self, _alloc: Global, buf: &mut Vec<u8>) -> Result<(), Error> {
-        let file_id = self.file_id;
-        reserve(buf, 4 + self.block_data.written_len())?;
-        LeU32::put(file_id, buf);
-        self.block_data.put(buf);
+    fn check(&self) -> Result<(), Error> {
         Ok(())
     }
-}
 
-impl<'a> BinlogStruct<'a> for BeginLoadQueryEvent<'a> {
-    fn len(&self, _version: BinlogVersion) -> usize {
-        MAX_BODY_LEN.min(4 + self.block_data.written_len())
+    fn written_len(&self) -> usize {
+        4 + self.block_data.written_len()
+    }
+
+    fn put(&self, buf: &mut Vec<u8>) {
+        LeU32::put(self.file_id, buf);
+        self.block_data.put(buf);
     }
 }
 
 impl<'a> BinlogEvent<'a> for BeginLoadQueryEvent<'a> {
     ghost use Rattle.std.specs.Prelude.{refl};
-    ghost use Rattle.binlog_bodies.specs.BeginLoadQuery.{IsBeginLoadQuery, keeps_begin_load_query};
+    ghost use Rattle.binlog_bodies.specs.BeginLoadQuery.{begin_load_query};
 
     const EVENT_TYPE: EventType = EventType::BEGIN_LOAD_QUERY_EVENT;
 
-    ghost grammar = { λ _ _ s v r. IsBeginLoadQuery s v r };
+    ghost format = { λ _ _. begin_load_query };
 
-    ghost keeps = { λ _. keeps_begin_load_query };
+    ghost raw_type = { λ _. 17 };
 
-    ghost settled = { λ _ _ _ _ _ _. refl };
+    ghost reading = { λ _. refl };
+
+    ghost writing = { λ _ _ _. refl };
 }

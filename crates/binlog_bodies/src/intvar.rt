@@ -2,10 +2,9 @@
 ghost use Rattle.std.specs.Prelude.{◌≡◌};
 
 use crate::ctx::BinlogCtx;
-use crate::traits::{BinlogEvent, BinlogStruct};
+use crate::traits::BinlogEvent;
 use binlog_wire::{
-    BinlogVersion, Const, Error, EventType, IntRepr, IntvarEventType, LeU64, MyDeserialize,
-    MySerialize, ParseBuf, RawInt, reserve,
+    Const, Error, EventType, IntRepr, IntvarEventType, LeU64, MyDeserialize, ParseBuf, Put, RawInt,
 };
 use std::alloc::Global;
 
@@ -65,13 +64,13 @@ impl IntvarEvent {
 /// is above 2.
 impl<'de> MyDeserialize<'de> for IntvarEvent {
     ghost use Rattle.std.specs.Prelude.{Some};
-    ghost use Rattle.binlog_bodies.specs.Intvar.{intvar_at};
+    ghost use Rattle.binlog_bodies.specs.Intvar.{intvar};
 
     const SIZE: Option<usize> = Some(9);
 
     type Ctx = BinlogCtx<'de>;
 
-    ghost reads = { λ _ s. intvar_at s };
+    ghost reads = { λ _. intvar.reads };
 
     ghost size = { Some 9 };
 
@@ -89,38 +88,36 @@ impl<'de> MyDeserialize<'de> for IntvarEvent {
     }
 }
 
-impl MySerialize for IntvarEvent {
-    ghost use Rattle.binlog_wire.specs.Canonical.{IsCanonical};
-    ghost use Rattle.binlog_bodies.specs.Intvar.{Fits, IsIntvar, body_of};
+impl Put for IntvarEvent {
+    ghost use Rattle.binlog_bodies.specs.Intvar.{intvar};
 
-    ghost written = { body_of };
+    ghost bytes = { intvar.written };
 
-    ghost canonical = { IsCanonical Fits IsIntvar body_of (λ v. v) };
-
-    fn serialize(&self, _alloc: Global, buf: &mut Vec<u8>) -> Result<(), Error> {
-        let IntvarEvent { subtype, value } = *self;
-        reserve(buf, INTVAR_LEN)?;
-        u8::put(u8::from(subtype), buf);
-        LeU64::put(value, buf);
+    fn check(&self) -> Result<(), Error> {
         Ok(())
     }
-}
 
-impl<'a> BinlogStruct<'a> for IntvarEvent {
-    fn len(&self, _version: BinlogVersion) -> usize {
+    fn written_len(&self) -> usize {
         INTVAR_LEN
+    }
+
+    fn put(&self, buf: &mut Vec<u8>) {
+        u8::put(u8::from(self.subtype), buf);
+        LeU64::put(self.value, buf);
     }
 }
 
 impl<'a> BinlogEvent<'a> for IntvarEvent {
     ghost use Rattle.std.specs.Prelude.{refl};
-    ghost use Rattle.binlog_bodies.specs.Intvar.{IsIntvar, keeps_intvar};
+    ghost use Rattle.binlog_bodies.specs.Intvar.{intvar};
 
     const EVENT_TYPE: EventType = EventType::INTVAR_EVENT;
 
-    ghost grammar = { λ _ _ s v r. IsIntvar s v r };
+    ghost format = { λ _ _. intvar };
 
-    ghost keeps = { λ _. keeps_intvar };
+    ghost raw_type = { λ _. 5 };
 
-    ghost settled = { λ _ _ _ _ _ _. refl };
+    ghost reading = { λ _. refl };
+
+    ghost writing = { λ _ _ _. refl };
 }

@@ -4,12 +4,14 @@
 
 mod begin_load_query;
 mod ctx;
+mod description_ref;
 mod footer;
 mod format_description;
 mod header;
 mod incident;
 mod intvar;
 pub mod laws;
+mod post_header;
 mod rand;
 mod rotate;
 mod rows_query;
@@ -19,6 +21,7 @@ mod xid;
 pub use begin_load_query::BeginLoadQueryEvent;
 pub use binlog_wire::{BinlogVersion, Error, Field, Invalid};
 pub use ctx::BinlogCtx;
+pub use description_ref::DescriptionRef;
 pub use footer::BinlogEventFooter;
 pub use format_description::{FormatDescriptionEvent, SERVER_VER_LEN};
 pub use header::BinlogEventHeader;

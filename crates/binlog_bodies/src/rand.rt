@@ -1,10 +1,7 @@
 //! The event of the two seeds of `RAND()`.
 use crate::ctx::BinlogCtx;
-use crate::traits::{BinlogEvent, BinlogStruct};
-use binlog_wire::{
-    BinlogVersion, Error, EventType, IntRepr, LeU64, MyDeserialize, MySerialize, ParseBuf, RawInt,
-    reserve,
-};
+use crate::traits::BinlogEvent;
+use binlog_wire::{Error, EventType, LeU64, MyDeserialize, ParseBuf, Put, RawInt};
 use std::alloc::Global;
 
 /// The length of the body in bytes.
@@ -24,13 +21,13 @@ pub struct RandEvent {
 /// [`Error::EndOfBody`] where fewer than 16 bytes are there, and no other error.
 impl<'de> MyDeserialize<'de> for RandEvent {
     ghost use Rattle.std.specs.Prelude.{Some};
-    ghost use Rattle.binlog_bodies.specs.Rand.{rand_at};
+    ghost use Rattle.binlog_bodies.specs.Rand.{rand};
 
     const SIZE: Option<usize> = Some(16);
 
     type Ctx = BinlogCtx<'de>;
 
-    ghost reads = { λ _ s. rand_at s };
+    ghost reads = { λ _. rand.reads };
 
     ghost size = { Some 16 };
 
@@ -48,38 +45,36 @@ impl<'de> MyDeserialize<'de> for RandEvent {
     }
 }
 
-impl MySerialize for RandEvent {
-    ghost use Rattle.binlog_wire.specs.Canonical.{IsCanonical};
-    ghost use Rattle.binlog_bodies.specs.Rand.{Fits, IsRand, body_of};
+impl Put for RandEvent {
+    ghost use Rattle.binlog_bodies.specs.Rand.{rand};
 
-    ghost written = { body_of };
+    ghost bytes = { rand.written };
 
-    ghost canonical = { IsCanonical Fits IsRand body_of (λ v. v) };
-
-    fn serialize(&self, _alloc: Global, buf: &mut Vec<u8>) -> Result<(), Error> {
-        let (seed1, seed2) = (self.seed1.0, self.seed2.0);
-        reserve(buf, RAND_LEN)?;
-        LeU64::put(seed1, buf);
-        LeU64::put(seed2, buf);
+    fn check(&self) -> Result<(), Error> {
         Ok(())
     }
-}
 
-impl<'a> BinlogStruct<'a> for RandEvent {
-    fn len(&self, _version: BinlogVersion) -> usize {
+    fn written_len(&self) -> usize {
         RAND_LEN
+    }
+
+    fn put(&self, buf: &mut Vec<u8>) {
+        self.seed1.put(buf);
+        self.seed2.put(buf);
     }
 }
 
 impl<'a> BinlogEvent<'a> for RandEvent {
     ghost use Rattle.std.specs.Prelude.{refl};
-    ghost use Rattle.binlog_bodies.specs.Rand.{IsRand, keeps_rand};
+    ghost use Rattle.binlog_bodies.specs.Rand.{rand};
 
     const EVENT_TYPE: EventType = EventType::RAND_EVENT;
 
-    ghost grammar = { λ _ _ s v r. IsRand s v r };
+    ghost format = { λ _ _. rand };
 
-    ghost keeps = { λ _. keeps_rand };
+    ghost raw_type = { λ _. 13 };
 
-    ghost settled = { λ _ _ _ _ _ _. refl };
+    ghost reading = { λ _. refl };
+
+    ghost writing = { λ _ _ _. refl };
 }

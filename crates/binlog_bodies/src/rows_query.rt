@@ -5,10 +5,9 @@ ghost use Rattle.std.specs.Str.Lossy.{utf8_lossy};
 ghost use Rattle.binlog_wire.specs.declared.error.Error.TheVariants.{Memory};
 
 use crate::ctx::BinlogCtx;
-use crate::traits::{BinlogEvent, BinlogStruct, MAX_BODY_LEN};
+use crate::traits::BinlogEvent;
 use binlog_wire::{
-    BinlogVersion, EofBytes, Error, EventType, IntRepr, MyDeserialize, MySerialize, ParseBuf,
-    RawBytes, Skip, reserve,
+    EofBytes, Error, EventType, IntRepr, MyDeserialize, ParseBuf, Put, RawBytes, Skip,
 };
 use std::alloc::Global;
 use std::borrow::{CowSlice, CowStr};
@@ -67,13 +66,13 @@ impl<'a> RowsQueryEvent<'a> {
 
 /// [`Error::EndOfBody`] where no byte is there, and no other error.
 impl<'de> MyDeserialize<'de> for RowsQueryEvent<'de> {
-    ghost use Rattle.binlog_bodies.specs.RowsQuery.{rows_query_at};
+    ghost use Rattle.binlog_bodies.specs.RowsQuery.{rows_query};
 
     const SIZE: Option<usize> = None;
 
     type Ctx = BinlogCtx<'de>;
 
-    ghost reads = { λ _ s. rows_query_at s };
+    ghost reads = { λ _. rows_query.reads };
 
     fn deserialize(
         alloc: Global,
@@ -86,37 +85,36 @@ impl<'de> MyDeserialize<'de> for RowsQueryEvent<'de> {
     }
 }
 
-impl MySerialize for RowsQueryEvent<'_> {
-    ghost use Rattle.binlog_wire.specs.Canonical.{IsCanonical};
-    ghost use Rattle.binlog_bodies.specs.RowsQuery.{Fits, IsRowsQuery, body_of};
+impl Put for RowsQueryEvent<'_> {
+    ghost use Rattle.binlog_bodies.specs.RowsQuery.{rows_query};
 
-    ghost written = { body_of };
+    ghost bytes = { rows_query.written };
 
-    ghost canonical = { IsCanonical Fits IsRowsQuery body_of (λ v. v) };
-
-    fn serialize(&self, _alloc: Global, buf: &mut Vec<u8>) -> Result<(), Error> {
-        reserve(buf, 1 + self.query.written_len())?;
-        u8::put(0, buf);
-        self.query.put(buf);
+    fn check(&self) -> Result<(), Error> {
         Ok(())
     }
-}
 
-impl<'a> BinlogStruct<'a> for RowsQueryEvent<'a> {
-    fn len(&self, _version: BinlogVersion) -> usize {
-        MAX_BODY_LEN.min(1 + self.query.written_len())
+    fn written_len(&self) -> usize {
+        1 + self.query.written_len()
+    }
+
+    fn put(&self, buf: &mut Vec<u8>) {
+        u8::put(0, buf);
+        self.query.put(buf);
     }
 }
 
 impl<'a> BinlogEvent<'a> for RowsQueryEvent<'a> {
     ghost use Rattle.std.specs.Prelude.{refl};
-    ghost use Rattle.binlog_bodies.specs.RowsQuery.{IsRowsQuery, keeps_rows_query};
+    ghost use Rattle.binlog_bodies.specs.RowsQuery.{rows_query};
 
     const EVENT_TYPE: EventType = EventType::ROWS_QUERY_EVENT;
 
-    ghost grammar = { λ _ _ s v r. IsRowsQuery s v r };
+    ghost format = { λ _ _. rows_query };
 
-    ghost keeps = { λ _. keeps_rows_query };
+    ghost raw_type = { λ _. 29 };
 
-    ghost settled = { λ _ _ _ _ _ _. refl };
+    ghost reading = { λ _. refl };
+
+    ghost writing = { λ _ _ _. refl };
 }

@@ -28,7 +28,7 @@ fn read<'a, T: BinlogEvent<'a> + Drop>(
 ) -> Result<T, Error> {
     let ctx = BinlogCtx::new(
         BinlogEventHeader::LEN + body.len(),
-        fde,
+        fde.as_ref(),
         u8::from(T::EVENT_TYPE),
     );
     read_body(alloc, ctx, body)

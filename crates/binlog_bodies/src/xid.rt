@@ -1,9 +1,7 @@
 //! The event that ends a transaction.
 use crate::ctx::BinlogCtx;
-use crate::traits::{BinlogEvent, BinlogStruct};
-use binlog_wire::{
-    BinlogVersion, Error, EventType, IntRepr, LeU64, MyDeserialize, MySerialize, ParseBuf, reserve,
-};
+use crate::traits::BinlogEvent;
+use binlog_wire::{Error, EventType, IntRepr, LeU64, MyDeserialize, ParseBuf, Put};
 use std::alloc::Global;
 
 /// The length of the written body in bytes.
@@ -22,14 +20,15 @@ pub struct XidEvent {
 /// [`Error::EndOfBody`] where fewer bytes are there, and no other error.
 impl<'de> MyDeserialize<'de> for XidEvent {
     ghost use Rattle.binlog_wire.specs.declared.event_type.EventType.TheVariants.{XID_EVENT};
+    ghost use Rattle.binlog_bodies.specs.DescriptionRefs.{description_of};
     ghost use Rattle.binlog_bodies.specs.PostHeaders.{post_header};
-    ghost use Rattle.binlog_bodies.specs.Xid.{xid_at};
+    ghost use Rattle.binlog_bodies.specs.Xid.{xid};
 
     const SIZE: Option<usize> = None;
 
     type Ctx = BinlogCtx<'de>;
 
-    ghost reads = { λ ctx s. xid_at (post_header ctx.fde.now XID_EVENT) s };
+    ghost reads = { λ ctx. (xid (post_header (description_of ctx.fde) XID_EVENT)).reads };
 
     fn deserialize(
         _alloc: Global,
@@ -45,27 +44,21 @@ impl<'de> MyDeserialize<'de> for XidEvent {
     }
 }
 
-impl MySerialize for XidEvent {
-    ghost use Rattle.binlog_wire.specs.declared.event_type.EventType.TheVariants.{XID_EVENT};
-    ghost use Rattle.binlog_wire.specs.Canonical.{IsCanonical};
-    ghost use Rattle.binlog_bodies.specs.PostHeaderDefaults.{default_post_header};
-    ghost use Rattle.binlog_bodies.specs.Xid.{Fits, IsXid, body_of};
+impl Put for XidEvent {
+    ghost use Rattle.binlog_bodies.specs.Xid.{xid};
 
-    ghost written = { body_of };
+    ghost bytes = { (xid 0).written };
 
-    ghost canonical = { IsCanonical Fits (IsXid (default_post_header XID_EVENT)) body_of (λ v. v) };
-
-    fn serialize(&self, _alloc: Global, buf: &mut Vec<u8>) -> Result<(), Error> {
-        let xid = self.xid;
-        reserve(buf, XID_LEN)?;
-        LeU64::put(xid, buf);
+    fn check(&self) -> Result<(), Error> {
         Ok(())
     }
-}
 
-impl<'a> BinlogStruct<'a> for XidEvent {
-    fn len(&self, _version: BinlogVersion) -> usize {
+    fn written_len(&self) -> usize {
         XID_LEN
+    }
+
+    fn put(&self, buf: &mut Vec<u8>) {
+        LeU64::put(self.xid, buf);
     }
 }
 
@@ -73,13 +66,15 @@ impl<'a> BinlogEvent<'a> for XidEvent {
     ghost use Rattle.std.specs.Prelude.{refl};
     ghost use Rattle.binlog_wire.specs.declared.event_type.EventType.TheVariants.{XID_EVENT};
     ghost use Rattle.binlog_bodies.specs.PostHeaders.{post_header};
-    ghost use Rattle.binlog_bodies.specs.Xid.{IsXid, keeps_xid};
+    ghost use Rattle.binlog_bodies.specs.Xid.{xid};
 
     const EVENT_TYPE: EventType = EventType::XID_EVENT;
 
-    ghost grammar = { λ d _ s v r. IsXid (post_header d XID_EVENT) s v r };
+    ghost format = { λ d _. xid (post_header d XID_EVENT) };
 
-    ghost keeps = { λ ctx. keeps_xid (post_header ctx.fde.now XID_EVENT) };
+    ghost raw_type = { λ _. 16 };
 
-    ghost settled = { λ _ _ _ _ _ _. refl };
+    ghost reading = { λ _. refl };
+
+    ghost writing = { λ _ _ _. refl };
 }

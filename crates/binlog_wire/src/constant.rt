@@ -7,7 +7,7 @@ ghost use Rattle.binlog_wire.specs.Fields.{block_at, read_decoded};
 use crate::error::{Error, Invalid};
 use crate::int::IntRepr;
 use crate::parse_buf::ParseBuf;
-use crate::traits::{MyDeserialize, MySerialize};
+use crate::traits::{MyDeserialize, Put};
 use std::alloc::Global;
 use std::marker::PhantomData;
 
@@ -57,11 +57,22 @@ impl<'de, K: IntRepr, E: Constant<K::Primitive>> MyDeserialize<'de> for Const<E,
     }
 }
 
-impl<K: IntRepr, E: Constant<K::Primitive>> MySerialize for Const<E, K> {
-    ghost written = { λ constant. K.written (E.code constant.0) };
+impl<K: IntRepr, E: Constant<K::Primitive>> Put for Const<E, K> {
+    ghost bytes = { λ constant. K.written (E.code constant.0) };
 
-    fn serialize(&self, _alloc: Global, buf: &mut Vec<u8>) -> Result<(), Error> {
-        K::write(self.0.number(), buf)
+    #[inline]
+    fn check(&self) -> Result<(), Error> {
+        Ok(())
+    }
+
+    #[inline]
+    fn written_len(&self) -> usize {
+        K::written_len(self.0.number())
+    }
+
+    #[inline]
+    fn put(&self, buf: &mut Vec<u8>) {
+        K::put(self.0.number(), buf);
     }
 }
 
@@ -103,11 +114,22 @@ impl<'de, K: IntRepr, E> MyDeserialize<'de> for RawConst<K, E> {
     }
 }
 
-impl<K: IntRepr, E> MySerialize for RawConst<K, E> {
-    ghost written = { λ raw. K.written raw.0 };
+impl<K: IntRepr, E> Put for RawConst<K, E> {
+    ghost bytes = { λ raw. K.written raw.0 };
 
-    fn serialize(&self, _alloc: Global, buf: &mut Vec<u8>) -> Result<(), Error> {
-        K::write(self.0, buf)
+    #[inline]
+    fn check(&self) -> Result<(), Error> {
+        Ok(())
+    }
+
+    #[inline]
+    fn written_len(&self) -> usize {
+        K::written_len(self.0)
+    }
+
+    #[inline]
+    fn put(&self, buf: &mut Vec<u8>) {
+        K::put(self.0, buf);
     }
 }
 
@@ -136,13 +158,24 @@ impl<'de, const N: usize> MyDeserialize<'de> for Skip<N> {
     }
 }
 
-impl<const N: usize> MySerialize for Skip<N> {
+impl<const N: usize> Put for Skip<N> {
     ghost use Rattle.std.specs.Prelude.{replicate};
 
-    ghost written = { λ _. replicate N 0 };
+    ghost bytes = { λ _. replicate N 0 };
 
-    fn serialize(&self, _alloc: Global, buf: &mut Vec<u8>) -> Result<(), Error> {
-        let len = buf.len().checked_add(N).ok_or(Error::Memory)?;
-        buf.resize(len, 0).map_err(|_| Error::Memory)
+    #[inline]
+    fn check(&self) -> Result<(), Error> {
+        Ok(())
+    }
+
+    #[inline]
+    fn written_len(&self) -> usize {
+        N
+    }
+
+    #[inline]
+    fn put(&self, buf: &mut Vec<u8>) {
+        let len = buf.len() + N;
+        buf.resize(len, 0).unwrap();
     }
 }

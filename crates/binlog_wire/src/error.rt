@@ -1,6 +1,7 @@
 //! Why reading or writing is refused.
 ghost use Rattle.std.specs.Prelude.{◌≡◌};
 
+use std::alloc::AllocError;
 use thiserror::Error;
 
 /// The value of a unit that is whole in the bytes and that its field doesn't allow.
@@ -162,6 +163,17 @@ impl Error {
                 | Error::ReaderInFrame
                 | Error::Writer
         )
+    }
+}
+
+/// Memory ran out.
+impl From<AllocError> for Error {
+    ghost use Rattle.binlog_wire.specs.declared.error.Error.TheVariants.{Memory};
+
+    ghost from_gives = { λ _ error. error ≡ Memory };
+
+    fn from(_: AllocError) -> Error {
+        Error::Memory
     }
 }
 

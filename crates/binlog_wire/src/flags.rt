@@ -7,7 +7,7 @@ ghost use Rattle.binlog_wire.specs.Reading.{read_as};
 use crate::error::Error;
 use crate::int::IntRepr;
 use crate::parse_buf::ParseBuf;
-use crate::traits::{MyDeserialize, MySerialize};
+use crate::traits::{MyDeserialize, Put};
 use bitflags::{Flag, Flags, bitflag_items};
 use std::alloc::Global;
 use std::marker::PhantomData;
@@ -117,11 +117,22 @@ impl<'de, F, K: IntRepr> MyDeserialize<'de> for RawFlags<F, K> {
     }
 }
 
-impl<F, K: IntRepr> MySerialize for RawFlags<F, K> {
-    ghost written = { λ raw. K.written raw.0 };
+impl<F, K: IntRepr> Put for RawFlags<F, K> {
+    ghost bytes = { λ raw. K.written raw.0 };
 
-    fn serialize(&self, _alloc: Global, buf: &mut Vec<u8>) -> Result<(), Error> {
-        K::write(self.0, buf)
+    #[inline]
+    fn check(&self) -> Result<(), Error> {
+        Ok(())
+    }
+
+    #[inline]
+    fn written_len(&self) -> usize {
+        K::written_len(self.0)
+    }
+
+    #[inline]
+    fn put(&self, buf: &mut Vec<u8>) {
+        K::put(self.0, buf);
     }
 }
 

@@ -8,7 +8,7 @@ ghost use Rattle.binlog_wire.specs.Fields.{number_at};
 
 use crate::error::Error;
 use crate::parse_buf::ParseBuf;
-use crate::traits::{MyDeserialize, MySerialize};
+use crate::traits::{MyDeserialize, Put};
 use byteorder::{ByteOrder, LittleEndian};
 use std::alloc::Global;
 use std::marker::PhantomData;
@@ -43,18 +43,6 @@ pub trait IntRepr {
         ensures items { buf.new.items ≡ buf.old.items ++ written number }
         ensures len { vec_len buf.new ≡ vec_len buf.old + length (written number) }
         ensures capacity { vec_capacity buf.old ≤ vec_capacity buf.new };
-
-    /// Appends the bytes of the number; refused by [`Error::Memory`] alone, and then the contents stay as they were.
-    fn write(number: Self::Primitive, buf: &mut Vec<u8>) -> Result<(), Error>
-        ensures ok { OnOk result (buf.new.items ≡ buf.old.items ++ written number) }
-        ensures err { OnErr result (buf.new.items ≡ buf.old.items) }
-        ensures memory { IsOkUnless result Memory }
-    {
-        buf.reserve(Self::written_len(number))
-            .map_err(|_| Error::Memory)?;
-        Self::put(number, buf);
-        Ok(())
-    }
 }
 
 /// A byte.
@@ -301,17 +289,29 @@ impl<'de, K: IntRepr> MyDeserialize<'de> for RawInt<K> {
     }
 }
 
-impl<K: IntRepr> MySerialize for RawInt<K> {
-    ghost written = { λ raw. K.written raw.0 };
+impl<K: IntRepr> Put for RawInt<K> {
+    ghost bytes = { λ raw. K.written raw.0 };
 
-    fn serialize(&self, _alloc: Global, buf: &mut Vec<u8>) -> Result<(), Error> {
-        K::write(self.0, buf)
+    #[inline]
+    fn check(&self) -> Result<(), Error> {
+        Ok(())
+    }
+
+    #[inline]
+    fn written_len(&self) -> usize {
+        K::written_len(self.0)
+    }
+
+    #[inline]
+    fn put(&self, buf: &mut Vec<u8>) {
+        K::put(self.0, buf);
     }
 }
 
 #[cfg(test)]
 mod tests {
     use super::*;
+    use crate::traits::MySerialize;
     use std::test::Fail;
 
     #[test]

@@ -23,7 +23,7 @@ mod traits;
 mod version;
 mod version_split;
 
-pub use bytes::{BytesRepr, EofBytes, FixedLengthText, RawBytes, U8Bytes, U32Bytes};
+pub use bytes::{BareBytes, BytesRepr, EofBytes, FixedLengthText, RawBytes, U8Bytes, U32Bytes, WritableBytes, lossy_text};
 pub use codes::{
     BinlogChecksumAlg, IncidentType, IntvarEventType, UnknownChecksumAlg, UnknownIncidentType,
 };
@@ -38,6 +38,6 @@ pub use parse_buf::ParseBuf;
 pub use room::reserve;
 pub use statement_codes::{ItemResult, LoadDuplicateHandling, UnknownItemResultType, UserVarFlags};
 pub use status_var_key::{StatusVarKey, UnknownStatusVarKey};
-pub use traits::{MyDeserialize, MySerialize};
+pub use traits::{MyDeserialize, MySerialize, Put};
 pub use version::BinlogVersion;
 pub use version_split::split_version;

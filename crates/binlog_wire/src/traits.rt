@@ -1,17 +1,18 @@
-ghost use Rattle.std.specs.Prelude.{◌≡◌, ◌++◌, ℕ, List, OnOk, OnErr, IsOkUnless, MatchOption, Option, None, Err};
+ghost use Rattle.std.specs.Prelude.{◌≡◌, ◌++◌, ◌+◌, ◌≤◌, ℕ, List, length, vec_len, vec_capacity, OnOk, OnErr, IsOk, IsOkUnless, MatchOption, Option, None, Err};
 ghost use Rattle.binlog_wire.specs.declared.error.Error.{Error};
 ghost use Rattle.binlog_wire.specs.declared.error.Error.TheVariants.{Memory};
 ghost use Rattle.binlog_wire.specs.Reading.{Read, Gives};
 
 use crate::error::Error;
 use crate::parse_buf::ParseBuf;
+use crate::room::reserve;
 use std::alloc::Global;
 
 /// What can be read from the front of bytes.
 ///
 /// Its contract is `reads`, what reading a list of bytes gives under a context: the value and the bytes behind it, or
-/// the refusal. A type says by `grows` whether reading it may take memory; by default it takes none. Its `size` is its
-/// `SIZE`; by default there is none.
+/// the refusal. A type says by `grows` under which contexts reading it may take memory; by default under none. Its `size`
+/// is its `SIZE`; by default there is none.
 pub trait MyDeserialize<'de>: Sized {
     /// How many bytes a value takes, where that is always the same.
     const SIZE: Option<usize>;
@@ -22,7 +23,7 @@ pub trait MyDeserialize<'de>: Sized {
 
     ghost size: { Option ℕ } = { None };
 
-    ghost grows: { Type 0 } = { ⊥ };
+    ghost grows: { Self.Ctx → Type 0 } = { λ _. ⊥ };
 
     /// Reads a value from the front of `buf`, and leaves what is behind it.
     ///
@@ -30,20 +31,16 @@ pub trait MyDeserialize<'de>: Sized {
     /// whole and not allowed, and [`Error::Memory`] only where the type takes memory. After a refusal nothing is said
     /// of the place in `buf`.
     fn deserialize(alloc: Global, ctx: Self::Ctx, buf: &mut ParseBuf<'de>) -> Result<Self, Error>
-        ensures { Gives grows buf.new result (reads ctx buf.old) };
+        ensures { Gives (grows ctx) buf.new result (reads ctx buf.old) };
 }
 
 /// What can be written as bytes.
 ///
 /// Its contract is `written`, the bytes of a value, and `refusal`, why a value can't be written; by default each can.
-/// Where the bytes are a body of their own, its `canonical` says what they read back as, and which values write equal
-/// bytes; by default it says nothing.
 pub trait MySerialize {
     ghost written: { Self → List ℕ };
 
     ghost refusal: { Self → Option Error } = { λ _. None };
-
-    ghost canonical: { Self → Type 0 } = { λ _. Unit {0} };
 
     /// Appends the bytes of the value to `buf`.
     ///
@@ -52,6 +49,44 @@ pub trait MySerialize {
     fn serialize(&self, alloc: Global, buf: &mut Vec<u8>) -> Result<(), Error>
         ensures ok { OnOk result (buf.new.items ≡ buf.old.items ++ written self.now) }
         ensures err { OnErr result (buf.new.items ≡ buf.old.items) }
-        ensures refused { MatchOption (refusal self.now) (IsOkUnless result Memory) (λ why. result ≡ Err why) }
-        ensures canonical { canonical self.now };
+        ensures refused { MatchOption (refusal self.now) (IsOkUnless result Memory) (λ why. result ≡ Err why) };
+}
+
+/// What is written as bytes that are counted before the first is put: so there is one growth at most, and nothing is
+/// refused behind it.
+///
+/// Its `bytes` are those of a value, and `refusal` says why a value can't be written; by default each can.
+pub trait Put {
+    ghost bytes: { Self → List ℕ };
+
+    ghost refusal: { Self → Option Error } = { λ _. None };
+
+    /// Whether the value can be written; [`Error::Unwritable`] for one that its form can't hold.
+    fn check(&self) -> Result<(), Error>
+        ensures { MatchOption (refusal self.now) (IsOk result) (λ why. result ≡ Err why) };
+
+    /// How many bytes are written for the value.
+    fn written_len(&self) -> usize
+        ensures { result ≡ length (bytes self.now) };
+
+    /// Appends the bytes of the value, which can be written, where `buf` has room for them.
+    fn put(&self, buf: &mut Vec<u8>)
+        requires writable { refusal self.now ≡ None }
+        requires room { vec_len buf.old + length (bytes self.now) ≤ vec_capacity buf.old }
+        ensures items { buf.new.items ≡ buf.old.items ++ bytes self.now }
+        ensures len { vec_len buf.new ≡ vec_len buf.old + length (bytes self.now) }
+        ensures capacity { vec_capacity buf.old ≤ vec_capacity buf.new };
+}
+
+impl<T: Put> MySerialize for T {
+    ghost written = { T.bytes };
+
+    ghost refusal = { T.refusal };
+
+    fn serialize(&self, _alloc: Global, buf: &mut Vec<u8>) -> Result<(), Error> {
+        self.check()?;
+        reserve(buf, self.written_len())?;
+        self.put(buf);
+        Ok(())
+    }
 }
