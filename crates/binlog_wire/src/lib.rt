@@ -23,7 +23,10 @@ mod traits;
 mod version;
 mod version_split;
 
-pub use bytes::{BareBytes, BytesRepr, EofBytes, FixedLengthText, RawBytes, U8Bytes, U32Bytes, WritableBytes, lossy_text};
+pub use bytes::{
+    BareBytes, BytesRepr, EofBytes, FixedLengthText, RawBytes, U8Bytes, U32Bytes, WritableBytes,
+    lossy_text,
+};
 pub use codes::{
     BinlogChecksumAlg, IncidentType, IntvarEventType, UnknownChecksumAlg, UnknownIncidentType,
 };
