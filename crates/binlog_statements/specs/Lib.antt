@@ -1,1 +1,5 @@
 pub mod Layouts
+pub mod Statements
+pub mod Query
+pub mod ExecuteLoadQuery
+pub mod UserVar
