@@ -434,7 +434,10 @@ fn header_of_the_sample(rt: HostRuntime) -> Result<(), Fail> {
     let again = written(alloc, &header)?;
     assert!(rt; again.ends_with(bytes));
     laws::header_is_spelled();
+    laws::short_bodies();
     laws::body_is_spelled::<XidEvent>();
     laws::one_event::<XidEvent>();
+    laws::body_is_canonical::<XidEvent>();
+    laws::read_event_is_normal::<XidEvent>();
     Ok(())
 }
