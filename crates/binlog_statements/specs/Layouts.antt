@@ -2,8 +2,9 @@
 -- Source: MySQL's internals documentation, "QUERY_EVENT", and the documentation of its source code,
 -- `mysql::binlog::event::Query_event`.
 use Rattle.std.specs.Prelude.{◌≡◌, ◌≢◌, ℕ, zero, suc, ◌+◌, ◌⊎◌, List, [], ◌∷◌, ◌++◌, length, drop, Option, Some, None, All, flat_map, nat_le, nat_eq, if◌then◌else◌}
-use Rattle.binlog_wire.specs.declared.status_var_key.StatusVarKey.{StatusVarKey}
-use Rattle.binlog_wire.specs.declared.status_var_key.StatusVarKey.TheVariants.{Flags2, SqlMode, Catalog, AutoIncrement, Charset, TimeZone, CatalogNz, LcTimeNames, CharsetDatabase, TableMapForUpdate, MasterDataWritten, Invoker, UpdatedDbNames, Microseconds, CommitTs, CommitTs2, ExplicitDefaultsForTimestamp, DdlLoggedWithXid, DefaultCollationForUtf8mb4, SqlRequirePrimaryKey, DefaultTableEncryption}
+use Rattle.binlog_wire.specs.Fields.{HasNoZero}
+use Rattle.binlog_wire.specs.declared.consts.status_var_key.StatusVarKey.{StatusVarKey}
+use Rattle.binlog_wire.specs.declared.consts.status_var_key.StatusVarKey.TheVariants.{Flags2, SqlMode, Catalog, AutoIncrement, Charset, TimeZone, CatalogNz, LcTimeNames, CharsetDatabase, TableMapForUpdate, MasterDataWritten, Invoker, UpdatedDbNames, Microseconds, CommitTs, CommitTs2, ExplicitDefaultsForTimestamp, DdlLoggedWithXid, DefaultCollationForUtf8mb4, SqlRequirePrimaryKey, DefaultTableEncryption}
 use Rattle.binlog_statements.specs.declared.layout.Layout.{Layout}
 use Rattle.binlog_statements.specs.declared.layout.Layout.TheVariants.{Bytes, TextAnd, TwoTexts, Names}
 
@@ -51,10 +52,6 @@ Both F G value = (first : List ℕ) × (second : List ℕ) × (value ≡ first +
 -- a name and the zero byte that ends it
 abbrev pub ended : List ℕ → List ℕ
 ended name = name ++ 0 ∷ []
-
--- no byte of it is zero
-abbrev pub HasNoZero : List ℕ → Type 0
-HasNoZero name = All (λ byte. byte ≢ 0) name
 
 -- Names behind their count in one byte, each ended by a zero byte. The count 254 says that there were too many databases,
 -- and no names follow it.
@@ -107,3 +104,7 @@ value_len (Bytes k) s = fixed_len k s
 value_len (TextAnd k) s = both_len text_len (fixed_len k) s
 value_len TwoTexts s = both_len text_len text_len s
 value_len Names s = counted_names_len s
+
+-- the bytes are a value of this layout, and no more
+abbrev pub IsWholeLen : Layout → List ℕ → Type 0
+IsWholeLen layout s = value_len layout s ≡ Some (length s)

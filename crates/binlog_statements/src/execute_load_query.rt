@@ -73,6 +73,7 @@ impl Put for LoadHead {
         LOAD_HEAD_LEN
     }
 
+    #[tactic(auto, using(std::proofs::Common::append_assoc))]
     fn put(&self, buf: &mut Vec<u8>) {
         self.statement.put(buf);
         LeU32::put(self.file_id, buf);
@@ -398,6 +399,7 @@ impl Put for ExecuteLoadQueryEvent<'_> {
         LOAD_HEAD_LEN + self.statement.texts.written_len()
     }
 
+    #[tactic(auto, using(std::proofs::Common::append_assoc))]
     fn put(&self, buf: &mut Vec<u8>) {
         self.head().put(buf);
         self.statement.texts.put(buf);

@@ -2,7 +2,7 @@
 ghost use Rattle.std.specs.Prelude.{◌≡◌, ℕ, List, length, Option, Some, None};
 ghost use Rattle.binlog_statements.specs.Layouts.{layout_of, value_len, fixed_len, text_len, both_len, names_len, counted_names_len};
 
-use binlog_wire::StatusVarKey;
+use binlog_wire::{BytesRepr, NullBytes, ParseBuf, StatusVarKey};
 
 /// How the value of a status variable is laid out.
 #[derive(Clone, Copy, Debug, PartialEq, Eq)]
@@ -109,17 +109,11 @@ fn counted_names_len(bytes: &[u8]) -> Option<usize>
 fn names_len(count: u8, bytes: &[u8]) -> Option<usize>
     ensures { result ≡ names_len count bytes.now }
 {
-    if count == 0 {
-        return Some(0);
-    }
+    let mut unread = ParseBuf(bytes);
     let mut left = count;
-    for (place, byte) in bytes.iter().enumerate() {
-        if *byte == 0 {
-            left -= 1;
-            if left == 0 {
-                return Some(place + 1);
-            }
-        }
+    while left > 0 {
+        NullBytes::read((), &mut unread).ok()?;
+        left -= 1;
     }
-    None
+    Some(bytes.len() - unread.len())
 }

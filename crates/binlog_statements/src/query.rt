@@ -180,7 +180,7 @@ impl<'a> QueryEvent<'a> {
 
 /// [`Error::EndOfBody`] where the bytes end before the statement, and no other error.
 impl<'de> MyDeserialize<'de> for QueryEvent<'de> {
-    ghost use Rattle.binlog_wire.specs.declared.event_type.EventType.TheVariants.{QUERY_EVENT};
+    ghost use Rattle.binlog_wire.specs.declared.consts.event_type.EventType.TheVariants.{QUERY_EVENT};
     ghost use Rattle.binlog_bodies.specs.DescriptionRefs.{description_of};
     ghost use Rattle.binlog_bodies.specs.PostHeaders.{post_header};
     ghost use Rattle.binlog_statements.specs.Query.{query};
@@ -221,6 +221,7 @@ impl Put for QueryEvent<'_> {
         STATEMENT_HEAD_LEN + self.statement.texts.written_len()
     }
 
+    #[tactic(auto, using(std::proofs::Common::append_assoc))]
     fn put(&self, buf: &mut Vec<u8>) {
         self.statement.head().put(buf);
         self.statement.texts.put(buf);
@@ -229,7 +230,7 @@ impl Put for QueryEvent<'_> {
 
 impl<'a> BinlogEvent<'a> for QueryEvent<'a> {
     ghost use Rattle.std.specs.Prelude.{refl};
-    ghost use Rattle.binlog_wire.specs.declared.event_type.EventType.TheVariants.{QUERY_EVENT};
+    ghost use Rattle.binlog_wire.specs.declared.consts.event_type.EventType.TheVariants.{QUERY_EVENT};
     ghost use Rattle.binlog_bodies.specs.PostHeaders.{post_header};
     ghost use Rattle.binlog_statements.specs.Query.{query};
 

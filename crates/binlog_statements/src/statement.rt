@@ -1,11 +1,11 @@
 //! What a query and a load query have in common.
-ghost use Rattle.std.specs.Prelude.{◌≡◌, ◌++◌, ◌+◌, ◌≤◌, [], length, vec_len, vec_capacity, IfOk, IsOkUnless};
+ghost use Rattle.std.specs.Prelude.{◌≡◌, ◌∷◌, ◌++◌, ◌+◌, ◌^◌, ◌<◌, ◌≤◌, [], length, take, vec_len, vec_capacity, IfOk, IsOkUnless};
 ghost use Rattle.std.specs.Cow.{cow_slice_items};
 ghost use Rattle.binlog_wire.specs.declared.error.Error.TheVariants.{Memory};
 
 use crate::status_vars::StatusVars;
 use binlog_wire::{
-    BareBytes, EofBytes, Error, IntRepr, LeU16, LeU32, MyDeserialize, ParseBuf, Put, RawBytes,
+    BareU8Bytes, EofBytes, Error, IntRepr, LeU16, LeU32, MyDeserialize, ParseBuf, Put, RawBytes,
     RawInt, Skip,
 };
 use std::alloc::Global;
@@ -81,7 +81,7 @@ impl Put for StatementHead {
 #[derive(Debug, PartialEq, Eq, Hash, Drop)]
 pub struct StatementTexts<'a> {
     pub status_vars: StatusVars<'a>,
-    pub schema: RawBytes<'a, BareBytes<255>>,
+    pub schema: RawBytes<'a, BareU8Bytes>,
     pub query: RawBytes<'a, EofBytes>,
 }
 
@@ -146,15 +146,16 @@ impl<'de> MyDeserialize<'de> for StatementTexts<'de> {
 
 /// What counts of the texts, with one byte in front of the statement.
 impl Put for StatementTexts<'_> {
-    ghost use Rattle.std.specs.Prelude.{◌++◌, ◌∷◌, take};
-
     ghost bytes = { λ t. take 65535 t.status_vars.0 ++ (take 255 t.schema ++ 0 ∷ t.query) };
 
     fn check(&self) -> Result<(), Error> {
         Ok(())
     }
 
-    fn written_len(&self) -> usize {
+    fn written_len(&self) -> usize
+        ensures count { result ≡ length (take 65535 self.now.status_vars.0 ++ (take 255 self.now.schema ++ 0 ∷ self.now.query)) }
+        ensures small { result < 2 ^ 63 + 2 ^ 17 }
+    {
         self.status_vars.0.written_len()
             + self.schema.written_len()
             + 1

@@ -4,11 +4,11 @@ use Rattle.std.proofs.Common.{arith, ap}
 use Rattle.binlog_wire.specs.Laws.Numbers.{IsCode}
 use Rattle.binlog_wire.specs.declared.error.Invalid.{Invalid}
 use Rattle.binlog_wire.specs.declared.error.Invalid.TheVariants.{DupHandling}
-use Rattle.binlog_wire.specs.declared.statement_codes.LoadDuplicateHandling.{LoadDuplicateHandling}
-use Rattle.binlog_wire.specs.declared.statement_codes.LoadDuplicateHandling.TheVariants.{LOAD_DUP_ERROR, LOAD_DUP_IGNORE, LOAD_DUP_REPLACE}
-use Rattle.binlog_wire.specs.declared.statement_codes.ItemResult.{ItemResult}
-use Rattle.binlog_wire.specs.declared.statement_codes.ItemResult.TheVariants.{STRING_RESULT, REAL_RESULT, INT_RESULT, ROW_RESULT, DECIMAL_RESULT}
-use Rattle.binlog_wire.specs.declared.statement_codes.UnknownItemResultType.{UnknownItemResultType}
+use Rattle.binlog_wire.specs.declared.consts.statement_codes.LoadDuplicateHandling.{LoadDuplicateHandling}
+use Rattle.binlog_wire.specs.declared.consts.statement_codes.LoadDuplicateHandling.TheVariants.{LOAD_DUP_ERROR, LOAD_DUP_IGNORE, LOAD_DUP_REPLACE}
+use Rattle.binlog_wire.specs.declared.consts.statement_codes.ItemResult.{ItemResult}
+use Rattle.binlog_wire.specs.declared.consts.statement_codes.ItemResult.TheVariants.{STRING_RESULT, REAL_RESULT, INT_RESULT, ROW_RESULT, DECIMAL_RESULT}
+use Rattle.binlog_wire.specs.declared.consts.statement_codes.UnknownItemResultType.{UnknownItemResultType}
 
 -- ---- how duplicate rows are handled: one byte
 -- Source: MySQL's internals documentation, "EXECUTE_LOAD_QUERY_EVENT".

@@ -1,12 +1,12 @@
 -- The keys of status variables: their numbers, 0 to 20.
 -- Source: MySQL's internals documentation, "QUERY_EVENT", and the documentation of its source code,
 -- `mysql::binlog::event::Query_event`.
-use Rattle.std.specs.Prelude.{◌≡◌, ℕ, ◌≤◌, List, [], ◌∷◌, Option, Some, None, Result, Ok, Err, slice_get, refl}
-use Rattle.std.proofs.Common.{ap}
+use Rattle.std.specs.Prelude.{◌≡◌, ℕ, zero, suc, ◌+◌, ◌≤◌, List, [], ◌∷◌, Option, Some, None, Result, Ok, Err, slice_get, refl}
+use Rattle.std.proofs.Common.{ap, arith}
 use Rattle.std.proofs.lemmas.Option.{slice_get_past}
-use Rattle.binlog_wire.specs.declared.status_var_key.StatusVarKey.{StatusVarKey}
-use Rattle.binlog_wire.specs.declared.status_var_key.StatusVarKey.TheVariants.{Flags2, SqlMode, Catalog, AutoIncrement, Charset, TimeZone, CatalogNz, LcTimeNames, CharsetDatabase, TableMapForUpdate, MasterDataWritten, Invoker, UpdatedDbNames, Microseconds, CommitTs, CommitTs2, ExplicitDefaultsForTimestamp, DdlLoggedWithXid, DefaultCollationForUtf8mb4, SqlRequirePrimaryKey, DefaultTableEncryption}
-use Rattle.binlog_wire.specs.declared.status_var_key.UnknownStatusVarKey.{UnknownStatusVarKey}
+use Rattle.binlog_wire.specs.declared.consts.status_var_key.StatusVarKey.{StatusVarKey}
+use Rattle.binlog_wire.specs.declared.consts.status_var_key.StatusVarKey.TheVariants.{Flags2, SqlMode, Catalog, AutoIncrement, Charset, TimeZone, CatalogNz, LcTimeNames, CharsetDatabase, TableMapForUpdate, MasterDataWritten, Invoker, UpdatedDbNames, Microseconds, CommitTs, CommitTs2, ExplicitDefaultsForTimestamp, DdlLoggedWithXid, DefaultCollationForUtf8mb4, SqlRequirePrimaryKey, DefaultTableEncryption}
+use Rattle.binlog_wire.specs.declared.consts.status_var_key.UnknownStatusVarKey.{UnknownStatusVarKey}
 
 -- the number that stands for a key
 abbrev pub status_var_key_number : StatusVarKey → ℕ
@@ -94,3 +94,24 @@ status_var_key_again DefaultTableEncryption = refl
 -- from 21 on no number stands for a key
 pub status_var_key_past : (n : ℕ) → 21 ≤ n → status_var_key_of n ≡ Err (record { 0 = n })
 status_var_key_past n past = ap (known_or n) (slice_get_past status_var_keys n past)
+
+-- each key's number is its place, counted from here
+abbrev AreNumbered : ℕ → List StatusVarKey → Type 0
+AreNumbered i [] = Unit {0}
+AreNumbered i (key ∷ keys) = (status_var_key_number key ≡ i) × AreNumbered (suc i) keys
+
+numbered_at : (i n : ℕ) (keys : List StatusVarKey) (key : StatusVarKey) → AreNumbered i keys → slice_get keys n ≡ Some key → i + n ≡ status_var_key_number key
+numbered_at i n [] key are e = absurd cc
+numbered_at i zero (k ∷ keys) key are e = let same : k ≡ key = cc in omega (arith, are.0, ap status_var_key_number same)
+numbered_at i (suc n) (k ∷ keys) key are e = omega (arith, numbered_at (suc i) n keys key are.1 e)
+
+are_numbered : AreNumbered 0 status_var_keys
+are_numbered = (refl, (refl, (refl, (refl, (refl, (refl, (refl, (refl, (refl, (refl, (refl, (refl, (refl, (refl, (refl, (refl, (refl, (refl, (refl, (refl, (refl, tt)))))))))))))))))))))
+
+known_some : (n : ℕ) (o : Option StatusVarKey) (key : StatusVarKey) → known_or n o ≡ Ok key → o ≡ Some key
+known_some n (Some k) key e = let same : k ≡ key = cc in ap (λ (x : StatusVarKey). Some x) same
+known_some n None key e = absurd cc
+
+-- only a key's number stands for it
+pub status_var_key_only : (n : ℕ) (key : StatusVarKey) → status_var_key_of n ≡ Ok key → n ≡ status_var_key_number key
+status_var_key_only n key e = omega (arith, numbered_at 0 n status_var_keys key are_numbered (known_some n (slice_get status_var_keys n) key e))

@@ -14,8 +14,6 @@ mod output;
 mod parse_buf;
 mod raw;
 mod room;
-mod statement_codes;
-mod status_var_key;
 mod traits;
 mod version_split;
 
@@ -24,6 +22,10 @@ pub use consts::codes::{
 };
 pub use consts::event_flags::EventFlags;
 pub use consts::event_type::{EventType, UnknownEventType};
+pub use consts::statement_codes::{
+    ItemResult, LoadDuplicateHandling, UnknownItemResultType, UserVarFlags,
+};
+pub use consts::status_var_key::{StatusVarKey, UnknownStatusVarKey};
 pub use consts::version::BinlogVersion;
 pub use error::{Error, Field, Invalid};
 pub use number::{read_u16_at, read_u32_at};
@@ -37,7 +39,5 @@ pub use raw::constant::{Const, Constant, RawConst, Skip};
 pub use raw::flags::RawFlags;
 pub use raw::int::{IntRepr, LeU16, LeU32, LeU56, LeU64, RawInt};
 pub use room::reserve;
-pub use statement_codes::{ItemResult, LoadDuplicateHandling, UnknownItemResultType, UserVarFlags};
-pub use status_var_key::{StatusVarKey, UnknownStatusVarKey};
 pub use traits::{MyDeserialize, MySerialize, Put};
 pub use version_split::split_version;

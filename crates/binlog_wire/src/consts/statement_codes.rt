@@ -1,7 +1,7 @@
 //! Tables of numbers in the events of statements: how duplicate rows are handled, what type a user variable has, and its
 //! flags.
-use crate::constant::Constant;
 use crate::error::Invalid;
+use crate::raw::constant::Constant;
 use bitflags::{Flag, Flags, bitflag_items};
 use thiserror::Error;
 
@@ -163,7 +163,7 @@ impl Flags for UserVarFlags {
 #[cfg(test)]
 mod tests {
     use super::*;
-    use crate::flags::RawFlags;
+    use crate::raw::flags::RawFlags;
 
     #[test]
     fn knows_the_values(rt: HostRuntime) {

@@ -1,0 +1,10 @@
+-- Bytes that are put one after the other.
+use Rattle.std.proofs.Common.{◌≡◌, ℕ, List, ◌++◌, refl, ap, ◌∙◌, append_assoc}
+
+-- two pieces
+pub two_pieces : (old a b x y : List ℕ) → x ≡ old ++ a → y ≡ x ++ b → y ≡ old ++ (a ++ b)
+two_pieces old a b x y p q = q ∙ ap (λ (t : List ℕ). t ++ b) p ∙ append_assoc old a b
+
+-- three pieces
+pub three_pieces : (old a b c x y z : List ℕ) → x ≡ old ++ a → y ≡ x ++ b → z ≡ y ++ c → z ≡ old ++ (a ++ (b ++ c))
+three_pieces old a b c x y z p q r = two_pieces (old ++ a) b c y z (q ∙ ap (λ (t : List ℕ). t ++ b) p) r ∙ append_assoc old a (b ++ c)
