@@ -1,9 +1,10 @@
 -- The keys of status variables: their numbers, 0 to 20.
 -- Source: MySQL's internals documentation, "QUERY_EVENT", and the documentation of its source code,
 -- `mysql::binlog::event::Query_event`.
-use Rattle.std.specs.Prelude.{◌≡◌, ℕ, zero, suc, ◌+◌, ◌≤◌, List, [], ◌∷◌, Option, Some, None, Result, Ok, Err, slice_get, refl}
+use Rattle.std.specs.Prelude.{◌≡◌, ℕ, zero, suc, ◌+◌, ◌^◌, ◌<◌, ◌≤◌, List, [], ◌∷◌, Option, Some, None, Result, Ok, Err, slice_get, refl}
 use Rattle.std.proofs.Common.{ap, arith}
 use Rattle.std.proofs.lemmas.Option.{slice_get_past}
+use Rattle.binlog_wire.specs.Laws.Numbers.{IsCode}
 use Rattle.binlog_wire.specs.declared.consts.status_var_key.StatusVarKey.{StatusVarKey}
 use Rattle.binlog_wire.specs.declared.consts.status_var_key.StatusVarKey.TheVariants.{Flags2, SqlMode, Catalog, AutoIncrement, Charset, TimeZone, CatalogNz, LcTimeNames, CharsetDatabase, TableMapForUpdate, MasterDataWritten, Invoker, UpdatedDbNames, Microseconds, CommitTs, CommitTs2, ExplicitDefaultsForTimestamp, DdlLoggedWithXid, DefaultCollationForUtf8mb4, SqlRequirePrimaryKey, DefaultTableEncryption}
 use Rattle.binlog_wire.specs.declared.consts.status_var_key.UnknownStatusVarKey.{UnknownStatusVarKey}
@@ -115,3 +116,30 @@ known_some n None key e = absurd cc
 -- only a key's number stands for it
 pub status_var_key_only : (n : ℕ) (key : StatusVarKey) → status_var_key_of n ≡ Ok key → n ≡ status_var_key_number key
 status_var_key_only n key e = omega (arith, numbered_at 0 n status_var_keys key are_numbered (known_some n (slice_get status_var_keys n) key e))
+
+status_var_key_fits : (key : StatusVarKey) → status_var_key_number key < 256 ^ 1
+status_var_key_fits Flags2 = omega arith
+status_var_key_fits SqlMode = omega arith
+status_var_key_fits Catalog = omega arith
+status_var_key_fits AutoIncrement = omega arith
+status_var_key_fits Charset = omega arith
+status_var_key_fits TimeZone = omega arith
+status_var_key_fits CatalogNz = omega arith
+status_var_key_fits LcTimeNames = omega arith
+status_var_key_fits CharsetDatabase = omega arith
+status_var_key_fits TableMapForUpdate = omega arith
+status_var_key_fits MasterDataWritten = omega arith
+status_var_key_fits Invoker = omega arith
+status_var_key_fits UpdatedDbNames = omega arith
+status_var_key_fits Microseconds = omega arith
+status_var_key_fits CommitTs = omega arith
+status_var_key_fits CommitTs2 = omega arith
+status_var_key_fits ExplicitDefaultsForTimestamp = omega arith
+status_var_key_fits DdlLoggedWithXid = omega arith
+status_var_key_fits DefaultCollationForUtf8mb4 = omega arith
+status_var_key_fits SqlRequirePrimaryKey = omega arith
+status_var_key_fits DefaultTableEncryption = omega arith
+
+-- a byte says which key it is, if any
+pub status_var_key_is_code : IsCode 1 status_var_key_number status_var_key_of
+status_var_key_is_code = record { fits = status_var_key_fits; again = status_var_key_again; only = status_var_key_only }

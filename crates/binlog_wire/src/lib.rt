@@ -9,6 +9,7 @@
 
 mod consts;
 mod error;
+pub mod laws;
 mod number;
 mod output;
 mod parse_buf;

@@ -1,7 +1,8 @@
 //! The event of the first block of a loaded file.
-ghost use Rattle.std.specs.Prelude.{◌≡◌, [], IfOk, IsOkUnless};
+ghost use Rattle.std.specs.Prelude.{◌≡◌, [], IfOk, IsOkUnless, refl};
 ghost use Rattle.std.specs.Cow.{cow_slice_items};
 ghost use Rattle.binlog_wire.specs.declared.error.Error.TheVariants.{Memory};
+ghost use Rattle.binlog_bodies.specs.BeginLoadQuery.{begin_load_query};
 
 use crate::ctx::BinlogCtx;
 use crate::traits::BinlogEvent;
@@ -89,19 +90,13 @@ impl<'a> BeginLoadQueryEvent<'a> {
 
 /// [`Error::EndOfBody`] where fewer than 4 bytes are there, and no other error.
 impl<'de> MyDeserialize<'de> for BeginLoadQueryEvent<'de> {
-    ghost use Rattle.binlog_bodies.specs.BeginLoadQuery.{begin_load_query};
-
     const SIZE: Option<usize> = None;
 
     type Ctx = BinlogCtx<'de>;
 
     ghost reads = { λ _. begin_load_query.reads };
 
-    fn deserialize(
-        alloc: Global,
-        _ctx: BinlogCtx<'de>,
-        buf: &mut ParseBuf<'de>,
-    ) -> Result<Self, Error> {
+    fn deserialize(alloc: Global, _ctx: Self::Ctx, buf: &mut ParseBuf<'de>) -> Result<Self, Error> {
         let file_id = buf.parse::<RawInt<LeU32>>(alloc, ())?.0;
         let block_data = buf.parse(alloc, ())?;
         Ok(BeginLoadQueryEvent {
@@ -112,8 +107,6 @@ impl<'de> MyDeserialize<'de> for BeginLoadQueryEvent<'de> {
 }
 
 impl Put for BeginLoadQueryEvent<'_> {
-    ghost use Rattle.binlog_bodies.specs.BeginLoadQuery.{begin_load_query};
-
     ghost bytes = { begin_load_query.written };
 
     fn check(&self) -> Result<(), Error> {
@@ -131,9 +124,6 @@ impl Put for BeginLoadQueryEvent<'_> {
 }
 
 impl<'a> BinlogEvent<'a> for BeginLoadQueryEvent<'a> {
-    ghost use Rattle.std.specs.Prelude.{refl};
-    ghost use Rattle.binlog_bodies.specs.BeginLoadQuery.{begin_load_query};
-
     const EVENT_TYPE: EventType = EventType::BEGIN_LOAD_QUERY_EVENT;
 
     ghost format = { λ _ _. begin_load_query };

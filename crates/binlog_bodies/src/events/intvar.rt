@@ -1,5 +1,6 @@
 //! The event of an integer variable, an auto-increment value or the last insert id.
-ghost use Rattle.std.specs.Prelude.{◌≡◌};
+ghost use Rattle.std.specs.Prelude.{◌≡◌, Some, refl};
+ghost use Rattle.binlog_bodies.specs.Intvar.{intvar};
 
 use crate::ctx::BinlogCtx;
 use crate::traits::BinlogEvent;
@@ -63,9 +64,6 @@ impl IntvarEvent {
 /// [`Error::EndOfBody`] where fewer than 9 bytes are there, and else [`Error::InvalidData`] where the variable's number
 /// is above 2.
 impl<'de> MyDeserialize<'de> for IntvarEvent {
-    ghost use Rattle.std.specs.Prelude.{Some};
-    ghost use Rattle.binlog_bodies.specs.Intvar.{intvar};
-
     const SIZE: Option<usize> = Some(9);
 
     type Ctx = BinlogCtx<'de>;
@@ -74,11 +72,7 @@ impl<'de> MyDeserialize<'de> for IntvarEvent {
 
     ghost size = { Some 9 };
 
-    fn deserialize(
-        alloc: Global,
-        _ctx: BinlogCtx<'de>,
-        buf: &mut ParseBuf<'de>,
-    ) -> Result<Self, Error> {
+    fn deserialize(alloc: Global, _ctx: Self::Ctx, buf: &mut ParseBuf<'de>) -> Result<Self, Error> {
         if buf.len() < INTVAR_LEN {
             return Err(Error::EndOfBody);
         }
@@ -89,8 +83,6 @@ impl<'de> MyDeserialize<'de> for IntvarEvent {
 }
 
 impl Put for IntvarEvent {
-    ghost use Rattle.binlog_bodies.specs.Intvar.{intvar};
-
     ghost bytes = { intvar.written };
 
     fn check(&self) -> Result<(), Error> {
@@ -108,9 +100,6 @@ impl Put for IntvarEvent {
 }
 
 impl<'a> BinlogEvent<'a> for IntvarEvent {
-    ghost use Rattle.std.specs.Prelude.{refl};
-    ghost use Rattle.binlog_bodies.specs.Intvar.{intvar};
-
     const EVENT_TYPE: EventType = EventType::INTVAR_EVENT;
 
     ghost format = { λ _ _. intvar };

@@ -1,4 +1,7 @@
 //! The event of the two seeds of `RAND()`.
+ghost use Rattle.std.specs.Prelude.{Some, refl};
+ghost use Rattle.binlog_bodies.specs.Rand.{rand};
+
 use crate::ctx::BinlogCtx;
 use crate::traits::BinlogEvent;
 use binlog_wire::{Error, EventType, LeU64, MyDeserialize, ParseBuf, Put, RawInt};
@@ -20,9 +23,6 @@ pub struct RandEvent {
 
 /// [`Error::EndOfBody`] where fewer than 16 bytes are there, and no other error.
 impl<'de> MyDeserialize<'de> for RandEvent {
-    ghost use Rattle.std.specs.Prelude.{Some};
-    ghost use Rattle.binlog_bodies.specs.Rand.{rand};
-
     const SIZE: Option<usize> = Some(16);
 
     type Ctx = BinlogCtx<'de>;
@@ -31,11 +31,7 @@ impl<'de> MyDeserialize<'de> for RandEvent {
 
     ghost size = { Some 16 };
 
-    fn deserialize(
-        alloc: Global,
-        _ctx: BinlogCtx<'de>,
-        buf: &mut ParseBuf<'de>,
-    ) -> Result<Self, Error> {
+    fn deserialize(alloc: Global, _ctx: Self::Ctx, buf: &mut ParseBuf<'de>) -> Result<Self, Error> {
         if buf.len() < RAND_LEN {
             return Err(Error::EndOfBody);
         }
@@ -46,8 +42,6 @@ impl<'de> MyDeserialize<'de> for RandEvent {
 }
 
 impl Put for RandEvent {
-    ghost use Rattle.binlog_bodies.specs.Rand.{rand};
-
     ghost bytes = { rand.written };
 
     fn check(&self) -> Result<(), Error> {
@@ -65,9 +59,6 @@ impl Put for RandEvent {
 }
 
 impl<'a> BinlogEvent<'a> for RandEvent {
-    ghost use Rattle.std.specs.Prelude.{refl};
-    ghost use Rattle.binlog_bodies.specs.Rand.{rand};
-
     const EVENT_TYPE: EventType = EventType::RAND_EVENT;
 
     ghost format = { λ _ _. rand };

@@ -1,8 +1,9 @@
 //! The event of the statement that the row events behind it come from.
-ghost use Rattle.std.specs.Prelude.{◌≡◌, IfOk, IsOkUnless};
+ghost use Rattle.std.specs.Prelude.{◌≡◌, IfOk, IsOkUnless, refl};
 ghost use Rattle.std.specs.Cow.{cow_slice_items, cow_str_bytes};
 ghost use Rattle.std.specs.Str.Lossy.{utf8_lossy};
 ghost use Rattle.binlog_wire.specs.declared.error.Error.TheVariants.{Memory};
+ghost use Rattle.binlog_bodies.specs.RowsQuery.{rows_query};
 
 use crate::ctx::BinlogCtx;
 use crate::traits::BinlogEvent;
@@ -66,19 +67,13 @@ impl<'a> RowsQueryEvent<'a> {
 
 /// [`Error::EndOfBody`] where no byte is there, and no other error.
 impl<'de> MyDeserialize<'de> for RowsQueryEvent<'de> {
-    ghost use Rattle.binlog_bodies.specs.RowsQuery.{rows_query};
-
     const SIZE: Option<usize> = None;
 
     type Ctx = BinlogCtx<'de>;
 
     ghost reads = { λ _. rows_query.reads };
 
-    fn deserialize(
-        alloc: Global,
-        _ctx: BinlogCtx<'de>,
-        buf: &mut ParseBuf<'de>,
-    ) -> Result<Self, Error> {
+    fn deserialize(alloc: Global, _ctx: Self::Ctx, buf: &mut ParseBuf<'de>) -> Result<Self, Error> {
         buf.parse::<Skip<1>>(alloc, ())?;
         let query = buf.parse(alloc, ())?;
         Ok(RowsQueryEvent { query })
@@ -86,8 +81,6 @@ impl<'de> MyDeserialize<'de> for RowsQueryEvent<'de> {
 }
 
 impl Put for RowsQueryEvent<'_> {
-    ghost use Rattle.binlog_bodies.specs.RowsQuery.{rows_query};
-
     ghost bytes = { rows_query.written };
 
     fn check(&self) -> Result<(), Error> {
@@ -105,9 +98,6 @@ impl Put for RowsQueryEvent<'_> {
 }
 
 impl<'a> BinlogEvent<'a> for RowsQueryEvent<'a> {
-    ghost use Rattle.std.specs.Prelude.{refl};
-    ghost use Rattle.binlog_bodies.specs.RowsQuery.{rows_query};
-
     const EVENT_TYPE: EventType = EventType::ROWS_QUERY_EVENT;
 
     ghost format = { λ _ _. rows_query };

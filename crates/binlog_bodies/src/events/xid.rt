@@ -1,4 +1,10 @@
 //! The event that ends a transaction.
+ghost use Rattle.std.specs.Prelude.{refl};
+ghost use Rattle.binlog_wire.specs.declared.consts.event_type.EventType.TheVariants.{XID_EVENT};
+ghost use Rattle.binlog_bodies.specs.DescriptionRefs.{description_of};
+ghost use Rattle.binlog_bodies.specs.PostHeaders.{post_header};
+ghost use Rattle.binlog_bodies.specs.Xid.{xid};
+
 use crate::ctx::BinlogCtx;
 use crate::traits::BinlogEvent;
 use binlog_wire::{Error, EventType, IntRepr, LeU64, MyDeserialize, ParseBuf, Put};
@@ -19,22 +25,13 @@ pub struct XidEvent {
 
 /// [`Error::EndOfBody`] where fewer bytes are there, and no other error.
 impl<'de> MyDeserialize<'de> for XidEvent {
-    ghost use Rattle.binlog_wire.specs.declared.consts.event_type.EventType.TheVariants.{XID_EVENT};
-    ghost use Rattle.binlog_bodies.specs.DescriptionRefs.{description_of};
-    ghost use Rattle.binlog_bodies.specs.PostHeaders.{post_header};
-    ghost use Rattle.binlog_bodies.specs.Xid.{xid};
-
     const SIZE: Option<usize> = None;
 
     type Ctx = BinlogCtx<'de>;
 
     ghost reads = { λ ctx. (xid (post_header (description_of ctx.fde) XID_EVENT)).reads };
 
-    fn deserialize(
-        _alloc: Global,
-        ctx: BinlogCtx<'de>,
-        buf: &mut ParseBuf<'de>,
-    ) -> Result<Self, Error> {
+    fn deserialize(_alloc: Global, ctx: Self::Ctx, buf: &mut ParseBuf<'de>) -> Result<Self, Error> {
         let post_header = ctx.fde.get_event_type_header_length(EventType::XID_EVENT);
         if !buf.checked_skip(usize::from(post_header)) {
             return Err(Error::EndOfBody);
@@ -45,8 +42,6 @@ impl<'de> MyDeserialize<'de> for XidEvent {
 }
 
 impl Put for XidEvent {
-    ghost use Rattle.binlog_bodies.specs.Xid.{xid};
-
     ghost bytes = { (xid 0).written };
 
     fn check(&self) -> Result<(), Error> {
@@ -63,11 +58,6 @@ impl Put for XidEvent {
 }
 
 impl<'a> BinlogEvent<'a> for XidEvent {
-    ghost use Rattle.std.specs.Prelude.{refl};
-    ghost use Rattle.binlog_wire.specs.declared.consts.event_type.EventType.TheVariants.{XID_EVENT};
-    ghost use Rattle.binlog_bodies.specs.PostHeaders.{post_header};
-    ghost use Rattle.binlog_bodies.specs.Xid.{xid};
-
     const EVENT_TYPE: EventType = EventType::XID_EVENT;
 
     ghost format = { λ d _. xid (post_header d XID_EVENT) };

@@ -311,6 +311,11 @@ impl<K: IntRepr> Put for RawInt<K> {
 #[cfg(test)]
 mod tests {
     use super::*;
+    use crate::consts::codes::IntvarEventType;
+    use crate::consts::event_flags::EventFlags;
+    use crate::raw::bytes::{EofBytes, RawBytes};
+    use crate::raw::constant::{Const, RawConst, Skip};
+    use crate::raw::flags::RawFlags;
     use crate::traits::MySerialize;
     use std::test::Fail;
 
@@ -332,5 +337,21 @@ mod tests {
         assert!(rt; input.parse::<RawInt<u8>>(rt.alloc(), ()).is_err());
         assert_eq!(rt; RawInt::<LeU64>::default().0, 0);
         Ok(())
+    }
+
+    #[test]
+    fn states_its_size(rt: HostRuntime) {
+        assert_eq!(rt; RawInt::<u8>::SIZE, Some(1));
+        assert_eq!(rt; RawInt::<i8>::SIZE, Some(1));
+        assert_eq!(rt; RawInt::<LeU16>::SIZE, Some(2));
+        assert_eq!(rt; RawInt::<LeU32>::SIZE, Some(4));
+        assert_eq!(rt; RawInt::<LeU56>::SIZE, Some(7));
+        assert_eq!(rt; RawInt::<LeU64>::SIZE, Some(8));
+        assert_eq!(rt; Const::<IntvarEventType, u8>::SIZE, Some(1));
+        assert_eq!(rt; RawConst::<LeU16, IntvarEventType>::SIZE, Some(2));
+        assert_eq!(rt; RawFlags::<EventFlags, LeU16>::SIZE, Some(2));
+        assert_eq!(rt; Skip::<3>::SIZE, Some(3));
+        assert_eq!(rt; RawBytes::<'static, EofBytes>::SIZE, None);
+        assert_eq!(rt; ParseBuf::<'static>::SIZE, None);
     }
 }
