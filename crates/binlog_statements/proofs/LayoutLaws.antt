@@ -3,10 +3,15 @@ use Rattle.std.proofs.Common.{◌≡◌, ◌≢◌, ℕ, zero, suc, ◌+◌, ◌
 use Rattle.std.specs.List.{flat_map}
 use Rattle.std.specs.Prelude.{nat_le, nat_eq, nat_lt}
 use Rattle.std.proofs.lemmas.List.{take-append-drop, take_all, append-nil}
-use Rattle.std.proofs.lemmas.List.Elements.{All-nil, All-cons, All-head, All-tail}
+use Rattle.std.proofs.lemmas.List.Concat.{flat_map-append}
+use Rattle.std.proofs.lemmas.List.Elements.{All-nil, All-cons, All-head, All-tail, All-append}
 use Rattle.std.proofs.lemmas.Bool.Decides.{nat_tests}
 use Rattle.binlog_wire.specs.declared.consts.status_var_key.StatusVarKey.{StatusVarKey}
-use Rattle.binlog_wire.specs.Reading.{Refusal, Read, ◌>>=◌}
+use Rattle.std.specs.Borrow.{Bor}
+use Rattle.std.specs.Result.{result_ok}
+use Rattle.binlog_wire.specs.declared.error.Error.{Error}
+use Rattle.binlog_wire.specs.declared.error.Error.TheVariants as errors
+use Rattle.binlog_wire.specs.Reading.{Refusal, ends, invalid, other_type, Read, ◌>>=◌, Refuses, Gives, result_now}
 use Rattle.binlog_wire.specs.Fields.{HasNoZero, terminated_at}
 use Rattle.binlog_wire.specs.Laws.{bind_ok}
 use Rattle.binlog_statements.specs.declared.layout.Layout.{Layout}
@@ -277,3 +282,72 @@ none_counts (suc b ∷ s) why n e = ap (plus 1) (none_counts s (refused (termina
     refused : (r : Read (List ℕ)) → (r >>= λ y. Ok (suc b ∷ y.0, y.1)) ≡ Err why → (other : Refusal) × (r ≡ Err other)
     refused (Ok y) e = absurd cc
     refused (Err other) e = (other, refl)
+
+-- a reading that takes no memory was refused where its call was
+refused_name : (e : Error) (s : List ℕ) (n : ℕ) → Refuses ⊥ e (terminated_at s) → names_len (suc n) s ≡ None
+refused_name errors.EndOfBody s n h = none_counts s ends n h
+refused_name (errors.InvalidData why) s n h = none_counts s (invalid why) n h
+refused_name (errors.WrongEventType number) s n h = none_counts s (other_type number) n h
+refused_name _ s n h = absurd h
+
+-- what is left to count, with what was counted
+abbrev pub Counts : ℕ → List ℕ → ℕ → List ℕ → Type 0
+Counts count bytes left unread = names_len count bytes ≡ plus (length bytes - length unread) (names_len left unread)
+
+-- where a name can't be read, as many aren't there
+pub refused_counts : (count left : ℕ) (bytes unread new : List ℕ) (r : Result (Bor (List ℕ)) Error) → 0 < left
+    → Gives ⊥ new (result_now r) (terminated_at unread) → result_ok r ≡ None → Counts count bytes left unread → None ≡ names_len count bytes
+refused_counts count zero bytes unread new r more read none same = absurd (omega (arith, more))
+refused_counts count (suc left) bytes unread new (Ok x) more read none same = absurd cc
+refused_counts count (suc left) bytes unread new (Err e) more read none same =
+    sym (same ∙ ap (plus (length bytes - length unread)) (refused_name e unread left read))
+
+-- where one was read, one fewer is left
+pub read_counts : (count left : ℕ) (bytes unread new : List ℕ) (r : Result (Bor (List ℕ)) Error) (x : Bor (List ℕ)) → 0 < left
+    → Gives ⊥ new (result_now r) (terminated_at unread) → result_ok r ≡ Some x → length unread ≤ length bytes → Counts count bytes left unread
+    → (length new ≤ length bytes) × Counts count bytes (left - 1) new
+read_counts count zero bytes unread new r x more read some long same = absurd (omega (arith, more))
+read_counts count (suc left) bytes unread new (Err e) x more read some long same = absurd cc
+read_counts count (suc left) bytes unread new (Ok y) x more read some long same =
+    let counts = name_counts unread (y.now, new) left read in
+    let k : ℕ = length bytes - length unread in
+    let j : ℕ = length unread - length new in
+    let sum : k + j ≡ length bytes - length new = omega (arith, counts.1, long) in
+    let less : left ≡ suc left - 1 = omega arith in
+    let step : names_len count bytes ≡ plus (length bytes - length new) (names_len left new)
+        = same ∙ ap (plus k) counts.0 ∙ plus_plus k j (names_len left new) ∙ ap (λ (i : ℕ). plus i (names_len left new)) sum in
+    (omega (arith, counts.1, long), subst (λ (n : ℕ). Counts count bytes n new) less step)
+
+-- ---- names that are read
+
+plus_exact : (n m k : ℕ) → plus n (Some m) ≡ Some k → n + m ≡ k
+plus_exact n m k e = cc
+
+-- names that were read, and those that are left
+pub record ReadsNames (head : ℕ) (rest : List ℕ) (done : List (List ℕ)) (left : ℕ) (unread : List ℕ) : Type 0 where
+  pub counted : length done + left ≡ head
+  pub bytes : rest ≡ flat_map ended done ++ unread
+  pub whole : All HasNoZero done
+  pub len : names_len left unread ≡ Some (length unread)
+
+pub names_step : (head : ℕ) (rest : List ℕ) (done after : List (List ℕ)) (left : ℕ) (unread new name : List ℕ) → 0 < left
+    → terminated_at unread ≡ Ok (name, new) → after ≡ done ++ name ∷ [] → ReadsNames head rest done left unread → ReadsNames head rest after (left - 1) new
+names_step head rest done after zero unread new name more read is h = absurd (omega (arith, more))
+names_step head rest done after (suc left) unread new name more read is h =
+    let stands = name_is unread (name, new) read in
+    let counts = name_counts unread (name, new) left read in
+    let less : left ≡ suc left - 1 = omega arith in
+    let p = plus_some (length unread - length new) (names_len left new) (length unread) (sym counts.0 ∙ h.len) in
+    let m : p.0 ≡ length new = omega (arith, p.2, counts.1) in
+    let one : flat_map ended (done ++ name ∷ []) ≡ flat_map ended done ++ (ended name ++ []) = flat_map-append ended done (name ∷ []) in
+    let pieces : flat_map ended (done ++ name ∷ []) ++ new ≡ flat_map ended done ++ (name ++ (0 ∷ new))
+        = ap (λ (t : List ℕ). t ++ new) (one ∙ ap (λ (t : List ℕ). flat_map ended done ++ t) (append-nil (ended name)))
+          ∙ append_assoc (flat_map ended done) (ended name) new
+          ∙ ap (λ (t : List ℕ). flat_map ended done ++ t) (append_assoc name (0 ∷ []) new) in
+    subst (λ (k : ℕ). ReadsNames head rest after k new) less
+    (subst (λ (ds : List (List ℕ)). ReadsNames head rest ds left new) (sym is) (record {
+      counted = omega (arith, h.counted, length-append {A = List ℕ} done (name ∷ []));
+      bytes = h.bytes ∙ ap (λ (t : List ℕ). flat_map ended done ++ t) stands.1 ∙ sym pieces;
+      whole = All-append HasNoZero done (name ∷ []) h.whole (All-cons HasNoZero name [] stands.0 (All-nil HasNoZero));
+      len = p.1 ∙ ap (λ (k : ℕ). Some k) m;
+    }))

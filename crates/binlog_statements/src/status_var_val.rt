@@ -1,5 +1,5 @@
 //! What the value of a status variable means.
-ghost use Rattle.std.specs.Prelude.{◌≡◌, ◌∷◌, ◌++◌, [], length, IfOk, IfErr, OnErr};
+ghost use Rattle.std.specs.Prelude.{◌≡◌, ◌∷◌, ◌++◌, [], length, IfOk, IfErr, OnOk, OnErr};
 ghost use Rattle.binlog_wire.specs.declared.consts.status_var_key.StatusVarKey.TheVariants.{UpdatedDbNames};
 ghost use Rattle.binlog_statements.specs.Layouts.{IsCounted, Both, counted, AreNames, IsWholeLen};
 ghost use Rattle.binlog_statements.specs.declared.layout.Layout.TheVariants.{Names};
@@ -185,8 +185,21 @@ fn names<'a>(alloc: Global, raw: &'a [u8]) -> Result<Vec<RawBytes<'a, NullBytes>
     let mut left = raw[0];
     while left > 0 {
         let name = unread.parse(alloc, ())?;
-        names.push(name).map_err(|_| Error::Memory)?;
+        push_name(&mut names, name)?;
         left -= 1;
     }
     Ok(names)
+}
+
+// Appends a name to the list; refused by [`Error::Memory`] alone.
+fn push_name<'a>(
+    names: &mut Vec<RawBytes<'a, NullBytes>>,
+    name: RawBytes<'a, NullBytes>,
+) -> Result<(), Error>
+    ensures { OnOk result (names.new.items ≡ names.old.items ++ name.entry ∷ []) }
+{
+    match names.push(name) {
+        Ok(()) => Ok(()),
+        Err(_) => Err(Error::Memory),
+    }
 }
