@@ -87,9 +87,13 @@ behind_some g s (Some n) k e =
     let p = plus_some n (g (drop n s)) k e in
     (n, p.0, refl, p.1, p.2)
 
+take_nil : (k : ℕ) → take {A = ℕ} k [] ≡ []
+take_nil zero = refl
+take_nil (suc k) = refl
+
 take_more : (n m : ℕ) (s : List ℕ) → take (n + m) s ≡ take n s ++ take m (drop n s)
 take_more zero m s = ap (λ (k : ℕ). take k s) (omega arith)
-take_more (suc n) m [] = grind arith
+take_more (suc n) m [] = take_nil (suc n + m) ∙ sym (take_nil m)
 take_more (suc n) m (x ∷ s) =
     let e : suc n + m ≡ suc (n + m) = omega arith in
     ap (λ (k : ℕ). take k (x ∷ s)) e ∙ ap (λ (t : List ℕ). x ∷ t) (take_more n m s)
@@ -219,7 +223,12 @@ names_value_sound (k ∷ s) n e = counted_sound k s n (nat_eq k 254) refl e
 names_value_complete : (v r : List ℕ) (names : List (List ℕ)) → AreNames v names → counted_names_len (v ++ r) ≡ Some (length v)
 names_value_complete v r names (inl h) = rw h.0 refl
 names_value_complete v r names (inr h) =
-    rw (h.1, not_eq (length names) 254 h.0, names_complete names r h.2) refl
+    let len : ℕ = length (flat_map ended names) in
+    let all : plus 1 (names_len (length names) (flat_map ended names ++ r)) ≡ Some (suc len)
+        = ap (plus 1) (names_complete names r h.2) ∙ ap (λ (k : ℕ). Some k) (omega arith) in
+    let chosen_is : counted_names_len ((length names ∷ flat_map ended names) ++ r) ≡ Some (suc len)
+        = ap (λ (b : Bool). cond b (Some 1) (plus 1 (names_len (length names) (flat_map ended names ++ r)))) (not_eq (length names) 254 h.0) ∙ all in
+    subst (λ (w : List ℕ). counted_names_len (w ++ r) ≡ Some (length w)) (sym h.1) chosen_is
 
 pub measures_names : Measures IsNameList counted_names_len
 measures_names = record {
@@ -273,15 +282,20 @@ name_counts s x n e =
     let len : suc (length x.0) ≡ length s - length x.1 = omega (arith, long) in
     (ap (names_len (suc n)) is.1 ∙ one_name x.0 x.1 n is.0 ∙ ap (λ (k : ℕ). plus k (names_len n x.1)) len, omega (arith, long))
 
+abbrev one_more_byte : ℕ → List ℕ × List ℕ → Read (List ℕ)
+one_more_byte b y = Ok (suc b ∷ y.0, y.1)
+
+refused_behind : (b : ℕ) (r : Read (List ℕ)) (why : Refusal) → (r >>= one_more_byte b) ≡ Err why → (other : Refusal) × (r ≡ Err other)
+refused_behind b (Ok y) why e = absurd cc
+refused_behind b (Err other) why e = (other, refl)
+
 -- where none is, so many aren't there
 pub none_counts : (s : List ℕ) (why : Refusal) (n : ℕ) → terminated_at s ≡ Err why → names_len (suc n) s ≡ None
 none_counts [] why n e = refl
 none_counts (zero ∷ s) why n e = absurd cc
-none_counts (suc b ∷ s) why n e = ap (plus 1) (none_counts s (refused (terminated_at s) e).0 n (refused (terminated_at s) e).1)
-  where
-    refused : (r : Read (List ℕ)) → (r >>= λ y. Ok (suc b ∷ y.0, y.1)) ≡ Err why → (other : Refusal) × (r ≡ Err other)
-    refused (Ok y) e = absurd cc
-    refused (Err other) e = (other, refl)
+none_counts (suc b ∷ s) why n e =
+    let r = refused_behind b (terminated_at s) why e in
+    ap (plus 1) (none_counts s r.0 n r.1)
 
 -- a reading that takes no memory was refused where its call was
 refused_name : (e : Error) (s : List ℕ) (n : ℕ) → Refuses ⊥ e (terminated_at s) → names_len (suc n) s ≡ None
@@ -295,20 +309,20 @@ abbrev pub Counts : ℕ → List ℕ → ℕ → List ℕ → Type 0
 Counts count bytes left unread = names_len count bytes ≡ plus (length bytes - length unread) (names_len left unread)
 
 -- where a name can't be read, as many aren't there
-pub refused_counts : (count left : ℕ) (bytes unread new : List ℕ) (r : Result (Bor (List ℕ)) Error) → 0 < left
-    → Gives ⊥ new (result_now r) (terminated_at unread) → result_ok r ≡ None → Counts count bytes left unread → None ≡ names_len count bytes
-refused_counts count zero bytes unread new r more read none same = absurd (omega (arith, more))
-refused_counts count (suc left) bytes unread new (Ok x) more read none same = absurd cc
-refused_counts count (suc left) bytes unread new (Err e) more read none same =
+pub refused_counts : (count left : ℕ) (bytes unread new : List ℕ) (r : Result (Bor (List ℕ)) Error)
+    → Gives ⊥ new (result_now r) (terminated_at unread) → result_ok r ≡ None → Counts count bytes left unread → 0 < left → None ≡ names_len count bytes
+refused_counts count zero bytes unread new r read none same more = absurd (omega (arith, more))
+refused_counts count (suc left) bytes unread new (Ok x) read none same more = absurd cc
+refused_counts count (suc left) bytes unread new (Err e) read none same more =
     sym (same ∙ ap (plus (length bytes - length unread)) (refused_name e unread left read))
 
 -- where one was read, one fewer is left
-pub read_counts : (count left : ℕ) (bytes unread new : List ℕ) (r : Result (Bor (List ℕ)) Error) (x : Bor (List ℕ)) → 0 < left
-    → Gives ⊥ new (result_now r) (terminated_at unread) → result_ok r ≡ Some x → length unread ≤ length bytes → Counts count bytes left unread
+pub read_counts : (count left : ℕ) (bytes unread new : List ℕ) (r : Result (Bor (List ℕ)) Error) (x : Bor (List ℕ))
+    → Gives ⊥ new (result_now r) (terminated_at unread) → result_ok r ≡ Some x → length unread ≤ length bytes → Counts count bytes left unread → 0 < left
     → (length new ≤ length bytes) × Counts count bytes (left - 1) new
-read_counts count zero bytes unread new r x more read some long same = absurd (omega (arith, more))
-read_counts count (suc left) bytes unread new (Err e) x more read some long same = absurd cc
-read_counts count (suc left) bytes unread new (Ok y) x more read some long same =
+read_counts count zero bytes unread new r x read some long same more = absurd (omega (arith, more))
+read_counts count (suc left) bytes unread new (Err e) x read some long same more = absurd cc
+read_counts count (suc left) bytes unread new (Ok y) x read some long same more =
     let counts = name_counts unread (y.now, new) left read in
     let k : ℕ = length bytes - length unread in
     let j : ℕ = length unread - length new in
@@ -320,9 +334,6 @@ read_counts count (suc left) bytes unread new (Ok y) x more read some long same 
 
 -- ---- names that are read
 
-plus_exact : (n m k : ℕ) → plus n (Some m) ≡ Some k → n + m ≡ k
-plus_exact n m k e = cc
-
 -- names that were read, and those that are left
 pub record ReadsNames (head : ℕ) (rest : List ℕ) (done : List (List ℕ)) (left : ℕ) (unread : List ℕ) : Type 0 where
   pub counted : length done + left ≡ head
@@ -330,10 +341,10 @@ pub record ReadsNames (head : ℕ) (rest : List ℕ) (done : List (List ℕ)) (l
   pub whole : All HasNoZero done
   pub len : names_len left unread ≡ Some (length unread)
 
-pub names_step : (head : ℕ) (rest : List ℕ) (done after : List (List ℕ)) (left : ℕ) (unread new name : List ℕ) → 0 < left
-    → terminated_at unread ≡ Ok (name, new) → after ≡ done ++ name ∷ [] → ReadsNames head rest done left unread → ReadsNames head rest after (left - 1) new
-names_step head rest done after zero unread new name more read is h = absurd (omega (arith, more))
-names_step head rest done after (suc left) unread new name more read is h =
+pub names_step : (head : ℕ) (rest : List ℕ) (done after : List (List ℕ)) (left : ℕ) (unread new name : List ℕ)
+    → terminated_at unread ≡ Ok (name, new) → after ≡ done ++ name ∷ [] → ReadsNames head rest done left unread → 0 < left → ReadsNames head rest after (left - 1) new
+names_step head rest done after zero unread new name read is h more = absurd (omega (arith, more))
+names_step head rest done after (suc left) unread new name read is h more =
     let stands = name_is unread (name, new) read in
     let counts = name_counts unread (name, new) left read in
     let less : left ≡ suc left - 1 = omega arith in

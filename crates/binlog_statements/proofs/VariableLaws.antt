@@ -64,6 +64,14 @@ first_shorter text x e =
 abbrev Enough : ℕ → List ℕ → Type 0
 Enough n text = length text ≤ n
 
+same_behind : (n m : ℕ) (text : List ℕ) (o : Option (Variable × List ℕ)) → first_variable text ≡ o → Enough (suc n) text → Enough (suc m) text
+    → ((r : List ℕ) → Enough n r → Enough m r → variables_within n r ≡ variables_within m r)
+    → with_others o (variables_within n) ≡ with_others o (variables_within m)
+same_behind n m text None e a b same = refl
+same_behind n m text (Some x) e a b same =
+    let short = first_shorter text x e in
+    ap (λ (vs : List Variable). x.0 ∷ vs) (same x.1 (omega (arith, a, short)) (omega (arith, b, short)))
+
 -- where as many are looked for as there are bytes, it doesn't matter how many
 same_within : (n m : ℕ) (text : List ℕ) → Enough n text → Enough m text → variables_within n text ≡ variables_within m text
 same_within zero zero text a b = refl
@@ -71,13 +79,7 @@ same_within zero (suc m) [] a b = refl
 same_within zero (suc m) (c ∷ s) a b = absurd (omega (arith, a))
 same_within (suc n) zero [] a b = refl
 same_within (suc n) zero (c ∷ s) a b = absurd (omega (arith, b))
-same_within (suc n) (suc m) text a b = behind (first_variable text) refl
-  where
-    behind : (o : Option (Variable × List ℕ)) → first_variable text ≡ o → with_others o (variables_within n) ≡ with_others o (variables_within m)
-    behind None e = refl
-    behind (Some x) e =
-        let short = first_shorter text x e in
-        ap (λ (vs : List Variable). x.0 ∷ vs) (same_within n m x.1 (omega (arith, a, short)) (omega (arith, b, short)))
+same_within (suc n) (suc m) text a b = same_behind n m text (first_variable text) refl a b (same_within n m)
 
 -- a text that begins with no whole variable has none
 pub variables-none : (text : List ℕ) → first_variable text ≡ None → variables text ≡ []
@@ -119,21 +121,25 @@ variables-front (v ∷ vars) r whole =
     ∙ variables-some (variable_bytes v ++ behind) (v, behind) first
     ∙ ap (λ (vs : List Variable). v ∷ vs) (variables-front vars r (All-tail IsWhole v vars whole))
 
+abbrev Begins : List ℕ → List Variable → Type 0
+Begins text vars = (rest : List ℕ) × BeginsWith text vars rest
+
+begins_behind : (n : ℕ) (text : List ℕ) (o : Option (Variable × List ℕ)) → first_variable text ≡ o → ((r : List ℕ) → Begins r (variables_within n r))
+    → Begins text (with_others o (variables_within n))
+begins_behind n text None e begins = (text, record { is = refl; whole = All-nil IsWhole })
+begins_behind n text (Some x) e begins =
+    let first = first_sound text x e in
+    let others = begins x.1 in
+    let vars : List Variable = variables_within n x.1 in
+    (others.0, record {
+      is = first.is ∙ ap (λ (t : List ℕ). variable_bytes x.0 ++ t) others.1.is ∙ sym (append_assoc (variable_bytes x.0) (bytes_of vars) others.0);
+      whole = All-cons IsWhole x.0 vars first.whole others.1.whole;
+    })
+
 -- a text begins with its variables
-begins_within : (n : ℕ) (text : List ℕ) → (rest : List ℕ) × BeginsWith text (variables_within n text) rest
+begins_within : (n : ℕ) (text : List ℕ) → Begins text (variables_within n text)
 begins_within zero text = (text, record { is = refl; whole = All-nil IsWhole })
-begins_within (suc n) text = behind (first_variable text) refl
-  where
-    behind : (o : Option (Variable × List ℕ)) → first_variable text ≡ o → (rest : List ℕ) × BeginsWith text (with_others o (variables_within n)) rest
-    behind None e = (text, record { is = refl; whole = All-nil IsWhole })
-    behind (Some x) e =
-        let first = first_sound text x e in
-        let others = begins_within n x.1 in
-        let vars : List Variable = variables_within n x.1 in
-        (others.0, record {
-          is = first.is ∙ ap (λ (t : List ℕ). variable_bytes x.0 ++ t) others.1.is ∙ sym (append_assoc (variable_bytes x.0) (bytes_of vars) others.0);
-          whole = All-cons IsWhole x.0 vars first.whole others.1.whole;
-        })
+begins_within (suc n) text = begins_behind n text (first_variable text) refl (begins_within n)
 
 -- and goes on with a rest
 pub variables_begin : (text : List ℕ) → (rest : List ℕ) × BeginsWith text (variables text) rest
@@ -196,3 +202,7 @@ none_later key vars w others is other h =
 
 pub none_here : (key : StatusVarKey) (vars : List Variable) → vars ≡ [] → HasNoKey key vars
 none_here key vars is = subst (λ (vs : List Variable). HasNoKey key vs) (sym is) (All-nil (λ (u : Variable). u.key ≢ key))
+
+-- behind a first variable there are fewer
+pub fewer_behind : (s t : List ℕ) (v : Variable) → variables s ≡ v ∷ variables t → length (variables t) < length (variables s)
+fewer_behind s t v e = omega (arith, ap length e)

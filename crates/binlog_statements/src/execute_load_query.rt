@@ -9,7 +9,7 @@ use crate::status_vars::StatusVars;
 use binlog_bodies::{BinlogCtx, BinlogEvent};
 use binlog_wire::{
     Const, Error, EventType, IntRepr, LeU32, LoadDuplicateHandling, MyDeserialize, ParseBuf, Put,
-    RawBytes, RawInt,
+    RawInt,
 };
 use std::alloc::Global;
 use std::borrow::{CowSlice, CowStr};
@@ -218,30 +218,48 @@ impl<'a> ExecuteLoadQueryEvent<'a> {
     }
 
     /// The event with this text of status variables, of which the first 65,535 bytes count.
-    pub fn with_status_vars(mut self, status_vars: CowSlice<'a, u8>) -> Self
+    pub fn with_status_vars(self, status_vars: CowSlice<'a, u8>) -> Self
         ensures { result ≡ record self.entry { statement = record self.entry.statement { texts = record self.entry.statement.texts {
             status_vars = record { 0 = cow_slice_items status_vars.entry } } } } }
     {
-        self.statement.texts.status_vars = StatusVars(RawBytes::new(status_vars));
-        self
+        let statement = self.statement.with_status_vars(status_vars);
+        ExecuteLoadQueryEvent {
+            statement,
+            file_id: self.file_id,
+            start_pos: self.start_pos,
+            end_pos: self.end_pos,
+            dup_handling: self.dup_handling,
+        }
     }
 
     /// The event with this schema's name, of which the first 255 bytes count.
-    pub fn with_schema(mut self, schema: CowSlice<'a, u8>) -> Self
+    pub fn with_schema(self, schema: CowSlice<'a, u8>) -> Self
         ensures { result ≡ record self.entry { statement = record self.entry.statement { texts = record self.entry.statement.texts {
             schema = cow_slice_items schema.entry } } } }
     {
-        self.statement.texts.schema = RawBytes::new(schema);
-        self
+        let statement = self.statement.with_schema(schema);
+        ExecuteLoadQueryEvent {
+            statement,
+            file_id: self.file_id,
+            start_pos: self.start_pos,
+            end_pos: self.end_pos,
+            dup_handling: self.dup_handling,
+        }
     }
 
     /// The event with this statement.
-    pub fn with_query(mut self, query: CowSlice<'a, u8>) -> Self
+    pub fn with_query(self, query: CowSlice<'a, u8>) -> Self
         ensures { result ≡ record self.entry { statement = record self.entry.statement { texts = record self.entry.statement.texts {
             query = cow_slice_items query.entry } } } }
     {
-        self.statement.texts.query = RawBytes::new(query);
-        self
+        let statement = self.statement.with_query(query);
+        ExecuteLoadQueryEvent {
+            statement,
+            file_id: self.file_id,
+            start_pos: self.start_pos,
+            end_pos: self.end_pos,
+            dup_handling: self.dup_handling,
+        }
     }
 
     /// The thread that ran the statement; temporary tables are told apart by it.

@@ -1,6 +1,6 @@
 //! How the values of status variables are laid out.
-ghost use Rattle.std.specs.Prelude.{◌≡◌, ℕ, List, length, Option, Some, None};
-ghost use Rattle.binlog_statements.specs.Layouts.{layout_of, value_len, fixed_len, text_len, both_len, names_len, counted_names_len};
+ghost use Rattle.std.specs.Prelude.{◌≡◌, ◌≤◌, IfSome, length};
+ghost use Rattle.binlog_statements.specs.Layouts.{layout_of, value_len, fixed_len, text_len, names_len, counted_names_len};
 
 use binlog_wire::{BytesRepr, NullBytes, ParseBuf, StatusVarKey};
 
@@ -107,7 +107,8 @@ fn counted_names_len(bytes: &[u8]) -> Option<usize>
 
 /// How long so many names at the front are, with the zero bytes that end them.
 fn names_len(count: u8, bytes: &[u8]) -> Option<usize>
-    ensures { result ≡ names_len count bytes.now }
+    ensures count { result ≡ names_len count bytes.now }
+    ensures within { IfSome result (λ len. len ≤ length bytes.now) }
 {
     let mut unread = ParseBuf(bytes);
     let mut left = count;

@@ -89,8 +89,8 @@ impl<'a> StatusVar<'a> {
         ensures raw { IfErr result (λ raw. raw.now ≡ self.now.value.now) }
         ensures names_alone { OnErr result (self.now.key ≡ UpdatedDbNames) }
     {
-        let raw = self.raw();
-        Ok(match self.key() {
+        let raw = self.value;
+        Ok(match self.key {
             StatusVarKey::Flags2 => StatusVarVal::Flags2(LittleEndian::read_u32(raw)),
             StatusVarKey::SqlMode => StatusVarVal::SqlMode(LittleEndian::read_u64(raw)),
             StatusVarKey::Catalog => StatusVarVal::Catalog(raw),

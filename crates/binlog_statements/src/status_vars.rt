@@ -120,9 +120,9 @@ impl<'a> Iterator for StatusVarsIterator<'a> {
 
     fn next(&mut self) -> Option<StatusVar<'a>> {
         match StatusVar::first(self.unread) {
-            Some((var, unread)) => {
-                self.unread = unread;
-                Some(var)
+            Some(first) => {
+                self.unread = first.1;
+                Some(first.0)
             }
             None => {
                 self.unread = &[];
@@ -135,8 +135,8 @@ impl<'a> Iterator for StatusVarsIterator<'a> {
 /// A status variable: its key, and all bytes of its value, which is whole.
 #[derive(Clone, Copy, Debug, PartialEq, Eq, Hash)]
 pub struct StatusVar<'a> {
-    key: StatusVarKey,
-    value: &'a [u8],
+    pub(crate) key: StatusVarKey,
+    pub(crate) value: &'a [u8],
     ghost whole: { value_len (layout_of key) value.now ≡ Some (length value.now) },
 }
 
