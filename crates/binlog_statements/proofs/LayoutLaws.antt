@@ -68,7 +68,8 @@ measures_text = record {
       let enough : k ≤ length s = le_true k (length s) c.0 in
       let is : length (take k s) ≡ k = omega (arith, length-take k s, enough) in
       subst (λ (m : ℕ). (m ≤ suc (length s)) × IsCounted (take m (k ∷ s))) c.1
-          (omega (arith, enough), (take k s, ap (λ (j : ℕ). j ∷ take k s) (sym is)))
+      (omega (arith, enough), (take k s, ap (λ (j : ℕ). j ∷ take k s) (sym is)))
+
   text_complete : (text r : List ℕ) → text_len ((length text ∷ text) ++ r) ≡ Some (suc (length text))
   text_complete text r =
       let enough : nat_le (length text) (length (text ++ r)) ≡ true = true_le (length text) (length (text ++ r)) (omega (arith, length-append text r)) in
@@ -105,7 +106,7 @@ measures_both {F} {G} {f} {g} first second = record {
       let a = first.sound s b.0 b.2 in
       let c = second.sound (drop b.0 s) b.1 b.3 in
       subst (λ (n : ℕ). (n ≤ length s) × Both F G (take n s)) b.4
-          (omega (arith, a.0, c.0, length-drop b.0 s), (take b.0 s, take b.1 (drop b.0 s), take_more b.0 b.1 s, a.1, c.1));
+      (omega (arith, a.0, c.0, length-drop b.0 s), (take b.0 s, take b.1 (drop b.0 s), take_more b.0 b.1 s, a.1, c.1));
   complete = λ v r h.
       let one : f (h.0 ++ (h.1 ++ r)) ≡ Some (length h.0) = first.complete h.0 (h.1 ++ r) h.3 in
       let two : g (h.1 ++ r) ≡ Some (length h.1) = second.complete h.1 r h.4 in
@@ -151,13 +152,16 @@ names_complete (name ∷ names) r whole =
 longer : (b : ℕ) (count : ℕ) (s : List ℕ) (names : List (List ℕ)) → HasNames (suc count) s names
     → (others : List (List ℕ)) × HasNames (suc count) (suc b ∷ s) others
 longer b count s [] h = absurd (omega (arith, h.counted))
-longer b count s (name ∷ names) h = ((suc b ∷ name) ∷ names, record {
-  counted = h.counted;
-  is = ap (λ (t : List ℕ). suc b ∷ t) h.is;
-  whole = All-cons HasNoZero (suc b ∷ name) names
-      (All-head HasNoZero name names h.whole)
-      (All-tail HasNoZero name names h.whole);
-})
+longer b count s (name ∷ names) h = (
+  (suc b ∷ name) ∷ names,
+  record {
+    counted = h.counted;
+    is = ap (λ (t : List ℕ). suc b ∷ t) h.is;
+    whole = All-cons HasNoZero (suc b ∷ name) names
+        (All-head HasNoZero name names h.whole)
+        (All-tail HasNoZero name names h.whole);
+  },
+)
 
 -- an empty name in front
 one_more : (count : ℕ) (s : List ℕ) (names : List (List ℕ)) → HasNames count s names → HasNames (suc count) (0 ∷ s) ([] ∷ names)
@@ -180,7 +184,7 @@ names_sound (suc count) (zero ∷ s) n e =
     let ih = names_sound count s p.0 p.1 in
     let is : suc p.0 ≡ n = omega (arith, p.2) in
     subst (λ (m : ℕ). Named (suc count) (zero ∷ s) m) is
-        (omega (arith, ih.0), ([] ∷ ih.1.0, one_more count (take p.0 s) ih.1.0 ih.1.1))
+    (omega (arith, ih.0), ([] ∷ ih.1.0, one_more count (take p.0 s) ih.1.0 ih.1.1))
 names_sound (suc count) (suc b ∷ s) n e =
     let p = plus_some 1 (names_len (suc count) s) n e in
     let ih = names_sound (suc count) s p.0 p.1 in
@@ -205,7 +209,7 @@ counted_sound : (k : ℕ) (s : List ℕ) (n : ℕ) (b : Bool) → nat_eq k 254 �
 counted_sound k s n true is e =
     let one : 1 ≡ n = cc in
     subst (λ (m : ℕ). (m ≤ suc (length s)) × IsNameList (take m (k ∷ s))) one
-        (omega arith, ([], inl (ap (λ (j : ℕ). j ∷ []) (eq_true k 254 is), refl)))
+    (omega arith, ([], inl (ap (λ (j : ℕ). j ∷ []) (eq_true k 254 is), refl)))
 counted_sound k s n false is e =
     let p = plus_some 1 (names_len k s) n e in
     let named = names_sound k s p.0 p.1 in
@@ -214,7 +218,7 @@ counted_sound k s n false is e =
     let few : length named.1.0 ≢ 254 = λ (same : length named.1.0 ≡ 254). eq_false k 254 is (sym are.counted ∙ same) in
     let value : k ∷ take p.0 s ≡ length named.1.0 ∷ flat_map ended named.1.0 = rw (are.counted, are.is) refl in
     subst (λ (m : ℕ). (m ≤ suc (length s)) × IsNameList (take m (k ∷ s))) e'
-        (omega (arith, named.0), (named.1.0, inr (few, value, are.whole)))
+    (omega (arith, named.0), (named.1.0, inr (few, value, are.whole)))
 
 names_value_sound : (s : List ℕ) (n : ℕ) → counted_names_len s ≡ Some n → (n ≤ length s) × IsNameList (take n s)
 names_value_sound [] n e = absurd cc
@@ -225,9 +229,9 @@ names_value_complete v r names (inl h) = rw h.0 refl
 names_value_complete v r names (inr h) =
     let len : ℕ = length (flat_map ended names) in
     let all : plus 1 (names_len (length names) (flat_map ended names ++ r)) ≡ Some (suc len)
-        = ap (plus 1) (names_complete names r h.2) ∙ ap (λ (k : ℕ). Some k) (omega arith) in
+    = ap (plus 1) (names_complete names r h.2) ∙ ap (λ (k : ℕ). Some k) (omega arith) in
     let chosen_is : counted_names_len ((length names ∷ flat_map ended names) ++ r) ≡ Some (suc len)
-        = ap (λ (b : Bool). cond b (Some 1) (plus 1 (names_len (length names) (flat_map ended names ++ r)))) (not_eq (length names) 254 h.0) ∙ all in
+    = ap (λ (b : Bool). cond b (Some 1) (plus 1 (names_len (length names) (flat_map ended names ++ r)))) (not_eq (length names) 254 h.0) ∙ all in
     subst (λ (w : List ℕ). counted_names_len (w ++ r) ≡ Some (length w)) (sym h.1) chosen_is
 
 pub measures_names : Measures IsNameList counted_names_len
@@ -329,7 +333,7 @@ read_counts count (suc left) bytes unread new (Ok y) x read some long same more 
     let sum : k + j ≡ length bytes - length new = omega (arith, counts.1, long) in
     let less : left ≡ suc left - 1 = omega arith in
     let step : names_len count bytes ≡ plus (length bytes - length new) (names_len left new)
-        = same ∙ ap (plus k) counts.0 ∙ plus_plus k j (names_len left new) ∙ ap (λ (i : ℕ). plus i (names_len left new)) sum in
+    = same ∙ ap (plus k) counts.0 ∙ plus_plus k j (names_len left new) ∙ ap (λ (i : ℕ). plus i (names_len left new)) sum in
     (omega (arith, counts.1, long), subst (λ (n : ℕ). Counts count bytes n new) less step)
 
 -- ---- names that are read
@@ -352,9 +356,9 @@ names_step head rest done after (suc left) unread new name read is h more =
     let m : p.0 ≡ length new = omega (arith, p.2, counts.1) in
     let one : flat_map ended (done ++ name ∷ []) ≡ flat_map ended done ++ (ended name ++ []) = flat_map-append ended done (name ∷ []) in
     let pieces : flat_map ended (done ++ name ∷ []) ++ new ≡ flat_map ended done ++ (name ++ (0 ∷ new))
-        = ap (λ (t : List ℕ). t ++ new) (one ∙ ap (λ (t : List ℕ). flat_map ended done ++ t) (append-nil (ended name)))
-          ∙ append_assoc (flat_map ended done) (ended name) new
-          ∙ ap (λ (t : List ℕ). flat_map ended done ++ t) (append_assoc name (0 ∷ []) new) in
+    = ap (λ (t : List ℕ). t ++ new) (one ∙ ap (λ (t : List ℕ). flat_map ended done ++ t) (append-nil (ended name)))
+    ∙ append_assoc (flat_map ended done) (ended name) new
+    ∙ ap (λ (t : List ℕ). flat_map ended done ++ t) (append_assoc name (0 ∷ []) new) in
     subst (λ (k : ℕ). ReadsNames head rest after k new) less
     (subst (λ (ds : List (List ℕ)). ReadsNames head rest ds left new) (sym is) (record {
       counted = omega (arith, h.counted, length-append {A = List ℕ} done (name ∷ []));

@@ -14,4 +14,3 @@ pub five_pieces : (old a b c d e v w x y z : List ℕ) → v ≡ old ++ a → w 
 five_pieces old a b c d e v w x y z p q r s t =
     three_pieces w c d e x y z r s t ∙ ap (λ (u : List ℕ). u ++ (c ++ (d ++ e))) q
     ∙ two_pieces old a (b ++ (c ++ (d ++ e))) v ((v ++ b) ++ (c ++ (d ++ e))) p (append_assoc v b (c ++ (d ++ e)))
-

@@ -130,11 +130,13 @@ begins_behind n text None e begins = (text, record { is = refl; whole = All-nil 
 begins_behind n text (Some x) e begins =
     let first = first_sound text x e in
     let others = begins x.1 in
-    let vars : List Variable = variables_within n x.1 in
-    (others.0, record {
-      is = first.is ∙ ap (λ (t : List ℕ). variable_bytes x.0 ++ t) others.1.is ∙ sym (append_assoc (variable_bytes x.0) (bytes_of vars) others.0);
-      whole = All-cons IsWhole x.0 vars first.whole others.1.whole;
-    })
+    let vars : List Variable = variables_within n x.1 in (
+      others.0,
+      record {
+        is = first.is ∙ ap (λ (t : List ℕ). variable_bytes x.0 ++ t) others.1.is ∙ sym (append_assoc (variable_bytes x.0) (bytes_of vars) others.0);
+        whole = All-cons IsWhole x.0 vars first.whole others.1.whole;
+      },
+    )
 
 -- a text begins with its variables
 begins_within : (n : ℕ) (text : List ℕ) → Begins text (variables_within n text)
@@ -152,9 +154,9 @@ pub variables_longest : (text : List ℕ) (others : List Variable) (left : List 
 variables_longest text others left other =
     let all : variables text ≡ others ++ variables left = ap variables other.is ∙ variables-front others left other.whole in
     let bytes : bytes_of (variables text) ≡ bytes_of others ++ bytes_of (variables left)
-        = ap bytes_of all ∙ flat_map-append variable_bytes others (variables left) in
+    = ap bytes_of all ∙ flat_map-append variable_bytes others (variables left) in
     let long : length (bytes_of (variables text)) ≡ length (bytes_of others) + length (bytes_of (variables left))
-        = ap length bytes ∙ length-append (bytes_of others) (bytes_of (variables left)) in
+    = ap length bytes ∙ length-append (bytes_of others) (bytes_of (variables left)) in
     omega (arith, long)
 
 pub variables_are : (text : List ℕ) → AreVariablesOf text (variables text)
@@ -175,7 +177,7 @@ variables_only text vars are =
     let mine = variables_are text in
     let longer = are.longest (variables text) mine.rest mine.front in
     let bytes : bytes_of (variables text) ≡ bytes_of vars ++ bytes_of (variables are.rest)
-        = ap bytes_of all ∙ flat_map-append variable_bytes vars (variables are.rest) in
+    = ap bytes_of all ∙ flat_map-append variable_bytes vars (variables are.rest) in
     let few : length (bytes_of (variables are.rest)) ≤ 0 = omega (arith, longer, ap length bytes, length-append (bytes_of vars) (bytes_of (variables are.rest))) in
     let none : variables are.rest ≡ [] = no_bytes (variables are.rest) few in
     sym (all ∙ ap (λ (vs : List Variable). vars ++ vs) none ∙ append-nil vars)

@@ -108,20 +108,20 @@ impl<'a> ExecuteLoadQueryEvent<'a> {
         schema: CowSlice<'a, u8>,
     ) -> Self
         ensures { result ≡ record {
-            statement = record {
-                thread_id = 0;
-                execution_time = 0;
-                error_code = 0;
-                texts = record {
-                    status_vars = record { 0 = cow_slice_items status_vars.entry };
-                    schema = cow_slice_items schema.entry;
-                    query = [];
-                };
+          statement = record {
+            thread_id = 0;
+            execution_time = 0;
+            error_code = 0;
+            texts = record {
+              status_vars = record { 0 = cow_slice_items status_vars.entry };
+              schema = cow_slice_items schema.entry;
+              query = [];
             };
-            file_id = file_id;
-            start_pos = 0;
-            end_pos = 0;
-            dup_handling = dup_handling;
+          };
+          file_id = file_id;
+          start_pos = 0;
+          end_pos = 0;
+          dup_handling = dup_handling;
         } }
     {
         ExecuteLoadQueryEvent {
@@ -219,8 +219,13 @@ impl<'a> ExecuteLoadQueryEvent<'a> {
 
     /// The event with this text of status variables, of which the first 65,535 bytes count.
     pub fn with_status_vars(self, status_vars: CowSlice<'a, u8>) -> Self
-        ensures { result ≡ record self.entry { statement = record self.entry.statement { texts = record self.entry.statement.texts {
-            status_vars = record { 0 = cow_slice_items status_vars.entry } } } } }
+        ensures { result ≡ record self.entry {
+          statement = record self.entry.statement {
+            texts = record self.entry.statement.texts {
+              status_vars = record { 0 = cow_slice_items status_vars.entry };
+            };
+          };
+        } }
     {
         let statement = self.statement.with_status_vars(status_vars);
         ExecuteLoadQueryEvent {
@@ -234,8 +239,13 @@ impl<'a> ExecuteLoadQueryEvent<'a> {
 
     /// The event with this schema's name, of which the first 255 bytes count.
     pub fn with_schema(self, schema: CowSlice<'a, u8>) -> Self
-        ensures { result ≡ record self.entry { statement = record self.entry.statement { texts = record self.entry.statement.texts {
-            schema = cow_slice_items schema.entry } } } }
+        ensures { result ≡ record self.entry {
+          statement = record self.entry.statement {
+            texts = record self.entry.statement.texts {
+              schema = cow_slice_items schema.entry;
+            };
+          };
+        } }
     {
         let statement = self.statement.with_schema(schema);
         ExecuteLoadQueryEvent {
@@ -249,8 +259,13 @@ impl<'a> ExecuteLoadQueryEvent<'a> {
 
     /// The event with this statement.
     pub fn with_query(self, query: CowSlice<'a, u8>) -> Self
-        ensures { result ≡ record self.entry { statement = record self.entry.statement { texts = record self.entry.statement.texts {
-            query = cow_slice_items query.entry } } } }
+        ensures { result ≡ record self.entry {
+          statement = record self.entry.statement {
+            texts = record self.entry.statement.texts {
+              query = cow_slice_items query.entry;
+            };
+          };
+        } }
     {
         let statement = self.statement.with_query(query);
         ExecuteLoadQueryEvent {

@@ -34,9 +34,8 @@ impl Layout {
             | StatusVarKey::CharsetDatabase
             | StatusVarKey::DefaultCollationForUtf8mb4 => Layout::Bytes(2),
             StatusVarKey::Microseconds => Layout::Bytes(3),
-            StatusVarKey::Flags2
-            | StatusVarKey::AutoIncrement
-            | StatusVarKey::MasterDataWritten => Layout::Bytes(4),
+            StatusVarKey::Flags2 | StatusVarKey::AutoIncrement | StatusVarKey::MasterDataWritten =>
+                Layout::Bytes(4),
             StatusVarKey::Charset => Layout::Bytes(6),
             StatusVarKey::SqlMode
             | StatusVarKey::TableMapForUpdate

@@ -6,8 +6,8 @@
 #![tactic(auto)]
 
 mod execute_load_query;
-mod layout;
 pub mod laws;
+mod layout;
 mod query;
 mod statement;
 mod status_var_val;

@@ -26,16 +26,18 @@ impl<'a> QueryEvent<'a> {
     /// The empty statement with this text of status variables, of which the first 65,535 bytes count, and this schema's
     /// name, of which the first 255 bytes count; all numbers are 0.
     pub fn new(status_vars: CowSlice<'a, u8>, schema: CowSlice<'a, u8>) -> Self
-        ensures { result ≡ record { statement = record {
+        ensures { result ≡ record {
+          statement = record {
             thread_id = 0;
             execution_time = 0;
             error_code = 0;
             texts = record {
-                status_vars = record { 0 = cow_slice_items status_vars.entry };
-                schema = cow_slice_items schema.entry;
-                query = [];
+              status_vars = record { 0 = cow_slice_items status_vars.entry };
+              schema = cow_slice_items schema.entry;
+              query = [];
             };
-        } } }
+          };
+        } }
     {
         QueryEvent {
             statement: Statement::new(status_vars, schema),
@@ -68,8 +70,13 @@ impl<'a> QueryEvent<'a> {
 
     /// The event with this text of status variables, of which the first 65,535 bytes count.
     pub fn with_status_vars(self, status_vars: CowSlice<'a, u8>) -> Self
-        ensures { result ≡ record self.entry { statement = record self.entry.statement { texts = record self.entry.statement.texts {
-            status_vars = record { 0 = cow_slice_items status_vars.entry } } } } }
+        ensures { result ≡ record self.entry {
+          statement = record self.entry.statement {
+            texts = record self.entry.statement.texts {
+              status_vars = record { 0 = cow_slice_items status_vars.entry };
+            };
+          };
+        } }
     {
         QueryEvent {
             statement: self.statement.with_status_vars(status_vars),
@@ -78,8 +85,13 @@ impl<'a> QueryEvent<'a> {
 
     /// The event with this schema's name, of which the first 255 bytes count.
     pub fn with_schema(self, schema: CowSlice<'a, u8>) -> Self
-        ensures { result ≡ record self.entry { statement = record self.entry.statement { texts = record self.entry.statement.texts {
-            schema = cow_slice_items schema.entry } } } }
+        ensures { result ≡ record self.entry {
+          statement = record self.entry.statement {
+            texts = record self.entry.statement.texts {
+              schema = cow_slice_items schema.entry;
+            };
+          };
+        } }
     {
         QueryEvent {
             statement: self.statement.with_schema(schema),
@@ -88,8 +100,13 @@ impl<'a> QueryEvent<'a> {
 
     /// The event with this statement.
     pub fn with_query(self, query: CowSlice<'a, u8>) -> Self
-        ensures { result ≡ record self.entry { statement = record self.entry.statement { texts = record self.entry.statement.texts {
-            query = cow_slice_items query.entry } } } }
+        ensures { result ≡ record self.entry {
+          statement = record self.entry.statement {
+            texts = record self.entry.statement.texts {
+              query = cow_slice_items query.entry;
+            };
+          };
+        } }
     {
         QueryEvent {
             statement: self.statement.with_query(query),

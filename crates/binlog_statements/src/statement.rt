@@ -183,10 +183,7 @@ impl Put for StatementTexts<'_> {
         ensures count { result ≡ length (take 65535 self.now.status_vars.0 ++ (take 255 self.now.schema ++ 0 ∷ self.now.query)) }
         ensures small { result < 2 ^ 63 + 2 ^ 17 }
     {
-        self.status_vars.0.written_len()
-            + self.schema.written_len()
-            + 1
-            + self.query.written_len()
+        self.status_vars.0.written_len() + self.schema.written_len() + 1 + self.query.written_len()
     }
 
     #[tactic(auto, using(std::proofs::Common::append_assoc))]
@@ -213,14 +210,14 @@ impl<'a> Statement<'a> {
     /// The empty statement with these status variables and this schema.
     pub fn new(status_vars: CowSlice<'a, u8>, schema: CowSlice<'a, u8>) -> Self
         ensures { result ≡ record {
-            thread_id = 0;
-            execution_time = 0;
-            error_code = 0;
-            texts = record {
-                status_vars = record { 0 = cow_slice_items status_vars.entry };
-                schema = cow_slice_items schema.entry;
-                query = [];
-            };
+          thread_id = 0;
+          execution_time = 0;
+          error_code = 0;
+          texts = record {
+            status_vars = record { 0 = cow_slice_items status_vars.entry };
+            schema = cow_slice_items schema.entry;
+            query = [];
+          };
         } }
     {
         Statement {

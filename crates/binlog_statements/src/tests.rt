@@ -28,8 +28,9 @@ const LOAD: &[u8] =
 
 // A description that states this post-header length for statements.
 fn stating<'a>(lengths: &'a [u8]) -> FormatDescriptionEvent<'a> {
-    FormatDescriptionEvent::new(BinlogVersion::Version4)
-        .with_event_type_header_lengths(CowSlice::Borrowed(lengths))
+    FormatDescriptionEvent::new(BinlogVersion::Version4).with_event_type_header_lengths(
+        CowSlice::Borrowed(lengths),
+    )
 }
 
 // Reads a whole body as an event of its own type.
@@ -63,7 +64,10 @@ fn first_statement_of_the_sample(rt: HostRuntime) -> Result<(), Fail> {
     assert_eq!(rt; event.error_code(), 0);
     assert_eq!(rt; event.schema_raw(), b"test".as_slice());
     assert_eq!(rt; event.schema(alloc)?.as_str(), "test");
-    assert_eq!(rt; event.query_raw(), b"create table t1(a int) engine= innodb".as_slice());
+    assert_eq!(rt;
+        event.query_raw(),
+        b"create table t1(a int) engine= innodb".as_slice()
+    );
     assert_eq!(rt;
         event.query(alloc)?.as_str(),
         "create table t1(a int) engine= innodb"
@@ -104,7 +108,9 @@ fn four_variables_of_the_sample(rt: HostRuntime) -> Result<(), Fail> {
     assert!(rt; flags.get_value(alloc) == Ok(StatusVarVal::Flags2(16384)));
     let mode = vars.get_status_var(StatusVarKey::SqlMode).ok_or("mode")?;
     assert!(rt; mode.get_value(alloc) == Ok(StatusVarVal::SqlMode(0)));
-    let catalog = vars.get_status_var(StatusVarKey::CatalogNz).ok_or("catalog")?;
+    let catalog = vars
+        .get_status_var(StatusVarKey::CatalogNz)
+        .ok_or("catalog")?;
     assert_eq!(rt; catalog.raw(), b"\x03std".as_slice());
     match catalog.get_value(alloc) {
         Ok(StatusVarVal::CatalogNz(name)) => {
@@ -160,7 +166,10 @@ fn values_of_each_key(rt: HostRuntime) {
     let alloc = rt.alloc();
     let rows: [(&[u8], StatusVarVal<'_>); 15] = [
         (b"\0\x01\x02\x03\x04", StatusVarVal::Flags2(0x0403_0201)),
-        (b"\x01\x01\0\0\0\0\0\0\x80", StatusVarVal::SqlMode(0x8000_0000_0000_0001)),
+        (
+            b"\x01\x01\0\0\0\0\0\0\x80",
+            StatusVarVal::SqlMode(0x8000_0000_0000_0001),
+        ),
         (b"\x02\x03std\0", StatusVarVal::Catalog(b"\x03std\0")),
         (
             b"\x03\x01\0\x02\x01",
@@ -171,13 +180,25 @@ fn values_of_each_key(rt: HostRuntime) {
         ),
         (b"\x07\x01\0", StatusVarVal::LcTimeNames(1)),
         (b"\x08\x21\0", StatusVarVal::CharsetDatabase(33)),
-        (b"\x09\x03\0\0\0\0\0\0\0", StatusVarVal::TableMapForUpdate(3)),
-        (b"\x0a\x01\x02\x03\x04", StatusVarVal::MasterDataWritten([1, 2, 3, 4])),
+        (
+            b"\x09\x03\0\0\0\0\0\0\0",
+            StatusVarVal::TableMapForUpdate(3),
+        ),
+        (
+            b"\x0a\x01\x02\x03\x04",
+            StatusVarVal::MasterDataWritten([1, 2, 3, 4]),
+        ),
         (b"\x0d\x01\x02\x03", StatusVarVal::Microseconds(197_121)),
         (b"\x0e", StatusVarVal::CommitTs(b"")),
         (b"\x0f", StatusVarVal::CommitTs2(b"")),
-        (b"\x10\x02", StatusVarVal::ExplicitDefaultsForTimestamp(true)),
-        (b"\x11\x0b\0\0\0\0\0\0\0", StatusVarVal::DdlLoggedWithXid(11)),
+        (
+            b"\x10\x02",
+            StatusVarVal::ExplicitDefaultsForTimestamp(true),
+        ),
+        (
+            b"\x11\x0b\0\0\0\0\0\0\0",
+            StatusVarVal::DdlLoggedWithXid(11),
+        ),
         (b"\x12\xff\0", StatusVarVal::DefaultCollationForUtf8mb4(255)),
         (b"\x13\x01", StatusVarVal::SqlRequirePrimaryKey(1)),
     ];
@@ -286,10 +307,16 @@ fn a_load_query(rt: HostRuntime) -> Result<(), Fail> {
     assert_eq!(rt; event.file_id(), 2);
     assert_eq!(rt; event.start_pos(), 3);
     assert_eq!(rt; event.end_pos(), 4);
-    assert_eq!(rt; event.dup_handling(), LoadDuplicateHandling::LOAD_DUP_REPLACE);
+    assert_eq!(rt;
+        event.dup_handling(),
+        LoadDuplicateHandling::LOAD_DUP_REPLACE
+    );
     assert_eq!(rt; event.schema(alloc)?.as_str(), "d");
     assert_eq!(rt; event.query(alloc)?.as_str(), "LOAD");
-    assert_eq!(rt; event.status_vars().iter().next().map(|var| var.key()), Some(StatusVarKey::LcTimeNames));
+    assert_eq!(rt;
+        event.status_vars().iter().next().map(|var| var.key()),
+        Some(StatusVarKey::LcTimeNames)
+    );
     assert_eq!(rt; event.len(BinlogVersion::Version4), LOAD.len());
     assert_eq!(rt; written(alloc, &event)?.get(1..), Some(LOAD));
     let copy = event.clone(alloc)?.into_owned(alloc)?;
@@ -332,7 +359,10 @@ fn user_variables(rt: HostRuntime) -> Result<(), Fail> {
     assert!(rt; null.value().is_empty());
     assert_eq!(rt; null.flags_raw(), 0);
     assert_eq!(rt; null.len(BinlogVersion::Version4), 6);
-    assert_eq!(rt; written(alloc, &null)?.as_slice(), b"x\x01\0\0\0a\x01".as_slice());
+    assert_eq!(rt;
+        written(alloc, &null)?.as_slice(),
+        b"x\x01\0\0\0a\x01".as_slice()
+    );
     let body = b"\x01\0\0\0a\0\x02\x3f\0\0\0\x01\0\0\0\x07";
     let event: UserVarEvent = read(alloc, &fde, body)?;
     assert_eq!(rt; event.name_raw(), b"a".as_slice());
