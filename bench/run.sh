@@ -5,7 +5,7 @@ set -eu
 
 here=$(cd "$(dirname "$0")" && pwd)
 lister=${1:-$here/../crates/binlog_list/out/binlog_list}
-copier=${2:-$here/../crates/binlog_copy/out/binlog_copy}
+copier=${2:-$here/../crates/bench_write_back/out/bench_write_back}
 baseline=$here/baseline/target/release/listing_baseline
 
 for program in "$lister" "$copier"; do

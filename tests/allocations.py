@@ -5,10 +5,10 @@ given back, nor for a checksum.
 Usage: allocations.py [LISTING [WRITING_BACK [KEEPING]]]
 
 LISTING lists the binlog on its standard input, and gives each event back. WRITING_BACK writes it back from events that
-are lent, and KEEPING reads each event into memory of its own. Their defaults are the built binlog_list, binlog_copy and
-binlog_keep. They run under valgrind, which counts the allocations over logs of few and of many events. The last line of
-the output is `N passed, M failed`; the exit status is 1 if something failed. Without valgrind nothing is counted, and
-both numbers are 0.
+are lent, and KEEPING reads each event into memory of its own. Their defaults are the built binlog_list,
+bench_write_back and test_owned_events. They run under valgrind, which counts the allocations over logs of few and of
+many events. The last line of the output is `N passed, M failed`; the exit status is 1 if something failed. Without
+valgrind nothing is counted, and both numbers are 0.
 """
 
 import re
@@ -21,8 +21,8 @@ import checksummed_sample
 import make_sample
 from damaged_copies import DEFAULT_PROGRAM, MAGIC, REPOSITORY
 
-DEFAULT_COPIER = REPOSITORY / "crates/binlog_copy/out/binlog_copy"
-DEFAULT_KEEPER = REPOSITORY / "crates/binlog_keep/out/binlog_keep"
+DEFAULT_COPIER = REPOSITORY / "crates/bench_write_back/out/bench_write_back"
+DEFAULT_KEEPER = REPOSITORY / "crates/test_owned_events/out/test_owned_events"
 
 FEW, MANY = 10, 1010
 

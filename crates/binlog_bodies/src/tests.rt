@@ -36,7 +36,7 @@ fn read<'a, T: BinlogEvent<'a> + Drop>(
 
 // Writes a value behind one byte, and gives all bytes.
 fn written<T: MySerialize>(alloc: Global, value: &T) -> Result<Vec<u8>, Error> {
-    let mut bytes = Vec::from_slice(alloc, b"x").map_err(|_| Error::Memory)?;
+    let mut bytes = Vec::from_slice(alloc, b"x")?;
     value.serialize(alloc, &mut bytes)?;
     Ok(bytes)
 }

@@ -3,7 +3,6 @@
 #![tactic(auto)]
 
 mod copy;
-mod crc32;
 
 use binlog_file::Error;
 use copy::Copier;

@@ -1,0 +1,23 @@
+use Rattle.std.proofs.Common.{ℕ, ◌-◌, ap, sym, ◌∙◌, arith}
+use Rattle.std.specs.Int.RustNames.{bit_xor}
+use Rattle.crc32_ieee.specs.Crc32.{after_bits, crc32}
+use Rattle.crc32_ieee.proofs.Linear.{word_taken, byte_taken, behind_bytes, none_left}
+use Rattle.crc32_ieee.proofs.Crc32.checksum.Goals as goal
+
+pub words-preserved : goal.words-preserved
+words-preserved c =
+    let parts = c.in-Some.ensures.cases in
+    let looked = c.after_word-crc.ensures ∙ (λ i. after_bits 64 (bit_xor (c.from_le_bytes.ensures i) (c.from.ensures i))) in (
+      word_taken c.words.crc _ c.words.rest.now c.in-Some.word.now c.in-Some.behind.now c.words.invariant.1 (omega (arith, parts.2)) parts.0 parts.1 looked ∙ c.words.invariant.0,
+      behind_bytes c.words.rest.now c.in-Some.behind.now c.words.invariant.1 parts.1,
+    )
+
+pub bytes-preserved : goal.bytes-preserved
+bytes-preserved c =
+    byte_taken c.bytes.crc _ c.in-Some-split_first.byte.now c.bytes.rest.now c.in-Some-split_first.behind.now c.in-Some-split_first.ensures.cases.0 c.after_byte-crc.ensures
+    ∙ c.bytes.invariant
+
+pub returns : goal.returns
+unfolding crc32
+returns c =
+    ap (λ (x : ℕ). 4294967295 - x) (sym (none_left c.bytes.crc c.bytes.rest.now c.in_default-split_first.ensures.cases) ∙ c.bytes.invariant)

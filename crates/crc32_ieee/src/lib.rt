@@ -1,0 +1,112 @@
+//! CRC-32 as IEEE 802.3, zlib and MySQL compute it: the checksum of binary log events.
+//!
+//! The crate `crc32fast` gives the same values. Here [`Crc32::checksum`] is proved to give the CRC-32 that
+//! `specs/Crc32.antt` defines bit by bit, though it takes eight bytes at a time.
+#![tactic(auto)]
+
+ghost use Rattle.std.specs.Prelude.{◌≡◌, ◌+◌, ◌*◌, ◌<◌};
+ghost use Rattle.std.specs.Int.RustNames.{bit_xor};
+ghost use Rattle.crc32_ieee.specs.Crc32.{after_bit, after_bits, crc32, AreEntries};
+
+/// The polynomial, its bits reversed.
+const POLYNOMIAL: u32 = 0xedb8_8320;
+
+/// How many bytes are taken at a time.
+const WORD: usize = 8;
+
+/// How many entries the table of one place in a word has.
+const BYTES: usize = 256;
+
+/// How many entries the tables of all places have.
+const ENTRIES: usize = WORD * BYTES;
+
+/// Computes the CRC-32 of bytes by tables of 8 KiB, which it holds. One is made once and used for any number of
+/// checksums.
+#[derive(Drop)]
+pub struct Crc32 {
+    // one table behind another: that of a word's last byte, of the byte before it, and so on
+    tables: [u32; ENTRIES],
+    ghost are_entries: { AreEntries 2048 tables },
+}
+
+impl Crc32 {
+    /// Makes the tables.
+    pub fn new() -> Crc32 {
+        let mut tables = [0; ENTRIES];
+        'first: for index in 0..BYTES {
+            tables[index] = after_eight_bits(index as u32);
+        }
+        'others: for index in BYTES..ENTRIES {
+            let before = tables[index - BYTES];
+            tables[index] = tables[(before % 256) as usize] ^ (before >> 8);
+        }
+        Crc32 { tables }
+    }
+
+    /// Returns the CRC-32 of the bytes, 0 for none. It reads them once and takes no memory.
+    pub fn checksum(&self, bytes: &[u8]) -> u32
+        ensures { result ≡ crc32 bytes.now }
+    {
+        let mut crc = u32::MAX;
+        let mut rest = bytes;
+        'words: while let Some((word, behind)) = rest.split_first_chunk::<WORD>() {
+            crc = self.after_word(u64::from_le_bytes(*word) ^ u64::from(crc));
+            rest = behind;
+        }
+        'bytes: while let Some((byte, behind)) = rest.split_first() {
+            crc = self.after_byte(crc, *byte);
+            rest = behind;
+        }
+        !crc
+    }
+
+    // What a byte makes of an empty register, with so many zero bytes behind it.
+    #[inline(always)]
+    fn entry(&self, zeros_behind: usize, byte: u64) -> u32
+        requires place { zeros_behind < 8 }
+        requires byte { byte < 256 }
+        ensures { result ≡ after_bits (8 * (zeros_behind + 1)) byte }
+    {
+        self.tables[zeros_behind * BYTES + byte as usize]
+    }
+
+    // A register of 64 bits, all of which leave it.
+    #[inline(always)]
+    fn after_word(&self, word: u64) -> u32
+        ensures { result ≡ after_bits 64 word }
+    {
+        self.entry(0, word >> 56)
+            ^ self.entry(1, (word >> 48) % 256)
+            ^ self.entry(2, (word >> 40) % 256)
+            ^ self.entry(3, (word >> 32) % 256)
+            ^ self.entry(4, (word >> 24) % 256)
+            ^ self.entry(5, (word >> 16) % 256)
+            ^ self.entry(6, (word >> 8) % 256)
+            ^ self.entry(7, word % 256)
+    }
+
+    fn after_byte(&self, crc: u32, byte: u8) -> u32
+        ensures { result ≡ after_bits 8 (bit_xor crc byte) }
+    {
+        self.entry(0, u64::from(crc % 256 ^ u32::from(byte))) ^ (crc >> 8)
+    }
+}
+
+fn after_eight_bits(byte: u32) -> u32
+    ensures { result ≡ after_bits 8 byte }
+{
+    let mut crc = byte;
+    'bits: for _ in 0..8u32 {
+        crc = after_bit(crc);
+    }
+    crc
+}
+
+fn after_bit(crc: u32) -> u32
+    ensures { result ≡ after_bit crc }
+{
+    (crc / 2) ^ (crc % 2 * POLYNOMIAL)
+}
+
+#[cfg(test)]
+mod tests;
