@@ -2,4 +2,6 @@
 pub mod codes;
 pub mod event_flags;
 pub mod event_type;
+pub mod statement_codes;
+pub mod status_var_key;
 pub mod version;

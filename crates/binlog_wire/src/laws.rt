@@ -2,6 +2,8 @@
 ghost use Rattle.binlog_wire.specs.Laws.Numbers.{IsCode};
 ghost use Rattle.binlog_wire.specs.Codes.{subtype_number, subtype_of, checksum_alg_number, checksum_alg_of, incident_type_number, incident_type_of};
 ghost use Rattle.binlog_wire.specs.EventTypes.{event_number, event_type_of};
+ghost use Rattle.binlog_wire.specs.StatementCodes.{dup_handling_number, dup_handling_of};
+ghost use Rattle.binlog_wire.specs.StatusVarKeys.{status_var_key_number, status_var_key_of};
 ghost use Rattle.binlog_wire.specs.Versions.{version_number, version_of};
 
 /// Each table of codes undoes its numbers: a value has one number, which fits the bytes that it stands in, and no other
@@ -12,4 +14,6 @@ pub fn numbers_are_codes()
     ensures subtypes { IsCode 1 subtype_number subtype_of }
     ensures checksums { IsCode 1 checksum_alg_number checksum_alg_of }
     ensures incidents { IsCode 2 incident_type_number incident_type_of }
+    ensures dup_handlings { IsCode 1 dup_handling_number dup_handling_of }
+    ensures status_vars { IsCode 1 status_var_key_number status_var_key_of }
 {}

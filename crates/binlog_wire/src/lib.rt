@@ -23,6 +23,10 @@ pub use consts::codes::{
 };
 pub use consts::event_flags::EventFlags;
 pub use consts::event_type::{EventType, UnknownEventType};
+pub use consts::statement_codes::{
+    ItemResult, LoadDuplicateHandling, UnknownItemResultType, UserVarFlags,
+};
+pub use consts::status_var_key::{StatusVarKey, UnknownStatusVarKey};
 pub use consts::version::BinlogVersion;
 pub use error::{Error, Field, Invalid};
 pub use number::{read_u16_at, read_u32_at};

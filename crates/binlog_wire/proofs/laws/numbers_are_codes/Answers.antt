@@ -1,5 +1,7 @@
 use Rattle.binlog_wire.specs.Codes.{subtype_is_code, checksum_alg_is_code, incident_type_is_code}
 use Rattle.binlog_wire.specs.EventTypeLaws.{event_type_is_code}
+use Rattle.binlog_wire.specs.StatementCodes.{dup_handling_is_code}
+use Rattle.binlog_wire.specs.StatusVarKeys.{status_var_key_is_code}
 use Rattle.binlog_wire.specs.Versions.{version_is_code}
 use Rattle.binlog_wire.proofs.laws.numbers_are_codes.Goals as goal
 
@@ -17,3 +19,9 @@ returns-clause-checksums c = checksum_alg_is_code
 
 pub returns-clause-incidents : goal.returns-clause-incidents
 returns-clause-incidents c = incident_type_is_code
+
+pub returns-clause-dup_handlings : goal.returns-clause-dup_handlings
+returns-clause-dup_handlings c = dup_handling_is_code
+
+pub returns-clause-status_vars : goal.returns-clause-status_vars
+returns-clause-status_vars c = status_var_key_is_code

@@ -1,0 +1,25 @@
+//! The events of statements: queries, load queries, user variables, and the status variables of statements.
+//!
+//! [`QueryEvent`], [`ExecuteLoadQueryEvent`] and [`UserVarEvent`] are bodies of events. The [`StatusVars`] of a statement
+//! are iterated over by [`StatusVarsIterator`], which gives each [`StatusVar`] of the text, and a variable's value is
+//! parsed by [`StatusVar::get_value`].
+#![tactic(auto)]
+
+mod execute_load_query;
+pub mod laws;
+mod layout;
+mod query;
+mod statement;
+mod status_var_val;
+mod status_vars;
+mod user_var;
+
+pub use binlog_wire::{
+    ItemResult, LoadDuplicateHandling, StatusVarKey, UnknownItemResultType, UnknownStatusVarKey,
+    UserVarFlags,
+};
+pub use execute_load_query::ExecuteLoadQueryEvent;
+pub use query::QueryEvent;
+pub use status_var_val::StatusVarVal;
+pub use status_vars::{StatusVar, StatusVars, StatusVarsIterator};
+pub use user_var::UserVarEvent;

@@ -1,0 +1,266 @@
+//! The event of a statement.
+ghost use Rattle.std.specs.Prelude.{◌≡◌, [], take, IfOk, IsOkUnless};
+ghost use Rattle.std.specs.Cow.{cow_slice_items, cow_str_bytes};
+ghost use Rattle.std.specs.Str.Lossy.{utf8_lossy};
+ghost use Rattle.binlog_wire.specs.declared.error.Error.TheVariants.{Memory};
+
+use crate::statement::{STATEMENT_HEAD_LEN, Statement, StatementHead};
+use crate::status_vars::StatusVars;
+use binlog_bodies::{BinlogCtx, BinlogEvent};
+use binlog_wire::{Error, EventType, MyDeserialize, ParseBuf, Put};
+use std::alloc::Global;
+use std::borrow::{CowSlice, CowStr};
+
+/// A statement that ran on the source.
+///
+/// Its body is a head of 13 bytes: the thread, 4 bytes, the time, 4 bytes, the length of the schema's name, 1 byte, the
+/// error, 2 bytes, and the length of the status variables, 2 bytes. What a format description states of its post-header
+/// beyond these is skipped. Then come the status variables, the schema's name, one byte that says nothing, and the
+/// statement, to the end. See "QUERY_EVENT" in MySQL's internals documentation.
+#[derive(Debug, PartialEq, Eq, Hash, Drop)]
+pub struct QueryEvent<'a> {
+    statement: Statement<'a>,
+}
+
+impl<'a> QueryEvent<'a> {
+    /// The empty statement with this text of status variables, of which the first 65,535 bytes count, and this schema's
+    /// name, of which the first 255 bytes count; all numbers are 0.
+    pub fn new(status_vars: CowSlice<'a, u8>, schema: CowSlice<'a, u8>) -> Self
+        ensures { result ≡ record {
+          statement = record {
+            thread_id = 0;
+            execution_time = 0;
+            error_code = 0;
+            texts = record {
+              status_vars = record { 0 = cow_slice_items status_vars.entry };
+              schema = cow_slice_items schema.entry;
+              query = [];
+            };
+          };
+        } }
+    {
+        QueryEvent {
+            statement: Statement::new(status_vars, schema),
+        }
+    }
+
+    /// The event with this thread, which ran the statement.
+    pub fn with_thread_id(mut self, thread_id: u32) -> Self
+        ensures { result ≡ record self.entry { statement = record self.entry.statement { thread_id = thread_id } } }
+    {
+        self.statement.thread_id = thread_id;
+        self
+    }
+
+    /// The event with this time, in seconds, from when the statement began to when it was logged.
+    pub fn with_execution_time(mut self, execution_time: u32) -> Self
+        ensures { result ≡ record self.entry { statement = record self.entry.statement { execution_time = execution_time } } }
+    {
+        self.statement.execution_time = execution_time;
+        self
+    }
+
+    /// The event with this error, which the statement gave on the source.
+    pub fn with_error_code(mut self, error_code: u16) -> Self
+        ensures { result ≡ record self.entry { statement = record self.entry.statement { error_code = error_code } } }
+    {
+        self.statement.error_code = error_code;
+        self
+    }
+
+    /// The event with this text of status variables, of which the first 65,535 bytes count.
+    pub fn with_status_vars(self, status_vars: CowSlice<'a, u8>) -> Self
+        ensures { result ≡ record self.entry {
+          statement = record self.entry.statement {
+            texts = record self.entry.statement.texts {
+              status_vars = record { 0 = cow_slice_items status_vars.entry };
+            };
+          };
+        } }
+    {
+        QueryEvent {
+            statement: self.statement.with_status_vars(status_vars),
+        }
+    }
+
+    /// The event with this schema's name, of which the first 255 bytes count.
+    pub fn with_schema(self, schema: CowSlice<'a, u8>) -> Self
+        ensures { result ≡ record self.entry {
+          statement = record self.entry.statement {
+            texts = record self.entry.statement.texts {
+              schema = cow_slice_items schema.entry;
+            };
+          };
+        } }
+    {
+        QueryEvent {
+            statement: self.statement.with_schema(schema),
+        }
+    }
+
+    /// The event with this statement.
+    pub fn with_query(self, query: CowSlice<'a, u8>) -> Self
+        ensures { result ≡ record self.entry {
+          statement = record self.entry.statement {
+            texts = record self.entry.statement.texts {
+              query = cow_slice_items query.entry;
+            };
+          };
+        } }
+    {
+        QueryEvent {
+            statement: self.statement.with_query(query),
+        }
+    }
+
+    /// The thread that ran the statement; temporary tables are told apart by it.
+    pub fn thread_id(&self) -> u32
+        ensures { result ≡ self.now.statement.thread_id }
+    {
+        self.statement.thread_id
+    }
+
+    /// The time, in seconds, from when the statement began to when it was logged.
+    pub fn execution_time(&self) -> u32
+        ensures { result ≡ self.now.statement.execution_time }
+    {
+        self.statement.execution_time
+    }
+
+    /// The error that the statement gave on the source, or 0.
+    pub fn error_code(&self) -> u16
+        ensures { result ≡ self.now.statement.error_code }
+    {
+        self.statement.error_code
+    }
+
+    /// The status variables: what of the session counted when the statement ran.
+    pub fn status_vars(&self) -> &StatusVars<'a>
+        ensures { result.now ≡ self.now.statement.texts.status_vars }
+    {
+        &self.statement.texts.status_vars
+    }
+
+    /// The text of the status variables: at most 65,535 bytes.
+    pub fn status_vars_raw(&self) -> &[u8]
+        ensures { result.now ≡ take 65535 self.now.statement.texts.status_vars.0 }
+    {
+        self.statement.texts.status_vars.0.as_bytes()
+    }
+
+    /// The name of the schema that was in use: at most 255 bytes.
+    pub fn schema_raw(&self) -> &[u8]
+        ensures { result.now ≡ take 255 self.now.statement.texts.schema }
+    {
+        self.statement.texts.schema.as_bytes()
+    }
+
+    /// The bytes of [`QueryEvent::schema_raw`] as UTF-8 text, with U+FFFD in place of what isn't; refused by
+    /// [`Error::Memory`] alone.
+    pub fn schema(&self, alloc: Global) -> Result<CowStr<'_, Global>, Error>
+        ensures ok { IfOk result (λ text. cow_str_bytes text ≡ utf8_lossy (take 255 self.now.statement.texts.schema)) }
+        ensures memory { IsOkUnless result Memory }
+    {
+        self.statement.texts.schema.as_str(alloc)
+    }
+
+    /// The statement.
+    pub fn query_raw(&self) -> &[u8]
+        ensures { result.now ≡ self.now.statement.texts.query }
+    {
+        self.statement.texts.query.as_bytes()
+    }
+
+    /// The statement as UTF-8 text, with U+FFFD in place of what isn't; refused by [`Error::Memory`] alone.
+    pub fn query(&self, alloc: Global) -> Result<CowStr<'_, Global>, Error>
+        ensures ok { IfOk result (λ text. cow_str_bytes text ≡ utf8_lossy self.now.statement.texts.query) }
+        ensures memory { IsOkUnless result Memory }
+    {
+        self.statement.texts.query.as_str(alloc)
+    }
+
+    /// The same event, with its bytes owned; refused by [`Error::Memory`] alone.
+    pub fn into_owned(self, alloc: Global) -> Result<QueryEvent<'static>, Error>
+        ensures ok { IfOk result (λ owned. owned ≡ self.entry) }
+        ensures memory { IsOkUnless result Memory }
+    {
+        let statement = self.statement.into_owned(alloc)?;
+        Ok(QueryEvent { statement })
+    }
+
+    /// The same event once more: lent bytes stay lent, and owned ones are copied. Refused by [`Error::Memory`] alone.
+    pub fn clone(&self, alloc: Global) -> Result<Self, Error>
+        ensures ok { IfOk result (λ copy. copy ≡ self.now) }
+        ensures memory { IsOkUnless result Memory }
+    {
+        let statement = self.statement.clone(alloc)?;
+        Ok(QueryEvent { statement })
+    }
+}
+
+/// [`Error::EndOfBody`] where the bytes end before the statement, and no other error.
+impl<'de> MyDeserialize<'de> for QueryEvent<'de> {
+    ghost use Rattle.binlog_wire.specs.declared.consts.event_type.EventType.TheVariants.{QUERY_EVENT};
+    ghost use Rattle.binlog_bodies.specs.DescriptionRefs.{description_of};
+    ghost use Rattle.binlog_bodies.specs.PostHeaders.{post_header};
+    ghost use Rattle.binlog_statements.specs.Query.{query};
+
+    const SIZE: Option<usize> = None;
+
+    type Ctx = BinlogCtx<'de>;
+
+    ghost reads = { λ ctx. (query (post_header (description_of ctx.fde) QUERY_EVENT)).reads };
+
+    fn deserialize(
+        alloc: Global,
+        ctx: BinlogCtx<'de>,
+        buf: &mut ParseBuf<'de>,
+    ) -> Result<Self, Error> {
+        let head: StatementHead = buf.parse(alloc, ())?;
+        let post_header = ctx.fde.get_event_type_header_length(EventType::QUERY_EVENT);
+        if !buf.checked_skip(usize::from(post_header).saturating_sub(STATEMENT_HEAD_LEN)) {
+            return Err(Error::EndOfBody);
+        }
+        let texts = buf.parse(alloc, head)?;
+        Ok(QueryEvent {
+            statement: Statement::with_head(head, texts),
+        })
+    }
+}
+
+impl Put for QueryEvent<'_> {
+    ghost use Rattle.binlog_statements.specs.Query.{query};
+
+    ghost bytes = { (query 13).written };
+
+    fn check(&self) -> Result<(), Error> {
+        Ok(())
+    }
+
+    fn written_len(&self) -> usize {
+        STATEMENT_HEAD_LEN + self.statement.texts.written_len()
+    }
+
+    #[tactic(auto, using(std::proofs::Common::append_assoc))]
+    fn put(&self, buf: &mut Vec<u8>) {
+        self.statement.head().put(buf);
+        self.statement.texts.put(buf);
+    }
+}
+
+impl<'a> BinlogEvent<'a> for QueryEvent<'a> {
+    ghost use Rattle.std.specs.Prelude.{refl};
+    ghost use Rattle.binlog_wire.specs.declared.consts.event_type.EventType.TheVariants.{QUERY_EVENT};
+    ghost use Rattle.binlog_bodies.specs.PostHeaders.{post_header};
+    ghost use Rattle.binlog_statements.specs.Query.{query};
+
+    const EVENT_TYPE: EventType = EventType::QUERY_EVENT;
+
+    ghost format = { λ d _. query (post_header d QUERY_EVENT) };
+
+    ghost raw_type = { λ _. 2 };
+
+    ghost reading = { λ _. refl };
+
+    ghost writing = { λ _ _ _. refl };
+}

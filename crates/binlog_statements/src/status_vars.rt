@@ -1,0 +1,171 @@
+//! The status variables of a statement: what of its session counted when it ran.
+ghost use Rattle.std.specs.Prelude.{◌≡◌, length, Some};
+ghost use Rattle.binlog_statements.specs.Layouts.{layout_of, value_len};
+
+use crate::layout::Layout;
+use binlog_wire::{BareU16Bytes, Error, MyDeserialize, ParseBuf, Put, RawBytes, StatusVarKey};
+use std::alloc::Global;
+
+/// The status variables of a statement: a text of keys and values, of which the first 65,535 bytes count.
+///
+/// The variables of the text are its longest front that is a list of whole variables; what is behind them is kept and
+/// written, and not iterated over.
+#[derive(Debug, PartialEq, Eq, Hash, Drop)]
+pub struct StatusVars<'a>(pub RawBytes<'a, BareU16Bytes>);
+
+impl<'a> StatusVars<'a> {
+    ghost use Rattle.std.specs.Prelude.{take, IfOk, IsOkUnless, MatchOption};
+    ghost use Rattle.binlog_wire.specs.declared.error.Error.TheVariants.{Memory};
+    ghost use Rattle.binlog_statements.specs.StatusVariables.{variables, HasNoKey, IsFirstOfKey};
+    ghost use Rattle.binlog_statements.specs.StatusVars.{variable_of};
+
+    /// Iterates over the variables.
+    pub fn iter(&self) -> StatusVarsIterator<'_>
+        ensures { result.unread.now ≡ take 65535 self.now.0 }
+    {
+        StatusVarsIterator::new(self.0.as_bytes())
+    }
+
+    /// The first variable of this key, if there is one.
+    pub fn get_status_var(&self, key: StatusVarKey) -> Option<StatusVar<'_>>
+        ensures { let vars = variables (take 65535 self.now.0) in
+            MatchOption result (HasNoKey key vars) (λ var. IsFirstOfKey key vars (variable_of var)) }
+    {
+        for var in self.iter() {
+            if var.key == key {
+                return Some(var);
+            }
+        }
+        None
+    }
+
+    /// The same variables, with their bytes owned; refused by [`Error::Memory`] alone.
+    pub fn into_owned(self, alloc: Global) -> Result<StatusVars<'static>, Error>
+        ensures ok { IfOk result (λ owned. owned ≡ self.entry) }
+        ensures memory { IsOkUnless result Memory }
+    {
+        Ok(StatusVars(self.0.into_owned(alloc)?))
+    }
+
+    /// The same variables once more: lent bytes stay lent, and owned ones are copied. Refused by [`Error::Memory`] alone.
+    pub fn clone(&self, alloc: Global) -> Result<Self, Error>
+        ensures ok { IfOk result (λ copy. copy ≡ self.now) }
+        ensures memory { IsOkUnless result Memory }
+    {
+        Ok(StatusVars(self.0.clone(alloc)?))
+    }
+}
+
+/// As many bytes as the context says; [`Error::EndOfBody`] where fewer are left.
+impl<'de> MyDeserialize<'de> for StatusVars<'de> {
+    ghost use Rattle.binlog_statements.specs.Statements.{status_vars};
+
+    const SIZE: Option<usize> = None;
+
+    type Ctx = u16;
+
+    ghost reads = { λ len. (status_vars len).reads };
+
+    fn deserialize(alloc: Global, len: u16, buf: &mut ParseBuf<'de>) -> Result<Self, Error> {
+        Ok(StatusVars(buf.parse(alloc, usize::from(len))?))
+    }
+}
+
+impl Put for StatusVars<'_> {
+    ghost use Rattle.std.specs.Prelude.{take};
+
+    ghost bytes = { λ vars. take 65535 vars.0 };
+
+    fn check(&self) -> Result<(), Error> {
+        Ok(())
+    }
+
+    fn written_len(&self) -> usize {
+        self.0.written_len()
+    }
+
+    fn put(&self, buf: &mut Vec<u8>) {
+        self.0.put(buf);
+    }
+}
+
+/// An iterator over the status variables of a text: those of its longest front that is a list of whole variables, in
+/// order, and then None for good. It takes no memory.
+#[derive(Clone, Debug, PartialEq, Eq, Hash, Drop)]
+pub struct StatusVarsIterator<'a> {
+    unread: &'a [u8],
+}
+
+impl<'a> StatusVarsIterator<'a> {
+    /// Iterates over the variables of this text.
+    pub fn new(status_vars: &'a [u8]) -> Self
+        ensures { result.unread.now ≡ status_vars.now }
+    {
+        StatusVarsIterator {
+            unread: status_vars,
+        }
+    }
+}
+
+impl<'a> Iterator for StatusVarsIterator<'a> {
+    ghost use Rattle.std.specs.Iterator.{YieldsFirstBy, item_count};
+    ghost use Rattle.binlog_statements.specs.StatusVariables.{variables};
+    ghost use Rattle.binlog_statements.specs.StatusVars.{variable_of};
+
+    type Item = StatusVar<'a>;
+
+    ghost next_gives = { YieldsFirstBy variable_of (λ it. variables it.unread.now) };
+
+    ghost remaining = { item_count (λ it. variables it.unread.now) };
+
+    fn next(&mut self) -> Option<StatusVar<'a>> {
+        match StatusVar::first(self.unread) {
+            Some(first) => {
+                self.unread = first.1;
+                Some(first.0)
+            }
+            None => {
+                self.unread = &[];
+                None
+            }
+        }
+    }
+}
+
+/// A status variable: its key, and all bytes of its value, which is whole.
+#[derive(Clone, Copy, Debug, PartialEq, Eq, Hash)]
+pub struct StatusVar<'a> {
+    pub(crate) key: StatusVarKey,
+    pub(crate) value: &'a [u8],
+    ghost whole: { value_len (layout_of key) value.now ≡ Some (length value.now) },
+}
+
+impl<'a> StatusVar<'a> {
+    ghost use Rattle.binlog_statements.specs.StatusVariables.{first_variable};
+    ghost use Rattle.binlog_statements.specs.StatusVars.{first_of};
+
+    /// What the variable is.
+    pub fn key(&self) -> StatusVarKey
+        ensures { result ≡ self.now.key }
+    {
+        self.key
+    }
+
+    /// The bytes of the value.
+    pub fn raw(&self) -> &'a [u8]
+        ensures { result.now ≡ self.now.value.now }
+    {
+        self.value
+    }
+
+    // The variable at the front of a text, and the bytes behind it.
+    fn first(text: &'a [u8]) -> Option<(StatusVar<'a>, &'a [u8])>
+        ensures { first_of result ≡ first_variable text.entry.now }
+    {
+        let (number, bytes) = text.split_first()?;
+        let key = StatusVarKey::try_from(*number).ok()?;
+        let len = Layout::of(key).len(bytes)?;
+        let (value, unread) = bytes.split_at(len);
+        Some((StatusVar { key, value }, unread))
+    }
+}
