@@ -1,5 +1,7 @@
 -- Parts that an earlier part announces.
 use Rattle.std.proofs.Common.{◌≡◌, ℕ, zero, suc, ◌+◌, ◌-◌, ◌^◌, ◌<◌, ◌≤◌, ◌⊎◌, inl, inr, Bool, true, false, cond, ltb, eqb, Option, None, Some, List, [], ◌∷◌, ◌++◌, length, Result, Ok, Err, refl, sym, ap, subst, ◌∙◌, arith}
+use Rattle.std.proofs.lemmas.List.{append-nil}
+use Rattle.byteorder.specs.Endian.{little_bytes}
 use Rattle.std.proofs.lemmas.Bool.{ltb-true, ltb-false, lt-ltb, le-ltb, eqb-true, eqb-false, eq-eqb}
 use Rattle.binlog_wire.specs.declared.error.Invalid.{Invalid}
 use Rattle.binlog_wire.specs.Reading.{ends, invalid, Read, ◌>>=◌, read_as}
@@ -51,10 +53,31 @@ announced_choice {place} k half e = record {
   again = λ v fits. refl;
 }
 
+abbrev pub announced_written : ℕ → ℕ → ℕ × ℕ → List ℕ
+announced_written k half v = cond (eqb v.0 v.1) (little_bytes k v.0) (little_bytes k (v.0 + half) ++ little_bytes k v.1)
+
+written_by : (place : Place) (k half i o : ℕ) → i < half → (t : Bool)
+    → (announced_fields {place = place} k half).written (cond t i (i + half), o) ≡ cond t (little_bytes k i) (little_bytes k (i + half) ++ little_bytes k o)
+written_by place k half i o small true = rw (lt-ltb i half small) (append-nil (little_bytes k i))
+written_by place k half i o small false = let above : ltb (i + half) half ≡ false = le-ltb _ _ (omega arith) in rw above refl
+
+pub announced_same : (place : Place) (k half : ℕ) (v : ℕ × ℕ) → FitsAnnounced k half v
+    → (announced_fields {place = place} k half).written (announced_code half v) ≡ announced_written k half v
+announced_same place k half v fits = written_by place k half v.0 v.1 fits.0 (eqb v.0 v.1)
+
+abbrev pub announced_plain : {place : Place} (k half : ℕ) → half + half ≡ 256 ^ k → Format place (ℕ × ℕ)
+announced_plain {place} k half e = chosen (announced_of half) (announced_code half) (λ v. v) (FitsAnnounced k half) (announced_fields k half) (announced_choice {place = place} k half e)
+
 -- An immediate and an original, k bytes each: the original follows exactly where the top bit of the first is set, and
 -- equals the immediate where it doesn't. It is written only where it differs.
 abbrev pub announced : {place : Place} (k half : ℕ) → half + half ≡ 256 ^ k → Format place (ℕ × ℕ)
-announced {place} k half e = chosen (announced_of half) (announced_code half) (λ v. v) (FitsAnnounced k half) (announced_fields k half) (announced_choice {place = place} k half e)
+announced {place} k half e = record (announced_plain {place = place} k half e) {
+  written = announced_written k half;
+  writes = λ v r fits follows.
+      subst (λ (s : List ℕ). (announced_plain {place = place} k half e).spells (s ++ r) v r) (announced_same place k half v fits)
+      ((announced_plain {place = place} k half e).writes v r fits follows);
+  again = λ v fits. refl;
+}
 
 -- ---- what stands behind a mark, if the mark is there
 
