@@ -16,8 +16,8 @@ pub mod Rand
 pub mod Rotate
 pub mod RowsQuery
 pub mod Xid
+pub mod ShortBodies
 pub use Rattle.binlog_wire.specs.Errors
 pub use Rattle.binlog_wire.specs.Numbers
 pub use Rattle.binlog_wire.specs.Reading
 pub use Rattle.binlog_wire.specs.Fields
-pub use Rattle.binlog_wire.specs.Canonical

@@ -2,36 +2,29 @@
 //! events with what they have in common.
 #![tactic(auto)]
 
-mod begin_load_query;
 mod ctx;
 mod description_ref;
+mod events;
 mod footer;
-mod format_description;
 mod header;
-mod incident;
-mod intvar;
 pub mod laws;
 mod post_header;
-mod rand;
-mod rotate;
-mod rows_query;
 mod traits;
-mod xid;
 
-pub use begin_load_query::BeginLoadQueryEvent;
 pub use binlog_wire::{BinlogVersion, Error, Field, Invalid};
 pub use ctx::BinlogCtx;
 pub use description_ref::DescriptionRef;
+pub use events::begin_load_query::BeginLoadQueryEvent;
+pub use events::format_description::{FormatDescriptionEvent, SERVER_VER_LEN};
+pub use events::incident::IncidentEvent;
+pub use events::intvar::IntvarEvent;
+pub use events::rand::RandEvent;
+pub use events::rotate::RotateEvent;
+pub use events::rows_query::RowsQueryEvent;
+pub use events::xid::XidEvent;
 pub use footer::BinlogEventFooter;
-pub use format_description::{FormatDescriptionEvent, SERVER_VER_LEN};
 pub use header::BinlogEventHeader;
-pub use incident::IncidentEvent;
-pub use intvar::IntvarEvent;
-pub use rand::RandEvent;
-pub use rotate::RotateEvent;
-pub use rows_query::RowsQueryEvent;
 pub use traits::{BinlogEvent, BinlogStruct, MAX_BODY_LEN, read_body};
-pub use xid::XidEvent;
 
 #[cfg(test)]
 mod tests;

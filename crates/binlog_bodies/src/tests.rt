@@ -1,8 +1,8 @@
 //! What the bodies of events are read as and written as, by rows from outside.
 use crate::{
     BeginLoadQueryEvent, BinlogCtx, BinlogEvent, BinlogEventFooter, BinlogEventHeader,
-    BinlogStruct, BinlogVersion, Error, FormatDescriptionEvent, IncidentEvent, IntvarEvent,
-    Invalid, RandEvent, RotateEvent, RowsQueryEvent, XidEvent, laws, read_body,
+    BinlogStruct, BinlogVersion, DescriptionRef, Error, FormatDescriptionEvent, IncidentEvent,
+    IntvarEvent, Invalid, RandEvent, RotateEvent, RowsQueryEvent, XidEvent, laws, read_body,
 };
 use binlog_wire::{
     BinlogChecksumAlg, EventFlags, EventType, IncidentType, IntvarEventType, MyDeserialize,
@@ -36,7 +36,7 @@ fn read<'a, T: BinlogEvent<'a> + Drop>(
 
 // Writes a value behind one byte, and gives all bytes.
 fn written<T: MySerialize>(alloc: Global, value: &T) -> Result<Vec<u8>, Error> {
-    let mut bytes = Vec::from_slice(alloc, b"x").map_err(|_| Error::Memory)?;
+    let mut bytes = Vec::from_slice(alloc, b"x")?;
     value.serialize(alloc, &mut bytes)?;
     Ok(bytes)
 }
@@ -434,7 +434,102 @@ fn header_of_the_sample(rt: HostRuntime) -> Result<(), Fail> {
     let again = written(alloc, &header)?;
     assert!(rt; again.ends_with(bytes));
     laws::header_is_spelled();
+    laws::short_bodies();
     laws::body_is_spelled::<XidEvent>();
     laws::one_event::<XidEvent>();
+    laws::body_is_canonical::<XidEvent>();
+    laws::read_event_is_normal::<XidEvent>();
+    laws::event_types();
+    laws::sizes();
+    laws::constants();
+    laws::post_header_lengths();
+    Ok(())
+}
+
+// Where one allocation is refused (tests/refused_memory.py), the answer to the call that asked for it is want of memory, and
+// what stood there before stays; every other answer is as ever.
+#[test]
+fn refused_memory_changes_nothing(rt: HostRuntime) -> Result<(), Fail> {
+    let alloc = rt.alloc();
+    let mut bytes = Vec::new(alloc);
+    let event = RotateEvent::new(4, CowSlice::Borrowed(b"a\xff"));
+    match event.serialize(alloc, &mut bytes) {
+        Ok(()) => assert_eq!(rt; bytes.as_slice(), b"\x04\0\0\0\0\0\0\0a\xff".as_slice()),
+        Err(error) => {
+            assert_eq!(rt; error, Error::Memory);
+            assert!(rt; bytes.is_empty());
+        }
+    }
+    match event.name(alloc) {
+        Ok(name) => assert_eq!(rt; name.as_str(), "a\u{fffd}"),
+        Err(error) => assert_eq!(rt; error, Error::Memory),
+    }
+    match event.clone(alloc)?.into_owned(alloc) {
+        Ok(owned) => match owned.clone(alloc) {
+            Ok(copy) => assert_eq!(rt; copy, owned),
+            Err(error) => assert_eq!(rt; error, Error::Memory),
+        },
+        Err(error) => assert_eq!(rt; error, Error::Memory),
+    }
+    Ok(())
+}
+
+// It asks for no memory at all.
+#[test]
+fn reading_takes_no_memory(rt: HostRuntime) -> Result<(), Fail> {
+    let alloc = rt.alloc();
+    let fde = DescriptionRef::read(DESCRIPTION)?.to_event();
+    let description: FormatDescriptionEvent = read(alloc, &fde, DESCRIPTION)?;
+    assert_eq!(rt; description, fde);
+    assert_eq!(rt;
+        read::<RotateEvent>(alloc, &fde, b"\x04\0\0\0\0\0\0\0a")?.position(),
+        4
+    );
+    assert_eq!(rt; read::<XidEvent>(alloc, &fde, ELEVEN)?.xid, 11);
+    assert_eq!(rt;
+        read::<IntvarEvent>(alloc, &fde, b"\x02\x0b\0\0\0\0\0\0\0")?.value(),
+        11
+    );
+    let rand: RandEvent = read(alloc, &fde, b"\x0b\0\0\0\0\0\0\0\x0c\0\0\0\0\0\0\0")?;
+    assert_eq!(rt; rand.seed2.0, 12);
+    let incident: IncidentEvent = read(alloc, &fde, b"\x01\0\x01m")?;
+    assert_eq!(rt; incident.message_raw(), b"m".as_slice());
+    let query: RowsQueryEvent = read(alloc, &fde, b"\0q")?;
+    assert_eq!(rt; query.query_raw(), b"q".as_slice());
+    let block: BeginLoadQueryEvent = read(alloc, &fde, b"\x01\0\0\0b")?;
+    assert_eq!(rt; block.block_data(), b"b".as_slice());
+    Ok(())
+}
+
+#[test]
+fn lends_a_description(rt: HostRuntime) -> Result<(), Fail> {
+    let alloc = rt.alloc();
+    let lent = DescriptionRef::read(DESCRIPTION)?;
+    assert_eq!(rt; lent.binlog_version(), BinlogVersion::Version4);
+    assert_eq!(rt; lent.split_version(), (5, 0, 86));
+    assert!(rt;
+        lent.server_version(alloc)?
+            .as_str()
+            .starts_with("5.0.86-debug-log\0")
+    );
+    assert_eq!(rt; lent.server_version_raw().len(), 50);
+    assert_eq!(rt; lent.create_timestamp(), 0x4abb_35fc);
+    assert_eq!(rt; lent.event_type_header_lengths().len(), 18);
+    assert_eq!(rt;
+        lent.get_event_type_header_length(EventType::FORMAT_DESCRIPTION_EVENT),
+        75
+    );
+    let footer = BinlogEventFooter::new(BinlogChecksumAlg::BINLOG_CHECKSUM_ALG_CRC32);
+    assert_eq!(rt; lent.with_footer(footer).footer(), footer);
+    let event = lent.to_event();
+    assert_eq!(rt; event.as_ref(), lent);
+    assert_eq!(rt;
+        DescriptionRef::read(&DESCRIPTION[..56]).err(),
+        Some(Error::EndOfBody)
+    );
+    assert_eq!(rt;
+        DescriptionRef::new(BinlogVersion::Version3).to_event(),
+        FormatDescriptionEvent::new(BinlogVersion::Version3)
+    );
     Ok(())
 }

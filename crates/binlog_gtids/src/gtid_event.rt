@@ -3,7 +3,7 @@ ghost use Rattle.std.specs.Prelude.{◌≡◌, ◌++◌, ◌+◌, ◌<◌, ◌�
 ghost use Rattle.bitflags.specs.Sets.{known_bits};
 ghost use Rattle.binlog_wire.specs.Reading.{Gives, read_as};
 ghost use Rattle.binlog_wire.specs.declared.error.Error.TheVariants.{Memory};
-ghost use Rattle.binlog_wire.specs.declared.event_type.EventType.TheVariants.{GTID_EVENT};
+ghost use Rattle.binlog_wire.specs.declared.consts.event_type.EventType.TheVariants.{GTID_EVENT};
 ghost use Rattle.binlog_wire.specs.Fields.{block_at};
 ghost use Rattle.binlog_gtids.specs.Flags.{gtid_flags};
 ghost use Rattle.binlog_gtids.specs.Untagged.{gtid, untagged, head, clock, clock_of, with_clock, without_clock, is_untagged_type};

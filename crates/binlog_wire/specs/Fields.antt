@@ -82,6 +82,23 @@ text_at k s = number_at k s >>= λ n. block_at n.0 n.1
 abbrev pub prefixed : ℕ → List ℕ → List ℕ
 prefixed k text = little_bytes k (length text) ++ text
 
+-- no byte of them is zero
+abbrev pub HasNoZero : List ℕ → Type 0
+HasNoZero [] = Unit {0}
+HasNoZero (zero ∷ s) = ⊥
+HasNoZero (suc b ∷ s) = HasNoZero s
+
+-- Bytes that end before a zero byte, and that byte.
+-- Source: MySQL's internals documentation, "Protocol::NulTerminatedString".
+abbrev pub IsTerminated : List ℕ → List ℕ → List ℕ → Type 0
+IsTerminated s text r = HasNoZero text × (s ≡ text ++ 0 ∷ r)
+
+-- the bytes before the first zero byte
+abbrev pub terminated_at : List ℕ → Read (List ℕ)
+terminated_at [] = Err ends
+terminated_at (zero ∷ s) = Ok ([], s)
+terminated_at (suc b ∷ s) = terminated_at s >>= λ x. Ok (suc b ∷ x.0, x.1)
+
 -- the first k of the bytes, and behind fewer as many zeros as are missing
 abbrev pub padded : ℕ → List ℕ → List ℕ
 padded k s = take k s ++ replicate (k - length (take k s)) 0

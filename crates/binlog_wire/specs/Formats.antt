@@ -6,13 +6,13 @@ use Rattle.std.proofs.lemmas.List.{append-nil, length-append, length-replicate, 
 use Rattle.byteorder.specs.Endian.{little_bytes}
 use Rattle.binlog_wire.specs.declared.error.Invalid.{Invalid}
 use Rattle.binlog_wire.specs.Reading.{Read, read_as, other_type}
-use Rattle.binlog_wire.specs.Fields.{IsNumber, number_at, IsAllowed, allowed_at, IsCoded, coded_at, IsBlock, block_at, IsRest, rest_at, IsText, text_at, prefixed, padded, Then, then_at, unit_at, Skipped, skipped_at, behind_zeros, IsSeenAs, IsMade, IsSilent, silent_at, IsEither, either_at, IsPresentFrom, present_from_at}
+use Rattle.binlog_wire.specs.Fields.{IsNumber, number_at, IsAllowed, allowed_at, IsCoded, coded_at, IsBlock, block_at, IsRest, rest_at, IsText, text_at, prefixed, padded, HasNoZero, IsTerminated, terminated_at, Then, then_at, unit_at, Skipped, skipped_at, behind_zeros, IsSeenAs, IsMade, IsSilent, silent_at, IsEither, either_at, IsPresentFrom, present_from_at}
 use Rattle.binlog_wire.specs.Laws.{Keeps}
 use Rattle.binlog_wire.specs.Laws.Numbers.{IsCode, keeps_number, keeps_allowed, keeps_coded, length-number}
-use Rattle.binlog_wire.specs.Laws.Texts.{keeps_block, keeps_rest, keeps_text}
+use Rattle.binlog_wire.specs.Laws.Texts.{keeps_block, keeps_rest, keeps_text, length-padded, padded_all}
+use Rattle.binlog_wire.specs.Laws.Terminated.{keeps_terminated, terminated_long}
 use Rattle.binlog_wire.specs.Laws.Sequences.{keeps_then, keeps_unit, keeps_skipped, keeps_seen_as, keeps_made}
 use Rattle.binlog_wire.specs.Laws.Choices.{keeps_silent, keeps_either, keeps_present_from}
-use Rattle.binlog_wire.specs.Canonical.{length-padded, padded_all}
 
 -- Where a field may stand: anywhere, or only at the end of a body, as a field that takes all bytes.
 pub data Place : Type 0 where
@@ -194,6 +194,23 @@ text k max most = record {
   twice = λ s. take_all max (take max s) (omega (arith, length-take max s));
   again = λ s fits. ap (prefixed k) (take_all max (take max s) (omega (arith, length-take max s)));
   long = text_long k;
+}
+
+-- a text before a zero byte that ends it
+abbrev pub terminated : {place : Place} → Format place (List ℕ)
+terminated = record {
+  spells = IsTerminated;
+  reads = terminated_at;
+  written = λ s. s ++ 0 ∷ [];
+  normal = λ s. s;
+  Fits = HasNoZero;
+  least = 1;
+  keeps = keeps_terminated;
+  writes = λ s r fits follows. (fits, append_assoc s (0 ∷ []) r);
+  settled = λ s v r h. refl;
+  twice = λ s. refl;
+  again = λ s fits. refl;
+  long = terminated_long;
 }
 
 -- ---- fields one after the other

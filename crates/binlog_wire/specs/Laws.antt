@@ -5,6 +5,7 @@ use Rattle.binlog_wire.specs.Reading.{Refusal, Read, ◌>>=◌}
 use Rattle.binlog_wire.specs.Fields.{IsBytes}
 pub mod Numbers
 pub mod Texts
+pub mod Terminated
 pub mod Sequences
 pub mod Choices
 pub mod Lengths

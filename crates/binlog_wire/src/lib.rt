@@ -3,40 +3,38 @@
 //! [`ParseBuf`] is what is still to be read. What can be read from it is [`MyDeserialize`], what can be written
 //! [`MySerialize`]: numbers ([`RawInt`]), byte strings ([`RawBytes`]), sets of flags ([`RawFlags`]), numbers that stand
 //! for something ([`Const`], [`RawConst`]) and bytes that say nothing ([`Skip`]). Their contracts, and the laws by
-//! which a body is put together from fields, stand in `specs/`: `Reading`, `Fields`, `Laws`, `Writing`, `Canonical`.
+//! which a body is put together from fields, stand in `specs/`: `Reading`, `Fields`, `Laws`; `Formats` puts
+//! all that is said of a body together.
 #![tactic(auto)]
 
-mod bytes;
-mod codes;
-mod constant;
+mod consts;
 mod error;
-mod event_type;
-mod flags;
-mod int;
+pub mod laws;
 mod number;
 mod output;
 mod parse_buf;
+mod raw;
 mod room;
 mod traits;
-mod version;
 mod version_split;
 
-pub use bytes::{
-    BareBytes, BytesRepr, EofBytes, FixedLengthText, RawBytes, U8Bytes, U32Bytes, WritableBytes,
-    lossy_text,
-};
-pub use codes::{
+pub use consts::codes::{
     BinlogChecksumAlg, IncidentType, IntvarEventType, UnknownChecksumAlg, UnknownIncidentType,
 };
-pub use constant::{Const, Constant, RawConst, Skip};
+pub use consts::event_flags::EventFlags;
+pub use consts::event_type::{EventType, UnknownEventType};
+pub use consts::version::BinlogVersion;
 pub use error::{Error, Field, Invalid};
-pub use event_type::{EventType, UnknownEventType};
-pub use flags::{EventFlags, RawFlags};
-pub use int::{IntRepr, LeU16, LeU32, LeU56, LeU64, RawInt};
 pub use number::{read_u16_at, read_u32_at};
 pub use output::write_bytes;
 pub use parse_buf::ParseBuf;
+pub use raw::bytes::{
+    BareBytes, BareU8Bytes, BareU16Bytes, BytesRepr, EofBytes, FixedLengthText, NullBytes,
+    RawBytes, U8Bytes, U32Bytes, WritableBytes, lossy_text,
+};
+pub use raw::constant::{Const, Constant, RawConst, Skip};
+pub use raw::flags::RawFlags;
+pub use raw::int::{IntRepr, LeU16, LeU32, LeU56, LeU64, RawInt};
 pub use room::reserve;
 pub use traits::{MyDeserialize, MySerialize, Put};
-pub use version::BinlogVersion;
 pub use version_split::split_version;

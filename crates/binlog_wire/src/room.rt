@@ -13,8 +13,5 @@ pub fn reserve(buf: &mut Vec<u8>, count: usize) -> Result<(), Error>
     ensures room { OnOk result (vec_len buf.new + count ≤ vec_capacity buf.new) }
     ensures memory { IsOkUnless result Memory }
 {
-    match buf.reserve(count) {
-        Ok(()) => Ok(()),
-        Err(_) => Err(Error::Memory),
-    }
+    Ok(buf.reserve(count)?)
 }

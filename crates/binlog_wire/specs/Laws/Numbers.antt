@@ -63,8 +63,8 @@ keeps_allowed k allowed why = record {
   complete = λ s n r h. rw ((keeps_number k).complete s n r h.0, h.1) refl;
 }
 
--- decoding undoes the code, and nothing else is decoded
-pub record IsCode {E : Type 0} (k : ℕ) (code : E → ℕ) (decoded : ℕ → Result E Invalid) : Type 0 where
+-- The law of every table of codes: decoding undoes the code, and nothing else is decoded.
+pub record IsCode {E W : Type 0} (k : ℕ) (code : E → ℕ) (decoded : ℕ → Result E W) : Type 0 where
   -- each code fits k bytes
   pub fits : (e : E) → code e < 256 ^ k
   -- a code stands for what it is the code of

@@ -1,9 +1,9 @@
 -- Bytes: k of them, all that are left, and those behind their own length.
-use Rattle.std.proofs.Common.{◌≡◌, ℕ, ◌≤◌, false, ltb, List, [], ◌++◌, length, take, drop, Ok, refl, sym, subst, arith}
+use Rattle.std.proofs.Common.{◌≡◌, ℕ, ◌-◌, ◌≤◌, false, ltb, List, [], ◌++◌, length, take, drop, replicate, Ok, refl, sym, subst, arith}
 use Rattle.std.proofs.lemmas.Bool.{ltb-false, le-ltb}
-use Rattle.std.proofs.lemmas.List.{take_at, drop_at, take-append-drop, length-append, length-take}
+use Rattle.std.proofs.lemmas.List.{take_at, drop_at, take-append-drop, append-nil, length-append, length-replicate, length-take, take_all}
 use Rattle.binlog_wire.specs.Reading.{ends}
-use Rattle.binlog_wire.specs.Fields.{IsBytes, IsNumber, number_at, IsBlock, block_at, IsRest, rest_at, IsText, text_at}
+use Rattle.binlog_wire.specs.Fields.{IsBytes, IsNumber, number_at, IsBlock, block_at, IsRest, rest_at, IsText, text_at, padded}
 use Rattle.binlog_wire.specs.Laws.{Keeps, IsBytes-drop, bind_ok, guard_ok}
 use Rattle.binlog_wire.specs.Laws.Numbers.{keeps_number}
 
@@ -38,3 +38,18 @@ keeps_text k = record {
   complete = λ s v r h.
       rw ((keeps_number k).complete s (length v) h.0 h.1, (keeps_block (length v)).complete h.0 v r (refl, h.2)) refl;
 }
+
+-- ---- bytes that are filled up with zeros
+
+-- k bytes in all
+pub length-padded : (k : ℕ) (s : List ℕ) → length (padded k s) ≡ k
+length-padded k s =
+    let missing : ℕ = k - length (take k s) in
+    omega (arith, length-append (take k s) (replicate missing 0), length-take k s, length-replicate {A = ℕ} missing 0)
+
+-- k bytes are left as they are
+pub padded_all : (k : ℕ) (s : List ℕ) → length s ≡ k → padded k s ≡ s
+padded_all k s e =
+    let all : take k s ≡ s = take_all k s (omega arith) in
+    let none : k - length s ≡ 0 = omega arith in
+    rw (all, none, append-nil s) refl

@@ -1,4 +1,6 @@
 use super::{Error, Field, Invalid};
+use crate::{EventType, UnknownChecksumAlg, UnknownEventType, UnknownIncidentType};
+use std::test::Fail;
 
 #[test]
 fn sorts_each_error(rt: HostRuntime) {
@@ -26,4 +28,74 @@ fn sorts_each_error(rt: HostRuntime) {
         assert_eq!(rt; error.within_frame(), within_frame, "of {error:?}");
         assert_eq!(rt; error.is_outside(), is_outside, "of {error:?}");
     }
+}
+
+#[test]
+fn says_what_is_wrong(rt: HostRuntime) -> Result<(), Fail> {
+    let alloc = rt.alloc();
+    let rows = [
+        (
+            Error::EndOfInput,
+            "the input ends within a file header or an event",
+        ),
+        (
+            Error::InvalidFileHeader,
+            "the file does not begin as a binlog",
+        ),
+        (
+            Error::EventSizeTooSmall(18),
+            "an event states the size 18, and its header alone takes 19 bytes",
+        ),
+        (
+            Error::TooShortForChecksum,
+            "an event is too short for its checksum",
+        ),
+        (Error::EndOfBody, "an event's body ends within a field"),
+        (
+            Error::InvalidData(Invalid::Subtype(3)),
+            "an event's body has a value that is not allowed: Subtype(3)",
+        ),
+        (
+            Error::RemainingBytes(2),
+            "2 bytes are left behind an event's body",
+        ),
+        (
+            Error::WrongEventType(16),
+            "an event of type 16 holds no GTID",
+        ),
+        (
+            Error::UnknownChecksumAlg(2),
+            "the checksum algorithm 2 is not known",
+        ),
+        (Error::EventTooLong, "an event is too long to be written"),
+        (
+            Error::Unwritable(Field::Gno),
+            "the value of Gno can not be written",
+        ),
+        (Error::Memory, "out of memory"),
+        (Error::FrameMemory, "out of memory within an event"),
+        (Error::Reader, "the reader failed between events"),
+        (Error::ReaderInFrame, "the reader failed within an event"),
+        (Error::Writer, "the writer failed"),
+    ];
+    for (error, text) in rows {
+        assert_eq!(rt; format!(in alloc; "{error}")?.as_str(), text);
+    }
+    let unknown = UnknownEventType(41);
+    assert_eq!(rt;
+        format!(in alloc; "{unknown}")?.as_str(),
+        "the event type 41 is not known"
+    );
+    let unknown = UnknownChecksumAlg(2);
+    assert_eq!(rt;
+        format!(in alloc; "{unknown}")?.as_str(),
+        "the checksum algorithm 2 is not known"
+    );
+    let unknown = UnknownIncidentType(258);
+    assert_eq!(rt;
+        format!(in alloc; "{unknown}")?.as_str(),
+        "the incident type 258 is not known"
+    );
+    assert_eq!(rt; EventType::try_from(41), Err(UnknownEventType(41)));
+    Ok(())
 }

@@ -1,0 +1,9 @@
+//! The bodies of events, one module each.
+pub mod begin_load_query;
+pub mod format_description;
+pub mod incident;
+pub mod intvar;
+pub mod rand;
+pub mod rotate;
+pub mod rows_query;
+pub mod xid;

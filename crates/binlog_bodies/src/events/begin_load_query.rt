@@ -1,0 +1,136 @@
+//! The event of the first block of a loaded file.
+ghost use Rattle.std.specs.Prelude.{◌≡◌, [], IfOk, IsOkUnless, refl};
+ghost use Rattle.std.specs.Cow.{cow_slice_items};
+ghost use Rattle.binlog_wire.specs.declared.error.Error.TheVariants.{Memory};
+ghost use Rattle.binlog_bodies.specs.BeginLoadQuery.{begin_load_query};
+
+use crate::ctx::BinlogCtx;
+use crate::traits::BinlogEvent;
+use binlog_wire::{
+    EofBytes, Error, EventType, IntRepr, LeU32, MyDeserialize, ParseBuf, Put, RawBytes, RawInt,
+};
+use std::alloc::Global;
+use std::borrow::CowSlice;
+
+/// The first block of a file to be loaded by `LOAD DATA`.
+///
+/// Its body is the number of the file, 4 bytes, and the block, to the end. See "BEGIN_LOAD_QUERY_EVENT" in MySQL's
+/// internals documentation.
+#[derive(Debug, PartialEq, Eq, Hash, Drop)]
+pub struct BeginLoadQueryEvent<'a> {
+    file_id: u32,
+    block_data: RawBytes<'a, EofBytes>,
+}
+
+impl<'a> BeginLoadQueryEvent<'a> {
+    /// An empty block of the file with this number.
+    pub fn new(file_id: u32) -> Self
+        ensures { result ≡ record { file_id = file_id; block_data = [] } }
+    {
+        BeginLoadQueryEvent {
+            file_id,
+            block_data: RawBytes::new(CowSlice::Borrowed(&[])),
+        }
+    }
+
+    /// The event with this number of the file.
+    pub fn with_file_id(mut self, file_id: u32) -> Self
+        ensures { result ≡ record self.entry { file_id = file_id } }
+    {
+        self.file_id = file_id;
+        self
+    }
+
+    /// The event with this block.
+    pub fn with_block_data(mut self, block_data: CowSlice<'a, u8>) -> Self
+        ensures { result ≡ record self.entry { block_data = cow_slice_items block_data.entry } }
+    {
+        self.block_data = RawBytes::new(block_data);
+        self
+    }
+
+    /// The number of the file, which other events speak of.
+    pub fn file_id(&self) -> u32
+        ensures { result ≡ self.now.file_id }
+    {
+        self.file_id
+    }
+
+    /// The first block of the file.
+    pub fn block_data(&self) -> &[u8]
+        ensures { result.now ≡ self.now.block_data }
+    {
+        self.block_data.as_bytes()
+    }
+
+    /// The same event, with its bytes owned; refused by [`Error::Memory`] alone.
+    pub fn into_owned(self, alloc: Global) -> Result<BeginLoadQueryEvent<'static>, Error>
+        ensures ok { IfOk result (λ owned. owned ≡ self.entry) }
+        ensures memory { IsOkUnless result Memory }
+    {
+        let block_data = self.block_data.into_owned(alloc)?;
+        Ok(BeginLoadQueryEvent {
+            file_id: self.file_id,
+            block_data,
+        })
+    }
+
+    /// The same event once more: lent bytes stay lent, and owned ones are copied. Refused by [`Error::Memory`] alone.
+    pub fn clone(&self, alloc: Global) -> Result<Self, Error>
+        ensures ok { IfOk result (λ copy. copy ≡ self.now) }
+        ensures memory { IsOkUnless result Memory }
+    {
+        let block_data = self.block_data.clone(alloc)?;
+        Ok(BeginLoadQueryEvent {
+            file_id: self.file_id,
+            block_data,
+        })
+    }
+}
+
+/// [`Error::EndOfBody`] where fewer than 4 bytes are there, and no other error.
+impl<'de> MyDeserialize<'de> for BeginLoadQueryEvent<'de> {
+    const SIZE: Option<usize> = None;
+
+    type Ctx = BinlogCtx<'de>;
+
+    ghost reads = { λ _. begin_load_query.reads };
+
+    fn deserialize(alloc: Global, _ctx: Self::Ctx, buf: &mut ParseBuf<'de>) -> Result<Self, Error> {
+        let file_id = buf.parse::<RawInt<LeU32>>(alloc, ())?.0;
+        let block_data = buf.parse(alloc, ())?;
+        Ok(BeginLoadQueryEvent {
+            file_id,
+            block_data,
+        })
+    }
+}
+
+impl Put for BeginLoadQueryEvent<'_> {
+    ghost bytes = { begin_load_query.written };
+
+    fn check(&self) -> Result<(), Error> {
+        Ok(())
+    }
+
+    fn written_len(&self) -> usize {
+        4 + self.block_data.written_len()
+    }
+
+    fn put(&self, buf: &mut Vec<u8>) {
+        LeU32::put(self.file_id, buf);
+        self.block_data.put(buf);
+    }
+}
+
+impl<'a> BinlogEvent<'a> for BeginLoadQueryEvent<'a> {
+    const EVENT_TYPE: EventType = EventType::BEGIN_LOAD_QUERY_EVENT;
+
+    ghost format = { λ _ _. begin_load_query };
+
+    ghost raw_type = { λ _. 17 };
+
+    ghost reading = { λ _. refl };
+
+    ghost writing = { λ _ _ _. refl };
+}

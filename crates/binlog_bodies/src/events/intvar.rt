@@ -1,0 +1,112 @@
+//! The event of an integer variable, an auto-increment value or the last insert id.
+ghost use Rattle.std.specs.Prelude.{◌≡◌, Some, refl};
+ghost use Rattle.binlog_bodies.specs.Intvar.{intvar};
+
+use crate::ctx::BinlogCtx;
+use crate::traits::BinlogEvent;
+use binlog_wire::{
+    Const, Error, EventType, IntRepr, IntvarEventType, LeU64, MyDeserialize, ParseBuf, Put, RawInt,
+};
+use std::alloc::Global;
+
+/// The length of the body in bytes.
+const INTVAR_LEN: usize = 9;
+
+/// An integer variable that the next statement uses: an automatic value or the last inserted id.
+///
+/// Its body is one unit of 9 bytes: which variable it is, 1 byte, 0 to 2, and its value, 8 bytes. See "INTVAR_EVENT"
+/// in MySQL's internals documentation.
+#[derive(Clone, Copy, Debug, PartialEq, Eq, Hash)]
+pub struct IntvarEvent {
+    subtype: IntvarEventType,
+    value: u64,
+}
+
+impl IntvarEvent {
+    /// This variable has this value.
+    pub fn new(subtype: IntvarEventType, value: u64) -> Self
+        ensures { result ≡ record { subtype = subtype; value = value } }
+    {
+        IntvarEvent { subtype, value }
+    }
+
+    /// The event with this variable.
+    pub fn with_subtype(mut self, subtype: IntvarEventType) -> Self
+        ensures { result ≡ record self { subtype = subtype } }
+    {
+        self.subtype = subtype;
+        self
+    }
+
+    /// The event with this value.
+    pub fn with_value(mut self, value: u64) -> Self
+        ensures { result ≡ record self { value = value } }
+    {
+        self.value = value;
+        self
+    }
+
+    /// Which variable it is.
+    pub fn subtype(&self) -> IntvarEventType
+        ensures { result ≡ self.now.subtype }
+    {
+        self.subtype
+    }
+
+    /// The variable's value.
+    pub fn value(&self) -> u64
+        ensures { result ≡ self.now.value }
+    {
+        self.value
+    }
+}
+
+/// [`Error::EndOfBody`] where fewer than 9 bytes are there, and else [`Error::InvalidData`] where the variable's number
+/// is above 2.
+impl<'de> MyDeserialize<'de> for IntvarEvent {
+    const SIZE: Option<usize> = Some(9);
+
+    type Ctx = BinlogCtx<'de>;
+
+    ghost reads = { λ _. intvar.reads };
+
+    ghost size = { Some 9 };
+
+    fn deserialize(alloc: Global, _ctx: Self::Ctx, buf: &mut ParseBuf<'de>) -> Result<Self, Error> {
+        if buf.len() < INTVAR_LEN {
+            return Err(Error::EndOfBody);
+        }
+        let subtype = buf.parse::<Const<IntvarEventType, u8>>(alloc, ())?.0;
+        let value = buf.parse::<RawInt<LeU64>>(alloc, ())?.0;
+        Ok(IntvarEvent { subtype, value })
+    }
+}
+
+impl Put for IntvarEvent {
+    ghost bytes = { intvar.written };
+
+    fn check(&self) -> Result<(), Error> {
+        Ok(())
+    }
+
+    fn written_len(&self) -> usize {
+        INTVAR_LEN
+    }
+
+    fn put(&self, buf: &mut Vec<u8>) {
+        u8::put(u8::from(self.subtype), buf);
+        LeU64::put(self.value, buf);
+    }
+}
+
+impl<'a> BinlogEvent<'a> for IntvarEvent {
+    const EVENT_TYPE: EventType = EventType::INTVAR_EVENT;
+
+    ghost format = { λ _ _. intvar };
+
+    ghost raw_type = { λ _. 5 };
+
+    ghost reading = { λ _. refl };
+
+    ghost writing = { λ _ _ _. refl };
+}

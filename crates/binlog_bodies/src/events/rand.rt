@@ -1,0 +1,71 @@
+//! The event of the two seeds of `RAND()`.
+ghost use Rattle.std.specs.Prelude.{Some, refl};
+ghost use Rattle.binlog_bodies.specs.Rand.{rand};
+
+use crate::ctx::BinlogCtx;
+use crate::traits::BinlogEvent;
+use binlog_wire::{Error, EventType, LeU64, MyDeserialize, ParseBuf, Put, RawInt};
+use std::alloc::Global;
+
+/// The length of the body in bytes.
+const RAND_LEN: usize = 16;
+
+/// The seeds of the random numbers that the next statement uses.
+///
+/// Its body is one unit of 16 bytes: the two seeds, 8 bytes each. See "RAND_EVENT" in MySQL's internals documentation.
+#[derive(Clone, Debug, PartialEq, Eq, Hash, Drop)]
+pub struct RandEvent {
+    /// The first seed.
+    pub seed1: RawInt<LeU64>,
+    /// The second seed.
+    pub seed2: RawInt<LeU64>,
+}
+
+/// [`Error::EndOfBody`] where fewer than 16 bytes are there, and no other error.
+impl<'de> MyDeserialize<'de> for RandEvent {
+    const SIZE: Option<usize> = Some(16);
+
+    type Ctx = BinlogCtx<'de>;
+
+    ghost reads = { λ _. rand.reads };
+
+    ghost size = { Some 16 };
+
+    fn deserialize(alloc: Global, _ctx: Self::Ctx, buf: &mut ParseBuf<'de>) -> Result<Self, Error> {
+        if buf.len() < RAND_LEN {
+            return Err(Error::EndOfBody);
+        }
+        let seed1 = buf.parse(alloc, ())?;
+        let seed2 = buf.parse(alloc, ())?;
+        Ok(RandEvent { seed1, seed2 })
+    }
+}
+
+impl Put for RandEvent {
+    ghost bytes = { rand.written };
+
+    fn check(&self) -> Result<(), Error> {
+        Ok(())
+    }
+
+    fn written_len(&self) -> usize {
+        RAND_LEN
+    }
+
+    fn put(&self, buf: &mut Vec<u8>) {
+        self.seed1.put(buf);
+        self.seed2.put(buf);
+    }
+}
+
+impl<'a> BinlogEvent<'a> for RandEvent {
+    const EVENT_TYPE: EventType = EventType::RAND_EVENT;
+
+    ghost format = { λ _ _. rand };
+
+    ghost raw_type = { λ _. 13 };
+
+    ghost reading = { λ _. refl };
+
+    ghost writing = { λ _ _ _. refl };
+}

@@ -1,0 +1,110 @@
+//! The event of the statement that the row events behind it come from.
+ghost use Rattle.std.specs.Prelude.{◌≡◌, IfOk, IsOkUnless, refl};
+ghost use Rattle.std.specs.Cow.{cow_slice_items, cow_str_bytes};
+ghost use Rattle.std.specs.Str.Lossy.{utf8_lossy};
+ghost use Rattle.binlog_wire.specs.declared.error.Error.TheVariants.{Memory};
+ghost use Rattle.binlog_bodies.specs.RowsQuery.{rows_query};
+
+use crate::ctx::BinlogCtx;
+use crate::traits::BinlogEvent;
+use binlog_wire::{
+    EofBytes, Error, EventType, IntRepr, MyDeserialize, ParseBuf, Put, RawBytes, Skip,
+};
+use std::alloc::Global;
+use std::borrow::{CowSlice, CowStr};
+
+/// The statement that made the row events behind it.
+///
+/// Its body is one byte that says nothing and is written as 0, and the statement, to the end. See "ROWS_QUERY_EVENT"
+/// in MySQL's internals documentation.
+#[derive(Debug, PartialEq, Eq, Hash, Drop)]
+pub struct RowsQueryEvent<'a> {
+    query: RawBytes<'a, EofBytes>,
+}
+
+impl<'a> RowsQueryEvent<'a> {
+    /// This statement made the row events.
+    pub fn new(query: CowSlice<'a, u8>) -> Self
+        ensures { result ≡ record { query = cow_slice_items query.entry } }
+    {
+        let query = RawBytes::new(query);
+        RowsQueryEvent { query }
+    }
+
+    /// The statement.
+    pub fn query_raw(&self) -> &[u8]
+        ensures { result.now ≡ self.now.query }
+    {
+        self.query.as_bytes()
+    }
+
+    /// The statement as UTF-8 text, with U+FFFD in place of what isn't; refused by [`Error::Memory`] alone.
+    pub fn query(&self, alloc: Global) -> Result<CowStr<'_, Global>, Error>
+        ensures ok { IfOk result (λ text. cow_str_bytes text ≡ utf8_lossy self.now.query) }
+        ensures memory { IsOkUnless result Memory }
+    {
+        self.query.as_str(alloc)
+    }
+
+    /// The same event, with its bytes owned; refused by [`Error::Memory`] alone.
+    pub fn into_owned(self, alloc: Global) -> Result<RowsQueryEvent<'static>, Error>
+        ensures ok { IfOk result (λ owned. owned ≡ self.entry) }
+        ensures memory { IsOkUnless result Memory }
+    {
+        let query = self.query.into_owned(alloc)?;
+        Ok(RowsQueryEvent { query })
+    }
+
+    /// The same event once more: lent bytes stay lent, and owned ones are copied. Refused by [`Error::Memory`] alone.
+    pub fn clone(&self, alloc: Global) -> Result<Self, Error>
+        ensures ok { IfOk result (λ copy. copy ≡ self.now) }
+        ensures memory { IsOkUnless result Memory }
+    {
+        let query = self.query.clone(alloc)?;
+        Ok(RowsQueryEvent { query })
+    }
+}
+
+/// [`Error::EndOfBody`] where no byte is there, and no other error.
+impl<'de> MyDeserialize<'de> for RowsQueryEvent<'de> {
+    const SIZE: Option<usize> = None;
+
+    type Ctx = BinlogCtx<'de>;
+
+    ghost reads = { λ _. rows_query.reads };
+
+    fn deserialize(alloc: Global, _ctx: Self::Ctx, buf: &mut ParseBuf<'de>) -> Result<Self, Error> {
+        buf.parse::<Skip<1>>(alloc, ())?;
+        let query = buf.parse(alloc, ())?;
+        Ok(RowsQueryEvent { query })
+    }
+}
+
+impl Put for RowsQueryEvent<'_> {
+    ghost bytes = { rows_query.written };
+
+    fn check(&self) -> Result<(), Error> {
+        Ok(())
+    }
+
+    fn written_len(&self) -> usize {
+        1 + self.query.written_len()
+    }
+
+    fn put(&self, buf: &mut Vec<u8>) {
+        u8::put(0, buf);
+        self.query.put(buf);
+    }
+}
+
+impl<'a> BinlogEvent<'a> for RowsQueryEvent<'a> {
+    const EVENT_TYPE: EventType = EventType::ROWS_QUERY_EVENT;
+
+    ghost format = { λ _ _. rows_query };
+
+    ghost raw_type = { λ _. 29 };
+
+    ghost reading = { λ _. refl };
+
+    ghost writing = { λ _ _ _. refl };
+}

@@ -1,0 +1,70 @@
+//! The event that ends a transaction.
+ghost use Rattle.std.specs.Prelude.{refl};
+ghost use Rattle.binlog_wire.specs.declared.consts.event_type.EventType.TheVariants.{XID_EVENT};
+ghost use Rattle.binlog_bodies.specs.DescriptionRefs.{description_of};
+ghost use Rattle.binlog_bodies.specs.PostHeaders.{post_header};
+ghost use Rattle.binlog_bodies.specs.Xid.{xid};
+
+use crate::ctx::BinlogCtx;
+use crate::traits::BinlogEvent;
+use binlog_wire::{Error, EventType, IntRepr, LeU64, MyDeserialize, ParseBuf, Put};
+use std::alloc::Global;
+
+/// The length of the written body in bytes.
+const XID_LEN: usize = 8;
+
+/// The end of a transaction of a storage engine with two-phase commit.
+///
+/// Its body is as many bytes as the format description states for the post-header, which say nothing and aren't
+/// written, and the number of the transaction, 8 bytes. See "XID_EVENT" in MySQL's internals documentation.
+#[derive(Clone, Copy, Debug, PartialEq, Eq, Hash)]
+pub struct XidEvent {
+    /// The number of the transaction.
+    pub xid: u64,
+}
+
+/// [`Error::EndOfBody`] where fewer bytes are there, and no other error.
+impl<'de> MyDeserialize<'de> for XidEvent {
+    const SIZE: Option<usize> = None;
+
+    type Ctx = BinlogCtx<'de>;
+
+    ghost reads = { λ ctx. (xid (post_header (description_of ctx.fde) XID_EVENT)).reads };
+
+    fn deserialize(_alloc: Global, ctx: Self::Ctx, buf: &mut ParseBuf<'de>) -> Result<Self, Error> {
+        let post_header = ctx.fde.get_event_type_header_length(EventType::XID_EVENT);
+        if !buf.checked_skip(usize::from(post_header)) {
+            return Err(Error::EndOfBody);
+        }
+        let xid = buf.checked_eat_u64_le().ok_or(Error::EndOfBody)?;
+        Ok(XidEvent { xid })
+    }
+}
+
+impl Put for XidEvent {
+    ghost bytes = { (xid 0).written };
+
+    fn check(&self) -> Result<(), Error> {
+        Ok(())
+    }
+
+    fn written_len(&self) -> usize {
+        XID_LEN
+    }
+
+    fn put(&self, buf: &mut Vec<u8>) {
+        LeU64::put(self.xid, buf);
+    }
+}
+
+impl<'a> BinlogEvent<'a> for XidEvent {
+    const EVENT_TYPE: EventType = EventType::XID_EVENT;
+
+    ghost format = { λ d _. xid (post_header d XID_EVENT) };
+
+    ghost raw_type = { λ _. 16 };
+
+    ghost reading = { λ _. refl };
+
+    ghost writing = { λ _ _ _. refl };
+}

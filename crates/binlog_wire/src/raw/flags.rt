@@ -1,0 +1,98 @@
+//! Sets of flags.
+ghost use Rattle.std.specs.Prelude.{◌≡◌};
+ghost use Rattle.std.specs.Int.RustNames.{bit_and};
+ghost use Rattle.bitflags.specs.Sets.{known_bits};
+ghost use Rattle.binlog_wire.specs.Reading.{read_as};
+
+use crate::error::Error;
+use crate::parse_buf::ParseBuf;
+use crate::raw::int::IntRepr;
+use crate::traits::{MyDeserialize, Put};
+use bitflags::Flags;
+use std::alloc::Global;
+use std::marker::PhantomData;
+
+/// The number of a set of flags `F`, in the bytes that its kind `K` says. Bits that no flag has are kept.
+#[derive(Drop)]
+#[derive_where(Clone, Debug, PartialEq, Eq, Hash; K::Primitive)]
+pub struct RawFlags<F, K: IntRepr>(pub K::Primitive, #[derive_where(skip)] PhantomData<F>);
+
+impl<F, K: IntRepr> RawFlags<F, K> {
+    /// The set with this number.
+    pub fn new(number: K::Primitive) -> Self
+        ensures { result.0 ≡ number }
+    {
+        RawFlags(number, PhantomData)
+    }
+}
+
+impl<F: Flags, K: IntRepr<Primitive = F::Bits>> RawFlags<F, K> {
+    /// The flags that are known.
+    pub fn get(&self) -> F
+        ensures { F.exact → F.set_of result ≡ bit_and (F.Bits.pattern self.now.0) (known_bits F.table) }
+    {
+        F::from_bits_truncate(self.0)
+    }
+}
+
+/// No flags.
+impl<F, K: IntRepr> Default for RawFlags<F, K>
+where
+    K::Primitive: Default,
+{
+    ghost is_default = { λ raw. K.Primitive.is_default raw.0 };
+
+    fn default() -> Self {
+        RawFlags::new(K::Primitive::default())
+    }
+}
+
+impl<'de, F, K: IntRepr> MyDeserialize<'de> for RawFlags<F, K> {
+    const SIZE: Option<usize> = K::SIZE;
+
+    type Ctx = ();
+
+    ghost reads = { λ _ s. read_as (λ number. record { 0 = number; 1 = record {} }) (K.reads s) };
+
+    ghost size = { K.SIZE };
+
+    #[inline]
+    fn deserialize(_alloc: Global, _ctx: (), buf: &mut ParseBuf<'de>) -> Result<Self, Error> {
+        Ok(RawFlags::new(K::read(buf)?))
+    }
+}
+
+impl<F, K: IntRepr> Put for RawFlags<F, K> {
+    ghost bytes = { λ raw. K.written raw.0 };
+
+    #[inline]
+    fn check(&self) -> Result<(), Error> {
+        Ok(())
+    }
+
+    #[inline]
+    fn written_len(&self) -> usize {
+        K::written_len(self.0)
+    }
+
+    #[inline]
+    fn put(&self, buf: &mut Vec<u8>) {
+        K::put(self.0, buf);
+    }
+}
+
+#[cfg(test)]
+mod tests {
+    use super::*;
+    use crate::consts::event_flags::EventFlags;
+    use crate::raw::int::LeU16;
+
+    #[test]
+    fn gives_the_known_flags(rt: HostRuntime) {
+        let raw: RawFlags<EventFlags, LeU16> = RawFlags::new(0xfc81);
+        let flags = raw.get();
+        assert!(rt; flags.contains(EventFlags::LOG_EVENT_BINLOG_IN_USE_F));
+        assert!(rt; flags.contains(EventFlags::LOG_EVENT_IGNORABLE_F));
+        assert_eq!(rt; flags.bits(), 0x81);
+    }
+}

@@ -1,0 +1,357 @@
+//! Numbers as fields: their widths, and numbers as they stand.
+ghost use Rattle.std.specs.Prelude.{◌≡◌, ◌++◌, ◌+◌, ◌≤◌, ℕ, List, Option, Some, OnOk, OnErr, IsOkUnless, length, vec_len, vec_capacity};
+ghost use Rattle.std.specs.Int.{w8, cast_signed, cast_unsigned};
+ghost use Rattle.byteorder.specs.Endian.{little_bytes};
+ghost use Rattle.binlog_wire.specs.declared.error.Error.TheVariants.{Memory};
+ghost use Rattle.binlog_wire.specs.Reading.{Read, Gives, read_as};
+ghost use Rattle.binlog_wire.specs.Fields.{number_at};
+
+use crate::error::Error;
+use crate::parse_buf::ParseBuf;
+use crate::traits::{MyDeserialize, Put};
+use byteorder::{ByteOrder, LittleEndian};
+use std::alloc::Global;
+use std::marker::PhantomData;
+
+/// How a number stands in bytes.
+///
+/// `reads` is what reading it from the front of bytes gives, and `written` the bytes that are written for it.
+pub trait IntRepr {
+    /// The type of the number.
+    type Primitive: Copy;
+    /// How many bytes it takes, where that is always the same.
+    const SIZE: Option<usize>;
+
+    ghost SIZE: { Option ℕ };
+
+    ghost reads: { List ℕ → Read Self.Primitive };
+
+    ghost written: { Self.Primitive → List ℕ };
+
+    /// Takes a number off the front of `buf`; [`Error::EndOfBody`] where the bytes end within it. No memory is taken.
+    fn read(buf: &mut ParseBuf<'_>) -> Result<Self::Primitive, Error>
+        ensures { Gives ⊥ buf.new result (reads buf.old) };
+
+    /// How many bytes are written for the number, 1 to 9.
+    fn written_len(number: Self::Primitive) -> usize
+        ensures count { result ≡ length (written number) }
+        ensures small { result ≤ 9 };
+
+    /// Appends the bytes of the number, where `buf` has room for them.
+    fn put(number: Self::Primitive, buf: &mut Vec<u8>)
+        requires { vec_len buf.old + length (written number) ≤ vec_capacity buf.old }
+        ensures items { buf.new.items ≡ buf.old.items ++ written number }
+        ensures len { vec_len buf.new ≡ vec_len buf.old + length (written number) }
+        ensures capacity { vec_capacity buf.old ≤ vec_capacity buf.new };
+}
+
+/// A byte.
+impl IntRepr for u8 {
+    type Primitive = u8;
+
+    const SIZE: Option<usize> = Some(1);
+
+    ghost SIZE = { Some 1 };
+
+    ghost reads = { number_at 1 };
+
+    ghost written = { little_bytes 1 };
+
+    #[inline]
+    fn read(buf: &mut ParseBuf<'_>) -> Result<u8, Error> {
+        let (byte, rest) = buf.0.split_first().ok_or(Error::EndOfBody)?;
+        buf.0 = rest;
+        Ok(*byte)
+    }
+
+    #[inline]
+    fn written_len(_number: u8) -> usize {
+        1
+    }
+
+    #[inline]
+    fn put(number: u8, buf: &mut Vec<u8>) {
+        buf.push(number).unwrap();
+    }
+}
+
+/// A signed number of one byte, in two's complement.
+impl IntRepr for i8 {
+    type Primitive = i8;
+
+    const SIZE: Option<usize> = Some(1);
+
+    ghost SIZE = { Some 1 };
+
+    ghost reads = { λ s. read_as (cast_signed w8) (number_at 1 s) };
+
+    ghost written = { λ number. little_bytes 1 (cast_unsigned w8 number) };
+
+    #[inline]
+    fn read(buf: &mut ParseBuf<'_>) -> Result<i8, Error> {
+        let byte = <u8 as IntRepr>::read(buf)?;
+        Ok(byte.cast_signed())
+    }
+
+    #[inline]
+    fn written_len(_number: i8) -> usize {
+        1
+    }
+
+    #[inline]
+    fn put(number: i8, buf: &mut Vec<u8>) {
+        <u8 as IntRepr>::put(number.cast_unsigned(), buf);
+    }
+}
+
+/// A number of two bytes, least byte first.
+#[derive(Drop)]
+pub struct LeU16;
+
+impl IntRepr for LeU16 {
+    type Primitive = u16;
+
+    const SIZE: Option<usize> = Some(2);
+
+    ghost SIZE = { Some 2 };
+
+    ghost reads = { number_at 2 };
+
+    ghost written = { little_bytes 2 };
+
+    #[inline]
+    fn read(buf: &mut ParseBuf<'_>) -> Result<u16, Error> {
+        if buf.0.len() < 2 {
+            return Err(Error::EndOfBody);
+        }
+        let number = LittleEndian::read_u16(buf.0);
+        buf.0 = &buf.0[2..];
+        Ok(number)
+    }
+
+    #[inline]
+    fn written_len(_number: u16) -> usize {
+        2
+    }
+
+    #[inline]
+    fn put(number: u16, buf: &mut Vec<u8>) {
+        buf.extend_from_slice(&number.to_le_bytes()).unwrap();
+    }
+}
+
+/// A number of four bytes, least byte first.
+#[derive(Drop)]
+pub struct LeU32;
+
+impl IntRepr for LeU32 {
+    type Primitive = u32;
+
+    const SIZE: Option<usize> = Some(4);
+
+    ghost SIZE = { Some 4 };
+
+    ghost reads = { number_at 4 };
+
+    ghost written = { little_bytes 4 };
+
+    #[inline]
+    fn read(buf: &mut ParseBuf<'_>) -> Result<u32, Error> {
+        if buf.0.len() < 4 {
+            return Err(Error::EndOfBody);
+        }
+        let number = LittleEndian::read_u32(buf.0);
+        buf.0 = &buf.0[4..];
+        Ok(number)
+    }
+
+    #[inline]
+    fn written_len(_number: u32) -> usize {
+        4
+    }
+
+    #[inline]
+    fn put(number: u32, buf: &mut Vec<u8>) {
+        buf.extend_from_slice(&number.to_le_bytes()).unwrap();
+    }
+}
+
+/// A number of seven bytes, least byte first. Of a number from 2^56 on, the low seven bytes are written.
+#[derive(Drop)]
+pub struct LeU56;
+
+impl IntRepr for LeU56 {
+    type Primitive = u64;
+
+    const SIZE: Option<usize> = Some(7);
+
+    ghost SIZE = { Some 7 };
+
+    ghost reads = { number_at 7 };
+
+    ghost written = { little_bytes 7 };
+
+    #[inline]
+    fn read(buf: &mut ParseBuf<'_>) -> Result<u64, Error> {
+        if buf.0.len() < 7 {
+            return Err(Error::EndOfBody);
+        }
+        let number = LittleEndian::read_uint(buf.0, 7);
+        buf.0 = &buf.0[7..];
+        Ok(number)
+    }
+
+    #[inline]
+    fn written_len(_number: u64) -> usize {
+        7
+    }
+
+    #[inline]
+    fn put(number: u64, buf: &mut Vec<u8>) {
+        buf.extend_from_slice(&number.to_le_bytes()[..7]).unwrap();
+    }
+}
+
+/// A number of eight bytes, least byte first.
+#[derive(Drop)]
+pub struct LeU64;
+
+impl IntRepr for LeU64 {
+    type Primitive = u64;
+
+    const SIZE: Option<usize> = Some(8);
+
+    ghost SIZE = { Some 8 };
+
+    ghost reads = { number_at 8 };
+
+    ghost written = { little_bytes 8 };
+
+    #[inline]
+    fn read(buf: &mut ParseBuf<'_>) -> Result<u64, Error> {
+        if buf.0.len() < 8 {
+            return Err(Error::EndOfBody);
+        }
+        let number = LittleEndian::read_u64(buf.0);
+        buf.0 = &buf.0[8..];
+        Ok(number)
+    }
+
+    #[inline]
+    fn written_len(_number: u64) -> usize {
+        8
+    }
+
+    #[inline]
+    fn put(number: u64, buf: &mut Vec<u8>) {
+        buf.extend_from_slice(&number.to_le_bytes()).unwrap();
+    }
+}
+
+/// A number, in the bytes that its kind `K` says: `u8`, `i8`, [`LeU16`], [`LeU32`], [`LeU56`] or [`LeU64`].
+#[derive(Drop)]
+#[derive_where(Clone, Debug, PartialEq, Eq, Hash; K::Primitive)]
+pub struct RawInt<K: IntRepr>(pub K::Primitive, #[derive_where(skip)] PhantomData<K>);
+
+impl<K: IntRepr> RawInt<K> {
+    /// The number, under this kind.
+    pub fn new(number: K::Primitive) -> Self
+        ensures { result.0 ≡ number }
+    {
+        RawInt(number, PhantomData)
+    }
+}
+
+/// The number 0.
+impl<K: IntRepr> Default for RawInt<K>
+where
+    K::Primitive: Default,
+{
+    ghost is_default = { λ raw. K.Primitive.is_default raw.0 };
+
+    fn default() -> Self {
+        RawInt::new(K::Primitive::default())
+    }
+}
+
+impl<'de, K: IntRepr> MyDeserialize<'de> for RawInt<K> {
+    const SIZE: Option<usize> = K::SIZE;
+
+    type Ctx = ();
+
+    ghost reads = { λ _ s. read_as (λ number. record { 0 = number; 1 = record {} }) (K.reads s) };
+
+    ghost size = { K.SIZE };
+
+    #[inline]
+    fn deserialize(_alloc: Global, _ctx: (), buf: &mut ParseBuf<'de>) -> Result<Self, Error> {
+        Ok(RawInt::new(K::read(buf)?))
+    }
+}
+
+impl<K: IntRepr> Put for RawInt<K> {
+    ghost bytes = { λ raw. K.written raw.0 };
+
+    #[inline]
+    fn check(&self) -> Result<(), Error> {
+        Ok(())
+    }
+
+    #[inline]
+    fn written_len(&self) -> usize {
+        K::written_len(self.0)
+    }
+
+    #[inline]
+    fn put(&self, buf: &mut Vec<u8>) {
+        K::put(self.0, buf);
+    }
+}
+
+#[cfg(test)]
+mod tests {
+    use super::*;
+    use crate::consts::codes::IntvarEventType;
+    use crate::consts::event_flags::EventFlags;
+    use crate::raw::bytes::{EofBytes, RawBytes};
+    use crate::raw::constant::{Const, RawConst, Skip};
+    use crate::raw::flags::RawFlags;
+    use crate::traits::MySerialize;
+    use std::test::Fail;
+
+    #[test]
+    fn reads_what_it_writes(rt: HostRuntime) -> Result<(), Fail> {
+        let mut buf = Vec::new(rt.alloc());
+        RawInt::<LeU16>::new(0x0102).serialize(rt.alloc(), &mut buf)?;
+        RawInt::<i8>::new(-2).serialize(rt.alloc(), &mut buf)?;
+        RawInt::<LeU56>::new(0x07_0605_0403_0201).serialize(rt.alloc(), &mut buf)?;
+        let want = [2u8, 1, 0xfe, 1, 2, 3, 4, 5, 6, 7];
+        assert_eq!(rt; buf.as_slice(), want.as_slice());
+        let mut input = ParseBuf(&want);
+        assert_eq!(rt; input.parse::<RawInt<LeU16>>(rt.alloc(), ())?.0, 0x0102);
+        assert_eq!(rt; input.parse::<RawInt<i8>>(rt.alloc(), ())?.0, -2);
+        assert_eq!(rt;
+            input.parse::<RawInt<LeU56>>(rt.alloc(), ())?.0,
+            0x07_0605_0403_0201
+        );
+        assert!(rt; input.parse::<RawInt<u8>>(rt.alloc(), ()).is_err());
+        assert_eq!(rt; RawInt::<LeU64>::default().0, 0);
+        Ok(())
+    }
+
+    #[test]
+    fn states_its_size(rt: HostRuntime) {
+        assert_eq!(rt; RawInt::<u8>::SIZE, Some(1));
+        assert_eq!(rt; RawInt::<i8>::SIZE, Some(1));
+        assert_eq!(rt; RawInt::<LeU16>::SIZE, Some(2));
+        assert_eq!(rt; RawInt::<LeU32>::SIZE, Some(4));
+        assert_eq!(rt; RawInt::<LeU56>::SIZE, Some(7));
+        assert_eq!(rt; RawInt::<LeU64>::SIZE, Some(8));
+        assert_eq!(rt; Const::<IntvarEventType, u8>::SIZE, Some(1));
+        assert_eq!(rt; RawConst::<LeU16, IntvarEventType>::SIZE, Some(2));
+        assert_eq!(rt; RawFlags::<EventFlags, LeU16>::SIZE, Some(2));
+        assert_eq!(rt; Skip::<3>::SIZE, Some(3));
+        assert_eq!(rt; RawBytes::<'static, EofBytes>::SIZE, None);
+        assert_eq!(rt; ParseBuf::<'static>::SIZE, None);
+    }
+}
