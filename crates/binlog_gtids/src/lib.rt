@@ -7,6 +7,7 @@ mod anonymous_gtid_event;
 mod clock;
 mod gtid_event;
 mod gtid_flags;
+pub mod laws;
 
 pub use anonymous_gtid_event::AnonymousGtidEvent;
 pub use gtid_event::GtidEvent;
