@@ -176,3 +176,33 @@ fn each_call_once(rt: HostRuntime) -> Result<(), Fail> {
     assert!(rt; again.clone(alloc)?.into_owned(alloc)? == anonymous);
     Ok(())
 }
+
+// Where one allocation is refused (tests/refused_memory.py), the answer to the call that asked for it is want of memory, and
+// what stood there before stays; every other answer is as ever.
+#[test]
+fn refused_memory_changes_nothing(rt: HostRuntime) -> Result<(), Fail> {
+    let alloc = rt.alloc();
+    let mut bytes = Vec::new(alloc);
+    let event = GtidEvent::new([0; 16], 1);
+    match event.serialize(alloc, &mut bytes) {
+        Ok(()) => assert_eq!(rt; bytes.len(), 54),
+        Err(error) => {
+            assert_eq!(rt; error, Error::Memory);
+            assert!(rt; bytes.is_empty());
+        }
+    }
+    Ok(())
+}
+
+// It asks for no memory at all.
+#[test]
+fn reading_takes_no_memory(rt: HostRuntime) -> Result<(), Fail> {
+    let alloc = rt.alloc();
+    let fde = FormatDescriptionEvent::new(BinlogVersion::Version4);
+    let event: GtidEvent = read(alloc, &fde, 33, HEAD)?;
+    let copy = event.clone(alloc)?.into_owned(alloc)?;
+    assert!(rt; copy == event);
+    let anonymous: AnonymousGtidEvent = read(alloc, &fde, 34, HEAD)?;
+    assert!(rt; anonymous.0 == event);
+    Ok(())
+}

@@ -133,3 +133,33 @@ fn intervals_are_spelled(rt: HostRuntime) -> Result<(), Fail> {
     assert!(rt; GnoInterval::deserialize(rt.alloc(), (), &mut ParseBuf(&[0; 15])).is_err());
     Ok(())
 }
+
+// Where one allocation is refused (tests/refused_memory.py), the answer to the call that asked for it is want of memory, and
+// what stood there before stays; every other answer is as ever.
+#[test]
+fn refused_memory_changes_nothing(rt: HostRuntime) -> Result<(), Fail> {
+    let mut buf = Vec::new(rt.alloc());
+    match write_varlen_uint(&mut buf, 128) {
+        Ok(()) => assert_eq!(rt; buf.as_slice(), [1u8, 2].as_slice()),
+        Err(error) => {
+            assert_eq!(rt; error, Error::Memory);
+            assert!(rt; buf.is_empty());
+        }
+    }
+    let mut buf = Vec::new(rt.alloc());
+    match write_varlen_int(&mut buf, -1) {
+        Ok(()) => assert_eq!(rt; buf.as_slice(), [2u8].as_slice()),
+        Err(error) => {
+            assert_eq!(rt; error, Error::Memory);
+            assert!(rt; buf.is_empty());
+        }
+    }
+    match Tag::new(CowStr::Borrowed("a"))?.into_owned(rt.alloc()) {
+        Ok(owned) => match owned.clone(rt.alloc()) {
+            Ok(copy) => assert!(rt; copy == owned),
+            Err(error) => assert_eq!(rt; error, Error::Memory),
+        },
+        Err(error) => assert_eq!(rt; error, Error::Memory),
+    }
+    Ok(())
+}
