@@ -7,6 +7,9 @@ use binlog_wire::{BinlogVersion, Error, EventType, Field, Invalid, MySerialize};
 use std::alloc::Global;
 use std::test::Fail;
 
+/// The same without its last byte.
+const SHORT_HEAD: &[u8] = b"\0\0\0\0\0\0\0\0\0\0\0\0\0\0\0\0\0\x01\0\0\0\0\0\0";
+
 /// Flags 0, a source of zeros, and the number 1.
 const HEAD: &[u8] = b"\0\0\0\0\0\0\0\0\0\0\0\0\0\0\0\0\0\x01\0\0\0\0\0\0\0";
 
@@ -25,9 +28,9 @@ fn read<'a, T: BinlogEvent<'a> + Drop>(
     )
 }
 
-// Writes a value behind one byte, and gives all bytes.
+// Writes a value, and gives its bytes.
 fn written<T: MySerialize>(alloc: Global, value: &T) -> Result<Vec<u8>, Error> {
-    let mut bytes = Vec::from_slice(alloc, b"x")?;
+    let mut bytes = Vec::new(alloc);
     value.serialize(alloc, &mut bytes)?;
     Ok(bytes)
 }
@@ -49,11 +52,11 @@ fn new_gtid_is_written_whole(rt: HostRuntime) -> Result<(), Fail> {
     let tail = [
         2u8, 0, 0, 0, 0, 0, 0, 0, 0, 0, 0, 0, 0, 0, 0, 0, 0, 0, 0, 0, 0, 0, 0, 0, 0, 0, 0, 0, 0,
     ];
-    let want = joined(alloc, &[b"x", HEAD, tail.as_slice()])?;
+    let want = joined(alloc, &[HEAD, tail.as_slice()])?;
     assert_eq!(rt; written(alloc, &event)?.as_slice(), want.as_slice());
     assert!(rt; event.event_type() == EventType::GTID_EVENT);
     let fde = FormatDescriptionEvent::new(BinlogVersion::Version4);
-    let again: GtidEvent = read(alloc, &fde, 33, &want.as_slice()[1..])?;
+    let again: GtidEvent = read(alloc, &fde, 33, want.as_slice())?;
     assert!(rt; again == event);
     Ok(())
 }
@@ -69,13 +72,13 @@ fn gtid_without_a_clock(rt: HostRuntime) -> Result<(), Fail> {
         assert_eq!(rt; event.immediate_server_version(), 999_999);
         assert_eq!(rt; event.original_server_version(), 999_999);
         assert_eq!(rt; event.len(BinlogVersion::Version4), 25);
-        let want = joined(alloc, &[b"x", HEAD])?;
+        let want = joined(alloc, &[HEAD])?;
         assert_eq!(rt; written(alloc, &event)?.as_slice(), want.as_slice());
     }
     let longer = joined(alloc, &[HEAD, b"\x01"])?;
     let refused: Result<GtidEvent, Error> = read(alloc, &fde, 33, longer.as_slice());
     assert!(rt; refused.err() == Some(Error::RemainingBytes(1)));
-    let refused: Result<GtidEvent, Error> = read(alloc, &fde, 33, &HEAD[1..]);
+    let refused: Result<GtidEvent, Error> = read(alloc, &fde, 33, SHORT_HEAD);
     assert!(rt; refused.err() == Some(Error::EndOfBody));
     Ok(())
 }
@@ -101,7 +104,7 @@ fn parts_are_there_by_the_bytes_left(rt: HostRuntime) -> Result<(), Fail> {
     let body = joined(alloc, &[HEAD, clock, b"\xfb"])?;
     let refused: Result<GtidEvent, Error> = read(alloc, &fde, 33, body.as_slice());
     assert!(rt; refused.err() == Some(Error::InvalidData(Invalid::LenEnc(0xfb))));
-    let body = joined(alloc, &[HEAD, &clock[..16]])?;
+    let body = joined(alloc, &[HEAD, b"\x02\0\0\0\0\0\0\0\0\0\0\0\0\0\0\0"])?;
     let refused: Result<GtidEvent, Error> = read(alloc, &fde, 33, body.as_slice());
     assert!(rt; refused.err() == Some(Error::EndOfBody));
     Ok(())
@@ -125,9 +128,11 @@ fn times_that_do_not_fit(rt: HostRuntime) -> Result<(), Fail> {
         .with_immediate_commit_timestamp((1 << 55) - 1)
         .with_original_commit_timestamp((1 << 56) - 1);
     let bytes = written(alloc, &event)?;
-    assert_eq!(rt; &bytes.as_slice()[43..57], [0xff; 14].as_slice());
+    let clock = b"\x02\0\0\0\0\0\0\0\0\0\0\0\0\0\0\0\0";
+    let want = joined(alloc, &[HEAD, clock, &[0xff; 14], &[0; 5]])?;
+    assert_eq!(rt; bytes.as_slice(), want.as_slice());
     let fde = FormatDescriptionEvent::new(BinlogVersion::Version4);
-    let again: GtidEvent = read(alloc, &fde, 33, &bytes.as_slice()[1..])?;
+    let again: GtidEvent = read(alloc, &fde, 33, bytes.as_slice())?;
     assert!(rt; again == event);
     Ok(())
 }
@@ -171,8 +176,8 @@ fn each_call_once(rt: HostRuntime) -> Result<(), Fail> {
     let fde = FormatDescriptionEvent::new(BinlogVersion::Version4);
     let anonymous = AnonymousGtidEvent(owned);
     let bytes = written(alloc, &anonymous)?;
-    assert_eq!(rt; anonymous.len(BinlogVersion::Version4) + 1, bytes.len());
-    let again: AnonymousGtidEvent = read(alloc, &fde, 34, &bytes.as_slice()[1..])?;
+    assert_eq!(rt; anonymous.len(BinlogVersion::Version4), bytes.len());
+    let again: AnonymousGtidEvent = read(alloc, &fde, 34, bytes.as_slice())?;
     assert!(rt; again.clone(alloc)?.into_owned(alloc)? == anonymous);
     Ok(())
 }
