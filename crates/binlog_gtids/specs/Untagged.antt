@@ -1,0 +1,195 @@
+-- GTIDs without a tag, types 33 and 34. A head: flags, 1 byte; the source's id, 16; the number of the transaction, 8, in one
+-- unit. If the next byte is the clock code 2: that byte, and the clock. Nothing else may follow.
+-- Source: MySQL's source documentation, `Gtid_event` and `Gtid_log_event`.
+use Rattle.std.proofs.Common.{◌≡◌, ℕ, ◌+◌, ◌^◌, ◌<◌, Bool, true, false, cond, eqb, Option, None, Some, List, [], ◌∷◌, length, ◌++◌, Result, Ok, refl, ap, subst, sym, ◌∙◌, append_assoc, arith}
+use Rattle.binlog_wire.specs.declared.error.Invalid.{Invalid}
+use Rattle.binlog_wire.specs.Formats.{Format, anywhere, last, number, block, unit, if_left, nowhere, seen_as, ◌⨾◌}
+use Rattle.std.proofs.lemmas.List.{length-append}
+use Rattle.binlog_wire.specs.Fields.{little_bytes}
+use Rattle.binlog_wire.specs.Laws.Numbers.{length-little_bytes}
+use Rattle.binlog_numbers.specs.LenEnc.{lenenc, lenenc_written}
+use Rattle.binlog_numbers.specs.Chosen.{IsChoice, chosen, choose}
+use Rattle.binlog_numbers.specs.Announced.{announced, announced_written, behind, behind_written}
+use Rattle.binlog_gtids.specs.declared.gtid_event.GtidEvent.{GtidEvent}
+use Rattle.binlog_gtids.specs.declared.anonymous_gtid_event.AnonymousGtidEvent.{AnonymousGtidEvent}
+
+-- flags, source, number
+abbrev pub Head : Type 0
+Head = ℕ × (List ℕ × ℕ)
+
+abbrev pub head : Format anywhere Head
+head = unit (number 1 ⨾ block 16 ⨾ number 8)
+
+-- the times of the commit on the immediate and on the original server, which follows where bit 55 of the first is set
+abbrev pub times : Format anywhere (ℕ × ℕ)
+times = announced 7 36028797018963968 refl
+
+-- the versions of these servers; the second follows where bit 31 of the first is set
+abbrev pub versions : Format last (ℕ × ℕ)
+versions = announced 4 2147483648 refl
+
+-- last_committed and sequence_number; times; length; versions
+abbrev pub Clock : Type 0
+Clock = (ℕ × ℕ) × ((ℕ × ℕ) × (ℕ × (ℕ × ℕ)))
+
+-- The logical clock, in one unit; then three parts, each of which is there exactly where its least bytes are left: 7 bytes
+-- for the times, 1 for the length, 4 for the versions.
+abbrev pub times_if_left : Format anywhere (ℕ × ℕ)
+times_if_left = if_left (0, 0) times refl
+
+abbrev pub length_if_left : Format anywhere ℕ
+length_if_left = if_left 0 lenenc refl
+
+abbrev pub versions_if_left : Format last (ℕ × ℕ)
+versions_if_left = if_left (999999, 999999) versions refl
+
+abbrev pub logical_times : Format anywhere (ℕ × ℕ)
+logical_times = unit (number 8 ⨾ number 8)
+
+abbrev pub clock : Format last Clock
+clock = logical_times ⨾ times_if_left ⨾ length_if_left ⨾ versions_if_left
+
+-- the fields of an event
+abbrev pub clock_of : GtidEvent → Clock
+clock_of g = (
+  (g.last_committed, g.sequence_number),
+  ((g.immediate_commit_timestamp, g.original_commit_timestamp), (g.tx_length, (g.immediate_server_version, g.original_server_version))),
+)
+
+abbrev pub clock_if : Bool → Clock → Option Clock
+clock_if true c = Some c
+clock_if false c = None
+
+abbrev pub fields_of : GtidEvent → Head × Option Clock
+fields_of g = ((g.flags, (g.sid, g.gno)), clock_if g.has_clock (clock_of g))
+
+-- the event of these fields; without a clock both versions are unknown, and everything else is 0
+abbrev pub untagged_with : Head → Option Clock → GtidEvent
+untagged_with h (Some c) = record {
+  flags = h.0;
+  sid = h.1.0;
+  gno = h.1.1;
+  has_clock = true;
+  last_committed = c.0.0;
+  sequence_number = c.0.1;
+  immediate_commit_timestamp = c.1.0.0;
+  original_commit_timestamp = c.1.0.1;
+  tx_length = c.1.1.0;
+  immediate_server_version = c.1.1.1.0;
+  original_server_version = c.1.1.1.1;
+}
+untagged_with h None = record {
+  flags = h.0;
+  sid = h.1.0;
+  gno = h.1.1;
+  has_clock = false;
+  last_committed = 0;
+  sequence_number = 0;
+  immediate_commit_timestamp = 0;
+  original_commit_timestamp = 0;
+  tx_length = 0;
+  immediate_server_version = 999999;
+  original_server_version = 999999;
+}
+
+abbrev pub without_clock : Head → GtidEvent
+without_clock h = untagged_with h None
+
+abbrev pub with_clock : GtidEvent → Clock → GtidEvent
+with_clock g c = untagged_with (g.flags, (g.sid, g.gno)) (Some c)
+
+abbrev pub untagged_of : Head × Option Clock → Result GtidEvent Invalid
+untagged_of x = Ok (untagged_with x.0 x.1)
+
+-- what is kept of a GTID by writing it
+abbrev pub untagged_normal : GtidEvent → GtidEvent
+untagged_normal g = untagged_with (g.flags, (g.sid, g.gno)) (clock_if g.has_clock (clock_of g))
+
+abbrev pub FitsUntagged : GtidEvent → Type 0
+FitsUntagged g = (head ⨾ behind 2 clock).Fits (fields_of g)
+
+fields_again : (h : Head) (c : Option Clock) → fields_of (untagged_with h c) ≡ (h, c)
+fields_again h (Some c) = refl
+fields_again h None = refl
+
+shows_by : (g : GtidEvent) (b : Bool) → untagged_with (g.flags, (g.sid, g.gno)) ((behind 2 clock).normal (clock_if b (clock_of g))) ≡ untagged_with (g.flags, (g.sid, g.gno)) (clock_if b (clock_of g))
+shows_by g true = refl
+shows_by g false = refl
+
+twice_by : (g : GtidEvent) (b : Bool) → untagged_normal (untagged_with (g.flags, (g.sid, g.gno)) (clock_if b (clock_of g))) ≡ untagged_with (g.flags, (g.sid, g.gno)) (clock_if b (clock_of g))
+twice_by g true = refl
+twice_by g false = refl
+
+pub untagged_choice : IsChoice (head ⨾ behind 2 clock) untagged_of fields_of untagged_normal FitsUntagged
+untagged_choice = record {
+  fits = λ g fits. fits;
+  shows = λ g fits. ap (λ (v : GtidEvent). Ok v) (shows_by g g.has_clock);
+  settled = λ s a r g h d.
+      let e : untagged_with a.0 a.1 ≡ g = cc in
+      ap untagged_normal (sym e) ∙ ap (λ (x : Head × Option Clock). untagged_with x.0 x.1) (fields_again a.0 a.1) ∙ e;
+  twice = λ g. twice_by g g.has_clock;
+  again = λ g fits. ap (head ⨾ behind 2 clock).written (fields_again (g.flags, (g.sid, g.gno)) (clock_if g.has_clock (clock_of g)));
+}
+
+abbrev pub untagged : Format last GtidEvent
+untagged = chosen untagged_of fields_of untagged_normal FitsUntagged (head ⨾ behind 2 clock) untagged_choice
+
+-- ---- how long what is written is
+
+pub clock_length : (c : Clock) → length (clock.written c)
+    ≡ 16 + length (announced_written 7 36028797018963968 c.1.0) + length (lenenc_written c.1.1.0) + length (announced_written 4 2147483648 c.1.1.1)
+clock_length c =
+    let a : List ℕ = little_bytes 8 c.0.0 in
+    let b : List ℕ = little_bytes 8 c.0.1 in
+    let x : List ℕ = announced_written 7 36028797018963968 c.1.0 in
+    let y : List ℕ = lenenc_written c.1.1.0 in
+    let z : List ℕ = announced_written 4 2147483648 c.1.1.1 in
+    omega (arith, length-append (a ++ b) (x ++ (y ++ z)), length-append a b, length-append x (y ++ z), length-append y z, length-little_bytes 8 c.0.0, length-little_bytes 8 c.0.1)
+
+abbrev pub written_by : GtidEvent → Bool → List ℕ
+written_by g b = head.written (g.flags, (g.sid, g.gno)) ++ behind_written 2 clock.written (clock_if b (clock_of g))
+
+pub head_length : (g : GtidEvent) → length g.sid ≡ 16 → length (head.written (g.flags, (g.sid, g.gno))) ≡ 25
+head_length g sid =
+    omega (arith, length-append (little_bytes 1 g.flags) (g.sid ++ little_bytes 8 g.gno), length-append g.sid (little_bytes 8 g.gno), length-little_bytes 1 g.flags, length-little_bytes 8 g.gno, sid)
+
+length_by : (g : GtidEvent) (b : Bool) → length g.sid ≡ 16 → length (written_by g b) ≡ cond b (26 + length (clock.written (clock_of g))) 25
+length_by g true sid =
+    omega (arith, head_length g sid, length-append (head.written (g.flags, (g.sid, g.gno))) (2 ∷ clock.written (clock_of g)))
+length_by g false sid =
+    omega (arith, head_length g sid, length-append (head.written (g.flags, (g.sid, g.gno))) [])
+
+-- with a clock, where b is true, or without one
+pub untagged_length : (g : GtidEvent) (b : Bool) → g.has_clock ≡ b → length g.sid ≡ 16 → length (untagged.written g) ≡ cond b (26 + length (clock.written (clock_of g))) 25
+untagged_length g b e sid = subst (λ (x : Bool). length (written_by g g.has_clock) ≡ cond x (26 + length (clock.written (clock_of g))) 25) e (length_by g g.has_clock sid)
+
+-- what is put one after the other
+pub put_four : (s a x y z p q r t : List ℕ) → p ≡ s ++ a → q ≡ p ++ x → r ≡ q ++ y → t ≡ r ++ z → t ≡ s ++ (a ++ (x ++ (y ++ z)))
+put_four s a x y z p q r t e f g h =
+    rw (h, g, f, e) (append_assoc ((s ++ a) ++ x) y z ∙ append_assoc (s ++ a) x (y ++ z) ∙ append_assoc s a (x ++ (y ++ z)))
+
+pub put_marked : (s h k p q r : List ℕ) (mark : ℕ) → p ≡ s ++ h → q ≡ p ++ mark ∷ [] → r ≡ q ++ k → r ≡ s ++ (h ++ mark ∷ k)
+put_marked s h k p q r mark e f g = rw (g, f, e) (append_assoc (s ++ h) (mark ∷ []) k ∙ append_assoc s h (mark ∷ k))
+
+pub untagged_bytes : (g : GtidEvent) (b : Bool) → g.has_clock ≡ b → untagged.written g ≡ written_by g b
+untagged_bytes g b e = ap (written_by g) e
+
+-- a GTID stands under the types 33 and 34, and under no other
+abbrev pub is_untagged_type : ℕ → Bool
+is_untagged_type raw = cond (eqb raw 33) true (eqb raw 34)
+
+abbrev pub gtid : ℕ → Format last GtidEvent
+gtid raw = choose (is_untagged_type raw) untagged (nowhere raw)
+
+pub gtid_untagged : (raw : ℕ) → is_untagged_type raw ≡ true → (gtid raw).reads ≡ untagged.reads
+gtid_untagged raw e = ap (λ (b : Bool). (choose {place = last} b untagged (nowhere raw)).reads) e
+
+-- the same body, as an anonymous event
+abbrev pub anonymous_of : GtidEvent → AnonymousGtidEvent
+anonymous_of g = record { 0 = g }
+
+abbrev pub gtid_of : AnonymousGtidEvent → GtidEvent
+gtid_of a = a.0
+
+abbrev pub anonymous : ℕ → Format last AnonymousGtidEvent
+anonymous raw = seen_as anonymous_of gtid_of (λ _. refl) (λ _. refl) (gtid raw)

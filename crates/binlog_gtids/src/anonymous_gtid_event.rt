@@ -1,0 +1,79 @@
+//! The event before a transaction that has no GTID.
+ghost use Rattle.std.specs.Prelude.{◌≡◌, refl, IfOk, IsOkUnless};
+ghost use Rattle.binlog_wire.specs.declared.error.Error.TheVariants.{Memory};
+ghost use Rattle.binlog_gtids.specs.Untagged.{anonymous};
+ghost use Rattle.binlog_gtids.specs.Writable.{unwritable};
+
+use crate::gtid_event::GtidEvent;
+use binlog_bodies::{BinlogCtx, BinlogEvent};
+use binlog_wire::{Error, EventType, MyDeserialize, ParseBuf, Put};
+use std::alloc::Global;
+
+/// The transaction behind this event has no GTID. Its body is that of a [`GtidEvent`] without a tag.
+#[derive(Debug, PartialEq, Eq, Hash, Drop)]
+pub struct AnonymousGtidEvent(pub GtidEvent);
+
+impl AnonymousGtidEvent {
+    /// The same event once more.
+    pub fn clone(&self, alloc: Global) -> Result<Self, Error>
+        ensures ok { IfOk result (λ copy. copy ≡ self.now) }
+        ensures memory { IsOkUnless result Memory }
+    {
+        Ok(AnonymousGtidEvent(self.0.clone(alloc)?))
+    }
+
+    /// The same event; it lends nothing.
+    pub fn into_owned(self, alloc: Global) -> Result<AnonymousGtidEvent, Error>
+        ensures ok { IfOk result (λ owned. owned ≡ self) }
+        ensures memory { IsOkUnless result Memory }
+    {
+        Ok(AnonymousGtidEvent(self.0.into_owned(alloc)?))
+    }
+}
+
+/// As a [`GtidEvent`] under the same raw type.
+impl<'de> MyDeserialize<'de> for AnonymousGtidEvent {
+    const SIZE: Option<usize> = None;
+
+    type Ctx = BinlogCtx<'de>;
+
+    ghost reads = { λ ctx. (anonymous ctx.event_type_raw).reads };
+
+    fn deserialize(
+        alloc: Global,
+        ctx: BinlogCtx<'de>,
+        buf: &mut ParseBuf<'de>,
+    ) -> Result<Self, Error> {
+        Ok(AnonymousGtidEvent(GtidEvent::deserialize(alloc, ctx, buf)?))
+    }
+}
+
+impl Put for AnonymousGtidEvent {
+    ghost bytes = { (anonymous 34).written };
+
+    ghost refusal = { λ event. unwritable event.0 };
+
+    fn check(&self) -> Result<(), Error> {
+        self.0.check()
+    }
+
+    fn written_len(&self) -> usize {
+        self.0.written_len()
+    }
+
+    fn put(&self, buf: &mut Vec<u8>) {
+        self.0.put(buf);
+    }
+}
+
+impl<'a> BinlogEvent<'a> for AnonymousGtidEvent {
+    const EVENT_TYPE: EventType = EventType::ANONYMOUS_GTID_EVENT;
+
+    ghost format = { λ _ raw. anonymous raw };
+
+    ghost raw_type = { λ _. 34 };
+
+    ghost reading = { λ _. refl };
+
+    ghost writing = { λ _ _ _. refl };
+}

@@ -1,0 +1,510 @@
+//! The event that names the transaction behind it.
+ghost use Rattle.std.specs.Prelude.{◌≡◌, ◌++◌, ◌+◌, ◌<◌, ◌≤◌, ℕ, Option, None, Some, Bool, true, false, if◌then◌else◌, length, replicate, refl, bit_and, IfOk, IsOkUnless, vec_len, vec_capacity};
+ghost use Rattle.bitflags.specs.Sets.{known_bits};
+ghost use Rattle.binlog_wire.specs.Reading.{Gives, read_as};
+ghost use Rattle.binlog_wire.specs.declared.error.Error.TheVariants.{Memory};
+ghost use Rattle.binlog_wire.specs.declared.consts.event_type.EventType.TheVariants.{GTID_EVENT};
+ghost use Rattle.binlog_wire.specs.Fields.{block_at};
+ghost use Rattle.binlog_gtids.specs.Flags.{gtid_flags};
+ghost use Rattle.binlog_gtids.specs.Untagged.{gtid, untagged, head, clock, clock_of, with_clock, without_clock, is_untagged_type};
+ghost use Rattle.binlog_gtids.specs.Writable.{unwritable};
+
+use crate::clock::{
+    UNDEFINED_VERSION, put_logical_times, put_times, put_versions, read_length, read_logical_times,
+    read_times, read_versions, times_len, versions_len,
+};
+use crate::gtid_flags::GtidFlags;
+use binlog_bodies::{BinlogCtx, BinlogEvent};
+use binlog_numbers::LenEnc;
+use binlog_wire::{
+    Error, EventType, Field, IntRepr, LeU64, MyDeserialize, ParseBuf, Put, RawFlags,
+};
+use bitflags::Flags;
+use std::alloc::Global;
+
+/// How many bytes stand before the clock code.
+const HEAD_LEN: usize = 25;
+
+/// The transaction behind this event has this GTID: the id of the source and the number within it.
+///
+/// A GTID without a tag, as servers before 8.3 write them. Its body is flags, 1 byte; the source's id, 16; the number, 8.
+/// If the clock code 2 follows: `last_committed` and `sequence_number`, 8 bytes each, and then, as far as the body goes, the
+/// times of the commit on the immediate and the original server, the length of the transaction, and the versions of these
+/// servers. An original that is equal to the immediate isn't written. See `Gtid_event` in MySQL's source documentation.
+#[derive(Debug, PartialEq, Eq, Hash, Drop)]
+pub struct GtidEvent {
+    flags: u8,
+    sid: [u8; 16],
+    gno: u64,
+    has_clock: bool,
+    last_committed: u64,
+    sequence_number: u64,
+    immediate_commit_timestamp: u64,
+    original_commit_timestamp: u64,
+    tx_length: u64,
+    immediate_server_version: u32,
+    original_server_version: u32,
+}
+
+impl GtidEvent {
+    /// The stated length of the post-header.
+    pub const POST_HEADER_LENGTH: usize = 42;
+    /// How many bytes a source's id takes.
+    pub const ENCODED_SID_LENGTH: usize = 16;
+    /// The clock code.
+    pub const LOGICAL_TIMESTAMP_TYPECODE: u8 = 2;
+    /// How many bytes an immediate commit time takes.
+    pub const IMMEDIATE_COMMIT_TIMESTAMP_LENGTH: usize = 7;
+    /// How many bytes an original commit time takes.
+    pub const ORIGINAL_COMMIT_TIMESTAMP_LENGTH: usize = 7;
+    /// The version of a server that doesn't say one.
+    pub const UNDEFINED_SERVER_VERSION: u32 = 999_999;
+    /// How many bytes an immediate version takes.
+    pub const IMMEDIATE_SERVER_VERSION_LENGTH: usize = 4;
+
+    /// The GTID of this source and number, with a clock code and everything else 0.
+    pub fn new(sid: [u8; 16], gno: u64) -> Self
+        ensures { result ≡ record {
+          flags = 0;
+          sid = sid;
+          gno = gno;
+          has_clock = true;
+          last_committed = 0;
+          sequence_number = 0;
+          immediate_commit_timestamp = 0;
+          original_commit_timestamp = 0;
+          tx_length = 0;
+          immediate_server_version = 0;
+          original_server_version = 0;
+        } }
+    {
+        GtidEvent {
+            flags: 0,
+            sid,
+            gno,
+            has_clock: true,
+            last_committed: 0,
+            sequence_number: 0,
+            immediate_commit_timestamp: 0,
+            original_commit_timestamp: 0,
+            tx_length: 0,
+            immediate_server_version: 0,
+            original_server_version: 0,
+        }
+    }
+
+    /// The type under which the event is written: [`EventType::GTID_EVENT`].
+    pub fn event_type(&self) -> EventType
+        ensures { result ≡ GTID_EVENT }
+    {
+        EventType::GTID_EVENT
+    }
+
+    /// The event with these flags.
+    pub fn with_flags(mut self, flags: GtidFlags) -> Self
+        ensures { result ≡ record self { flags = flags.0 } }
+    {
+        self.flags = flags.bits();
+        self
+    }
+
+    /// The known flags.
+    pub fn flags(&self) -> GtidFlags
+        ensures { result.0 ≡ bit_and self.now.flags (known_bits gtid_flags) }
+    {
+        RawFlags::<GtidFlags, u8>::new(self.flags).get()
+    }
+
+    /// The flags, known or not.
+    pub fn flags_raw(&self) -> u8
+        ensures { result ≡ self.now.flags }
+    {
+        self.flags
+    }
+
+    /// The clock code 2, where there is one.
+    pub fn lc_typecode(&self) -> Option<u8>
+        ensures { result ≡ (if self.now.has_clock then Some 2 else None) }
+    {
+        if self.has_clock {
+            Some(Self::LOGICAL_TIMESTAMP_TYPECODE)
+        } else {
+            None
+        }
+    }
+
+    /// The event with a clock code.
+    pub fn with_lc_typecode(mut self) -> Self
+        ensures { result ≡ record self { has_clock = true } }
+    {
+        self.has_clock = true;
+        self
+    }
+
+    /// The event with this source's id.
+    pub fn with_sid(mut self, sid: [u8; 16]) -> Self
+        ensures { result ≡ record self { sid = sid } }
+    {
+        self.sid = sid;
+        self
+    }
+
+    /// The source's id, its UUID as 16 bytes.
+    pub fn sid(&self) -> [u8; 16]
+        ensures { result ≡ self.now.sid }
+    {
+        self.sid
+    }
+
+    /// The event with this number.
+    pub fn with_gno(mut self, gno: u64) -> Self
+        ensures { result ≡ record self { gno = gno } }
+    {
+        self.gno = gno;
+        self
+    }
+
+    /// The number of the transaction within its source.
+    pub fn gno(&self) -> u64
+        ensures { result ≡ self.now.gno }
+    {
+        self.gno
+    }
+
+    /// The event with this `last_committed`.
+    pub fn with_last_committed(mut self, last_committed: u64) -> Self
+        ensures { result ≡ record self { last_committed = last_committed } }
+    {
+        self.last_committed = last_committed;
+        self
+    }
+
+    /// The logical time of the last commit that the transaction depends on.
+    pub fn last_committed(&self) -> u64
+        ensures { result ≡ self.now.last_committed }
+    {
+        self.last_committed
+    }
+
+    /// The event with this `sequence_number`.
+    pub fn with_sequence_number(mut self, sequence_number: u64) -> Self
+        ensures { result ≡ record self { sequence_number = sequence_number } }
+    {
+        self.sequence_number = sequence_number;
+        self
+    }
+
+    /// The logical time of the transaction's own commit.
+    pub fn sequence_number(&self) -> u64
+        ensures { result ≡ self.now.sequence_number }
+    {
+        self.sequence_number
+    }
+
+    /// The event with this immediate commit time.
+    pub fn with_immediate_commit_timestamp(mut self, immediate_commit_timestamp: u64) -> Self
+        ensures { result ≡ record self { immediate_commit_timestamp = immediate_commit_timestamp } }
+    {
+        self.immediate_commit_timestamp = immediate_commit_timestamp;
+        self
+    }
+
+    /// The time of the commit on the immediate server, in microseconds since 1970.
+    pub fn immediate_commit_timestamp(&self) -> u64
+        ensures { result ≡ self.now.immediate_commit_timestamp }
+    {
+        self.immediate_commit_timestamp
+    }
+
+    /// The event with this original commit time.
+    pub fn with_original_commit_timestamp(mut self, original_commit_timestamp: u64) -> Self
+        ensures { result ≡ record self { original_commit_timestamp = original_commit_timestamp } }
+    {
+        self.original_commit_timestamp = original_commit_timestamp;
+        self
+    }
+
+    /// The time of the commit on the original server, in microseconds since 1970.
+    pub fn original_commit_timestamp(&self) -> u64
+        ensures { result ≡ self.now.original_commit_timestamp }
+    {
+        self.original_commit_timestamp
+    }
+
+    /// The event with this length.
+    pub fn with_tx_length(mut self, tx_length: u64) -> Self
+        ensures { result ≡ record self { tx_length = tx_length } }
+    {
+        self.tx_length = tx_length;
+        self
+    }
+
+    /// The length of the transaction in bytes.
+    pub fn tx_length(&self) -> u64
+        ensures { result ≡ self.now.tx_length }
+    {
+        self.tx_length
+    }
+
+    /// The event with this original version.
+    pub fn with_original_server_version(mut self, original_server_version: u32) -> Self
+        ensures { result ≡ record self { original_server_version = original_server_version } }
+    {
+        self.original_server_version = original_server_version;
+        self
+    }
+
+    /// The version of the original server, 80036 for 8.0.36.
+    pub fn original_server_version(&self) -> u32
+        ensures { result ≡ self.now.original_server_version }
+    {
+        self.original_server_version
+    }
+
+    /// The event with this immediate version.
+    pub fn with_immediate_server_version(mut self, immediate_server_version: u32) -> Self
+        ensures { result ≡ record self { immediate_server_version = immediate_server_version } }
+    {
+        self.immediate_server_version = immediate_server_version;
+        self
+    }
+
+    /// The version of the immediate server, 80036 for 8.0.36.
+    pub fn immediate_server_version(&self) -> u32
+        ensures { result ≡ self.now.immediate_server_version }
+    {
+        self.immediate_server_version
+    }
+
+    /// The same event once more.
+    pub fn clone(&self, _alloc: Global) -> Result<Self, Error>
+        ensures ok { IfOk result (λ copy. copy ≡ self.now) }
+        ensures memory { IsOkUnless result Memory }
+    {
+        Ok(GtidEvent {
+            flags: self.flags,
+            sid: self.sid,
+            gno: self.gno,
+            has_clock: self.has_clock,
+            last_committed: self.last_committed,
+            sequence_number: self.sequence_number,
+            immediate_commit_timestamp: self.immediate_commit_timestamp,
+            original_commit_timestamp: self.original_commit_timestamp,
+            tx_length: self.tx_length,
+            immediate_server_version: self.immediate_server_version,
+            original_server_version: self.original_server_version,
+        })
+    }
+
+    /// The same event; it lends nothing.
+    pub fn into_owned(self, _alloc: Global) -> Result<GtidEvent, Error>
+        ensures ok { IfOk result (λ owned. owned ≡ self) }
+        ensures memory { IsOkUnless result Memory }
+    {
+        Ok(self)
+    }
+}
+
+/// Takes a source's id off the front of `buf`.
+fn read_sid(buf: &mut ParseBuf<'_>) -> Result<[u8; 16], Error>
+    ensures { Gives ⊥ buf.new result (block_at 16 buf.old) }
+{
+    let (sid, rest) = buf.0.split_first_chunk::<16>().ok_or(Error::EndOfBody)?;
+    buf.0 = rest;
+    Ok(*sid)
+}
+
+/// Takes a GTID without its clock.
+fn read_head(buf: &mut ParseBuf<'_>) -> Result<GtidEvent, Error>
+    ensures { Gives ⊥ buf.new result (read_as without_clock (head.reads buf.old)) }
+{
+    if buf.len() < HEAD_LEN {
+        return Err(Error::EndOfBody);
+    }
+    let flags = u8::read(buf)?;
+    let sid = read_sid(buf)?;
+    let gno = LeU64::read(buf)?;
+    Ok(GtidEvent {
+        flags,
+        sid,
+        gno,
+        has_clock: false,
+        last_committed: 0,
+        sequence_number: 0,
+        immediate_commit_timestamp: 0,
+        original_commit_timestamp: 0,
+        tx_length: 0,
+        immediate_server_version: UNDEFINED_VERSION,
+        original_server_version: UNDEFINED_VERSION,
+    })
+}
+
+/// Takes what stands behind the clock code of this GTID.
+fn read_clock(event: GtidEvent, buf: &mut ParseBuf<'_>) -> Result<GtidEvent, Error>
+    ensures { Gives ⊥ buf.new result (read_as (with_clock event) (clock.reads buf.old)) }
+{
+    let (last_committed, sequence_number) = read_logical_times(buf)?;
+    let (immediate_commit_timestamp, original_commit_timestamp) = read_times(buf)?;
+    let tx_length = read_length(buf)?;
+    let (immediate_server_version, original_server_version) = read_versions(buf)?;
+    let sid = event.sid;
+    Ok(GtidEvent {
+        flags: event.flags,
+        sid,
+        gno: event.gno,
+        has_clock: true,
+        last_committed,
+        sequence_number,
+        immediate_commit_timestamp,
+        original_commit_timestamp,
+        tx_length,
+        immediate_server_version,
+        original_server_version,
+    })
+}
+
+/// Takes a GTID without a tag.
+fn read_untagged(buf: &mut ParseBuf<'_>) -> Result<GtidEvent, Error>
+    ensures { Gives ⊥ buf.new result (untagged.reads buf.old) }
+{
+    let event = read_head(buf)?;
+    match buf.0.split_first() {
+        Some((2, rest)) => {
+            buf.0 = rest;
+            read_clock(event, buf)
+        }
+        _ => Ok(event),
+    }
+}
+
+/// Whether bodies of this raw type are GTIDs without a tag.
+fn is_untagged_type(raw_type: u8) -> bool
+    ensures { result ≡ is_untagged_type raw_type }
+{
+    matches!(raw_type, 33 | 34)
+}
+
+/// [`Error::WrongEventType`] under a raw type other than 33 and 34; [`Error::EndOfBody`] where the bytes end within a
+/// field, and [`Error::InvalidData`] for a length that begins with `fb` or `ff`. No memory is taken.
+impl<'de> MyDeserialize<'de> for GtidEvent {
+    const SIZE: Option<usize> = None;
+
+    type Ctx = BinlogCtx<'de>;
+
+    ghost reads = { λ ctx. (gtid ctx.event_type_raw).reads };
+
+    fn deserialize(
+        _alloc: Global,
+        ctx: BinlogCtx<'de>,
+        buf: &mut ParseBuf<'de>,
+    ) -> Result<Self, Error> {
+        if is_untagged_type(ctx.event_type_raw) {
+            read_untagged(buf)
+        } else {
+            Err(Error::WrongEventType(ctx.event_type_raw))
+        }
+    }
+}
+
+impl GtidEvent {
+    /// Appends flags, source and number, where `buf` has room for them.
+    fn put_head(&self, buf: &mut Vec<u8>)
+        requires { vec_len buf.old + 25 ≤ vec_capacity buf.old }
+        ensures items { buf.new.items ≡ buf.old.items ++ head.written (self.now.flags, (self.now.sid, self.now.gno)) }
+        ensures len { vec_len buf.new ≡ vec_len buf.old + 25 }
+        ensures capacity { vec_capacity buf.old ≤ vec_capacity buf.new }
+    {
+        u8::put(self.flags, buf);
+        buf.extend_from_slice(&self.sid).unwrap();
+        LeU64::put(self.gno, buf);
+    }
+
+    /// How many bytes the clock takes.
+    fn clock_len(&self) -> usize
+        ensures count { result ≡ length (clock.written (clock_of self.now)) }
+        ensures small { result ≤ 47 }
+    {
+        16 + times_len(
+            self.immediate_commit_timestamp,
+            self.original_commit_timestamp,
+        ) + LenEnc::written_len(self.tx_length)
+            + versions_len(self.immediate_server_version, self.original_server_version)
+    }
+
+    /// Appends the clock, which can be written, where `buf` has room for it.
+    fn put_clock(&self, buf: &mut Vec<u8>)
+        requires time { self.now.immediate_commit_timestamp < 36028797018963968 }
+        requires version { self.now.immediate_server_version < 2147483648 }
+        requires room { vec_len buf.old + length (clock.written (clock_of self.now)) ≤ vec_capacity buf.old }
+        ensures items { buf.new.items ≡ buf.old.items ++ clock.written (clock_of self.now) }
+        ensures len { vec_len buf.new ≡ vec_len buf.old + length (clock.written (clock_of self.now)) }
+        ensures capacity { vec_capacity buf.old ≤ vec_capacity buf.new }
+    {
+        put_logical_times(self.last_committed, self.sequence_number, buf);
+        put_times(
+            self.immediate_commit_timestamp,
+            self.original_commit_timestamp,
+            buf,
+        );
+        LenEnc::put(self.tx_length, buf);
+        put_versions(
+            self.immediate_server_version,
+            self.original_server_version,
+            buf,
+        );
+    }
+}
+
+impl Put for GtidEvent {
+    ghost bytes = { untagged.written };
+
+    ghost refusal = { unwritable };
+
+    /// [`Error::Unwritable`], with a clock code only: the first in this order of an immediate time from 2^55, an original
+    /// time that differs from 2^56, an immediate version from 2^31.
+    fn check(&self) -> Result<(), Error> {
+        if !self.has_clock {
+            return Ok(());
+        }
+        if self.immediate_commit_timestamp >= 1 << 55 {
+            return Err(Error::Unwritable(Field::ImmediateCommitTimestamp));
+        }
+        if self.original_commit_timestamp != self.immediate_commit_timestamp
+            && self.original_commit_timestamp >= 1 << 56
+        {
+            return Err(Error::Unwritable(Field::OriginalCommitTimestamp));
+        }
+        if self.immediate_server_version >= 1 << 31 {
+            return Err(Error::Unwritable(Field::ImmediateServerVersion));
+        }
+        Ok(())
+    }
+
+    fn written_len(&self) -> usize {
+        if self.has_clock {
+            HEAD_LEN + 1 + self.clock_len()
+        } else {
+            HEAD_LEN
+        }
+    }
+
+    fn put(&self, buf: &mut Vec<u8>) {
+        self.put_head(buf);
+        if self.has_clock {
+            u8::put(Self::LOGICAL_TIMESTAMP_TYPECODE, buf);
+            self.put_clock(buf);
+        }
+    }
+}
+
+impl<'a> BinlogEvent<'a> for GtidEvent {
+    const EVENT_TYPE: EventType = EventType::GTID_EVENT;
+
+    ghost format = { λ _ raw. gtid raw };
+
+    ghost raw_type = { λ _. 33 };
+
+    ghost reading = { λ _. refl };
+
+    ghost writing = { λ _ _ _. refl };
+}

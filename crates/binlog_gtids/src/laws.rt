@@ -1,0 +1,32 @@
+//! Laws of the definitions, each a function whose contract says it.
+ghost use Rattle.std.specs.Prelude.{◌≡◌, None};
+ghost use Rattle.binlog_gtids.specs.Untagged.{gtid};
+ghost use Rattle.binlog_gtids.specs.Writable.{InRange, unwritable};
+ghost use Rattle.binlog_gtids.specs.declared.gtid_event.GtidEvent.{GtidEvent};
+
+use crate::anonymous_gtid_event::AnonymousGtidEvent;
+use crate::gtid_event::GtidEvent;
+use binlog_bodies::BinlogEvent;
+
+/// A GTID whose fields are in the ranges of their types, and that isn't refused, fits its form: so what is written of it
+/// reads as its normal form.
+pub fn writable_gtids_fit()
+    ensures { (event : GtidEvent) → InRange event → unwritable event ≡ None → (gtid 33).Fits event }
+{}
+
+/// The numbers of the types of events.
+pub fn event_types() {
+    prove!(GtidEvent::EVENT_TYPE as u8 == 33);
+    prove!(AnonymousGtidEvent::EVENT_TYPE as u8 == 34);
+}
+
+/// The constants of GTIDs.
+pub fn constants() {
+    prove!(GtidEvent::POST_HEADER_LENGTH == 42);
+    prove!(GtidEvent::ENCODED_SID_LENGTH == 16);
+    prove!(GtidEvent::LOGICAL_TIMESTAMP_TYPECODE == 2);
+    prove!(GtidEvent::IMMEDIATE_COMMIT_TIMESTAMP_LENGTH == 7);
+    prove!(GtidEvent::ORIGINAL_COMMIT_TIMESTAMP_LENGTH == 7);
+    prove!(GtidEvent::UNDEFINED_SERVER_VERSION == 999_999);
+    prove!(GtidEvent::IMMEDIATE_SERVER_VERSION_LENGTH == 4);
+}

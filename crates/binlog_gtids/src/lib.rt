@@ -1,0 +1,17 @@
+//! The events of a MySQL binary log that say which transaction follows, by its global transaction identifier (GTID).
+//!
+//! Their bodies stand in `specs/`: `Untagged` for GTIDs without a tag, and `Writable` for what can't be written.
+#![tactic(auto)]
+
+mod anonymous_gtid_event;
+mod clock;
+mod gtid_event;
+mod gtid_flags;
+pub mod laws;
+
+pub use anonymous_gtid_event::AnonymousGtidEvent;
+pub use gtid_event::GtidEvent;
+pub use gtid_flags::GtidFlags;
+
+#[cfg(test)]
+mod tests;

@@ -1,0 +1,14 @@
+-- Intervals of transaction numbers: the first number, 8 bytes, and the number behind the last, 8 bytes.
+-- Source: MySQL's source documentation, `Gtid_set::encode`.
+use Rattle.std.specs.Prelude.{ℕ, refl}
+use Rattle.binlog_wire.specs.Formats.{Format, anywhere, number, unit, ◌⨾◌, seen_as}
+use Rattle.binlog_numbers.specs.declared.gno_interval.GnoInterval.{GnoInterval}
+
+abbrev pub ends_of : GnoInterval → ℕ × ℕ
+ends_of i = (i.start, i.end)
+
+abbrev pub interval_of : ℕ × ℕ → GnoInterval
+interval_of fields = record { start = fields.0; end = fields.1 }
+
+abbrev pub gno_interval : Format anywhere GnoInterval
+gno_interval = seen_as interval_of ends_of (λ _. refl) (λ _. refl) (unit (number 8 ⨾ number 8))

@@ -1,0 +1,9 @@
+pub mod Announced
+pub mod Chosen
+pub mod GnoIntervals
+pub mod LenEnc
+pub mod Repeated
+pub mod Signed
+pub mod Tags
+pub mod Varlen
+pub mod VarlenWriting

@@ -1,0 +1,79 @@
+//! Intervals of transaction numbers.
+ghost use Rattle.std.specs.Prelude.{◌≡◌, Some};
+ghost use Rattle.binlog_numbers.specs.GnoIntervals.{gno_interval};
+
+use binlog_wire::{Error, IntRepr, LeU64, MyDeserialize, ParseBuf, Put};
+use std::alloc::Global;
+
+/// How many bytes an interval takes.
+const INTERVAL_LEN: usize = 16;
+
+/// The numbers of one source's transactions from `start` up to, not including, `end`.
+///
+/// In bytes, it is these two numbers of 8 bytes. Nothing is demanded of them: a start above the end, or a 0, is read as
+/// it stands. See `Gtid_set::encode` in MySQL's documentation.
+#[derive(Clone, Copy, Debug, PartialEq, Eq, Hash)]
+pub struct GnoInterval {
+    start: u64,
+    end: u64,
+}
+
+impl GnoInterval {
+    /// The numbers from `start` up to, not including, `end`.
+    pub fn new(start: u64, end: u64) -> Self
+        ensures { result ≡ record { start = start; end = end } }
+    {
+        GnoInterval { start, end }
+    }
+
+    /// The first number.
+    pub fn start(&self) -> u64
+        ensures { result ≡ self.now.start }
+    {
+        self.start
+    }
+
+    /// The number behind the last.
+    pub fn end(&self) -> u64
+        ensures { result ≡ self.now.end }
+    {
+        self.end
+    }
+}
+
+/// [`Error::EndOfBody`] where fewer than 16 bytes are there.
+impl<'de> MyDeserialize<'de> for GnoInterval {
+    const SIZE: Option<usize> = Some(INTERVAL_LEN);
+
+    type Ctx = ();
+
+    ghost reads = { λ _. gno_interval.reads };
+
+    ghost size = { Some 16 };
+
+    fn deserialize(_alloc: Global, _ctx: (), buf: &mut ParseBuf<'de>) -> Result<Self, Error> {
+        if buf.len() < INTERVAL_LEN {
+            return Err(Error::EndOfBody);
+        }
+        let start = LeU64::read(buf)?;
+        let end = LeU64::read(buf)?;
+        Ok(GnoInterval { start, end })
+    }
+}
+
+impl Put for GnoInterval {
+    ghost bytes = { gno_interval.written };
+
+    fn check(&self) -> Result<(), Error> {
+        Ok(())
+    }
+
+    fn written_len(&self) -> usize {
+        INTERVAL_LEN
+    }
+
+    fn put(&self, buf: &mut Vec<u8>) {
+        LeU64::put(self.start, buf);
+        LeU64::put(self.end, buf);
+    }
+}

@@ -1,0 +1,23 @@
+//! The numbers of a MySQL binary log that take as many bytes as they need: length-encoded integers ([`LenEnc`]) and the
+//! variable-length integers of MySQL's serialization library ([`Varlen`]).
+//!
+//! Each has several spellings, all of which are read; the shortest is written. Their grammar, and the laws that tie
+//! reading and writing to it, stand in `specs/`: `LenEnc`, `Varlen`, `VarlenWriting`, `Signed`.
+#![tactic(auto)]
+
+mod gno_interval;
+pub mod laws;
+mod lenenc;
+mod tag;
+mod varlen;
+
+pub use gno_interval::GnoInterval;
+pub use lenenc::{LenEnc, lenenc_int_len};
+pub use tag::Tag;
+pub use varlen::{
+    Varlen, VarlenSigned, read_varlen_int, read_varlen_uint, varlen_uint_size, write_varlen_int,
+    write_varlen_uint,
+};
+
+#[cfg(test)]
+mod tests;

@@ -1,0 +1,165 @@
+//! Spellings with exact bytes, as MySQL's documentation and upstream's tests have them.
+use super::*;
+use binlog_wire::{Error, IntRepr, Invalid, MyDeserialize, MySerialize, ParseBuf, RawInt};
+use std::borrow::CowStr;
+use std::string::String;
+use std::test::Fail;
+
+/// Whether the number is written as these bytes, counted so, and read back with nothing left.
+fn is_spelled(rt: &HostRuntime, number: u64, bytes: &[u8]) -> Result<bool, Fail> {
+    let mut buf = Vec::new(rt.alloc());
+    write_varlen_uint(&mut buf, number)?;
+    let mut input = ParseBuf(bytes);
+    let read = read_varlen_uint(&mut input)?;
+    Ok(
+        buf.as_slice() == bytes
+            && varlen_uint_size(number) == bytes.len()
+            && read == number
+            && input.is_empty(),
+    )
+}
+
+#[test]
+fn variable_length_integers_are_spelled(rt: HostRuntime) -> Result<(), Fail> {
+    assert!(rt; is_spelled(&rt, 0, &[0])?);
+    assert!(rt; is_spelled(&rt, 127, &[0xfe])?);
+    assert!(rt; is_spelled(&rt, 128, &[1, 2])?);
+    assert!(rt; is_spelled(&rt, 16383, &[0xfd, 0xff])?);
+    assert!(rt; is_spelled(&rt, (1 << 56) - 1, b"\x7f\xff\xff\xff\xff\xff\xff\xff")?);
+    assert!(rt; is_spelled(&rt, 1 << 56, b"\xff\0\0\0\0\0\0\0\x01")?);
+    assert!(rt; is_spelled(&rt, u64::MAX, &[0xff; 9])?);
+    Ok(())
+}
+
+#[test]
+fn longer_spellings_are_read(rt: HostRuntime) -> Result<(), Fail> {
+    assert_eq!(rt; read_varlen_uint(&mut ParseBuf(&[1, 0]))?, 0);
+    assert_eq!(rt;
+        read_varlen_uint(&mut ParseBuf(b"\xff\x05\0\0\0\0\0\0\0"))?,
+        5
+    );
+    let mut input = ParseBuf(b"\xfc\x05\0\xfa");
+    assert_eq!(rt; input.parse::<RawInt<LenEnc>>(rt.alloc(), ())?.0, 5);
+    assert_eq!(rt; input.parse::<RawInt<LenEnc>>(rt.alloc(), ())?.0, 250);
+    assert!(rt; input.is_empty());
+    Ok(())
+}
+
+#[test]
+fn cut_spellings_are_refused(rt: HostRuntime) -> Result<(), Fail> {
+    for bytes in [
+        b"".as_slice(),
+        b"\x01",
+        b"\x7f\0\0\0\0\0\0",
+        b"\xff\0\0\0\0\0\0\0",
+    ] {
+        assert!(rt; read_varlen_uint(&mut ParseBuf(bytes)) == Err(Error::EndOfBody));
+    }
+    for bytes in [
+        b"".as_slice(),
+        b"\xfc\0",
+        b"\xfd\0\0",
+        b"\xfe\0\0\0\0\0\0\0",
+    ] {
+        assert!(rt; LenEnc::read(&mut ParseBuf(bytes)) == Err(Error::EndOfBody));
+    }
+    for first in [0xfb, 0xff] {
+        let refusal = Err(Error::InvalidData(Invalid::LenEnc(first)));
+        assert!(rt; LenEnc::read(&mut ParseBuf(&[first, 0])) == refusal);
+    }
+    Ok(())
+}
+
+#[test]
+fn signed_integers_are_spelled(rt: HostRuntime) -> Result<(), Fail> {
+    let mut buf = Vec::new(rt.alloc());
+    write_varlen_int(&mut buf, -1)?;
+    write_varlen_int(&mut buf, 1)?;
+    write_varlen_int(&mut buf, i64::MIN)?;
+    assert_eq!(rt;
+        buf.as_slice(),
+        b"\x02\x04\xff\xff\xff\xff\xff\xff\xff\xff\xff".as_slice()
+    );
+    let mut input = ParseBuf(buf.as_slice());
+    assert_eq!(rt; read_varlen_int(&mut input)?, -1);
+    assert_eq!(rt; read_varlen_int(&mut input)?, 1);
+    assert_eq!(rt; read_varlen_int(&mut input)?, i64::MIN);
+    assert!(rt; input.is_empty());
+    Ok(())
+}
+
+#[test]
+fn length_encoded_integers_are_spelled(rt: HostRuntime) -> Result<(), Fail> {
+    let mut buf = Vec::new(rt.alloc());
+    for number in [250, 251, 65536, 1 << 24] {
+        RawInt::<LenEnc>::new(number).serialize(rt.alloc(), &mut buf)?;
+    }
+    let want = b"\xfa\xfc\xfb\0\xfd\0\0\x01\xfe\0\0\0\x01\0\0\0\0";
+    assert_eq!(rt; buf.as_slice(), want.as_slice());
+    assert_eq!(rt; lenenc_int_len(65535), 3);
+    assert_eq!(rt; lenenc_int_len(65536), 4);
+    Ok(())
+}
+
+#[test]
+fn tags_are_checked(rt: HostRuntime) -> Result<(), Fail> {
+    let tag = Tag::new(CowStr::Borrowed("_a"))?;
+    assert_eq!(rt; tag.as_str(), "_a");
+    let owned = tag.clone(rt.alloc())?.into_owned(rt.alloc())?;
+    assert!(rt; owned.clone(rt.alloc())? == tag);
+    let long = "abcdefghijklmnopqrstuvwxyz012345";
+    assert!(rt; Tag::new(CowStr::Borrowed(long)).is_ok());
+    let longer = CowStr::Owned(String::from_str(rt.alloc(), "abcdefghijklmnopqrstuvwxyz0123456")?);
+    assert!(rt; Tag::new(longer).is_err());
+    for text in ["", "9a", "a-b", "a\u{e9}"] {
+        assert!(rt; Tag::new(CowStr::Borrowed(text)).is_err());
+    }
+    Ok(())
+}
+
+#[test]
+fn intervals_are_spelled(rt: HostRuntime) -> Result<(), Fail> {
+    let interval = GnoInterval::new(1, 6);
+    let mut buf = Vec::new(rt.alloc());
+    interval.serialize(rt.alloc(), &mut buf)?;
+    assert_eq!(rt;
+        buf.as_slice(),
+        b"\x01\0\0\0\0\0\0\0\x06\0\0\0\0\0\0\0".as_slice()
+    );
+    let mut input = ParseBuf(buf.as_slice());
+    let read = GnoInterval::deserialize(rt.alloc(), (), &mut input)?;
+    assert!(rt; read == interval);
+    assert_eq!(rt; (read.start(), read.end()), (1, 6));
+    assert!(rt; GnoInterval::deserialize(rt.alloc(), (), &mut ParseBuf(&[0; 15])).is_err());
+    Ok(())
+}
+
+// Where one allocation is refused (tests/refused_memory.py), the answer to the call that asked for it is want of memory, and
+// what stood there before stays; every other answer is as ever.
+#[test]
+fn refused_memory_changes_nothing(rt: HostRuntime) -> Result<(), Fail> {
+    let mut buf = Vec::new(rt.alloc());
+    match write_varlen_uint(&mut buf, 128) {
+        Ok(()) => assert_eq!(rt; buf.as_slice(), [1u8, 2].as_slice()),
+        Err(error) => {
+            assert_eq!(rt; error, Error::Memory);
+            assert!(rt; buf.is_empty());
+        }
+    }
+    let mut buf = Vec::new(rt.alloc());
+    match write_varlen_int(&mut buf, -1) {
+        Ok(()) => assert_eq!(rt; buf.as_slice(), [2u8].as_slice()),
+        Err(error) => {
+            assert_eq!(rt; error, Error::Memory);
+            assert!(rt; buf.is_empty());
+        }
+    }
+    match Tag::new(CowStr::Borrowed("a"))?.into_owned(rt.alloc()) {
+        Ok(owned) => match owned.clone(rt.alloc()) {
+            Ok(copy) => assert!(rt; copy == owned),
+            Err(error) => assert_eq!(rt; error, Error::Memory),
+        },
+        Err(error) => assert_eq!(rt; error, Error::Memory),
+    }
+    Ok(())
+}

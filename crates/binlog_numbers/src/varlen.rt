@@ -1,0 +1,197 @@
+//! Variable-length integers of MySQL's serialization library.
+ghost use Rattle.std.specs.Prelude.{◌≡◌, ◌++◌, ◌+◌, ◌-◌, ◌*◌, ◌^◌, ◌≤◌, ℕ, List, Option, None, length, vec_len, vec_capacity, OnOk, OnErr, IsOkUnless};
+ghost use Rattle.byteorder.specs.Endian.{little_bytes};
+ghost use Rattle.binlog_wire.specs.declared.error.Error.TheVariants.{Memory};
+ghost use Rattle.binlog_wire.specs.Reading.{Read, Gives, read_as};
+ghost use Rattle.binlog_numbers.specs.Varlen.{varlen_at};
+ghost use Rattle.binlog_numbers.specs.VarlenWriting.{varlen_written};
+ghost use Rattle.binlog_numbers.specs.Signed.{zigzag, unzigzag, varlen_signed_at, signed_written};
+
+use binlog_wire::{Error, IntRepr, LeU64, ParseBuf, reserve};
+use byteorder::{ByteOrder, LittleEndian};
+
+/// A number in 1 to 9 bytes: in k bytes, 1 to 8, as `n * 2^k + 2^(k-1) - 1`, least byte first, so that the low ones of the
+/// first byte say how many bytes follow it; or in 8 bytes behind `ff`.
+///
+/// A number in more bytes than it needs is read, too; the shortest form is written. See "Variable-length integers" of
+/// `mysql::serialization` in MySQL's documentation.
+#[derive(Drop)]
+pub struct Varlen;
+
+impl IntRepr for Varlen {
+    type Primitive = u64;
+
+    const SIZE: Option<usize> = None;
+
+    ghost SIZE = { None };
+
+    ghost reads = { varlen_at };
+
+    ghost written = { varlen_written };
+
+    fn read(buf: &mut ParseBuf<'_>) -> Result<u64, Error> {
+        let first = match buf.0.first() {
+            None => return Err(Error::EndOfBody),
+            Some(first) => *first,
+        };
+        let ones = first.trailing_ones() as usize;
+        if ones < 8 {
+            let width = ones + 1;
+            let bytes = buf.checked_eat(width).ok_or(Error::EndOfBody)?;
+            Ok(LittleEndian::read_uint(bytes, width) >> width)
+        } else {
+            buf.checked_skip(1);
+            buf.checked_eat_u64_le().ok_or(Error::EndOfBody)
+        }
+    }
+
+    fn written_len(number: u64) -> usize {
+        if number < 1 << 7 {
+            1
+        } else if number < 1 << 14 {
+            2
+        } else if number < 1 << 21 {
+            3
+        } else if number < 1 << 28 {
+            4
+        } else if number < 1 << 35 {
+            5
+        } else if number < 1 << 42 {
+            6
+        } else if number < 1 << 49 {
+            7
+        } else if number < 1 << 56 {
+            8
+        } else {
+            9
+        }
+    }
+
+    fn put(number: u64, buf: &mut Vec<u8>) {
+        let width = Self::written_len(number);
+        if width < 9 {
+            put_low_bytes(marked(number, width), width, buf);
+        } else {
+            buf.push(0xff).unwrap();
+            LeU64::put(number, buf);
+        }
+    }
+}
+
+/// A number behind the mark that says that it takes `width` bytes.
+fn marked(number: u64, width: usize) -> u64
+    requires some { 1 ≤ width }
+    requires few { width ≤ 8 }
+    requires fits { number * 2 ^ width + 2 ^ width ≤ 2 ^ 64 }
+    ensures { result ≡ number * 2 ^ width + 2 ^ (width - 1) - 1 }
+{
+    (number << width) + ((1 << (width - 1)) - 1)
+}
+
+/// Appends the lowest `width` bytes of a number, the least first, where `buf` has room for them.
+fn put_low_bytes(number: u64, width: usize, buf: &mut Vec<u8>)
+    requires few { width ≤ 8 }
+    requires room { vec_len buf.old + width ≤ vec_capacity buf.old }
+    ensures items { buf.new.items ≡ buf.old.items ++ little_bytes width number }
+    ensures len { vec_len buf.new ≡ vec_len buf.old + width }
+    ensures capacity { vec_capacity buf.old ≤ vec_capacity buf.new }
+{
+    buf.extend_from_slice(&number.to_le_bytes()[..width])
+        .unwrap();
+}
+
+/// A signed number: the variable-length integer 2x for an x that isn't negative, and 2(-x-1)+1 for one that is.
+#[derive(Drop)]
+pub struct VarlenSigned;
+
+/// The variable-length integer of a signed number.
+fn to_unsigned(number: i64) -> u64
+    ensures { result ≡ zigzag number }
+{
+    if number < 0 {
+        (-1 - number) as u64 * 2 + 1
+    } else {
+        number as u64 * 2
+    }
+}
+
+/// The signed number of a variable-length integer.
+fn to_signed(number: u64) -> i64
+    ensures { result ≡ unzigzag number }
+{
+    let half = (number / 2) as i64;
+    if number % 2 == 0 { half } else { -1 - half }
+}
+
+impl IntRepr for VarlenSigned {
+    type Primitive = i64;
+
+    const SIZE: Option<usize> = None;
+
+    ghost SIZE = { None };
+
+    ghost reads = { varlen_signed_at };
+
+    ghost written = { signed_written };
+
+    fn read(buf: &mut ParseBuf<'_>) -> Result<i64, Error> {
+        let number = Varlen::read(buf)?;
+        Ok(to_signed(number))
+    }
+
+    fn written_len(number: i64) -> usize {
+        Varlen::written_len(to_unsigned(number))
+    }
+
+    fn put(number: i64, buf: &mut Vec<u8>) {
+        Varlen::put(to_unsigned(number), buf);
+    }
+}
+
+/// Takes a variable-length integer off the front of `buf`, in any of its spellings; [`Error::EndOfBody`] where the bytes
+/// end within it.
+pub fn read_varlen_uint(buf: &mut ParseBuf<'_>) -> Result<u64, Error>
+    ensures { Gives ⊥ buf.new result (varlen_at buf.old) }
+{
+    Varlen::read(buf)
+}
+
+/// How many bytes the shortest spelling of a number takes, 1 to 9.
+pub fn varlen_uint_size(number: u64) -> usize
+    ensures count { result ≡ length (varlen_written number) }
+    ensures small { result ≤ 9 }
+{
+    Varlen::written_len(number)
+}
+
+/// Appends the shortest spelling of a number to `buf`; refused by [`Error::Memory`] alone, with the contents of `buf` as
+/// they were.
+pub fn write_varlen_uint(buf: &mut Vec<u8>, number: u64) -> Result<(), Error>
+    ensures ok { OnOk result (buf.new.items ≡ buf.old.items ++ varlen_written number) }
+    ensures err { OnErr result (buf.new.items ≡ buf.old.items) }
+    ensures memory { IsOkUnless result Memory }
+{
+    reserve(buf, Varlen::written_len(number))?;
+    Varlen::put(number, buf);
+    Ok(())
+}
+
+/// Takes a signed variable-length integer off the front of `buf`, in any of its spellings; [`Error::EndOfBody`] where
+/// the bytes end within it.
+pub fn read_varlen_int(buf: &mut ParseBuf<'_>) -> Result<i64, Error>
+    ensures { Gives ⊥ buf.new result (varlen_signed_at buf.old) }
+{
+    VarlenSigned::read(buf)
+}
+
+/// Appends the shortest spelling of a signed number to `buf`; refused by [`Error::Memory`] alone, with the contents of
+/// `buf` as they were.
+pub fn write_varlen_int(buf: &mut Vec<u8>, number: i64) -> Result<(), Error>
+    ensures ok { OnOk result (buf.new.items ≡ buf.old.items ++ signed_written number) }
+    ensures err { OnErr result (buf.new.items ≡ buf.old.items) }
+    ensures memory { IsOkUnless result Memory }
+{
+    reserve(buf, VarlenSigned::written_len(number))?;
+    VarlenSigned::put(number, buf);
+    Ok(())
+}
