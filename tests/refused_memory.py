@@ -5,8 +5,9 @@ Usage: refused_memory.py
 
 The programs and tests are those that are built in crates/NAME/out. Each runs with its first allocation refused, then with
 its second one, and so on until a run asks for fewer. The listing must then have the first lines and the status 3, what is
-written back must be a front of the log, and a test must pass: those run in whose full name the word `memory` stands. The
-last line is `N passed, M failed`, where each run counts; the exit status is 1 if one failed. Without the C compiler `cc`
+written back must be a front of the log, and a test must pass: those run in whose full name the word `memory` stands. A
+test whose name says that reading takes no memory must make no allocation at all, also none whose refusal it would hide.
+The last line is `N passed, M failed`, where each run counts; the exit status is 1 if one failed. Without the C compiler `cc`
 nothing is run, and both numbers are 0.
 """
 
@@ -74,13 +75,24 @@ def test_fault(run):
     return None if run.status == SUCCESS else f"it fails:\n{run.output.decode(errors='replace')}"
 
 
+def takes_none(name):
+    return name.rpartition("::")[2].startswith("reading") and name.endswith("takes_no_memory")
+
+
+def taken_fault(run):
+    return f"it makes {len(run.allocations)} allocations" if run.allocations else test_fault(run)
+
+
 def all_failures(watch):
     for name, fault in PROGRAMS.items():
         for log, content in LOGS.items():
             command = [watched.program(name)]
             yield from failures(watch, f"{name} over {log}", command, content, fault(content))
     for program, name in watched.tests():
-        if "memory" in name:
+        if takes_none(name):
+            wrong = taken_fault(watch.run([program, name]))
+            yield wrong and f"{name}: {wrong}"
+        elif "memory" in name:
             yield from failures(watch, name, [program, name], b"", test_fault)
 
 
