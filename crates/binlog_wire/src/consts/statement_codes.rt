@@ -171,7 +171,10 @@ mod tests {
             LoadDuplicateHandling::try_from(2),
             Ok(LoadDuplicateHandling::LOAD_DUP_REPLACE)
         );
-        assert_eq!(rt; LoadDuplicateHandling::try_from(3), Err(Invalid::DupHandling(3)));
+        assert_eq!(rt;
+            LoadDuplicateHandling::try_from(3),
+            Err(Invalid::DupHandling(3))
+        );
         assert_eq!(rt; ItemResult::try_from(2), Ok(ItemResult::INT_RESULT));
         assert_eq!(rt; ItemResult::try_from(-1), Err(UnknownItemResultType(-1)));
         assert_eq!(rt; i8::from(ItemResult::DECIMAL_RESULT), 4);
