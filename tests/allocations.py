@@ -6,8 +6,8 @@ Usage: allocations.py
 The programs and tests are those that are built in crates/NAME/out. Further events take one buffer each where they are
 owned (test_owned_events), and nothing where they are lent (binlog_list, bench_write_back), nor does a checksum. Where a
 header states 4,294,967,295 bytes and few have come, in pieces of 20, no allocation of a program grows by more than 65,536
-bytes, and no allocation of any test does. The last line is `N passed, M failed`; the exit status is 1 if something
-failed. Without the C compiler `cc` nothing is run, and both numbers are 0.
+bytes, and none of a test does in whose name the word `boundless` stands. The last line is `N passed, M failed`; the exit
+status is 1 if something failed. Without the C compiler `cc` nothing is run, and both numbers are 0.
 """
 
 import socket
@@ -99,9 +99,8 @@ def all_failures(watch):
                 pieces = run_over_pieces(watch, command, content)
                 yield growth_failure(f"{described}, in pieces", pieces)
     for program, name in watched.tests():
-        run = watch.run([program, name])
-        if run.allocations:
-            yield growth_failure(f"the test {name}", run)
+        if "boundless" in name:
+            yield growth_failure(f"the test {name}", watch.run([program, name]))
 
 
 if __name__ == "__main__":
