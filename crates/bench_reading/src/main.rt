@@ -1,7 +1,7 @@
 //! Reads the binary log on standard input, and prints how many events it has. The benchmark measures it.
 //!
-//! The argument says how: `lent` reads events that a file lends; `slice` takes the log into memory and reads the events
-//! that stand there; `memory` only takes it into memory.
+//! Without an argument it reads events that a file lends; with `slice` it takes the log into memory, and reads the events
+//! that stand there; with `memory` it does no more than take it into memory.
 #![tactic(auto)]
 
 mod count;
@@ -18,12 +18,11 @@ const BUFFER_SIZE: usize = 65_536;
 
 // None where the reader, memory or the arguments fail, or an item is an error.
 fn run(rt: &(impl Input + Env + AllocGlobal)) -> Option<u64> {
-    let way = env::args(rt).ok()?.nth(1)?;
     let mut input = BufReader::with_capacity(rt.alloc(), BUFFER_SIZE, rt.reader()).ok()?;
-    if way.as_str() == "lent" {
+    let Some(way) = env::args(rt).ok()?.nth(1) else {
         let file = BinlogFile::new(rt.alloc(), BinlogVersion::Version4, input).ok()?;
         return count_lent(file);
-    }
+    };
     let mut bytes = Vec::new(rt.alloc());
     input.read_to_end(&mut bytes).ok()?;
     match way.as_str() {
