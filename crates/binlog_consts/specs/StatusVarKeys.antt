@@ -63,7 +63,7 @@ abbrev pub status_var_key_of : ℕ → Result StatusVarKey UnknownStatusVarKey
 status_var_key_of = value_of status_var_key_number status_var_keys (λ n. record { 0 = n })
 
 -- a key's number stands for it
-pub status_var_key_again : (key : StatusVarKey) → status_var_key_of (status_var_key_number key) ≡ Ok key
+status_var_key_again : (key : StatusVarKey) → status_var_key_of (status_var_key_number key) ≡ Ok key
 status_var_key_again Flags2 = refl
 status_var_key_again SqlMode = refl
 status_var_key_again Catalog = refl
