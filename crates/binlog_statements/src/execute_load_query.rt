@@ -6,11 +6,9 @@ ghost use Rattle.binlog_wire.specs.declared.error.Error.TheVariants.{Memory};
 
 use crate::statement::{Statement, StatementHead};
 use crate::status_vars::StatusVars;
-use binlog_bodies::{BinlogCtx, BinlogEvent};
-use binlog_wire::{
-    Const, Error, EventType, IntRepr, LeU32, LoadDuplicateHandling, MyDeserialize, ParseBuf, Put,
-    RawInt,
-};
+use binlog_consts::{EventType, LoadDuplicateHandling};
+use binlog_description::{BinlogCtx, BinlogEvent};
+use binlog_wire::{Const, Error, IntRepr, LeU32, MyDeserialize, ParseBuf, Put, RawInt};
 use std::alloc::Global;
 use std::borrow::{CowSlice, CowStr};
 

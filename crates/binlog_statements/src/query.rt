@@ -6,8 +6,9 @@ ghost use Rattle.binlog_wire.specs.declared.error.Error.TheVariants.{Memory};
 
 use crate::statement::{STATEMENT_HEAD_LEN, Statement, StatementHead};
 use crate::status_vars::StatusVars;
-use binlog_bodies::{BinlogCtx, BinlogEvent};
-use binlog_wire::{Error, EventType, MyDeserialize, ParseBuf, Put};
+use binlog_consts::EventType;
+use binlog_description::{BinlogCtx, BinlogEvent};
+use binlog_wire::{Error, MyDeserialize, ParseBuf, Put};
 use std::alloc::Global;
 use std::borrow::{CowSlice, CowStr};
 
@@ -200,9 +201,9 @@ impl<'a> QueryEvent<'a> {
 
 /// [`Error::EndOfBody`] where the bytes end before the statement, and no other error.
 impl<'de> MyDeserialize<'de> for QueryEvent<'de> {
-    ghost use Rattle.binlog_wire.specs.declared.consts.event_type.EventType.TheVariants.{QUERY_EVENT};
-    ghost use Rattle.binlog_bodies.specs.DescriptionRefs.{description_of};
-    ghost use Rattle.binlog_bodies.specs.PostHeaders.{post_header};
+    ghost use Rattle.binlog_consts.specs.declared.event_type.EventType.TheVariants.{QUERY_EVENT};
+    ghost use Rattle.binlog_description.specs.DescriptionRefs.{description_of};
+    ghost use Rattle.binlog_description.specs.PostHeaders.{post_header};
     ghost use Rattle.binlog_statements.specs.Query.{query};
 
     const SIZE: Option<usize> = None;
@@ -250,8 +251,8 @@ impl Put for QueryEvent<'_> {
 
 impl<'a> BinlogEvent<'a> for QueryEvent<'a> {
     ghost use Rattle.std.specs.Prelude.{refl};
-    ghost use Rattle.binlog_wire.specs.declared.consts.event_type.EventType.TheVariants.{QUERY_EVENT};
-    ghost use Rattle.binlog_bodies.specs.PostHeaders.{post_header};
+    ghost use Rattle.binlog_consts.specs.declared.event_type.EventType.TheVariants.{QUERY_EVENT};
+    ghost use Rattle.binlog_description.specs.PostHeaders.{post_header};
     ghost use Rattle.binlog_statements.specs.Query.{query};
 
     const EVENT_TYPE: EventType = EventType::QUERY_EVENT;
