@@ -1,7 +1,7 @@
 #!/usr/bin/env python3
-"""Measures the listing and the writing back against the baseline; prints a Markdown table of each.
+"""Measures the listing and the writing back against the baseline, and reading alone; prints a Markdown table of each.
 
-Usage: measure.py LISTING WRITING_BACK BASELINE FOLDER
+Usage: measure.py LISTING WRITING_BACK READING BASELINE FOLDER
 
 FOLDER holds the files of make_binlogs.py. The exit status is 1 if a program
 and the baseline differ on one of them, or if one of them doesn't write back
@@ -35,6 +35,8 @@ COLUMNS = [
     "Baseline's",
     "Allocations / event",
 ]
+
+READING_COLUMNS = ["Input", "Lent by a file", "Of a slice"]
 
 ALLOCATING = {"malloc", "calloc", "realloc"}
 
@@ -216,6 +218,24 @@ def measured_row(program, baseline, events, folder, kind):
     ]
 
 
+def reading_row(reader, events, folder, kind):
+    """Instructions for an event; those of a slice without taking the log into memory."""
+    progress(f"{kind}: counting instructions of reading")
+    ways = [[], ["slice"], ["memory"]]
+    counted = [counts_per_event([reader, *way], folder, kind, "reading", events) for way in ways]
+    if None in counted:
+        return [kind, "not counted", "not counted"]
+    lent, sliced, memory = (one[0] for one in counted)
+    return [kind, f"{lent:,.0f}", f"{sliced - memory:,.0f}"]
+
+
+def measure_reading(reader, lister, folder):
+    """A row for each kind; the long events are too few to be counted so."""
+    kinds = [kind for kind in KINDS if kind != "long"]
+    events = {kind: count_events(lister, folder / f"{kind}_small.binlog") for kind in kinds}
+    return [reading_row(reader, events[kind], folder, kind) for kind in kinds]
+
+
 def measure(program, baseline, compare, lister, folder):
     rows = []
     for kind in KINDS:
@@ -228,18 +248,20 @@ def measure(program, baseline, compare, lister, folder):
     return rows
 
 
-def print_table(rows):
-    print("| " + " | ".join(COLUMNS) + " |")
-    print("|---|" + "---:|" * (len(COLUMNS) - 1))
+def print_table(title, columns, rows):
+    print(f"{title}:\n")
+    print("| " + " | ".join(columns) + " |")
+    print("|---|" + "---:|" * (len(columns) - 1))
     for cells in rows:
         print("| " + " | ".join(cells) + " |")
+    print(flush=True)
 
 
 def main(arguments):
-    if len(arguments) != 4:
-        sys.exit("usage: measure.py LISTING WRITING_BACK BASELINE FOLDER")
-    lister, copier, baseline = (str(Path(argument).resolve()) for argument in arguments[:3])
-    folder = Path(arguments[3])
+    if len(arguments) != 5:
+        sys.exit("usage: measure.py LISTING WRITING_BACK READING BASELINE FOLDER")
+    lister, copier, reader, baseline = (str(Path(argument).resolve()) for argument in arguments[:4])
+    folder = Path(arguments[4])
     works = {
         "Listing": ([lister], [baseline], compare_listings),
         "Writing back": ([copier], [baseline, "--write-back"], compare_written_back),
@@ -248,9 +270,9 @@ def main(arguments):
         for title, (program, yardstick, compare) in works.items():
             progress(title)
             rows = measure(program, yardstick, compare, [baseline], folder)
-            print(f"{title}:\n")
-            print_table(rows)
-            print(flush=True)
+            print_table(title, COLUMNS, rows)
+        progress("Reading")
+        print_table("Reading", READING_COLUMNS, measure_reading(reader, [baseline], folder))
     except Difference as difference:
         sys.exit(f"measure.py: {difference}")
 

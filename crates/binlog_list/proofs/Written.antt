@@ -1,8 +1,9 @@
 -- What a writer has of some bytes.
-use Rattle.std.proofs.Common.{◌≡◌, ℕ, List, [], ◌++◌, ◌-◌, length, take, drop, Option, refl, sym, ap, subst, ◌∙◌, arith, append_assoc, append-nil, Some, None}
+use Rattle.std.proofs.Common.{◌≡◌, ℕ, List, [], ◌++◌, ◌-◌, length, take, drop, Option, Some, None, Result, Ok, Err, OnErr, refl, sym, ap, subst, ◌∙◌, arith, append_assoc, append-nil}
 use Rattle.std.proofs.lemmas.List.{take-append-drop, nil_from_length, take_all, length-drop}
 use Rattle.std.specs.Io.KnownBytes.{Appends, Keeps}
 use Rattle.std.proofs.KnownBytes.{Appends-nil, Appends-trans}
+use Rattle.binlog_wire.specs.declared.error.Error.{Error}
 use Rattle.binlog_list.specs.Listing.{AppendsFront}
 
 -- all but the rest of the bytes is written
@@ -41,3 +42,14 @@ appends_nothing (Some xs) (Some ys) kept = kept ∙ sym (append-nil xs)
 pub written_kept : (old mid new : Option (List ℕ)) (bytes rest after : List ℕ) → IsWritten old mid bytes rest → Keeps mid new → after ≡ rest → IsWritten old new bytes after
 written_kept old mid new bytes rest after so_far kept e =
     written_more old mid new bytes rest after 0 so_far (appends_nothing mid new kept) e
+
+-- a front of what is behind a front that was written
+pub front_behind : {A : Type 0} (old mid new : Option (List ℕ)) (bytes : List ℕ) (count : ℕ) (answer : Result A Error) → Appends old mid (take count bytes)
+    → OnErr answer (AppendsFront mid new (take (length bytes - count) (drop count bytes))) → OnErr answer (AppendsFront old new bytes)
+front_behind old mid new bytes count (Ok x) first behind = tt
+front_behind old mid new bytes count (Err error) first behind = record {
+  front = take count bytes ++ behind.front;
+  cut = behind.cut;
+  whole = sym (take-append-drop count bytes) ∙ ap (λ s. take count bytes ++ s) (sym (rest_behind bytes count) ∙ behind.whole) ∙ sym (append_assoc (take count bytes) behind.front behind.cut);
+  written = Appends-trans old mid new _ _ first behind.written;
+}
