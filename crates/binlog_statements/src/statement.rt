@@ -86,33 +86,6 @@ pub struct StatementTexts<'a> {
 }
 
 impl<'a> StatementTexts<'a> {
-    /// The texts with these status variables.
-    pub fn with_status_vars(self, status_vars: CowSlice<'a, u8>) -> Self
-        ensures { result ≡ record self.entry { status_vars = record { 0 = cow_slice_items status_vars.entry } } }
-    {
-        StatementTexts {
-            status_vars: StatusVars(RawBytes::new(status_vars)),
-            schema: self.schema,
-            query: self.query,
-        }
-    }
-
-    /// The texts with this schema's name.
-    pub fn with_schema(mut self, schema: CowSlice<'a, u8>) -> Self
-        ensures { result ≡ record self.entry { schema = cow_slice_items schema.entry } }
-    {
-        self.schema = RawBytes::new(schema);
-        self
-    }
-
-    /// The texts with this statement.
-    pub fn with_query(mut self, query: CowSlice<'a, u8>) -> Self
-        ensures { result ≡ record self.entry { query = cow_slice_items query.entry } }
-    {
-        self.query = RawBytes::new(query);
-        self
-    }
-
     /// The same texts, owned; refused by [`Error::Memory`] alone.
     pub fn into_owned(self, alloc: Global) -> Result<StatementTexts<'static>, Error>
         ensures ok { IfOk result (λ owned. owned ≡ self.entry) }
@@ -205,20 +178,11 @@ pub struct Statement<'a> {
 }
 
 impl<'a> Statement<'a> {
-    ghost use Rattle.binlog_statements.specs.Statements.{head_of, statement_with};
+    ghost use Rattle.binlog_statements.specs.Statements.{head_of, new_statement, statement_with};
 
     /// The empty statement with these status variables and this schema.
     pub fn new(status_vars: CowSlice<'a, u8>, schema: CowSlice<'a, u8>) -> Self
-        ensures { result ≡ record {
-          thread_id = 0;
-          execution_time = 0;
-          error_code = 0;
-          texts = record {
-            status_vars = record { 0 = cow_slice_items status_vars.entry };
-            schema = cow_slice_items schema.entry;
-            query = [];
-          };
-        } }
+        ensures { result ≡ new_statement (cow_slice_items status_vars.entry) (cow_slice_items schema.entry) }
     {
         Statement {
             thread_id: 0,
@@ -240,45 +204,6 @@ impl<'a> Statement<'a> {
             thread_id: head.thread_id,
             execution_time: head.execution_time,
             error_code: head.error_code,
-            texts,
-        }
-    }
-
-    /// The statement with these status variables.
-    pub fn with_status_vars(self, status_vars: CowSlice<'a, u8>) -> Self
-        ensures { result ≡ record self.entry { texts = record self.entry.texts { status_vars = record { 0 = cow_slice_items status_vars.entry } } } }
-    {
-        let texts = self.texts.with_status_vars(status_vars);
-        Statement {
-            thread_id: self.thread_id,
-            execution_time: self.execution_time,
-            error_code: self.error_code,
-            texts,
-        }
-    }
-
-    /// The statement with this schema's name.
-    pub fn with_schema(self, schema: CowSlice<'a, u8>) -> Self
-        ensures { result ≡ record self.entry { texts = record self.entry.texts { schema = cow_slice_items schema.entry } } }
-    {
-        let texts = self.texts.with_schema(schema);
-        Statement {
-            thread_id: self.thread_id,
-            execution_time: self.execution_time,
-            error_code: self.error_code,
-            texts,
-        }
-    }
-
-    /// The statement with this text.
-    pub fn with_query(self, query: CowSlice<'a, u8>) -> Self
-        ensures { result ≡ record self.entry { texts = record self.entry.texts { query = cow_slice_items query.entry } } }
-    {
-        let texts = self.texts.with_query(query);
-        Statement {
-            thread_id: self.thread_id,
-            execution_time: self.execution_time,
-            error_code: self.error_code,
             texts,
         }
     }
