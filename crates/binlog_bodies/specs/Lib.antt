@@ -1,14 +1,3 @@
-pub mod Bodies
-pub mod Headers
-pub mod HeaderLaws
-pub mod ChecksumAlgorithms
-pub mod Footers
-pub mod VersionBlock
-pub mod PostHeaderDefaults
-pub mod PostHeaders
-pub mod FormatDescription
-pub mod DescriptionRefs
-pub mod FormatDescriptionLaws
 pub mod BeginLoadQuery
 pub mod Incident
 pub mod Intvar
@@ -18,6 +7,4 @@ pub mod RowsQuery
 pub mod Xid
 pub mod ShortBodies
 pub use Rattle.binlog_wire.specs.Errors
-pub use Rattle.binlog_wire.specs.Numbers
-pub use Rattle.binlog_wire.specs.Reading
-pub use Rattle.binlog_wire.specs.Fields
+pub use Rattle.binlog_description.specs.Bodies

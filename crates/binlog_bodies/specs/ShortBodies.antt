@@ -1,7 +1,7 @@
 -- When a body of fixed length is refused for too few bytes: exactly where it has fewer than it takes.
 use Rattle.std.specs.Prelude.{◌≡◌, ◌↔◌, ℕ, ◌+◌, ◌<◌, List, length}
 use Rattle.std.proofs.Common.{[], Err}
-use Rattle.binlog_wire.specs.Codes.{subtype_of}
+use Rattle.binlog_consts.specs.Codes.{subtype_of}
 use Rattle.binlog_wire.specs.Fields.{number_at, coded_at, rest_at, then_at, unit_at, skipped_at}
 use Rattle.binlog_wire.specs.Reading.{ends}
 use Rattle.binlog_wire.specs.Laws.Lengths.{takes_number, takes_coded, takes_then, seen_ends, unit_ends, number_ends, skipped_ends}

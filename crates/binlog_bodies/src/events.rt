@@ -1,6 +1,5 @@
 //! The bodies of events, one module each.
 pub mod begin_load_query;
-pub mod format_description;
 pub mod incident;
 pub mod intvar;
 pub mod rand;

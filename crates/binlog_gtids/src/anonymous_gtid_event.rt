@@ -5,8 +5,9 @@ ghost use Rattle.binlog_gtids.specs.Untagged.{anonymous};
 ghost use Rattle.binlog_gtids.specs.Writable.{unwritable};
 
 use crate::gtid_event::GtidEvent;
-use binlog_bodies::{BinlogCtx, BinlogEvent};
-use binlog_wire::{Error, EventType, MyDeserialize, ParseBuf, Put};
+use binlog_consts::EventType;
+use binlog_description::{BinlogCtx, BinlogEvent};
+use binlog_wire::{Error, MyDeserialize, ParseBuf, Put};
 use std::alloc::Global;
 
 /// The transaction behind this event has no GTID. Its body is that of a [`GtidEvent`] without a tag.

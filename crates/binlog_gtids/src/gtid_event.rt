@@ -3,7 +3,7 @@ ghost use Rattle.std.specs.Prelude.{◌≡◌, ◌++◌, ◌+◌, ◌<◌, ◌�
 ghost use Rattle.bitflags.specs.Sets.{known_bits};
 ghost use Rattle.binlog_wire.specs.Reading.{Gives, read_as};
 ghost use Rattle.binlog_wire.specs.declared.error.Error.TheVariants.{Memory};
-ghost use Rattle.binlog_wire.specs.declared.consts.event_type.EventType.TheVariants.{GTID_EVENT};
+ghost use Rattle.binlog_consts.specs.declared.event_type.EventType.TheVariants.{GTID_EVENT};
 ghost use Rattle.binlog_wire.specs.Fields.{block_at};
 ghost use Rattle.binlog_gtids.specs.Flags.{gtid_flags};
 ghost use Rattle.binlog_gtids.specs.Untagged.{gtid, untagged, head, clock, clock_of, with_clock, without_clock, is_untagged_type};
@@ -14,11 +14,10 @@ use crate::clock::{
     read_times, read_versions, times_len, versions_len,
 };
 use crate::gtid_flags::GtidFlags;
-use binlog_bodies::{BinlogCtx, BinlogEvent};
+use binlog_consts::EventType;
+use binlog_description::{BinlogCtx, BinlogEvent};
 use binlog_numbers::LenEnc;
-use binlog_wire::{
-    Error, EventType, Field, IntRepr, LeU64, MyDeserialize, ParseBuf, Put, RawFlags,
-};
+use binlog_wire::{Error, Field, IntRepr, LeU64, MyDeserialize, ParseBuf, Put, RawFlags};
 use bitflags::Flags;
 use std::alloc::Global;
 

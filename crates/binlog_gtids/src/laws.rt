@@ -6,7 +6,7 @@ ghost use Rattle.binlog_gtids.specs.declared.gtid_event.GtidEvent.{GtidEvent};
 
 use crate::anonymous_gtid_event::AnonymousGtidEvent;
 use crate::gtid_event::GtidEvent;
-use binlog_bodies::BinlogEvent;
+use binlog_description::BinlogEvent;
 
 /// A GTID whose fields are in the ranges of their types, and that isn't refused, fits its form: so what is written of it
 /// reads as its normal form.

@@ -1,9 +1,10 @@
 //! Bodies with exact bytes.
 use super::*;
-use binlog_bodies::{
+use binlog_consts::{BinlogVersion, EventType};
+use binlog_description::{
     BinlogCtx, BinlogEvent, BinlogEventHeader, BinlogStruct, FormatDescriptionEvent, read_body,
 };
-use binlog_wire::{BinlogVersion, Error, EventType, Field, Invalid, MySerialize};
+use binlog_wire::{Error, Field, Invalid, MySerialize};
 use std::alloc::Global;
 use std::test::Fail;
 

@@ -7,8 +7,8 @@ use Rattle.hex.specs.Hex.{encode_lower}
 use Rattle.binlog_wire.specs.declared.error.Error.{Error}
 use Rattle.binlog_wire.specs.declared.error.Error.TheVariants.{EndOfInput, InvalidFileHeader, Reader, Writer}
 use Rattle.binlog_wire.specs.Errors.{error_number, is_outside}
-use Rattle.binlog_wire.specs.declared.consts.version.BinlogVersion.TheVariants.{Version4}
-use Rattle.binlog_bodies.specs.Headers.{header_of}
+use Rattle.binlog_consts.specs.declared.version.BinlogVersion.TheVariants.{Version4}
+use Rattle.binlog_description.specs.Headers.{header_of}
 use Rattle.binlog_file.specs.FileHeader.{file_header}
 use Rattle.binlog_file.specs.Parts.{data_of, checksum_of}
 use Rattle.binlog_file.specs.Events.{EventView}

@@ -6,7 +6,7 @@ use Rattle.std.proofs.lemmas.Bool.{ltb-true, ltb-false, lt-ltb, le-ltb, eqb-true
 use Rattle.binlog_wire.specs.declared.error.Invalid.{Invalid}
 use Rattle.binlog_wire.specs.Reading.{ends, invalid, Read, ◌>>=◌, read_as}
 use Rattle.binlog_wire.specs.Fields.{IsBytes}
-use Rattle.binlog_wire.specs.Laws.{Keeps, bind_ok}
+use Rattle.binlog_wire.specs.Laws.{KeepsTo, bind_ok}
 use Rattle.binlog_wire.specs.Formats.{Place, anywhere, last, Follows, Format, number, silent, then}
 use Rattle.binlog_numbers.specs.Chosen.{IsChoice, chosen, choose}
 
@@ -89,7 +89,7 @@ abbrev pub behind_at : {V : Type 0} → ℕ → (List ℕ → Read V) → List �
 behind_at mark f [] = Ok (None, [])
 behind_at mark f (b ∷ s) = cond (eqb b mark) (read_as (λ v. Some v) (f s)) (Ok (None, b ∷ s))
 
-behind_sound_by : {V : Type 0} {F : List ℕ → V → List ℕ → Type 0} {f : List ℕ → Read V} (mark : ℕ) → Keeps F f → (b : ℕ) (s : List ℕ) (x : Option V × List ℕ) → IsBytes (b ∷ s)
+behind_sound_by : {V : Type 0} {F : List ℕ → V → List ℕ → Type 0} {f : List ℕ → Read V} (mark : ℕ) → KeepsTo F f → (b : ℕ) (s : List ℕ) (x : Option V × List ℕ) → IsBytes (b ∷ s)
     → (t : Bool) → eqb b mark ≡ t → cond t (read_as (λ v. Some v) (f s)) (Ok (None, b ∷ s)) ≡ Ok x → IsBehind mark F (b ∷ s) x.0 x.1 × IsBytes x.1
 behind_sound_by {V} {F} {f} mark k b s x fits true h e =
     let a = bind_ok (f s) (λ v. Ok (Some v.0, v.1)) x e in
@@ -101,7 +101,7 @@ behind_sound_by {V} {F} {f} mark k b s x fits false h e =
     let other : (m : List ℕ) → b ∷ s ≡ mark ∷ m → ⊥ = λ m q. let head : b ≡ mark = cc in let yes : eqb b mark ≡ true = eq-eqb _ _ head in let no : true ≡ false = sym yes ∙ h in absurd cc in
     subst (λ (y : Option V × List ℕ). IsBehind mark F (b ∷ s) y.0 y.1 × IsBytes y.1) same ((other, refl), fits)
 
-behind_sound : {V : Type 0} {F : List ℕ → V → List ℕ → Type 0} {f : List ℕ → Read V} (mark : ℕ) → Keeps F f → (s : List ℕ) (x : Option V × List ℕ) → IsBytes s
+behind_sound : {V : Type 0} {F : List ℕ → V → List ℕ → Type 0} {f : List ℕ → Read V} (mark : ℕ) → KeepsTo F f → (s : List ℕ) (x : Option V × List ℕ) → IsBytes s
     → behind_at mark f s ≡ Ok x → IsBehind mark F s x.0 x.1 × IsBytes x.1
 behind_sound {V} {F} {f} mark k [] x fits e =
     let same : ◌≡◌ {A = Option V × List ℕ} (None, []) x = cc in
@@ -117,12 +117,12 @@ none_at : {V : Type 0} (f : List ℕ → Read V) (mark : ℕ) (s : List ℕ) →
 none_at f mark [] other = refl
 none_at f mark (b ∷ s) other = none_by f mark b s other _ refl
 
-behind_complete : {V : Type 0} {F : List ℕ → V → List ℕ → Type 0} {f : List ℕ → Read V} (mark : ℕ) → Keeps F f → (s : List ℕ) (o : Option V) (r : List ℕ)
+behind_complete : {V : Type 0} {F : List ℕ → V → List ℕ → Type 0} {f : List ℕ → Read V} (mark : ℕ) → KeepsTo F f → (s : List ℕ) (o : Option V) (r : List ℕ)
     → IsBehind mark F s o r → behind_at mark f s ≡ Ok (o, r)
 behind_complete mark k s (Some v) r h = rw (h.1, eq-eqb mark mark refl, k.complete h.0 v r h.2) refl
 behind_complete {f = f} mark k s None r h = rw h.1 (none_at f mark s h.0)
 
-pub keeps_behind : {V : Type 0} {F : List ℕ → V → List ℕ → Type 0} {f : List ℕ → Read V} (mark : ℕ) → Keeps F f → Keeps (IsBehind mark F) (behind_at mark f)
+pub keeps_behind : {V : Type 0} {F : List ℕ → V → List ℕ → Type 0} {f : List ℕ → Read V} (mark : ℕ) → KeepsTo F f → KeepsTo (IsBehind mark F) (behind_at mark f)
 keeps_behind mark k = record { sound = behind_sound mark k; complete = behind_complete mark k }
 
 abbrev pub behind_written : {V : Type 0} → ℕ → (V → List ℕ) → Option V → List ℕ

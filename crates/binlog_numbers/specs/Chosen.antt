@@ -3,7 +3,7 @@ use Rattle.std.proofs.Common.{◌≡◌, ℕ, List, [], ◌∷◌, ◌++◌, len
 use Rattle.binlog_wire.specs.declared.error.Invalid.{Invalid}
 use Rattle.binlog_wire.specs.Reading.{ends, invalid, Read, ◌>>=◌}
 use Rattle.binlog_wire.specs.Fields.{IsBytes, meant, read_decoded}
-use Rattle.binlog_wire.specs.Laws.{Keeps, bind_ok}
+use Rattle.binlog_wire.specs.Laws.{KeepsTo, bind_ok}
 use Rattle.binlog_wire.specs.Formats.{Place, anywhere, last, Follows, Format}
 
 -- the bytes of fields that stand for the value
@@ -23,8 +23,8 @@ pub meant_ok : {E : Type 0} (d : Result E Invalid) (rest : List ℕ) (x : E × L
 meant_ok {E} (Ok e) rest x h = let same : ◌≡◌ {A = E × List ℕ} (e, rest) x = cc in (ap (λ (y : E × List ℕ). Ok y.0) same, ap (λ (y : E × List ℕ). y.1) same)
 meant_ok {E} (Err why) rest x h = absurd cc
 
-pub keeps_chosen : {A B : Type 0} {F : List ℕ → A → List ℕ → Type 0} {f : List ℕ → Read A} (decode : A → Result B Invalid) → Keeps F f
-    → Keeps (IsChosen decode F) (λ s. read_decoded decode (f s))
+pub keeps_chosen : {A B : Type 0} {F : List ℕ → A → List ℕ → Type 0} {f : List ℕ → Read A} (decode : A → Result B Invalid) → KeepsTo F f
+    → KeepsTo (IsChosen decode F) (λ s. read_decoded decode (f s))
 keeps_chosen {A} {B} {F} {f} decode k = record {
   sound = λ s x fits e.
       let a = bind_ok (f s) (λ a. meant (decode a.0) a.1) x e in

@@ -6,7 +6,7 @@ use Rattle.binlog_wire.specs.declared.error.Invalid.{Invalid}
 use Rattle.binlog_wire.specs.declared.error.Invalid.TheVariants as kinds
 use Rattle.binlog_wire.specs.Reading.{ends, invalid, Read}
 use Rattle.binlog_wire.specs.Fields.{IsBytes, IsNumber, number_at}
-use Rattle.binlog_wire.specs.Laws.{Keeps}
+use Rattle.binlog_wire.specs.Laws.{KeepsTo}
 use Rattle.binlog_wire.specs.Laws.Numbers.{keeps_number, length-number, length-little_bytes}
 use Rattle.binlog_wire.specs.Formats.{Place, Format}
 
@@ -58,7 +58,7 @@ complete s n r (inr (inl h)) = rw h.1 ((keeps_number 2).complete h.0 n r h.2)
 complete s n r (inr (inr (inl h))) = rw h.1 ((keeps_number 3).complete h.0 n r h.2)
 complete s n r (inr (inr (inr h))) = rw h.1 ((keeps_number 8).complete h.0 n r h.2)
 
-pub keeps_lenenc : Keeps IsLenEnc lenenc_at
+pub keeps_lenenc : KeepsTo IsLenEnc lenenc_at
 keeps_lenenc = record { sound = sound; complete = complete }
 
 writes_by : (n : ℕ) (r : List ℕ) (t u v : Bool) → ltb n 251 ≡ t → ltb n (256 ^ 2) ≡ u → ltb n (256 ^ 3) ≡ v → n < 256 ^ 8

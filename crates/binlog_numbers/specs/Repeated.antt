@@ -2,7 +2,7 @@
 use Rattle.std.proofs.Common.{◌≡◌, ℕ, zero, suc, ◌+◌, ◌*◌, ◌^◌, ◌<◌, ◌≤◌, List, [], ◌∷◌, ◌++◌, length, map, Ok, Err, refl, sym, ap, subst, ◌∙◌, append_assoc, arith}
 use Rattle.binlog_wire.specs.Reading.{ends, invalid, Read, ◌>>=◌}
 use Rattle.binlog_wire.specs.Fields.{IsBytes}
-use Rattle.binlog_wire.specs.Laws.{Keeps, bind_ok}
+use Rattle.binlog_wire.specs.Laws.{KeepsTo, bind_ok}
 use Rattle.binlog_wire.specs.Formats.{Place, anywhere, Format, Follows, then, made}
 
 -- the values stand one after the other
@@ -30,7 +30,7 @@ abbrev pub EachFits : {V : Type 0} → (V → Type 0) → List V → Type 0
 EachFits f [] = Unit {0}
 EachFits f (v ∷ vs) = f v × EachFits f vs
 
-times_sound : {V : Type 0} {F : List ℕ → V → List ℕ → Type 0} {f : List ℕ → Read V} → Keeps F f → (n : ℕ) (s : List ℕ) (x : List V × List ℕ) → IsBytes s
+times_sound : {V : Type 0} {F : List ℕ → V → List ℕ → Type 0} {f : List ℕ → Read V} → KeepsTo F f → (n : ℕ) (s : List ℕ) (x : List V × List ℕ) → IsBytes s
     → times_at n f s ≡ Ok x → IsTimes n F s x.0 x.1 × IsBytes x.1
 times_sound {V} {F} {f} kf zero s x fits e =
     let same : ◌≡◌ {A = List V × List ℕ} ([], s) x = cc in
@@ -43,7 +43,7 @@ times_sound {V} {F} {f} kf (suc n) s x fits e =
     let same : ◌≡◌ {A = List V × List ℕ} (a.0.0 ∷ b.0.0, b.0.1) x = cc in
     subst (λ (y : List V × List ℕ). IsTimes (suc n) F s y.0 y.1 × IsBytes y.1) same ((ap suc q.0.0, (a.0.1, p.0, q.0.1)), q.1)
 
-times_complete : {V : Type 0} {F : List ℕ → V → List ℕ → Type 0} {f : List ℕ → Read V} → Keeps F f → (n : ℕ) (s : List ℕ) (vs : List V) (r : List ℕ)
+times_complete : {V : Type 0} {F : List ℕ → V → List ℕ → Type 0} {f : List ℕ → Read V} → KeepsTo F f → (n : ℕ) (s : List ℕ) (vs : List V) (r : List ℕ)
     → IsTimes n F s vs r → times_at n f s ≡ Ok (vs, r)
 times_complete kf zero s [] r h = rw h.1 refl
 times_complete kf zero s (v ∷ vs) r h = absurd (omega (arith, h.0))
@@ -51,7 +51,7 @@ times_complete kf (suc n) s [] r h = absurd (omega (arith, h.0))
 times_complete kf (suc n) s (v ∷ vs) r h =
     rw (kf.complete s v h.1.0 h.1.1, times_complete kf n h.1.0 vs r (omega (arith, h.0), h.1.2)) refl
 
-pub keeps_times : {V : Type 0} {F : List ℕ → V → List ℕ → Type 0} {f : List ℕ → Read V} → Keeps F f → (n : ℕ) → Keeps (IsTimes n F) (times_at n f)
+pub keeps_times : {V : Type 0} {F : List ℕ → V → List ℕ → Type 0} {f : List ℕ → Read V} → KeepsTo F f → (n : ℕ) → KeepsTo (IsTimes n F) (times_at n f)
 keeps_times kf n = record { sound = times_sound kf n; complete = times_complete kf n }
 
 pub each_writes : {V : Type 0} (f : Format anywhere V) (vs : List V) (r : List ℕ) → EachFits f.Fits vs

@@ -8,7 +8,7 @@ use lib.Count.{count_trailing_zeros}
 use Rattle.binlog_wire.specs.Reading.{Refusal, ends, Read, ◌>>=◌, read_as}
 use Rattle.binlog_wire.specs.Fields.{IsBytes, IsNumber, number_at}
 use Rattle.byteorder.specs.Endian.{little_bytes}
-use Rattle.binlog_wire.specs.Laws.{Keeps, bind_ok}
+use Rattle.binlog_wire.specs.Laws.{KeepsTo, bind_ok}
 use Rattle.binlog_wire.specs.Laws.Numbers.{keeps_number}
 
 -- ---- the grammar
@@ -164,5 +164,5 @@ sound : (s : List ℕ) (x : ℕ × List ℕ) → IsBytes s → varlen_at s ≡ O
 sound [] x fits e = absurd cc
 sound (b ∷ s) x fits e = sound_by b s x (ltb (trailing_ones w8 b) 8) fits refl e
 
-pub keeps_varlen : Keeps IsVarlen varlen_at
+pub keeps_varlen : KeepsTo IsVarlen varlen_at
 keeps_varlen = record { sound = sound; complete = complete }

@@ -1,6 +1,6 @@
 //! Laws of the definitions, each a function whose contract says it.
 ghost use Rattle.std.specs.Prelude.{◌≡◌, ◌++◌, ◌+◌, ◌^◌, ◌<◌, ◌≤◌, ℕ, List, length};
-ghost use Rattle.binlog_wire.specs.Laws.{Keeps};
+ghost use Rattle.binlog_wire.specs.Laws.{KeepsTo};
 ghost use Rattle.binlog_numbers.specs.LenEnc.{IsLenEnc, lenenc_at, lenenc_written};
 ghost use Rattle.binlog_numbers.specs.Varlen.{IsVarlen, varlen_at};
 ghost use Rattle.binlog_numbers.specs.VarlenWriting.{varlen_written};
@@ -9,9 +9,9 @@ ghost use Rattle.binlog_numbers.specs.Signed.{IsVarlenSigned, varlen_signed_at};
 /// A number is read exactly where a front of the bytes spells it, with the rest behind that spelling; so no spelling
 /// begins another.
 pub fn numbers_are_spelled()
-    ensures lenenc { Keeps IsLenEnc lenenc_at }
-    ensures varlen { Keeps IsVarlen varlen_at }
-    ensures signed { Keeps IsVarlenSigned varlen_signed_at }
+    ensures lenenc { KeepsTo IsLenEnc lenenc_at }
+    ensures varlen { KeepsTo IsVarlen varlen_at }
+    ensures signed { KeepsTo IsVarlenSigned varlen_signed_at }
 {}
 
 /// What is written of a number spells it.

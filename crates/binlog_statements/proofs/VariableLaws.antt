@@ -4,9 +4,9 @@ use Rattle.std.specs.List.{flat_map}
 use Rattle.std.proofs.lemmas.List.{take-append-drop, append-nil}
 use Rattle.std.proofs.lemmas.List.Concat.{flat_map-append}
 use Rattle.std.proofs.lemmas.List.Elements.{All-nil, All-cons, All-head, All-tail}
-use Rattle.binlog_wire.specs.declared.consts.status_var_key.StatusVarKey.{StatusVarKey}
-use Rattle.binlog_wire.specs.declared.consts.status_var_key.UnknownStatusVarKey.{UnknownStatusVarKey}
-use Rattle.binlog_wire.specs.StatusVarKeys.{status_var_key_number, status_var_key_of, status_var_key_again, status_var_key_only}
+use Rattle.binlog_consts.specs.declared.status_var_key.StatusVarKey.{StatusVarKey}
+use Rattle.binlog_consts.specs.declared.status_var_key.UnknownStatusVarKey.{UnknownStatusVarKey}
+use Rattle.binlog_consts.specs.StatusVarKeys.{status_var_key_number, status_var_key_of, status_var_key_again, status_var_key_only}
 use Rattle.binlog_statements.specs.Layouts.{layout_of, IsLaidOut, value_len}
 use Rattle.binlog_statements.specs.StatusVariables.{Variable, variable_bytes, IsWhole, BeginsWith, AreVariablesOf, variable_at, keyed, first_variable, with_others, variables_within, variables, HasNoKey, IsFirstOfKey}
 use Rattle.binlog_statements.proofs.LayoutLaws.{measures, drop-length, take-length}

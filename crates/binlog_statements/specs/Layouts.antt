@@ -3,8 +3,8 @@
 -- `mysql::binlog::event::Query_event`.
 use Rattle.std.specs.Prelude.{◌≡◌, ◌≢◌, ℕ, zero, suc, ◌+◌, ◌⊎◌, List, [], ◌∷◌, ◌++◌, length, drop, Option, Some, None, All, flat_map, nat_le, nat_eq, if◌then◌else◌}
 use Rattle.binlog_wire.specs.Fields.{HasNoZero}
-use Rattle.binlog_wire.specs.declared.consts.status_var_key.StatusVarKey.{StatusVarKey}
-use Rattle.binlog_wire.specs.declared.consts.status_var_key.StatusVarKey.TheVariants.{Flags2, SqlMode, Catalog, AutoIncrement, Charset, TimeZone, CatalogNz, LcTimeNames, CharsetDatabase, TableMapForUpdate, MasterDataWritten, Invoker, UpdatedDbNames, Microseconds, CommitTs, CommitTs2, ExplicitDefaultsForTimestamp, DdlLoggedWithXid, DefaultCollationForUtf8mb4, SqlRequirePrimaryKey, DefaultTableEncryption}
+use Rattle.binlog_consts.specs.declared.status_var_key.StatusVarKey.{StatusVarKey}
+use Rattle.binlog_consts.specs.declared.status_var_key.StatusVarKey.TheVariants.{Flags2, SqlMode, Catalog, AutoIncrement, Charset, TimeZone, CatalogNz, LcTimeNames, CharsetDatabase, TableMapForUpdate, MasterDataWritten, Invoker, UpdatedDbNames, Microseconds, CommitTs, CommitTs2, ExplicitDefaultsForTimestamp, DdlLoggedWithXid, DefaultCollationForUtf8mb4, SqlRequirePrimaryKey, DefaultTableEncryption}
 use Rattle.binlog_statements.specs.declared.layout.Layout.{Layout}
 use Rattle.binlog_statements.specs.declared.layout.Layout.TheVariants.{Bytes, TextAnd, TwoTexts, Names}
 

@@ -3,7 +3,7 @@
 -- `mysql::binlog::event::Query_event`.
 use Rattle.std.specs.Prelude.{◌≡◌, ◌≢◌, ◌↔◌, ℕ, List, [], ◌∷◌, ◌++◌, drop, IsTrue}
 use Rattle.byteorder.specs.Endian.{little_number}
-use Rattle.binlog_wire.specs.declared.consts.status_var_key.StatusVarKey.TheVariants as keys
+use Rattle.binlog_consts.specs.declared.status_var_key.StatusVarKey.TheVariants as keys
 use Rattle.binlog_statements.specs.Layouts.{counted, AreNames}
 use Rattle.binlog_statements.specs.StatusVariables.{Variable}
 use Rattle.binlog_statements.specs.declared.status_var_val.StatusVarVal.{StatusVarVal}

@@ -1,9 +1,9 @@
 -- The status variables of a text.
 -- Source: MySQL's internals documentation, "QUERY_EVENT".
 use Rattle.std.specs.Prelude.{◌≡◌, ◌≢◌, ℕ, zero, suc, ◌≤◌, List, [], ◌∷◌, ◌++◌, length, take, drop, Option, Some, None, Result, Ok, Err, All, flat_map}
-use Rattle.binlog_wire.specs.declared.consts.status_var_key.StatusVarKey.{StatusVarKey}
-use Rattle.binlog_wire.specs.declared.consts.status_var_key.UnknownStatusVarKey.{UnknownStatusVarKey}
-use Rattle.binlog_wire.specs.StatusVarKeys.{status_var_key_number, status_var_key_of}
+use Rattle.binlog_consts.specs.declared.status_var_key.StatusVarKey.{StatusVarKey}
+use Rattle.binlog_consts.specs.declared.status_var_key.UnknownStatusVarKey.{UnknownStatusVarKey}
+use Rattle.binlog_consts.specs.StatusVarKeys.{status_var_key_number, status_var_key_of}
 use Rattle.binlog_statements.specs.Layouts.{layout_of, IsLaidOut, value_len}
 
 -- a variable: its key and the bytes of its value

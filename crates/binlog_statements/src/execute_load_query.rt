@@ -6,12 +6,9 @@ ghost use Rattle.binlog_wire.specs.declared.error.Error.TheVariants.{Memory};
 
 use crate::statement::{Statement, StatementHead};
 use crate::status_vars::StatusVars;
-use binlog_bodies::{BinlogCtx, BinlogEvent};
-use binlog_wire::{
-    Const, Error, EventType, IntRepr, LeU32, LoadDuplicateHandling, MyDeserialize, ParseBuf, Put,
-    RawInt,
-};
-use binlog_wire::RawBytes;
+use binlog_consts::{EventType, LoadDuplicateHandling};
+use binlog_description::{BinlogCtx, BinlogEvent};
+use binlog_wire::{Const, Error, IntRepr, LeU32, MyDeserialize, ParseBuf, Put, RawInt};
 use std::alloc::Global;
 use std::borrow::{CowSlice, CowStr};
 
@@ -215,7 +212,7 @@ impl<'a> ExecuteLoadQueryEvent<'a> {
     pub fn with_status_vars(mut self, status_vars: CowSlice<'a, u8>) -> Self
         ensures { result ≡ record self.entry { statement = with_status_vars self.entry.statement (cow_slice_items status_vars.entry) } }
     {
-        self.statement.texts.status_vars = StatusVars(RawBytes::new(status_vars));
+        self.statement = self.statement.with_status_vars(status_vars);
         self
     }
 
@@ -223,7 +220,7 @@ impl<'a> ExecuteLoadQueryEvent<'a> {
     pub fn with_schema(mut self, schema: CowSlice<'a, u8>) -> Self
         ensures { result ≡ record self.entry { statement = with_schema self.entry.statement (cow_slice_items schema.entry) } }
     {
-        self.statement.texts.schema = RawBytes::new(schema);
+        self.statement = self.statement.with_schema(schema);
         self
     }
 
@@ -231,7 +228,7 @@ impl<'a> ExecuteLoadQueryEvent<'a> {
     pub fn with_query(mut self, query: CowSlice<'a, u8>) -> Self
         ensures { result ≡ record self.entry { statement = with_query self.entry.statement (cow_slice_items query.entry) } }
     {
-        self.statement.texts.query = RawBytes::new(query);
+        self.statement = self.statement.with_query(query);
         self
     }
 

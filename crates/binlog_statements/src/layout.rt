@@ -2,7 +2,8 @@
 ghost use Rattle.std.specs.Prelude.{◌≡◌, ◌≤◌, IfSome, length};
 ghost use Rattle.binlog_statements.specs.Layouts.{layout_of, value_len, fixed_len, text_len, names_len, counted_names_len};
 
-use binlog_wire::{BytesRepr, NullBytes, ParseBuf, StatusVarKey};
+use binlog_consts::StatusVarKey;
+use binlog_wire::{BytesRepr, NullBytes, ParseBuf};
 
 /// How the value of a status variable is laid out.
 #[derive(Clone, Copy, Debug, PartialEq, Eq)]

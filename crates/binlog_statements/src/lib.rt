@@ -14,7 +14,7 @@ mod status_var_val;
 mod status_vars;
 mod user_var;
 
-pub use binlog_wire::{
+pub use binlog_consts::{
     ItemResult, LoadDuplicateHandling, StatusVarKey, UnknownItemResultType, UnknownStatusVarKey,
     UserVarFlags,
 };

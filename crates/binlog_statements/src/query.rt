@@ -6,9 +6,9 @@ ghost use Rattle.binlog_wire.specs.declared.error.Error.TheVariants.{Memory};
 
 use crate::statement::{STATEMENT_HEAD_LEN, Statement, StatementHead};
 use crate::status_vars::StatusVars;
-use binlog_bodies::{BinlogCtx, BinlogEvent};
-use binlog_wire::{Error, EventType, MyDeserialize, ParseBuf, Put};
-use binlog_wire::RawBytes;
+use binlog_consts::EventType;
+use binlog_description::{BinlogCtx, BinlogEvent};
+use binlog_wire::{Error, MyDeserialize, ParseBuf, Put};
 use std::alloc::Global;
 use std::borrow::{CowSlice, CowStr};
 
@@ -66,7 +66,7 @@ impl<'a> QueryEvent<'a> {
     pub fn with_status_vars(mut self, status_vars: CowSlice<'a, u8>) -> Self
         ensures { result ≡ record self.entry { statement = with_status_vars self.entry.statement (cow_slice_items status_vars.entry) } }
     {
-        self.statement.texts.status_vars = StatusVars(RawBytes::new(status_vars));
+        self.statement = self.statement.with_status_vars(status_vars);
         self
     }
 
@@ -74,7 +74,7 @@ impl<'a> QueryEvent<'a> {
     pub fn with_schema(mut self, schema: CowSlice<'a, u8>) -> Self
         ensures { result ≡ record self.entry { statement = with_schema self.entry.statement (cow_slice_items schema.entry) } }
     {
-        self.statement.texts.schema = RawBytes::new(schema);
+        self.statement = self.statement.with_schema(schema);
         self
     }
 
@@ -82,7 +82,7 @@ impl<'a> QueryEvent<'a> {
     pub fn with_query(mut self, query: CowSlice<'a, u8>) -> Self
         ensures { result ≡ record self.entry { statement = with_query self.entry.statement (cow_slice_items query.entry) } }
     {
-        self.statement.texts.query = RawBytes::new(query);
+        self.statement = self.statement.with_query(query);
         self
     }
 
@@ -173,9 +173,9 @@ impl<'a> QueryEvent<'a> {
 
 /// [`Error::EndOfBody`] where the bytes end before the statement, and no other error.
 impl<'de> MyDeserialize<'de> for QueryEvent<'de> {
-    ghost use Rattle.binlog_wire.specs.declared.consts.event_type.EventType.TheVariants.{QUERY_EVENT};
-    ghost use Rattle.binlog_bodies.specs.DescriptionRefs.{description_of};
-    ghost use Rattle.binlog_bodies.specs.PostHeaders.{post_header};
+    ghost use Rattle.binlog_consts.specs.declared.event_type.EventType.TheVariants.{QUERY_EVENT};
+    ghost use Rattle.binlog_description.specs.DescriptionRefs.{description_of};
+    ghost use Rattle.binlog_description.specs.PostHeaders.{post_header};
     ghost use Rattle.binlog_statements.specs.Query.{query};
 
     const SIZE: Option<usize> = None;
@@ -223,8 +223,8 @@ impl Put for QueryEvent<'_> {
 
 impl<'a> BinlogEvent<'a> for QueryEvent<'a> {
     ghost use Rattle.std.specs.Prelude.{refl};
-    ghost use Rattle.binlog_wire.specs.declared.consts.event_type.EventType.TheVariants.{QUERY_EVENT};
-    ghost use Rattle.binlog_bodies.specs.PostHeaders.{post_header};
+    ghost use Rattle.binlog_consts.specs.declared.event_type.EventType.TheVariants.{QUERY_EVENT};
+    ghost use Rattle.binlog_description.specs.PostHeaders.{post_header};
     ghost use Rattle.binlog_statements.specs.Query.{query};
 
     const EVENT_TYPE: EventType = EventType::QUERY_EVENT;

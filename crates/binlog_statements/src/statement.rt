@@ -86,6 +86,33 @@ pub struct StatementTexts<'a> {
 }
 
 impl<'a> StatementTexts<'a> {
+    /// The texts with these status variables.
+    pub fn with_status_vars(self, status_vars: CowSlice<'a, u8>) -> Self
+        ensures { result ≡ record self.entry { status_vars = record { 0 = cow_slice_items status_vars.entry } } }
+    {
+        StatementTexts {
+            status_vars: StatusVars(RawBytes::new(status_vars)),
+            schema: self.schema,
+            query: self.query,
+        }
+    }
+
+    /// The texts with this schema's name.
+    pub fn with_schema(mut self, schema: CowSlice<'a, u8>) -> Self
+        ensures { result ≡ record self.entry { schema = cow_slice_items schema.entry } }
+    {
+        self.schema = RawBytes::new(schema);
+        self
+    }
+
+    /// The texts with this statement.
+    pub fn with_query(mut self, query: CowSlice<'a, u8>) -> Self
+        ensures { result ≡ record self.entry { query = cow_slice_items query.entry } }
+    {
+        self.query = RawBytes::new(query);
+        self
+    }
+
     /// The same texts, owned; refused by [`Error::Memory`] alone.
     pub fn into_owned(self, alloc: Global) -> Result<StatementTexts<'static>, Error>
         ensures ok { IfOk result (λ owned. owned ≡ self.entry) }
@@ -178,7 +205,7 @@ pub struct Statement<'a> {
 }
 
 impl<'a> Statement<'a> {
-    ghost use Rattle.binlog_statements.specs.Statements.{head_of, new_statement, statement_with};
+    ghost use Rattle.binlog_statements.specs.Statements.{head_of, new_statement, statement_with, with_status_vars, with_schema, with_query};
 
     /// The empty statement with these status variables and this schema.
     pub fn new(status_vars: CowSlice<'a, u8>, schema: CowSlice<'a, u8>) -> Self
@@ -206,6 +233,30 @@ impl<'a> Statement<'a> {
             error_code: head.error_code,
             texts,
         }
+    }
+
+    /// The statement with these status variables.
+    pub fn with_status_vars(mut self, status_vars: CowSlice<'a, u8>) -> Self
+        ensures { result ≡ with_status_vars self.entry (cow_slice_items status_vars.entry) }
+    {
+        self.texts = self.texts.with_status_vars(status_vars);
+        self
+    }
+
+    /// The statement with this schema's name.
+    pub fn with_schema(mut self, schema: CowSlice<'a, u8>) -> Self
+        ensures { result ≡ with_schema self.entry (cow_slice_items schema.entry) }
+    {
+        self.texts = self.texts.with_schema(schema);
+        self
+    }
+
+    /// The statement with this text.
+    pub fn with_query(mut self, query: CowSlice<'a, u8>) -> Self
+        ensures { result ≡ with_query self.entry (cow_slice_items query.entry) }
+    {
+        self.texts = self.texts.with_query(query);
+        self
     }
 
     /// The fields of the post-header.

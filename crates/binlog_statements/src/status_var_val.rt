@@ -1,12 +1,13 @@
 //! What the value of a status variable means.
 ghost use Rattle.std.specs.Prelude.{◌≡◌, ◌∷◌, ◌++◌, [], length, IfOk, IfErr, OnOk, OnErr};
-ghost use Rattle.binlog_wire.specs.declared.consts.status_var_key.StatusVarKey.TheVariants.{UpdatedDbNames};
+ghost use Rattle.binlog_consts.specs.declared.status_var_key.StatusVarKey.TheVariants.{UpdatedDbNames};
 ghost use Rattle.binlog_statements.specs.Layouts.{IsCounted, Both, counted, AreNames, IsWholeLen};
 ghost use Rattle.binlog_statements.specs.declared.layout.Layout.TheVariants.{Names};
 
 use crate::layout::TOO_MANY_NAMES;
 use crate::status_vars::StatusVar;
-use binlog_wire::{Error, NullBytes, ParseBuf, RawBytes, StatusVarKey, U8Bytes};
+use binlog_consts::StatusVarKey;
+use binlog_wire::{Error, NullBytes, ParseBuf, RawBytes, U8Bytes};
 use byteorder::{ByteOrder, LittleEndian};
 use std::alloc::Global;
 use std::borrow::CowSlice;

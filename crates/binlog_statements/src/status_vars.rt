@@ -3,7 +3,8 @@ ghost use Rattle.std.specs.Prelude.{◌≡◌, length, Some};
 ghost use Rattle.binlog_statements.specs.Layouts.{layout_of, value_len};
 
 use crate::layout::Layout;
-use binlog_wire::{BareU16Bytes, Error, MyDeserialize, ParseBuf, Put, RawBytes, StatusVarKey};
+use binlog_consts::StatusVarKey;
+use binlog_wire::{BareU16Bytes, Error, MyDeserialize, ParseBuf, Put, RawBytes};
 use std::alloc::Global;
 
 /// The status variables of a statement: a text of keys and values, of which the first 65,535 bytes count.

@@ -1,8 +1,9 @@
 //! What the bodies of statements and the texts of status variables are read as and written as, by rows from outside.
-use binlog_bodies::{
+use binlog_consts::BinlogVersion;
+use binlog_description::{
     BinlogCtx, BinlogEvent, BinlogEventHeader, DescriptionRef, FormatDescriptionEvent, read_body,
 };
-use binlog_wire::{BinlogVersion, Error, MySerialize};
+use binlog_wire::{Error, MySerialize};
 use std::alloc::Global;
 use std::borrow::CowSlice;
 use std::process::Abort;

@@ -7,7 +7,7 @@ use Rattle.byteorder.specs.Endian.{little_bytes}
 use Rattle.binlog_wire.specs.declared.error.Invalid.{Invalid}
 use Rattle.binlog_wire.specs.Reading.{Read, read_as, other_type}
 use Rattle.binlog_wire.specs.Fields.{IsNumber, number_at, IsAllowed, allowed_at, IsCoded, coded_at, IsBlock, block_at, IsRest, rest_at, IsText, text_at, prefixed, padded, HasNoZero, IsTerminated, terminated_at, Then, then_at, unit_at, Skipped, skipped_at, behind_zeros, IsSeenAs, IsMade, IsSilent, silent_at, IsEither, either_at, IsPresentFrom, present_from_at}
-use Rattle.binlog_wire.specs.Laws.{Keeps}
+use Rattle.binlog_wire.specs.Laws.{KeepsTo}
 use Rattle.binlog_wire.specs.Laws.Numbers.{IsCode, keeps_number, keeps_allowed, keeps_coded, length-number}
 use Rattle.binlog_wire.specs.Laws.Texts.{keeps_block, keeps_rest, keeps_text, length-padded, padded_all}
 use Rattle.binlog_wire.specs.Laws.Terminated.{keeps_terminated, terminated_long}
@@ -44,7 +44,7 @@ pub record Format (place : Place) (V : Type 0) : Type 1 where
   -- no spelling takes fewer bytes
   pub least : ℕ
   -- what is read is spelled so, and what is spelled so is read
-  pub keeps : Keeps spells reads
+  pub keeps : KeepsTo spells reads
   -- what is written spells the normal form
   pub writes : (v : V) (r : List ℕ) → Fits v → Follows place r → spells (written v ++ r) (normal v) r
   -- what is spelled is its own normal form
@@ -385,7 +385,7 @@ if_left x f default = record {
   long = if_left_long x f;
 }
 
-pub keeps_nowhere : {V : Type 0} (number : ℕ) → Keeps {V = V} (λ s v r. ⊥) (λ s. Err (other_type number))
+pub keeps_nowhere : {V : Type 0} (number : ℕ) → KeepsTo {V = V} (λ s v r. ⊥) (λ s. Err (other_type number))
 keeps_nowhere number = record { sound = λ s x fits e. absurd cc; complete = λ s v r h. absurd h }
 
 -- a format under another type of event: no value stands, whatever the bytes
@@ -476,5 +476,5 @@ canonical_in {place} {V} f v = record {
 }
 
 -- a reading that gives what a format's does keeps to its grammar
-pub keeps_as : {place : Place} {V : Type 0} {reads : List ℕ → Read V} (f : Format place V) → reads ≡ f.reads → Keeps f.spells reads
-keeps_as {V = V} f same = subst (λ (reading : List ℕ → Read V). Keeps f.spells reading) (sym same) f.keeps
+pub keeps_as : {place : Place} {V : Type 0} {reads : List ℕ → Read V} (f : Format place V) → reads ≡ f.reads → KeepsTo f.spells reads
+keeps_as {V = V} f same = subst (λ (reading : List ℕ → Read V). KeepsTo f.spells reading) (sym same) f.keeps

@@ -12,7 +12,7 @@ pub mod Lengths
 
 -- The law that ties a reading to a spelling. Since a reading is a function, it follows that bytes spell at most one
 -- value with at most one rest, and that only bytes that spell nothing are refused.
-pub record Keeps {V : Type 0} (spells : List ℕ → V → List ℕ → Type 0) (reads : List ℕ → Read V) : Type 0 where
+pub record KeepsTo {V : Type 0} (spells : List ℕ → V → List ℕ → Type 0) (reads : List ℕ → Read V) : Type 0 where
   -- what is read is spelled so
   pub sound : (s : List ℕ) (x : V × List ℕ) → IsBytes s → reads s ≡ Ok x → spells s x.0 x.1 × IsBytes x.1
   -- what is spelled so is read, with that value and that rest

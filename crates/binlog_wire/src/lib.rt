@@ -7,27 +7,14 @@
 //! all that is said of a body together.
 #![tactic(auto)]
 
-mod consts;
 mod error;
-pub mod laws;
 mod number;
 mod output;
 mod parse_buf;
 mod raw;
 mod room;
 mod traits;
-mod version_split;
 
-pub use consts::codes::{
-    BinlogChecksumAlg, IncidentType, IntvarEventType, UnknownChecksumAlg, UnknownIncidentType,
-};
-pub use consts::event_flags::EventFlags;
-pub use consts::event_type::{EventType, UnknownEventType};
-pub use consts::statement_codes::{
-    ItemResult, LoadDuplicateHandling, UnknownItemResultType, UserVarFlags,
-};
-pub use consts::status_var_key::{StatusVarKey, UnknownStatusVarKey};
-pub use consts::version::BinlogVersion;
 pub use error::{Error, Field, Invalid};
 pub use number::{read_u16_at, read_u32_at};
 pub use output::write_bytes;
@@ -41,4 +28,3 @@ pub use raw::flags::RawFlags;
 pub use raw::int::{IntRepr, LeU16, LeU32, LeU56, LeU64, RawInt};
 pub use room::reserve;
 pub use traits::{MyDeserialize, MySerialize, Put};
-pub use version_split::split_version;

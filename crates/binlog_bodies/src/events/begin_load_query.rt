@@ -4,10 +4,10 @@ ghost use Rattle.std.specs.Cow.{cow_slice_items};
 ghost use Rattle.binlog_wire.specs.declared.error.Error.TheVariants.{Memory};
 ghost use Rattle.binlog_bodies.specs.BeginLoadQuery.{begin_load_query};
 
-use crate::ctx::BinlogCtx;
-use crate::traits::BinlogEvent;
+use binlog_consts::EventType;
+use binlog_description::{BinlogCtx, BinlogEvent};
 use binlog_wire::{
-    EofBytes, Error, EventType, IntRepr, LeU32, MyDeserialize, ParseBuf, Put, RawBytes, RawInt,
+    EofBytes, Error, IntRepr, LeU32, MyDeserialize, ParseBuf, Put, RawBytes, RawInt,
 };
 use std::alloc::Global;
 use std::borrow::CowSlice;

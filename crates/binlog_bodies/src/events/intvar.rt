@@ -2,11 +2,9 @@
 ghost use Rattle.std.specs.Prelude.{◌≡◌, Some, refl};
 ghost use Rattle.binlog_bodies.specs.Intvar.{intvar};
 
-use crate::ctx::BinlogCtx;
-use crate::traits::BinlogEvent;
-use binlog_wire::{
-    Const, Error, EventType, IntRepr, IntvarEventType, LeU64, MyDeserialize, ParseBuf, Put, RawInt,
-};
+use binlog_consts::{EventType, IntvarEventType};
+use binlog_description::{BinlogCtx, BinlogEvent};
+use binlog_wire::{Const, Error, IntRepr, LeU64, MyDeserialize, ParseBuf, Put, RawInt};
 use std::alloc::Global;
 
 /// The length of the body in bytes.

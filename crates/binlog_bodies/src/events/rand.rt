@@ -2,9 +2,9 @@
 ghost use Rattle.std.specs.Prelude.{Some, refl};
 ghost use Rattle.binlog_bodies.specs.Rand.{rand};
 
-use crate::ctx::BinlogCtx;
-use crate::traits::BinlogEvent;
-use binlog_wire::{Error, EventType, LeU64, MyDeserialize, ParseBuf, Put, RawInt};
+use binlog_consts::EventType;
+use binlog_description::{BinlogCtx, BinlogEvent};
+use binlog_wire::{Error, LeU64, MyDeserialize, ParseBuf, Put, RawInt};
 use std::alloc::Global;
 
 /// The length of the body in bytes.

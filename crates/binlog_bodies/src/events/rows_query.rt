@@ -5,11 +5,9 @@ ghost use Rattle.std.specs.Str.Lossy.{utf8_lossy};
 ghost use Rattle.binlog_wire.specs.declared.error.Error.TheVariants.{Memory};
 ghost use Rattle.binlog_bodies.specs.RowsQuery.{rows_query};
 
-use crate::ctx::BinlogCtx;
-use crate::traits::BinlogEvent;
-use binlog_wire::{
-    EofBytes, Error, EventType, IntRepr, MyDeserialize, ParseBuf, Put, RawBytes, Skip,
-};
+use binlog_consts::EventType;
+use binlog_description::{BinlogCtx, BinlogEvent};
+use binlog_wire::{EofBytes, Error, IntRepr, MyDeserialize, ParseBuf, Put, RawBytes, Skip};
 use std::alloc::Global;
 use std::borrow::{CowSlice, CowStr};
 

@@ -1,13 +1,13 @@
 //! The event that ends a transaction.
 ghost use Rattle.std.specs.Prelude.{refl};
-ghost use Rattle.binlog_wire.specs.declared.consts.event_type.EventType.TheVariants.{XID_EVENT};
-ghost use Rattle.binlog_bodies.specs.DescriptionRefs.{description_of};
-ghost use Rattle.binlog_bodies.specs.PostHeaders.{post_header};
+ghost use Rattle.binlog_consts.specs.declared.event_type.EventType.TheVariants.{XID_EVENT};
+ghost use Rattle.binlog_description.specs.DescriptionRefs.{description_of};
+ghost use Rattle.binlog_description.specs.PostHeaders.{post_header};
 ghost use Rattle.binlog_bodies.specs.Xid.{xid};
 
-use crate::ctx::BinlogCtx;
-use crate::traits::BinlogEvent;
-use binlog_wire::{Error, EventType, IntRepr, LeU64, MyDeserialize, ParseBuf, Put};
+use binlog_consts::EventType;
+use binlog_description::{BinlogCtx, BinlogEvent};
+use binlog_wire::{Error, IntRepr, LeU64, MyDeserialize, ParseBuf, Put};
 use std::alloc::Global;
 
 /// The length of the written body in bytes.

@@ -1,8 +1,9 @@
 //! The events of statements that load a file.
 use super::{LOAD, fronts_are_refused, read, written};
 use crate::ExecuteLoadQueryEvent;
-use binlog_bodies::BinlogStruct;
-use binlog_wire::{BinlogVersion, Error, Invalid, LoadDuplicateHandling};
+use binlog_consts::{BinlogVersion, LoadDuplicateHandling};
+use binlog_description::BinlogStruct;
+use binlog_wire::{Error, Invalid};
 use std::borrow::CowSlice;
 use std::test::Fail;
 

@@ -2,7 +2,7 @@
 //! the call's error, and no answer changes.
 use super::{CREATE_TABLE, INTEGER, LOAD, read};
 use crate::{ExecuteLoadQueryEvent, QueryEvent, StatusVarVal, StatusVarsIterator, UserVarEvent};
-use binlog_bodies::BinlogEvent;
+use binlog_description::BinlogEvent;
 use binlog_wire::{Error, MySerialize};
 use std::process::Abort;
 use std::test::Fail;

@@ -1,8 +1,9 @@
 //! The events of statements.
 use super::{CREATE_TABLE, STATUS, fronts_are_refused, read, read_under, stating, written};
 use crate::QueryEvent;
-use binlog_bodies::BinlogStruct;
-use binlog_wire::{BinlogVersion, Error};
+use binlog_consts::BinlogVersion;
+use binlog_description::BinlogStruct;
+use binlog_wire::Error;
 use std::borrow::CowSlice;
 use std::test::Fail;
 

@@ -1,8 +1,9 @@
 //! The events of user variables.
 use super::{INTEGER, fronts_are_refused, read, written};
 use crate::UserVarEvent;
-use binlog_bodies::BinlogStruct;
-use binlog_wire::{BinlogVersion, Error, ItemResult, UnknownItemResultType, UserVarFlags};
+use binlog_consts::{BinlogVersion, ItemResult, UnknownItemResultType, UserVarFlags};
+use binlog_description::BinlogStruct;
+use binlog_wire::Error;
 use std::test::Fail;
 
 /// A null `a`.

@@ -1,7 +1,8 @@
 //! Which status variables a text has.
 use super::{CREATE_TABLE, read, written};
 use crate::{QueryEvent, StatusVars, StatusVarsIterator};
-use binlog_wire::{ParseBuf, StatusVarKey};
+use binlog_consts::StatusVarKey;
+use binlog_wire::ParseBuf;
 use std::process::Abort;
 use std::test::Fail;
 

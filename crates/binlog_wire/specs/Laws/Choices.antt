@@ -3,9 +3,9 @@ use Rattle.std.proofs.Common.{◌≡◌, ℕ, zero, suc, Bool, true, false, cond
 use Rattle.std.proofs.lemmas.Bool.{ltb-false, ltb-true, le-ltb, lt-ltb}
 use Rattle.binlog_wire.specs.Reading.{Read}
 use Rattle.binlog_wire.specs.Fields.{IsBytes, IsSilent, silent_at, IsEither, either_at, IsByteIfLeft, byte_if_left_at, IsPresentFrom, present_from_at}
-use Rattle.binlog_wire.specs.Laws.{Keeps}
+use Rattle.binlog_wire.specs.Laws.{KeepsTo}
 
-pub keeps_silent : {V : Type 0} (x : V) → Keeps (IsSilent x) (silent_at x)
+pub keeps_silent : {V : Type 0} (x : V) → KeepsTo (IsSilent x) (silent_at x)
 keeps_silent {V} x = record {
   sound = λ s y fits e.
       let same : ◌≡◌ {A = V × List ℕ} (x, s) y = cc in
@@ -16,7 +16,7 @@ keeps_silent {V} x = record {
 -- ---- a byte chooses
 
 either_sound : {V : Type 0} {F : List ℕ → V → List ℕ → Type 0} {G : List ℕ → V → List ℕ → Type 0} {f : List ℕ → Read V} {g : List ℕ → Read V}
-    → Keeps F f → Keeps G g → (s : List ℕ) (x : V × List ℕ) → IsBytes s → either_at f g s ≡ Ok x → IsEither F G s x.0 x.1 × IsBytes x.1
+    → KeepsTo F f → KeepsTo G g → (s : List ℕ) (x : V × List ℕ) → IsBytes s → either_at f g s ≡ Ok x → IsEither F G s x.0 x.1 × IsBytes x.1
 either_sound kf kg [] x fits e = absurd cc
 either_sound kf kg (zero ∷ s) x fits e =
     let p = kf.sound s x (λ i. fits (suc i)) e in (inl (s, refl, p.0), p.1)
@@ -24,12 +24,12 @@ either_sound kf kg (suc b ∷ s) x fits e =
     let p = kg.sound s x (λ i. fits (suc i)) e in (inr (b, s, refl, fits 0, p.0), p.1)
 
 either_complete : {V : Type 0} {F : List ℕ → V → List ℕ → Type 0} {G : List ℕ → V → List ℕ → Type 0} {f : List ℕ → Read V} {g : List ℕ → Read V}
-    → Keeps F f → Keeps G g → (s : List ℕ) (v : V) (r : List ℕ) → IsEither F G s v r → either_at f g s ≡ Ok (v, r)
+    → KeepsTo F f → KeepsTo G g → (s : List ℕ) (v : V) (r : List ℕ) → IsEither F G s v r → either_at f g s ≡ Ok (v, r)
 either_complete kf kg s v r (inl (m, e, h)) = rw e (kf.complete m v r h)
 either_complete kf kg s v r (inr (b, m, e, lt, h)) = rw e (kg.complete m v r h)
 
 pub keeps_either : {V : Type 0} {F : List ℕ → V → List ℕ → Type 0} {G : List ℕ → V → List ℕ → Type 0} {f : List ℕ → Read V} {g : List ℕ → Read V}
-    → Keeps F f → Keeps G g → Keeps (IsEither F G) (either_at f g)
+    → KeepsTo F f → KeepsTo G g → KeepsTo (IsEither F G) (either_at f g)
 keeps_either kf kg = record { sound = either_sound kf kg; complete = either_complete kf kg }
 
 -- ---- a byte, if one is left
@@ -46,12 +46,12 @@ byte_if_left_complete : (s : List ℕ) (b : ℕ) (r : List ℕ) → IsByteIfLeft
 byte_if_left_complete s b r (inl (e, f, g)) = rw (e, f, g) refl
 byte_if_left_complete s b r (inr (e, lt)) = rw e refl
 
-pub keeps_byte_if_left : Keeps IsByteIfLeft byte_if_left_at
+pub keeps_byte_if_left : KeepsTo IsByteIfLeft byte_if_left_at
 keeps_byte_if_left = record { sound = byte_if_left_sound; complete = byte_if_left_complete }
 
 -- ---- how many bytes are left chooses
 
-present_from_sound : {V : Type 0} {F : List ℕ → V → List ℕ → Type 0} {f : List ℕ → Read V} (n : ℕ) (x : V) → Keeps F f
+present_from_sound : {V : Type 0} {F : List ℕ → V → List ℕ → Type 0} {f : List ℕ → Read V} (n : ℕ) (x : V) → KeepsTo F f
     → (s : List ℕ) (y : V × List ℕ) → IsBytes s → (b : Bool) → ltb (length s) n ≡ b → cond b (silent_at x s) (f s) ≡ Ok y
     → IsPresentFrom n x F s y.0 y.1 × IsBytes y.1
 present_from_sound n x kf s y fits true short e =
@@ -59,13 +59,13 @@ present_from_sound n x kf s y fits true short e =
 present_from_sound n x kf s y fits false long e =
     let p = kf.sound s y fits e in (inr (ltb-false _ _ long, p.0), p.1)
 
-present_from_complete : {V : Type 0} {F : List ℕ → V → List ℕ → Type 0} {f : List ℕ → Read V} (n : ℕ) (x : V) → Keeps F f
+present_from_complete : {V : Type 0} {F : List ℕ → V → List ℕ → Type 0} {f : List ℕ → Read V} (n : ℕ) (x : V) → KeepsTo F f
     → (s : List ℕ) (v : V) (r : List ℕ) → IsPresentFrom n x F s v r → present_from_at n x f s ≡ Ok (v, r)
 present_from_complete n x kf s v r (inl (short, h)) = rw (lt-ltb _ _ short) ((keeps_silent x).complete s v r h)
 present_from_complete n x kf s v r (inr (long, h)) = rw (le-ltb _ _ long) (kf.complete s v r h)
 
 pub keeps_present_from : {V : Type 0} {F : List ℕ → V → List ℕ → Type 0} {f : List ℕ → Read V} (n : ℕ) (x : V)
-    → Keeps F f → Keeps (IsPresentFrom n x F) (present_from_at n x f)
+    → KeepsTo F f → KeepsTo (IsPresentFrom n x F) (present_from_at n x f)
 keeps_present_from n x kf = record {
   sound = λ s y fits e. present_from_sound n x kf s y fits _ refl e;
   complete = present_from_complete n x kf;

@@ -9,7 +9,7 @@ use Rattle.byteorder.specs.Numbers.{little_from-cons, little_from-lt, little_num
 use Rattle.binlog_wire.specs.declared.error.Invalid.{Invalid}
 use Rattle.binlog_wire.specs.Reading.{ends, invalid}
 use Rattle.binlog_wire.specs.Fields.{IsBytes, IsNumber, number_at, IsAllowed, allow, allowed_at, IsCoded, meant, coded_at}
-use Rattle.binlog_wire.specs.Laws.{Keeps, IsBytes-drop, bind_ok, guard_ok, allow_ok}
+use Rattle.binlog_wire.specs.Laws.{KeepsTo, IsBytes-drop, bind_ok, guard_ok, allow_ok}
 
 -- the bytes from the second on are those of the number without its first byte
 bytes_low_first-shift : (i k n : ℕ) → bytes_low_first (suc i) k n ≡ bytes_low_first i k (n / 256)
@@ -39,7 +39,7 @@ length-little_bytes k n = length-bytes_low_first 0 k n
 pub length-number : (k : ℕ) (s : List ℕ) (n : ℕ) (r : List ℕ) → IsNumber k s n r → length s ≡ k + length r
 length-number k s n r h = ap length h.1 ∙ length-append (little_bytes k n) r ∙ ap (λ (m : ℕ). m + length r) (length-little_bytes k n)
 
-pub keeps_number : (k : ℕ) → Keeps (IsNumber k) (number_at k)
+pub keeps_number : (k : ℕ) → KeepsTo (IsNumber k) (number_at k)
 keeps_number k = record {
   sound = λ s x fits e.
       let g = guard_ok (ltb (length s) k) ends (Ok (little_number k s, drop k s)) x e in
@@ -52,7 +52,7 @@ keeps_number k = record {
       rw (h.1, long, little_number-reads_back k n r h.0, drop_at (little_bytes k n) r k (length-little_bytes k n)) refl;
 }
 
-pub keeps_allowed : (k : ℕ) (allowed : ℕ → Bool) (why : ℕ → Invalid) → Keeps (IsAllowed k allowed) (allowed_at k allowed why)
+pub keeps_allowed : (k : ℕ) (allowed : ℕ → Bool) (why : ℕ → Invalid) → KeepsTo (IsAllowed k allowed) (allowed_at k allowed why)
 keeps_allowed k allowed why = record {
   sound = λ s x fits e.
       let b = bind_ok (number_at k s) (allow allowed why) x e in
@@ -76,7 +76,7 @@ meant_ok : {E : Type 0} (d : Result E Invalid) (rest : List ℕ) (x : E × List 
 meant_ok {E} (Ok e) rest x h = let same : ◌≡◌ {A = E × List ℕ} (e, rest) x = cc in (ap (λ (y : E × List ℕ). Ok y.0) same, ap (λ (y : E × List ℕ). y.1) same)
 meant_ok {E} (Err why) rest x h = absurd cc
 
-pub keeps_coded : {E : Type 0} (k : ℕ) (code : E → ℕ) (decoded : ℕ → Result E Invalid) → IsCode k code decoded → Keeps (IsCoded k code) (coded_at k decoded)
+pub keeps_coded : {E : Type 0} (k : ℕ) (code : E → ℕ) (decoded : ℕ → Result E Invalid) → IsCode k code decoded → KeepsTo (IsCoded k code) (coded_at k decoded)
 keeps_coded {E} k code decoded law = record {
   sound = λ s x fits e.
       let b = bind_ok (number_at k s) (λ n. meant (decoded n.0) n.1) x e in

@@ -3,11 +3,11 @@ use Rattle.std.proofs.Common.{◌≡◌, ℕ, ◌≤◌, ltb, List, length, Ok, 
 use Rattle.std.proofs.lemmas.Bool.{le-ltb}
 use Rattle.binlog_wire.specs.Reading.{ends, Read, ◌>>=◌, read_as}
 use Rattle.binlog_wire.specs.Fields.{IsBytes, block_at, Then, then_at, unit_at, Skipped, skipped_at, IsSeenAs, IsMade}
-use Rattle.binlog_wire.specs.Laws.{Keeps, bind_ok, guard_ok}
+use Rattle.binlog_wire.specs.Laws.{KeepsTo, bind_ok, guard_ok}
 use Rattle.binlog_wire.specs.Laws.Texts.{keeps_block}
 
 pub keeps_then : {A B : Type 0} {F : List ℕ → A → List ℕ → Type 0} {G : A → List ℕ → B → List ℕ → Type 0} {f : List ℕ → Read A} {g : A → List ℕ → Read B}
-    → Keeps F f → ((a : A) → Keeps (G a) (g a)) → Keeps (Then F G) (then_at f g)
+    → KeepsTo F f → ((a : A) → KeepsTo (G a) (g a)) → KeepsTo (Then F G) (then_at f g)
 keeps_then {A} {B} {F} {G} {f} {g} kf kg = record {
   sound = λ s x fits e.
       let a = bind_ok (f s) (λ a. g a.0 a.1 >>= λ b. Ok ((a.0, b.0), b.1)) x e in
@@ -23,13 +23,13 @@ keeps_then {A} {B} {F} {G} {f} {g} kf kg = record {
 -- a unit of k bytes, which are there wherever its fields are
 pub keeps_unit : {A : Type 0} {F : List ℕ → A → List ℕ → Type 0} {f : List ℕ → Read A} (k : ℕ)
     → ((s : List ℕ) (v : A) (r : List ℕ) → F s v r → k ≤ length s)
-    → Keeps F f → Keeps F (unit_at k f)
+    → KeepsTo F f → KeepsTo F (unit_at k f)
 keeps_unit {A} {F} {f} k long kf = record {
   sound = λ s x fits e. kf.sound s x fits (guard_ok (ltb (length s) k) ends (f s) x e).1;
   complete = λ s v r h. rw (le-ltb _ _ (long s v r h)) (kf.complete s v r h);
 }
 
-pub keeps_skipped : {V : Type 0} {F : List ℕ → V → List ℕ → Type 0} {f : List ℕ → Read V} (k : ℕ) → Keeps F f → Keeps (Skipped k F) (skipped_at k f)
+pub keeps_skipped : {V : Type 0} {F : List ℕ → V → List ℕ → Type 0} {f : List ℕ → Read V} (k : ℕ) → KeepsTo F f → KeepsTo (Skipped k F) (skipped_at k f)
 keeps_skipped {V} {F} {f} k kf = record {
   sound = λ s x fits e.
       let a = bind_ok (block_at k s) (λ x. f x.1) x e in
@@ -42,7 +42,7 @@ keeps_skipped {V} {F} {f} k kf = record {
 -- the same bytes seen as another value, from which the first comes back wherever bytes spell it
 pub keeps_seen_as_spelled : {A B : Type 0} {F : List ℕ → A → List ℕ → Type 0} {f : List ℕ → Read A} (to : A → B) (from : B → A)
     → ((s : List ℕ) (a : A) (r : List ℕ) → F s a r → from (to a) ≡ a) → ((b : B) → to (from b) ≡ b)
-    → Keeps F f → Keeps (IsSeenAs from F) (λ s. read_as to (f s))
+    → KeepsTo F f → KeepsTo (IsSeenAs from F) (λ s. read_as to (f s))
 keeps_seen_as_spelled {A} {B} {F} {f} to from back forth k = record {
   sound = λ s x fits e.
       let a = bind_ok (f s) (λ x. Ok (to x.0, x.1)) x e in
@@ -56,11 +56,11 @@ keeps_seen_as_spelled {A} {B} {F} {f} to from back forth k = record {
 -- the same where the first always comes back
 pub keeps_seen_as : {A B : Type 0} {F : List ℕ → A → List ℕ → Type 0} {f : List ℕ → Read A} (to : A → B) (from : B → A)
     → ((a : A) → from (to a) ≡ a) → ((b : B) → to (from b) ≡ b)
-    → Keeps F f → Keeps (IsSeenAs from F) (λ s. read_as to (f s))
+    → KeepsTo F f → KeepsTo (IsSeenAs from F) (λ s. read_as to (f s))
 keeps_seen_as to from back forth k = keeps_seen_as_spelled to from (λ s a r h. back a) forth k
 
 -- the same bytes seen as a value that is made of the first
-pub keeps_made : {A B : Type 0} {F : List ℕ → A → List ℕ → Type 0} {f : List ℕ → Read A} (to : A → B) → Keeps F f → Keeps (IsMade to F) (λ s. read_as to (f s))
+pub keeps_made : {A B : Type 0} {F : List ℕ → A → List ℕ → Type 0} {f : List ℕ → Read A} (to : A → B) → KeepsTo F f → KeepsTo (IsMade to F) (λ s. read_as to (f s))
 keeps_made {A} {B} {F} {f} to k = record {
   sound = λ s x fits e.
       let a = bind_ok (f s) (λ x. Ok (to x.0, x.1)) x e in

@@ -6,7 +6,7 @@ use Rattle.std.proofs.lemmas.List.{length-append, length-drop, take_all}
 use Rattle.memchr.specs.Find.{NoneBefore, Nowhere, Passes, is_byte, IsFirstByte}
 use Rattle.binlog_wire.specs.Reading.{ends, Read, ◌>>=◌}
 use Rattle.binlog_wire.specs.Fields.{IsBytes, HasNoZero, IsTerminated, terminated_at}
-use Rattle.binlog_wire.specs.Laws.{Keeps, bind_ok}
+use Rattle.binlog_wire.specs.Laws.{KeepsTo, bind_ok}
 
 terminated_sound : (s : List ℕ) (x : List ℕ × List ℕ) → IsBytes s → terminated_at s ≡ Ok x → IsTerminated s x.0 x.1 × IsBytes x.1
 terminated_sound [] x fits e = absurd cc
@@ -24,7 +24,7 @@ terminated_complete [] r h = refl
 terminated_complete (zero ∷ text) r h = absurd h
 terminated_complete (suc b ∷ text) r h = rw (terminated_complete text r h) refl
 
-pub keeps_terminated : Keeps IsTerminated terminated_at
+pub keeps_terminated : KeepsTo IsTerminated terminated_at
 keeps_terminated = record {
   sound = terminated_sound;
   complete = λ s v r h. rw h.1 (terminated_complete v r h.0);

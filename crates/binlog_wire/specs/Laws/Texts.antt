@@ -4,10 +4,10 @@ use Rattle.std.proofs.lemmas.Bool.{ltb-false, le-ltb}
 use Rattle.std.proofs.lemmas.List.{take_at, drop_at, take-append-drop, append-nil, length-append, length-replicate, length-take, take_all}
 use Rattle.binlog_wire.specs.Reading.{ends}
 use Rattle.binlog_wire.specs.Fields.{IsBytes, IsNumber, number_at, IsBlock, block_at, IsRest, rest_at, IsText, text_at, padded}
-use Rattle.binlog_wire.specs.Laws.{Keeps, IsBytes-drop, bind_ok, guard_ok}
+use Rattle.binlog_wire.specs.Laws.{KeepsTo, IsBytes-drop, bind_ok, guard_ok}
 use Rattle.binlog_wire.specs.Laws.Numbers.{keeps_number}
 
-pub keeps_rest : Keeps IsRest rest_at
+pub keeps_rest : KeepsTo IsRest rest_at
 keeps_rest = record {
   sound = λ s x fits e.
       let same : ◌≡◌ {A = List ℕ × List ℕ} (s, []) x = cc in
@@ -15,7 +15,7 @@ keeps_rest = record {
   complete = λ s v r h. rw (h.0, h.1) refl;
 }
 
-pub keeps_block : (k : ℕ) → Keeps (IsBlock k) (block_at k)
+pub keeps_block : (k : ℕ) → KeepsTo (IsBlock k) (block_at k)
 keeps_block k = record {
   sound = λ s x fits e.
       let g = guard_ok (ltb (length s) k) ends (Ok (take k s, drop k s)) x e in
@@ -28,7 +28,7 @@ keeps_block k = record {
       rw (h.1, long, take_at v r k h.0, drop_at v r k h.0) refl;
 }
 
-pub keeps_text : (k : ℕ) → Keeps (IsText k) (text_at k)
+pub keeps_text : (k : ℕ) → KeepsTo (IsText k) (text_at k)
 keeps_text k = record {
   sound = λ s x fits e.
       let a = bind_ok (number_at k s) (λ n. block_at n.0 n.1) x e in

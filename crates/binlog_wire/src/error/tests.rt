@@ -1,5 +1,4 @@
 use super::{Error, Field, Invalid};
-use crate::{EventType, UnknownChecksumAlg, UnknownEventType, UnknownIncidentType};
 use std::test::Fail;
 
 #[test]
@@ -81,21 +80,5 @@ fn says_what_is_wrong(rt: HostRuntime) -> Result<(), Fail> {
     for (error, text) in rows {
         assert_eq!(rt; format!(in alloc; "{error}")?.as_str(), text);
     }
-    let unknown = UnknownEventType(41);
-    assert_eq!(rt;
-        format!(in alloc; "{unknown}")?.as_str(),
-        "the event type 41 is not known"
-    );
-    let unknown = UnknownChecksumAlg(2);
-    assert_eq!(rt;
-        format!(in alloc; "{unknown}")?.as_str(),
-        "the checksum algorithm 2 is not known"
-    );
-    let unknown = UnknownIncidentType(258);
-    assert_eq!(rt;
-        format!(in alloc; "{unknown}")?.as_str(),
-        "the incident type 258 is not known"
-    );
-    assert_eq!(rt; EventType::try_from(41), Err(UnknownEventType(41)));
     Ok(())
 }

@@ -80,19 +80,3 @@ impl<F, K: IntRepr> Put for RawFlags<F, K> {
         K::put(self.0, buf);
     }
 }
-
-#[cfg(test)]
-mod tests {
-    use super::*;
-    use crate::consts::event_flags::EventFlags;
-    use crate::raw::int::LeU16;
-
-    #[test]
-    fn gives_the_known_flags(rt: HostRuntime) {
-        let raw: RawFlags<EventFlags, LeU16> = RawFlags::new(0xfc81);
-        let flags = raw.get();
-        assert!(rt; flags.contains(EventFlags::LOG_EVENT_BINLOG_IN_USE_F));
-        assert!(rt; flags.contains(EventFlags::LOG_EVENT_IGNORABLE_F));
-        assert_eq!(rt; flags.bits(), 0x81);
-    }
-}

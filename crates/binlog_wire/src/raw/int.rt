@@ -311,11 +311,8 @@ impl<K: IntRepr> Put for RawInt<K> {
 #[cfg(test)]
 mod tests {
     use super::*;
-    use crate::consts::codes::IntvarEventType;
-    use crate::consts::event_flags::EventFlags;
     use crate::raw::bytes::{EofBytes, RawBytes};
-    use crate::raw::constant::{Const, RawConst, Skip};
-    use crate::raw::flags::RawFlags;
+    use crate::raw::constant::Skip;
     use crate::traits::MySerialize;
     use std::test::Fail;
 
@@ -347,9 +344,6 @@ mod tests {
         assert_eq!(rt; RawInt::<LeU32>::SIZE, Some(4));
         assert_eq!(rt; RawInt::<LeU56>::SIZE, Some(7));
         assert_eq!(rt; RawInt::<LeU64>::SIZE, Some(8));
-        assert_eq!(rt; Const::<IntvarEventType, u8>::SIZE, Some(1));
-        assert_eq!(rt; RawConst::<LeU16, IntvarEventType>::SIZE, Some(2));
-        assert_eq!(rt; RawFlags::<EventFlags, LeU16>::SIZE, Some(2));
         assert_eq!(rt; Skip::<3>::SIZE, Some(3));
         assert_eq!(rt; RawBytes::<'static, EofBytes>::SIZE, None);
         assert_eq!(rt; ParseBuf::<'static>::SIZE, None);

@@ -1,9 +1,5 @@
-use Rattle.binlog_bodies.specs.FormatDescriptionLaws.{description_ends}
 use Rattle.binlog_bodies.specs.ShortBodies.{rotate_ends, intvar_ends, rand_ends, xid_ends}
 use Rattle.binlog_bodies.proofs.laws.short_bodies.Goals as goal
-
-pub returns-clause-description : goal.returns-clause-description
-returns-clause-description c = description_ends
 
 pub returns-clause-rotate : goal.returns-clause-rotate
 returns-clause-rotate c = rotate_ends

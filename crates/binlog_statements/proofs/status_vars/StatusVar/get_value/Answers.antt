@@ -1,5 +1,5 @@
 use Rattle.std.proofs.Common.{subst}
-use Rattle.binlog_wire.specs.declared.consts.status_var_key.StatusVarKey.{StatusVarKey}
+use Rattle.binlog_consts.specs.declared.status_var_key.StatusVarKey.{StatusVarKey}
 use Rattle.binlog_statements.specs.Layouts.{layout_of, IsLaidOut}
 use Rattle.binlog_statements.proofs.LayoutLaws.{whole_is}
 use Rattle.binlog_statements.proofs.status_vars.StatusVar.get_value.Goals as goal
