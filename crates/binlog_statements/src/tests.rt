@@ -51,14 +51,20 @@ fn read<'a, T: BinlogEvent<'a> + Drop>(alloc: Global, body: &'a [u8]) -> Result<
     read_under(alloc, DescriptionRef::new(BinlogVersion::Version4), body)
 }
 
-// Writes a value behind one byte, and gives all bytes.
-fn written<T: MySerialize>(alloc: Global, value: &T) -> Result<Vec<u8>, Error> {
-    let mut bytes = Vec::from_slice(alloc, b"x")?;
-    value.serialize(alloc, &mut bytes)?;
-    Ok(bytes)
+// Whether a value is written with so many bytes, which begin with these.
+fn is_written_with<T: MySerialize>(
+    rt: &(impl Abort + AllocGlobal),
+    value: &T,
+    len: usize,
+    front: &[u8],
+) {
+    let mut bytes = Vec::new(rt.alloc());
+    assert_eq!(rt; value.serialize(rt.alloc(), &mut bytes), Ok(()));
+    assert_eq!(rt; bytes.len(), len);
+    assert!(rt; bytes.starts_with(front));
 }
 
-// The first bytes of a body, each proper front of which is refused for its end.
+// Whether each front of a body of fewer bytes than these is refused for its end.
 fn fronts_are_refused<'a, T: BinlogEvent<'a> + Drop>(
     rt: &(impl Abort + AllocGlobal),
     body: &'a [u8],

@@ -1,11 +1,12 @@
 //! What takes memory, and what refused memory leaves. These tests pass wherever an allocation is refused: a refusal is
 //! the call's error, and no answer changes.
-use super::{CREATE_TABLE, INTEGER, LOAD, read};
+use super::{CREATE_TABLE, INTEGER, LOAD, STATUS, read};
 use crate::{ExecuteLoadQueryEvent, QueryEvent, StatusVarVal, StatusVarsIterator, UserVarEvent};
-use binlog_description::BinlogEvent;
+use binlog_consts::BinlogVersion;
+use binlog_description::{BinlogEvent, BinlogStruct};
 use binlog_wire::{Error, MySerialize};
+use std::alloc::Global;
 use std::process::Abort;
-use std::test::Fail;
 
 // The answer of a call, or none where memory was refused for it.
 fn granted<T: Drop>(rt: &impl Abort, answer: Result<T, Error>) -> Option<T> {
@@ -18,7 +19,7 @@ fn granted<T: Drop>(rt: &impl Abort, answer: Result<T, Error>) -> Option<T> {
     }
 }
 
-// A body that is read and written again behind one byte, or that byte alone.
+// Whether a body is read, and what is written of it behind one byte is as wanted, or that byte alone.
 fn is_written<'a, T: BinlogEvent<'a> + Drop>(
     rt: &(impl Abort + AllocGlobal),
     body: &'a [u8],
@@ -27,6 +28,7 @@ fn is_written<'a, T: BinlogEvent<'a> + Drop>(
     let Some(event) = granted(rt, read::<T>(rt.alloc(), body)) else {
         return;
     };
+    assert_eq!(rt; event.len(BinlogVersion::Version4), wanted.len());
     let Ok(mut bytes) = Vec::from_slice(rt.alloc(), b"x") else {
         return;
     };
@@ -40,58 +42,39 @@ fn is_written<'a, T: BinlogEvent<'a> + Drop>(
 fn a_refused_write_leaves_what_was_there(rt: HostRuntime) {
     is_written::<QueryEvent>(&rt, CREATE_TABLE, CREATE_TABLE);
     is_written::<ExecuteLoadQueryEvent>(&rt, LOAD, LOAD);
+    is_written::<UserVarEvent>(&rt, b"\x01\0\0\0a\x02", b"\x01\0\0\0a\x01");
     let with_flags = b"\x01\0\0\0a\0\x02\x3f\0\0\0\x01\0\0\0\x07\0";
     is_written::<UserVarEvent>(&rt, INTEGER, with_flags);
 }
 
-#[test]
-fn a_refused_copy_of_a_statement_is_an_error(rt: HostRuntime) {
-    let Some(event) = granted(&rt, read::<QueryEvent>(rt.alloc(), CREATE_TABLE)) else {
-        return;
-    };
-    let Some(copy) = granted(&rt, event.clone(rt.alloc())) else {
-        return;
-    };
-    let Some(owned) = granted(&rt, copy.into_owned(rt.alloc())) else {
-        return;
-    };
-    assert_eq!(rt; owned, event);
-    if let Some(copy) = granted(&rt, owned.clone(rt.alloc())) {
-        assert_eq!(rt; copy, event);
-    }
+// Whether a body's event is equal to its copy, owned and copied again.
+fn copied_query(alloc: Global, body: &[u8]) -> Result<bool, Error> {
+    let event: QueryEvent = read(alloc, body)?;
+    let owned = event.clone(alloc)?.into_owned(alloc)?;
+    Ok(owned.clone(alloc)? == event)
+}
+
+fn copied_load_query(alloc: Global, body: &[u8]) -> Result<bool, Error> {
+    let event: ExecuteLoadQueryEvent = read(alloc, body)?;
+    let owned = event.clone(alloc)?.into_owned(alloc)?;
+    Ok(owned.clone(alloc)? == event)
+}
+
+fn copied_variable(alloc: Global, body: &[u8]) -> Result<bool, Error> {
+    let event: UserVarEvent = read(alloc, body)?;
+    let owned = event.clone(alloc)?.into_owned(alloc)?;
+    Ok(owned.clone(alloc)? == event)
 }
 
 #[test]
-fn a_refused_copy_of_a_load_query_is_an_error(rt: HostRuntime) {
-    let Some(event) = granted(&rt, read::<ExecuteLoadQueryEvent>(rt.alloc(), LOAD)) else {
-        return;
-    };
-    let Some(copy) = granted(&rt, event.clone(rt.alloc())) else {
-        return;
-    };
-    let Some(owned) = granted(&rt, copy.into_owned(rt.alloc())) else {
-        return;
-    };
-    assert_eq!(rt; owned, event);
-    if let Some(copy) = granted(&rt, owned.clone(rt.alloc())) {
-        assert_eq!(rt; copy, event);
-    }
-}
-
-#[test]
-fn a_refused_copy_of_a_user_variable_is_an_error(rt: HostRuntime) {
-    let Some(event) = granted(&rt, read::<UserVarEvent>(rt.alloc(), INTEGER)) else {
-        return;
-    };
-    let Some(copy) = granted(&rt, event.clone(rt.alloc())) else {
-        return;
-    };
-    let Some(owned) = granted(&rt, copy.into_owned(rt.alloc())) else {
-        return;
-    };
-    assert_eq!(rt; owned, event);
-    if let Some(copy) = granted(&rt, owned.clone(rt.alloc())) {
-        assert_eq!(rt; copy, event);
+fn a_copy_is_equal_or_refused_for_memory(rt: HostRuntime) {
+    for copied in [
+        copied_query(rt.alloc(), CREATE_TABLE),
+        copied_load_query(rt.alloc(), LOAD),
+        copied_variable(rt.alloc(), INTEGER),
+        copied_variable(rt.alloc(), b"\0\0\0\0\x01"),
+    ] {
+        assert!(rt; matches!(copied, Ok(true) | Err(Error::Memory)));
     }
 }
 
@@ -124,15 +107,13 @@ fn refused_names_are_answered_by_their_bytes(rt: HostRuntime) {
 
 // It asks for no memory at all.
 #[test]
-fn reading_statements_takes_no_memory(rt: HostRuntime) -> Result<(), Fail> {
-    let query: QueryEvent = read(rt.alloc(), CREATE_TABLE)?;
-    assert_eq!(rt; query.schema_raw(), b"test".as_slice());
-    assert_eq!(rt; query.status_vars().iter().count(), 4);
-    let load: ExecuteLoadQueryEvent = read(rt.alloc(), LOAD)?;
-    assert_eq!(rt; load.file_id(), 2);
-    let variable: UserVarEvent = read(rt.alloc(), INTEGER)?;
-    assert_eq!(rt; variable.value(), b"\x07".as_slice());
-    Ok(())
+fn reading_statements_takes_no_memory(rt: HostRuntime) {
+    assert!(rt; read::<QueryEvent>(rt.alloc(), CREATE_TABLE).is_ok());
+    assert!(rt; read::<ExecuteLoadQueryEvent>(rt.alloc(), LOAD).is_ok());
+    assert!(rt; read::<UserVarEvent>(rt.alloc(), INTEGER).is_ok());
+    for var in StatusVarsIterator::new(STATUS) {
+        assert!(rt; var.get_value(rt.alloc()).is_ok());
+    }
 }
 
 // It asks for no memory at all, since its list stays empty.

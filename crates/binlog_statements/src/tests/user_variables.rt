@@ -1,67 +1,63 @@
 //! The events of user variables.
-use super::{INTEGER, fronts_are_refused, read, written};
+use super::{INTEGER, fronts_are_refused, read};
 use crate::UserVarEvent;
-use binlog_consts::{BinlogVersion, ItemResult, UnknownItemResultType, UserVarFlags};
-use binlog_description::BinlogStruct;
+use binlog_consts::{ItemResult, UnknownItemResultType, UserVarFlags};
 use binlog_wire::Error;
-use std::test::Fail;
+use std::process::Abort;
 
 /// A null `a`.
 const NULL: &[u8] = b"\x01\0\0\0a\x02";
 
-#[test]
-fn a_null(rt: HostRuntime) -> Result<(), Fail> {
-    let null: UserVarEvent = read(rt.alloc(), NULL)?;
-    assert!(rt; null.is_null());
-    assert_eq!(rt; null.name_raw(), b"a".as_slice());
-    assert_eq!(rt; null.value_type(), Ok(ItemResult::STRING_RESULT));
-    assert_eq!(rt; null.charset(), 63);
-    assert!(rt; null.value().is_empty());
-    assert_eq!(rt; null.flags_raw(), 0);
-    Ok(())
+/// Whether a variable is null, its type, its charset, its value and its flags.
+type Parts<'a> = (
+    bool,
+    Result<ItemResult, UnknownItemResultType>,
+    u32,
+    &'a [u8],
+    u8,
+);
+
+// Whether a body is read as a variable of this name and these parts.
+fn has_parts(rt: &(impl Abort + AllocGlobal), body: &[u8], name: &[u8], wanted: Parts<'_>) {
+    match read::<UserVarEvent>(rt.alloc(), body) {
+        Ok(event) => {
+            assert_eq!(rt; event.name_raw(), name);
+            let (value_type, charset) = (event.value_type(), event.charset());
+            let parts = (
+                event.is_null(),
+                value_type,
+                charset,
+                event.value(),
+                event.flags_raw(),
+            );
+            assert_eq!(rt; parts, wanted);
+        }
+        Err(error) => assert!(rt; false, "{error} of {body:?}"),
+    }
 }
 
 #[test]
-fn a_null_is_written_with_1(rt: HostRuntime) -> Result<(), Fail> {
-    let null: UserVarEvent = read(rt.alloc(), NULL)?;
-    assert_eq!(rt; null.len(BinlogVersion::Version4), 6);
-    let bytes = written(rt.alloc(), &null)?;
-    assert_eq!(rt; bytes.as_slice(), b"x\x01\0\0\0a\x01".as_slice());
-    assert_eq!(rt; null.clone(rt.alloc())?.into_owned(rt.alloc())?, null);
-    Ok(())
+fn a_null(rt: HostRuntime) {
+    let wanted = (true, Ok(ItemResult::STRING_RESULT), 63, b"".as_slice(), 0);
+    has_parts(&rt, NULL, b"a", wanted);
 }
 
 #[test]
-fn an_integer(rt: HostRuntime) -> Result<(), Fail> {
-    let event: UserVarEvent = read(rt.alloc(), INTEGER)?;
-    assert!(rt; !event.is_null());
-    assert_eq!(rt; event.name(rt.alloc())?.as_str(), "a");
-    assert_eq!(rt; event.value_type(), Ok(ItemResult::INT_RESULT));
-    assert_eq!(rt; event.charset(), 63);
-    assert_eq!(rt; event.value(), b"\x07".as_slice());
-    assert_eq!(rt; event.flags_raw(), 0);
-    assert_eq!(rt; event.clone(rt.alloc())?.into_owned(rt.alloc())?, event);
-    Ok(())
-}
-
-#[test]
-fn flags_are_always_written(rt: HostRuntime) -> Result<(), Fail> {
-    let event: UserVarEvent = read(rt.alloc(), INTEGER)?;
-    assert_eq!(rt; event.len(BinlogVersion::Version4), 17);
-    let bytes = written(rt.alloc(), &event)?;
-    let wanted = b"x\x01\0\0\0a\0\x02\x3f\0\0\0\x01\0\0\0\x07\0".as_slice();
-    assert_eq!(rt; bytes.as_slice(), wanted);
-    Ok(())
-}
-
-#[test]
-fn flags_that_are_read(rt: HostRuntime) -> Result<(), Fail> {
+fn values_with_and_without_flags(rt: HostRuntime) {
+    let wanted = (false, Ok(ItemResult::INT_RESULT), 63, b"\x07".as_slice(), 0);
+    has_parts(&rt, INTEGER, b"a", wanted);
     let body = b"\0\0\0\0\0\xff\x3f\0\0\0\0\0\0\0\x03".as_slice();
-    let event: UserVarEvent = read(rt.alloc(), body)?;
-    assert_eq!(rt; event.flags_raw(), 3);
-    assert!(rt; event.flags() == UserVarFlags::UNSIGNED);
-    assert_eq!(rt; event.value_type(), Err(UnknownItemResultType(-1)));
-    Ok(())
+    let wanted = (false, Err(UnknownItemResultType(-1)), 63, b"".as_slice(), 3);
+    has_parts(&rt, body, b"", wanted);
+}
+
+#[test]
+fn flags_that_are_known(rt: HostRuntime) {
+    let body = b"\0\0\0\0\0\xff\x3f\0\0\0\0\0\0\0\x03".as_slice();
+    match read::<UserVarEvent>(rt.alloc(), body) {
+        Ok(event) => assert!(rt; event.flags() == UserVarFlags::UNSIGNED),
+        Err(error) => assert!(rt; false, "{error}"),
+    }
 }
 
 #[test]
@@ -72,7 +68,7 @@ fn one_byte_more_is_left_over(rt: HostRuntime) {
     ];
     for body in rows {
         let refused = read::<UserVarEvent>(rt.alloc(), body);
-        assert_eq!(rt; refused.err(), Some(Error::RemainingBytes(1)));
+        assert_eq!(rt; refused, Err(Error::RemainingBytes(1)));
     }
 }
 
