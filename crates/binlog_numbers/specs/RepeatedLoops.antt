@@ -43,18 +43,18 @@ times_refused {V} f whole vs k i s d less is e =
 -- ---- writing each
 
 -- what is left from a value on is that value and what is left behind it
-pub drop_item : {V : Type 0} (xs : List V) (i : ℕ) (x : V) → i < length xs → x ≡ get_or xs i x → drop i xs ≡ x ∷ drop (i + 1) xs
-drop_item {V} xs i x less is =
-    drop-cons xs i x less ∙ ap (λ (y : V). y ∷ drop (suc i) xs) (sym is) ∙ ap (λ (n : ℕ). x ∷ drop n xs) (sym (add-one i))
+pub drop_item : {V : Type 0} (xs : List V) (i : ℕ) (x d : V) → i < length xs → x ≡ get_or xs i d → drop i xs ≡ x ∷ drop (i + 1) xs
+drop_item {V} xs i x d less is =
+    drop-cons xs i d less ∙ ap (λ (y : V). y ∷ drop (suc i) xs) (sym is) ∙ ap (λ (n : ℕ). x ∷ drop n xs) (sym (add-one i))
 
 -- one more value is written
-pub written_step : {V : Type 0} (w : V → List ℕ) (xs : List V) (i : ℕ) (x : V) (whole before after : List ℕ) → i < length xs → x ≡ get_or xs i x
+pub written_step : {V : Type 0} (w : V → List ℕ) (xs : List V) (i : ℕ) (x d : V) (whole before after : List ℕ) → i < length xs → x ≡ get_or xs i d
     → before ++ each_written w (drop i xs) ≡ whole → after ≡ before ++ w x → after ++ each_written w (drop (i + 1) xs) ≡ whole
-written_step {V} w xs i x whole before after less is so more =
-    rw more (append_assoc before (w x) (each_written w (drop (i + 1) xs)) ∙ ap (λ (ys : List V). before ++ each_written w ys) (sym (drop_item xs i x less is)) ∙ so)
+written_step {V} w xs i x d whole before after less is so more =
+    rw more (append_assoc before (w x) (each_written w (drop (i + 1) xs)) ∙ ap (λ (ys : List V). before ++ each_written w ys) (sym (drop_item xs i x d less is)) ∙ so)
 
 -- as many bytes fewer are left
-pub written_left : {V : Type 0} (w : V → List ℕ) (xs : List V) (i : ℕ) (x : V) → i < length xs → x ≡ get_or xs i x
+pub written_left : {V : Type 0} (w : V → List ℕ) (xs : List V) (i : ℕ) (x d : V) → i < length xs → x ≡ get_or xs i d
     → length (each_written w (drop i xs)) ≡ length (w x) + length (each_written w (drop (i + 1) xs))
-written_left {V} w xs i x less is =
-    ap (λ (ys : List V). length (each_written w ys)) (drop_item xs i x less is) ∙ length-append (w x) (each_written w (drop (i + 1) xs))
+written_left {V} w xs i x d less is =
+    ap (λ (ys : List V). length (each_written w ys)) (drop_item xs i x d less is) ∙ length-append (w x) (each_written w (drop (i + 1) xs))
