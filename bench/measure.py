@@ -1,7 +1,7 @@
 #!/usr/bin/env python3
-"""Measures the listing and the writing back against the baseline, and reading alone; prints a Markdown table of each.
+"""Measures the programs against the baseline, and reading alone; prints a Markdown table of each.
 
-Usage: measure.py LISTING WRITING_BACK READING BASELINE FOLDER
+Usage: measure.py LISTING WRITING_BACK TYPED READING BASELINE FOLDER
 
 FOLDER holds the files of make_binlogs.py. The exit status is 1 if a program
 and the baseline differ on one of them, or if one of them doesn't write back
@@ -55,28 +55,28 @@ def run(command, path, output=subprocess.DEVNULL, errors=None):
         return subprocess.run(command, stdin=file, stdout=output, stderr=errors).returncode
 
 
-def listing(command, path, listing_path):
-    """The exit status; the standard output goes to `listing_path`."""
-    with open(listing_path, "wb") as output:
+def printing(command, path, output_path):
+    """The exit status; the standard output goes to `output_path`."""
+    with open(output_path, "wb") as output:
         return run(command, path, output)
 
 
-def compare_listings(program, baseline, path):
-    """Both commands list the file, and equally."""
-    program_listing = path.with_suffix(".program_listing")
-    baseline_listing = path.with_suffix(".baseline_listing")
+def compare_outputs(program, baseline, path):
+    """Both commands read the file, and print the same."""
+    program_output = path.with_suffix(".program_output")
+    baseline_output = path.with_suffix(".baseline_output")
     try:
-        program_status = listing(program, path, program_listing)
-        baseline_status = listing(baseline, path, baseline_listing)
+        program_status = printing(program, path, program_output)
+        baseline_status = printing(baseline, path, baseline_output)
         if program_status != baseline_status:
             raise Difference(f"{path}: status {program_status}, baseline {baseline_status}")
         if baseline_status != 0:
             raise Difference(f"{path}: status {baseline_status}, though a valid binlog")
-        if subprocess.run(["cmp", program_listing, baseline_listing]).returncode != 0:
+        if subprocess.run(["cmp", program_output, baseline_output]).returncode != 0:
             raise Difference(f"{path}: the outputs differ")
     finally:
-        program_listing.unlink(missing_ok=True)
-        baseline_listing.unlink(missing_ok=True)
+        program_output.unlink(missing_ok=True)
+        baseline_output.unlink(missing_ok=True)
 
 
 def compare_written_back(program, baseline, path):
@@ -258,13 +258,14 @@ def print_table(title, columns, rows):
 
 
 def main(arguments):
-    if len(arguments) != 5:
-        sys.exit("usage: measure.py LISTING WRITING_BACK READING BASELINE FOLDER")
-    lister, copier, reader, baseline = (str(Path(argument).resolve()) for argument in arguments[:4])
-    folder = Path(arguments[4])
+    if len(arguments) != 6:
+        sys.exit("usage: measure.py LISTING WRITING_BACK TYPED READING BASELINE FOLDER")
+    lister, copier, typed, reader, baseline = (str(Path(it).resolve()) for it in arguments[:5])
+    folder = Path(arguments[5])
     works = {
-        "Listing": ([lister], [baseline], compare_listings),
+        "Listing": ([lister], [baseline], compare_outputs),
         "Writing back": ([copier], [baseline, "--write-back"], compare_written_back),
+        "Typed": ([typed], [baseline, "--typed"], compare_outputs),
     }
     try:
         for title, (program, yardstick, compare) in works.items():

@@ -1,15 +1,16 @@
 #!/bin/sh
 # Measures the programs against the baseline; see README.md.
-# Usage: run.sh [LISTING [WRITING_BACK [READING]]]
+# Usage: run.sh [LISTING [WRITING_BACK [TYPED [READING]]]]
 set -eu
 
 here=$(cd "$(dirname "$0")" && pwd)
 lister=${1:-$here/../crates/binlog_list/out/binlog_list}
 copier=${2:-$here/../crates/bench_write_back/out/bench_write_back}
-reader=${3:-$here/../crates/bench_reading/out/bench_reading}
+typed=${3:-$here/../crates/bench_typed/out/bench_typed}
+reader=${4:-$here/../crates/bench_reading/out/bench_reading}
 baseline=$here/baseline/target/release/listing_baseline
 
-for program in "$lister" "$copier" "$reader"; do
+for program in "$lister" "$copier" "$typed" "$reader"; do
     if [ ! -x "$program" ]; then
         echo "run.sh: no program at $program" >&2
         exit 1
@@ -20,4 +21,4 @@ cargo build --release --offline \
     --manifest-path "$here/baseline/Cargo.toml" \
     --target-dir "$here/baseline/target" >&2
 python3 "$here/make_binlogs.py" "$here/work"
-exec python3 "$here/measure.py" "$lister" "$copier" "$reader" "$baseline" "$here/work"
+exec python3 "$here/measure.py" "$lister" "$copier" "$typed" "$reader" "$baseline" "$here/work"

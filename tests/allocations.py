@@ -4,10 +4,11 @@
 Usage: allocations.py
 
 The programs and tests are those that are built in crates/NAME/out. Further events take one buffer each where they are
-owned (test_owned_events), and nothing where they are lent (binlog_list, bench_write_back), nor does a checksum. Where a
-header states 4,294,967,295 bytes and few have come, in pieces of 20, no allocation of a program grows by more than 65,536
-bytes, and none of a test does in whose name the word `boundless` stands. The last line is `N passed, M failed`; the exit
-status is 1 if something failed. Without the C compiler `cc` nothing is run, and both numbers are 0.
+owned (test_owned_events), and nothing where they are lent (binlog_list, bench_write_back), also where statements and their
+status variables are read (bench_typed), nor does a checksum. Where a header states 4,294,967,295 bytes and few have come,
+in pieces of 20, no allocation of a program grows by more than 65,536 bytes, and none of a test does in whose name the word
+`boundless` stands. The last line is `N passed, M failed`; the exit status is 1 if something failed. Without the C compiler
+`cc` nothing is run, and both numbers are 0.
 """
 
 import socket
@@ -20,19 +21,21 @@ from damaged_copies import MAGIC
 
 FEW, MANY = 10, 1010
 
-# Both logs fit into the program's input buffer of 65,536 bytes, so that each event is shown whole.
+# All logs fit into the program's input buffer of 65,536 bytes, so that each event is shown whole.
 PLAIN_EVENT = make_sample.frame(make_sample.XID, make_sample.XID_BODY, 0)
+STATEMENT = make_sample.frame(make_sample.QUERY, make_sample.query_body(b"d", b"q"), 0)
 CHECKSUMMED_EVENT = checksummed_sample.event(make_sample.XID, make_sample.XID_BODY)
 
 # What a log begins with, and the event that it repeats.
 LOGS = {
     "events under the default description": (MAGIC, PLAIN_EVENT),
     "events under a description": (make_sample.file_start(), PLAIN_EVENT),
+    "statements": (make_sample.file_start(), STATEMENT),
     "events with checksums": (MAGIC + checksummed_sample.description(), CHECKSUMMED_EVENT),
 }
 
 # How many allocations each program makes for a further event.
-PROGRAMS = {"binlog_list": 0, "bench_write_back": 0, "test_owned_events": 1}
+PROGRAMS = {"binlog_list": 0, "bench_write_back": 0, "bench_typed": 0, "test_owned_events": 1}
 
 # The bytes by which an allocation may grow at a time, and those that a read gives where it gives pieces.
 LARGEST_GROWTH = 65_536

@@ -64,10 +64,16 @@ def written_back_fault(content):
     return fault
 
 
+def failure_fault(_content):
+    return lambda run: status_fault(run, FAILURE)
+
+
 PROGRAMS = {
     "binlog_list": listing_fault,
     "bench_write_back": written_back_fault,
-    "test_owned_events": lambda content: lambda run: status_fault(run, FAILURE),
+    "bench_typed": failure_fault,
+    "test_owned_events": failure_fault,
+    "test_typed_events": failure_fault,
 }
 
 

@@ -1,3 +1,4 @@
+pub mod Tables
 pub mod Codes
 pub mod EventTypes
 pub mod EventTypeLaws

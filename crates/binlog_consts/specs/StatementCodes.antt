@@ -1,7 +1,7 @@
 -- The numbers and flags in the events of statements, and what they stand for.
-use Rattle.std.specs.Prelude.{◌≡◌, ℕ, ℤ, pos, negsuc, zero, suc, ◌<◌, ◌^◌, List, [], ◌∷◌, codes, Result, Ok, Err, refl}
-use Rattle.std.proofs.Common.{arith, ap}
+use Rattle.std.specs.Prelude.{◌≡◌, ℕ, ℤ, pos, negsuc, List, [], ◌∷◌, codes, Result, Ok, Err, refl}
 use Rattle.binlog_wire.specs.Laws.Numbers.{IsCode}
+use Rattle.binlog_consts.specs.Tables.{value_of, is_code}
 use Rattle.binlog_wire.specs.declared.error.Invalid.{Invalid}
 use Rattle.binlog_wire.specs.declared.error.Invalid.TheVariants.{DupHandling}
 use Rattle.binlog_consts.specs.declared.statement_codes.LoadDuplicateHandling.{LoadDuplicateHandling}
@@ -19,32 +19,22 @@ dup_handling_number LOAD_DUP_ERROR = 0
 dup_handling_number LOAD_DUP_IGNORE = 1
 dup_handling_number LOAD_DUP_REPLACE = 2
 
+-- the ways to handle duplicates
+abbrev pub dup_handlings : List LoadDuplicateHandling
+dup_handlings = LOAD_DUP_ERROR ∷ LOAD_DUP_IGNORE ∷ LOAD_DUP_REPLACE ∷ []
+
 -- the way with this number
 abbrev pub dup_handling_of : ℕ → Result LoadDuplicateHandling Invalid
-dup_handling_of zero = Ok LOAD_DUP_ERROR
-dup_handling_of (suc zero) = Ok LOAD_DUP_IGNORE
-dup_handling_of (suc (suc zero)) = Ok LOAD_DUP_REPLACE
-dup_handling_of number = Err (DupHandling number)
-
-dup_handling_fits : (e : LoadDuplicateHandling) → dup_handling_number e < 256 ^ 1
-dup_handling_fits LOAD_DUP_ERROR = omega arith
-dup_handling_fits LOAD_DUP_IGNORE = omega arith
-dup_handling_fits LOAD_DUP_REPLACE = omega arith
+dup_handling_of = value_of dup_handling_number dup_handlings (λ n. DupHandling n)
 
 dup_handling_again : (e : LoadDuplicateHandling) → dup_handling_of (dup_handling_number e) ≡ Ok e
 dup_handling_again LOAD_DUP_ERROR = refl
 dup_handling_again LOAD_DUP_IGNORE = refl
 dup_handling_again LOAD_DUP_REPLACE = refl
 
-dup_handling_only : (n : ℕ) (e : LoadDuplicateHandling) → dup_handling_of n ≡ Ok e → n ≡ dup_handling_number e
-dup_handling_only zero e h = let same : LOAD_DUP_ERROR ≡ e = cc in ap dup_handling_number same
-dup_handling_only (suc zero) e h = let same : LOAD_DUP_IGNORE ≡ e = cc in ap dup_handling_number same
-dup_handling_only (suc (suc zero)) e h = let same : LOAD_DUP_REPLACE ≡ e = cc in ap dup_handling_number same
-dup_handling_only (suc (suc (suc n))) e h = absurd cc
-
 -- a byte says how duplicates are handled, if it does
 pub dup_handling_is_code : IsCode 1 dup_handling_number dup_handling_of
-dup_handling_is_code = record { fits = dup_handling_fits; again = dup_handling_again; only = dup_handling_only }
+dup_handling_is_code = is_code 1 dup_handling_number dup_handlings (λ n. DupHandling n) refl dup_handling_again
 
 -- ---- the type of a user variable's value: one signed byte
 -- Source: MySQL's documentation of its source code, `Item_result`.
@@ -57,14 +47,25 @@ item_result_number INT_RESULT = 2
 item_result_number ROW_RESULT = 3
 item_result_number DECIMAL_RESULT = 4
 
+-- the types
+abbrev pub item_results : List ItemResult
+item_results = STRING_RESULT ∷ REAL_RESULT ∷ INT_RESULT ∷ ROW_RESULT ∷ DECIMAL_RESULT ∷ []
+
 -- the type with this number
 abbrev pub item_result_of : ℤ → Result ItemResult UnknownItemResultType
-item_result_of (pos zero) = Ok STRING_RESULT
-item_result_of (pos (suc zero)) = Ok REAL_RESULT
-item_result_of (pos (suc (suc zero))) = Ok INT_RESULT
-item_result_of (pos (suc (suc (suc zero)))) = Ok ROW_RESULT
-item_result_of (pos (suc (suc (suc (suc zero))))) = Ok DECIMAL_RESULT
-item_result_of number = Err (record { 0 = number })
+item_result_of (pos n) = value_of item_result_number item_results (λ m. record { 0 = pos m }) n
+item_result_of (negsuc n) = Err (record { 0 = negsuc n })
+
+item_result_again : (e : ItemResult) → item_result_of (pos (item_result_number e)) ≡ Ok e
+item_result_again STRING_RESULT = refl
+item_result_again REAL_RESULT = refl
+item_result_again INT_RESULT = refl
+item_result_again ROW_RESULT = refl
+item_result_again DECIMAL_RESULT = refl
+
+-- a byte says which type it is, if any
+pub item_result_is_code : IsCode 1 item_result_number (λ n. item_result_of (pos n))
+item_result_is_code = is_code 1 item_result_number item_results (λ m. record { 0 = pos m }) refl item_result_again
 
 -- ---- the flags of a user variable
 -- Source: MySQL's documentation of its source code, `mysql::binlog::event::User_var_event`.

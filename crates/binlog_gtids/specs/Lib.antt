@@ -1,3 +1,4 @@
 pub mod Flags
+pub mod PreviousGtids
 pub mod Untagged
 pub mod Writable

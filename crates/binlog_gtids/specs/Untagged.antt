@@ -1,7 +1,7 @@
 -- GTIDs without a tag, types 33 and 34. A head: flags, 1 byte; the source's id, 16; the number of the transaction, 8, in one
 -- unit. If the next byte is the clock code 2: that byte, and the clock. Nothing else may follow.
 -- Source: MySQL's source documentation, `Gtid_event` and `Gtid_log_event`.
-use Rattle.std.proofs.Common.{◌≡◌, ℕ, ◌+◌, ◌^◌, ◌<◌, Bool, true, false, cond, eqb, Option, None, Some, List, [], ◌∷◌, length, ◌++◌, Result, Ok, refl, ap, subst, sym, ◌∙◌, append_assoc, arith}
+use Rattle.std.proofs.Common.{◌≡◌, ℕ, ◌+◌, Bool, true, false, cond, eqb, Option, None, Some, List, [], ◌∷◌, length, ◌++◌, Result, Ok, refl, ap, subst, sym, ◌∙◌, append_assoc, arith}
 use Rattle.binlog_wire.specs.declared.error.Invalid.{Invalid}
 use Rattle.binlog_wire.specs.Formats.{Format, anywhere, last, number, block, unit, if_left, nowhere, seen_as, ◌⨾◌}
 use Rattle.std.proofs.lemmas.List.{length-append}

@@ -4,7 +4,6 @@ ghost use Rattle.bitflags.specs.Sets.{known_bits};
 ghost use Rattle.binlog_wire.specs.Reading.{Gives, read_as};
 ghost use Rattle.binlog_wire.specs.declared.error.Error.TheVariants.{Memory};
 ghost use Rattle.binlog_consts.specs.declared.event_type.EventType.TheVariants.{GTID_EVENT};
-ghost use Rattle.binlog_wire.specs.Fields.{block_at};
 ghost use Rattle.binlog_gtids.specs.Flags.{gtid_flags};
 ghost use Rattle.binlog_gtids.specs.Untagged.{gtid, untagged, head, clock, clock_of, with_clock, without_clock, is_untagged_type};
 ghost use Rattle.binlog_gtids.specs.Writable.{unwritable};
@@ -14,6 +13,7 @@ use crate::clock::{
     read_times, read_versions, times_len, versions_len,
 };
 use crate::gtid_flags::GtidFlags;
+use crate::sid::read_sid;
 use binlog_consts::EventType;
 use binlog_description::{BinlogCtx, BinlogEvent};
 use binlog_numbers::LenEnc;
@@ -302,15 +302,6 @@ impl GtidEvent {
     {
         Ok(self)
     }
-}
-
-/// Takes a source's id off the front of `buf`.
-fn read_sid(buf: &mut ParseBuf<'_>) -> Result<[u8; 16], Error>
-    ensures { Gives ⊥ buf.new result (block_at 16 buf.old) }
-{
-    let (sid, rest) = buf.0.split_first_chunk::<16>().ok_or(Error::EndOfBody)?;
-    buf.0 = rest;
-    Ok(*sid)
 }
 
 /// Takes a GTID without its clock.

@@ -1,11 +1,15 @@
 //! Laws of the definitions, each a function whose contract says it.
-ghost use Rattle.std.specs.Prelude.{◌≡◌, None};
+ghost use Rattle.std.specs.Prelude.{◌≡◌, List, None};
+ghost use Rattle.binlog_numbers.specs.Repeated.{EachFits};
+ghost use Rattle.binlog_gtids.specs.PreviousGtids.{FitsSid, sids_format, unwritable_sids};
 ghost use Rattle.binlog_gtids.specs.Untagged.{gtid};
 ghost use Rattle.binlog_gtids.specs.Writable.{InRange, unwritable};
 ghost use Rattle.binlog_gtids.specs.declared.gtid_event.GtidEvent.{GtidEvent};
+ghost use Rattle.binlog_gtids.specs.declared.previous_gtids_sid.PreviousGtidsSid.{PreviousGtidsSid};
 
 use crate::anonymous_gtid_event::AnonymousGtidEvent;
 use crate::gtid_event::GtidEvent;
+use crate::previous_gtids_event::PreviousGtidsEvent;
 use binlog_description::BinlogEvent;
 
 /// A GTID whose fields are in the ranges of their types, and that isn't refused, fits its form: so what is written of it
@@ -14,10 +18,16 @@ pub fn writable_gtids_fit()
     ensures { (event : GtidEvent) → InRange event → unwritable event ≡ None → (gtid 33).Fits event }
 {}
 
+/// Entries of previous GTIDs whose parts are in the ranges of their types, and that aren't refused, fit their form.
+pub fn writable_sids_fit()
+    ensures { (sids : List PreviousGtidsSid) → EachFits FitsSid sids → unwritable_sids sids ≡ None → sids_format.Fits sids }
+{}
+
 /// The numbers of the types of events.
 pub fn event_types() {
     prove!(GtidEvent::EVENT_TYPE as u8 == 33);
     prove!(AnonymousGtidEvent::EVENT_TYPE as u8 == 34);
+    prove!(PreviousGtidsEvent::EVENT_TYPE as u8 == 35);
 }
 
 /// The constants of GTIDs.

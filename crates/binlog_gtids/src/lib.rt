@@ -8,10 +8,15 @@ mod clock;
 mod gtid_event;
 mod gtid_flags;
 pub mod laws;
+mod previous_gtids_event;
+mod previous_gtids_sid;
+mod sid;
 
 pub use anonymous_gtid_event::AnonymousGtidEvent;
 pub use gtid_event::GtidEvent;
 pub use gtid_flags::GtidFlags;
+pub use previous_gtids_event::PreviousGtidsEvent;
+pub use previous_gtids_sid::PreviousGtidsSid;
 
 #[cfg(test)]
 mod tests;

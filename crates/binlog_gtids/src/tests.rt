@@ -4,8 +4,9 @@ use binlog_consts::{BinlogVersion, EventType};
 use binlog_description::{
     BinlogCtx, BinlogEvent, BinlogEventHeader, BinlogStruct, FormatDescriptionEvent, read_body,
 };
-use binlog_wire::{Error, Field, Invalid, MySerialize};
-use std::alloc::Global;
+use binlog_numbers::{GnoInterval, Tag};
+use binlog_wire::{Error, Field, Invalid, MySerialize, ParseBuf};
+use std::alloc::{AllocError, Global};
 use std::test::Fail;
 
 /// The same without its last byte.
@@ -197,6 +198,18 @@ fn refused_memory_changes_nothing(rt: HostRuntime) -> Result<(), Fail> {
             assert!(rt; bytes.is_empty());
         }
     }
+    let mut bytes = Vec::new(alloc);
+    match PreviousGtidsEvent::new(Vec::new(alloc)).serialize(alloc, &mut bytes) {
+        Ok(()) => assert_eq!(rt; bytes.len(), 8),
+        Err(error) => {
+            assert_eq!(rt; error, Error::Memory);
+            assert!(rt; bytes.is_empty());
+        }
+    }
+    match written_again(alloc, TAGGED_SID) {
+        Ok(bytes) => assert_eq!(rt; bytes.as_slice(), TAGGED_SID),
+        Err(error) => assert_eq!(rt; error, Error::Memory),
+    }
     Ok(())
 }
 
@@ -210,5 +223,134 @@ fn reading_takes_no_memory(rt: HostRuntime) -> Result<(), Fail> {
     assert!(rt; copy == event);
     let anonymous: AnonymousGtidEvent = read(alloc, &fde, 34, HEAD)?;
     assert!(rt; anonymous.0 == event);
+    Ok(())
+}
+
+/// The source of all `ab`.
+const UUID: [u8; 16] = [0xab; 16];
+
+/// Previous GTIDs of one entry: the tag `test`, and the numbers 1 to 5.
+const TAGGED_SID: &[u8] =
+    b"\x01\x01\0\0\0\0\0\x01\xab\xab\xab\xab\xab\xab\xab\xab\xab\xab\xab\xab\xab\xab\xab\xab\x08test\x01\0\0\0\0\0\0\0\x01\0\0\0\0\0\0\0\x06\0\0\0\0\0\0\0";
+
+// One entry of this tag and the numbers 1 to 5.
+fn one_sid(alloc: Global, tag: Option<Tag<'static>>) -> Result<PreviousGtidsEvent<'static>, Error> {
+    let mut intervals = Vec::new(alloc);
+    intervals
+        .push(GnoInterval::new(1, 6))
+        .map_err(AllocError::from)?;
+    let mut sids = Vec::new(alloc);
+    sids.push(PreviousGtidsSid::new(UUID, tag, intervals))
+        .map_err(AllocError::from)?;
+    Ok(PreviousGtidsEvent::new(sids))
+}
+
+// Why a body of previous GTIDs is refused.
+fn refusal(alloc: Global, body: &[u8]) -> Option<Error> {
+    let fde = FormatDescriptionEvent::new(BinlogVersion::Version4);
+    let refused: Result<PreviousGtidsEvent, Error> = read(alloc, &fde, 35, body);
+    refused.err()
+}
+
+// What is written of the event that a body is read as.
+fn written_again(alloc: Global, body: &[u8]) -> Result<Vec<u8>, Error> {
+    let fde = FormatDescriptionEvent::new(BinlogVersion::Version4);
+    let event: PreviousGtidsEvent = read(alloc, &fde, 35, body)?;
+    written(alloc, &event)
+}
+
+#[test]
+fn no_previous_gtids_are_eight_zeros(rt: HostRuntime) -> Result<(), Fail> {
+    let alloc = rt.alloc();
+    let none = PreviousGtidsEvent::new(Vec::new(alloc));
+    assert_eq!(rt; none.len(BinlogVersion::Version4), 8);
+    assert_eq!(rt; written(alloc, &none)?.as_slice(), [0; 8].as_slice());
+    assert_eq!(rt;
+        written_again(alloc, &[0; 8])?.as_slice(),
+        [0; 8].as_slice()
+    );
+    Ok(())
+}
+
+#[test]
+fn previous_gtids_with_a_tag(rt: HostRuntime) -> Result<(), Fail> {
+    let alloc = rt.alloc();
+    let event = one_sid(alloc, Some(Tag::from_bytes(b"test")?))?;
+    assert_eq!(rt; event.len(BinlogVersion::Version4), 53);
+    assert_eq!(rt; written(alloc, &event)?.as_slice(), TAGGED_SID);
+    assert_eq!(rt; written_again(alloc, TAGGED_SID)?.as_slice(), TAGGED_SID);
+    let copy = event.clone(alloc)?;
+    assert!(rt; copy == event);
+    assert!(rt; copy.into_owned(alloc)? == event);
+    Ok(())
+}
+
+#[test]
+fn previous_gtids_without_a_tag(rt: HostRuntime) -> Result<(), Fail> {
+    let alloc = rt.alloc();
+    let event = one_sid(alloc, None)?;
+    let head = b"\x01\0\0\0\0\0\0\0";
+    let tail = b"\x01\0\0\0\0\0\0\0\x01\0\0\0\0\0\0\0\x06\0\0\0\0\0\0\0";
+    let want = joined(alloc, &[head, &UUID, tail])?;
+    assert_eq!(rt; written(alloc, &event)?.as_slice(), want.as_slice());
+    assert_eq!(rt;
+        written_again(alloc, want.as_slice())?.as_slice(),
+        want.as_slice()
+    );
+    Ok(())
+}
+
+// Any top byte but 0 is the form with tags, which is written only for a tag.
+#[test]
+fn tagged_form_without_a_tag(rt: HostRuntime) -> Result<(), Fail> {
+    let alloc = rt.alloc();
+    let fde = FormatDescriptionEvent::new(BinlogVersion::Version4);
+    let body = joined(alloc, &[b"\x05\x01\0\0\0\0\0\x07", &UUID, &[0; 9]])?;
+    let event: PreviousGtidsEvent = read(alloc, &fde, 35, body.as_slice())?;
+    match event.sids() {
+        [sid] => {
+            assert_eq!(rt; sid.uuid(), UUID);
+            assert!(rt; sid.tag().is_none());
+            assert!(rt; sid.intervals().is_empty());
+        }
+        _ => assert!(rt; false),
+    }
+    let want = joined(alloc, &[b"\x01\0\0\0\0\0\0\0", &UUID, &[0; 8]])?;
+    assert_eq!(rt; written(alloc, &event)?.as_slice(), want.as_slice());
+    Ok(())
+}
+
+#[test]
+fn cut_previous_gtids_are_refused(rt: HostRuntime) -> Result<(), Fail> {
+    let alloc = rt.alloc();
+    for len in 0..TAGGED_SID.len() {
+        let front = ParseBuf(TAGGED_SID).checked_eat(len).unwrap_or(b"");
+        assert!(rt; refusal(alloc, front) == Some(Error::EndOfBody));
+    }
+    let longer = joined(alloc, &[TAGGED_SID, &[0]])?;
+    assert!(rt; refusal(alloc, longer.as_slice()) == Some(Error::RemainingBytes(1)));
+    Ok(())
+}
+
+// The counts say more than the bytes carry; no memory is asked for them.
+#[test]
+fn counts_without_their_bytes(rt: HostRuntime) -> Result<(), Fail> {
+    let alloc = rt.alloc();
+    assert!(rt; refusal(alloc, b"\x01\xff\xff\xff\xff\xff\xff\x01") == Some(Error::EndOfBody));
+    assert!(rt; refusal(alloc, b"\xff\xff\xff\xff\xff\xff\xff\0") == Some(Error::EndOfBody));
+    let body = joined(alloc, &[b"\x01\0\0\0\0\0\0\0", &UUID, &[0xff; 8]])?;
+    assert!(rt; refusal(alloc, body.as_slice()) == Some(Error::EndOfBody));
+    Ok(())
+}
+
+#[test]
+fn tag_that_is_none_is_refused(rt: HostRuntime) -> Result<(), Fail> {
+    let alloc = rt.alloc();
+    let body = joined(
+        alloc,
+        &[b"\x01\x01\0\0\0\0\0\x01", &UUID, b"\x049a", &[0; 8]],
+    )?;
+    let refused = Some(Error::InvalidData(Invalid::Tag));
+    assert!(rt; refusal(alloc, body.as_slice()) == refused);
     Ok(())
 }

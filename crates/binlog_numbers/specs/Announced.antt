@@ -1,13 +1,13 @@
 -- Parts that an earlier part announces.
-use Rattle.std.proofs.Common.{◌≡◌, ℕ, zero, suc, ◌+◌, ◌-◌, ◌^◌, ◌<◌, ◌≤◌, ◌⊎◌, inl, inr, Bool, true, false, cond, ltb, eqb, Option, None, Some, List, [], ◌∷◌, ◌++◌, length, Result, Ok, Err, refl, sym, ap, subst, ◌∙◌, arith}
+use Rattle.std.proofs.Common.{◌≡◌, ℕ, suc, ◌+◌, ◌-◌, ◌^◌, ◌<◌, ◌≤◌, Bool, true, false, cond, ltb, eqb, Option, None, Some, List, [], ◌∷◌, ◌++◌, length, Result, Ok, refl, sym, ap, subst, ◌∙◌, arith}
 use Rattle.std.proofs.lemmas.List.{append-nil}
 use Rattle.byteorder.specs.Endian.{little_bytes}
-use Rattle.std.proofs.lemmas.Bool.{ltb-true, ltb-false, lt-ltb, le-ltb, eqb-true, eqb-false, eq-eqb}
+use Rattle.std.proofs.lemmas.Bool.{lt-ltb, le-ltb, eqb-true, eq-eqb}
 use Rattle.binlog_wire.specs.declared.error.Invalid.{Invalid}
-use Rattle.binlog_wire.specs.Reading.{ends, invalid, Read, ◌>>=◌, read_as}
+use Rattle.binlog_wire.specs.Reading.{Read, read_as}
 use Rattle.binlog_wire.specs.Fields.{IsBytes}
 use Rattle.binlog_wire.specs.Laws.{KeepsTo, bind_ok}
-use Rattle.binlog_wire.specs.Formats.{Place, anywhere, last, Follows, Format, number, silent, then}
+use Rattle.binlog_wire.specs.Formats.{Place, last, Format, number, silent, then}
 use Rattle.binlog_numbers.specs.Chosen.{IsChoice, chosen, choose}
 
 -- ---- a number whose top bit announces that an original follows

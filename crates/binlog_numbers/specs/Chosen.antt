@@ -1,10 +1,10 @@
 -- A value that several fields stand for: any of them is read, one is chosen to be written.
-use Rattle.std.proofs.Common.{◌≡◌, ℕ, List, [], ◌∷◌, ◌++◌, length, Bool, true, false, Result, Ok, Err, refl, sym, ap, subst, ◌∙◌, arith}
+use Rattle.std.proofs.Common.{◌≡◌, ℕ, List, Bool, true, false, cond, Result, Ok, Err, refl, ap, subst}
 use Rattle.binlog_wire.specs.declared.error.Invalid.{Invalid}
-use Rattle.binlog_wire.specs.Reading.{ends, invalid, Read, ◌>>=◌}
+use Rattle.binlog_wire.specs.Reading.{Read}
 use Rattle.binlog_wire.specs.Fields.{IsBytes, meant, read_decoded}
 use Rattle.binlog_wire.specs.Laws.{KeepsTo, bind_ok}
-use Rattle.binlog_wire.specs.Formats.{Place, anywhere, last, Follows, Format}
+use Rattle.binlog_wire.specs.Formats.{Place, Format}
 
 -- the bytes of fields that stand for the value
 abbrev pub IsChosen : {A B : Type 0} → (A → Result B Invalid) → (List ℕ → A → List ℕ → Type 0) → List ℕ → B → List ℕ → Type 0
@@ -55,3 +55,26 @@ chosen {place} {A} {B} decode code normal Fits f law = record {
 abbrev pub choose : {place : Place} {V : Type 0} → Bool → Format place V → Format place V → Format place V
 choose true f g = f
 choose false f g = g
+
+-- ---- a value that passes a test
+
+abbrev pub passes : {V : Type 0} → (V → Bool) → Invalid → V → Result V Invalid
+passes test why v = cond (test v) (Ok v) (Err why)
+
+pub passes_ok : {V : Type 0} (why : Invalid) (v : V) (t : Bool) (w : V) → cond t (Ok v) (Err why) ≡ Ok w → (t ≡ true) × (v ≡ w)
+passes_ok why v true w e = (refl, cc)
+passes_ok why v false w e = absurd cc
+
+pub passes_choice : {place : Place} {V : Type 0} (f : Format place V) → ((v : V) → f.normal v ≡ v) → (test : V → Bool) (why : Invalid)
+    → IsChoice f (passes test why) (λ v. v) (λ v. v) (λ v. f.Fits v × (test v ≡ true))
+passes_choice {V = V} f same test why = record {
+  fits = λ v fits. fits.0;
+  shows = λ v fits. rw (same v, fits.1) refl;
+  settled = λ s a r b h d. refl;
+  twice = λ v. refl;
+  again = λ v fits. refl;
+}
+
+-- a value that passes a test, of a format that writes a value as it is
+abbrev pub tested : {place : Place} {V : Type 0} (f : Format place V) → ((v : V) → f.normal v ≡ v) → (V → Bool) → Invalid → Format place V
+tested f same test why = chosen (passes test why) (λ v. v) (λ v. v) (λ v. f.Fits v × (test v ≡ true)) f (passes_choice f same test why)

@@ -2,8 +2,14 @@ pub mod Announced
 pub mod Chosen
 pub mod GnoIntervals
 pub mod LenEnc
+pub mod Looping
+pub mod Refusing
 pub mod Repeated
+pub mod RepeatedLoops
 pub mod Signed
+pub mod Sized
 pub mod Tags
 pub mod Varlen
+pub mod VarlenTexts
 pub mod VarlenWriting
+pub mod Within

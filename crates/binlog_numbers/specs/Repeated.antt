@@ -1,9 +1,9 @@
 -- A format several times.
-use Rattle.std.proofs.Common.{◌≡◌, ℕ, zero, suc, ◌+◌, ◌*◌, ◌^◌, ◌<◌, ◌≤◌, List, [], ◌∷◌, ◌++◌, length, map, Ok, Err, refl, sym, ap, subst, ◌∙◌, append_assoc, arith}
-use Rattle.binlog_wire.specs.Reading.{ends, invalid, Read, ◌>>=◌}
+use Rattle.std.proofs.Common.{◌≡◌, ℕ, zero, suc, ◌+◌, ◌*◌, ◌≤◌, List, [], ◌∷◌, ◌++◌, length, Ok, refl, sym, ap, subst, ◌∙◌, append_assoc, arith}
+use Rattle.binlog_wire.specs.Reading.{Read, ◌>>=◌}
 use Rattle.binlog_wire.specs.Fields.{IsBytes}
 use Rattle.binlog_wire.specs.Laws.{KeepsTo, bind_ok}
-use Rattle.binlog_wire.specs.Formats.{Place, anywhere, Format, Follows, then, made}
+use Rattle.binlog_wire.specs.Formats.{Place, anywhere, Format, then, made}
 
 -- the values stand one after the other
 abbrev pub IsEach : {V : Type 0} → (List ℕ → V → List ℕ → Type 0) → List ℕ → List V → List ℕ → Type 0

@@ -1,8 +1,8 @@
 -- Signed variable-length integers: the number x as 2x where it is not negative, and else as 2(-x-1)+1, so that numbers
 -- near zero are short. Source: MySQL's documentation of its serialization library, "Signed integers encoding".
-use Rattle.std.proofs.Common.{◌≡◌, ℕ, suc, ◌+◌, ◌*◌, ◌/◌, ◌%◌, ◌^◌, ◌<◌, Bool, true, false, cond, eqb, List, refl, sym, ap, ◌∙◌, arith}
+use Rattle.std.proofs.Common.{◌≡◌, ℕ, ◌+◌, ◌*◌, ◌/◌, ◌%◌, Bool, true, false, cond, eqb, List, refl, arith}
 use Rattle.std.specs.Prelude.{ℤ, pos, negsuc}
-use Rattle.std.proofs.lemmas.Bool.{eqb-true, eqb-false, eq-eqb}
+use Rattle.std.proofs.lemmas.Bool.{eqb-true, eqb-false}
 use Rattle.binlog_wire.specs.Reading.{Read, read_as}
 use Rattle.binlog_wire.specs.Formats.{Place, Format, seen_as}
 use Rattle.binlog_numbers.specs.Varlen.{IsVarlen, varlen_at}

@@ -1,11 +1,11 @@
 -- Variable-length numbers: k bytes, 1 to 8, whose number is n * 2 ^ k + 2 ^ (k - 1) - 1; or 255 and 8 bytes.
-use Rattle.std.proofs.Common.{◌≡◌, ℕ, zero, suc, ◌+◌, ◌-◌, ◌*◌, ◌/◌, ◌%◌, ◌^◌, ◌<◌, ◌≤◌, ◌⊎◌, Bool, true, false, cond, ltb, eqb, List, [], ◌∷◌, ◌++◌, length, get_or, Result, Ok, Err, refl, sym, ap, subst, ◌∙◌, arith, inl, inr}
+use Rattle.std.proofs.Common.{◌≡◌, ℕ, zero, suc, ◌+◌, ◌-◌, ◌*◌, ◌/◌, ◌%◌, ◌^◌, ◌<◌, ◌≤◌, ◌⊎◌, Bool, true, false, cond, ltb, eqb, List, [], ◌∷◌, ◌++◌, Ok, Err, refl, sym, ap, subst, ◌∙◌, arith, inl, inr}
 use Rattle.std.specs.Int.{w8, trailing_ones}
-use Rattle.std.proofs.lemmas.Bool.{cases_lt, ltb-true, ltb-false, lt-ltb, le-ltb, eqb-true, eq-eqb}
+use Rattle.std.proofs.lemmas.Bool.{cases_lt, ltb-true, lt-ltb, eqb-true, eq-eqb}
 use Rattle.std.proofs.lemmas.Nat.{shr_high, mod_low, shr_below, mod-pow-add, pow-add, shr_split, pow_pos, mod_below}
 use Rattle.std.proofs.Math.Nat.{pow-succ', mul-le-mul_right}
 use lib.Count.{count_trailing_zeros}
-use Rattle.binlog_wire.specs.Reading.{Refusal, ends, Read, ◌>>=◌, read_as}
+use Rattle.binlog_wire.specs.Reading.{ends, Read, ◌>>=◌}
 use Rattle.binlog_wire.specs.Fields.{IsBytes, IsNumber, number_at}
 use Rattle.byteorder.specs.Endian.{little_bytes}
 use Rattle.binlog_wire.specs.Laws.{KeepsTo, bind_ok}

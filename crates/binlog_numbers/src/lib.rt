@@ -6,14 +6,18 @@
 #![tactic(auto)]
 
 mod gno_interval;
+mod items;
 pub mod laws;
 mod lenenc;
 mod tag;
+mod text;
 mod varlen;
 
 pub use gno_interval::GnoInterval;
+pub use items::Items;
 pub use lenenc::{LenEnc, lenenc_int_len};
 pub use tag::Tag;
+pub use text::read_varlen_text;
 pub use varlen::{
     Varlen, VarlenSigned, read_varlen_int, read_varlen_uint, varlen_uint_size, write_varlen_int,
     write_varlen_uint,

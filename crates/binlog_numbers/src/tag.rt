@@ -82,6 +82,16 @@ impl<'a> Tag<'a> {
         }
     }
 
+    /// These bytes as a tag; [`Invalid::Tag`] where they aren't one, as [`Tag::new`] says.
+    pub fn from_bytes(bytes: &'a [u8]) -> Result<Self, Error>
+        ensures { MatchResult result (λ tag. (tag ≡ bytes.now) × (is_tag bytes.now ≡ true)) (λ e. (e ≡ not_a_tag) × (is_tag bytes.now ≡ false)) }
+    {
+        match str::from_utf8(bytes) {
+            Ok(text) => Tag::new(CowStr::Borrowed(text)),
+            Err(_) => Err(Error::InvalidData(Invalid::Tag)),
+        }
+    }
+
     /// The tag as text.
     pub fn as_str(&self) -> &str
         ensures text { result.now ≡ self.now }

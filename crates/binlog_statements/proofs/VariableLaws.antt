@@ -6,7 +6,7 @@ use Rattle.std.proofs.lemmas.List.Concat.{flat_map-append}
 use Rattle.std.proofs.lemmas.List.Elements.{All-nil, All-cons, All-head, All-tail}
 use Rattle.binlog_consts.specs.declared.status_var_key.StatusVarKey.{StatusVarKey}
 use Rattle.binlog_consts.specs.declared.status_var_key.UnknownStatusVarKey.{UnknownStatusVarKey}
-use Rattle.binlog_consts.specs.StatusVarKeys.{status_var_key_number, status_var_key_of, status_var_key_again, status_var_key_only}
+use Rattle.binlog_consts.specs.StatusVarKeys.{status_var_key_number, status_var_key_of, status_var_key_is_code}
 use Rattle.binlog_statements.specs.Layouts.{layout_of, IsLaidOut, value_len}
 use Rattle.binlog_statements.specs.StatusVariables.{Variable, variable_bytes, IsWhole, BeginsWith, AreVariablesOf, variable_at, keyed, first_variable, with_others, variables_within, variables, HasNoKey, IsFirstOfKey}
 use Rattle.binlog_statements.proofs.LayoutLaws.{measures, drop-length, take-length}
@@ -32,7 +32,7 @@ keyed_sound number s (Err why) x is e = absurd cc
 keyed_sound number s (Ok key) x is e =
     let a = at_some key s (value_len (layout_of key) s) x e in
     let sound = (measures (layout_of key)).sound s a.0 a.1 in
-    let known : number ≡ status_var_key_number key = status_var_key_only number key is in
+    let known : number ≡ status_var_key_number key = status_var_key_is_code.only number key is in
     let v : Variable = record { key = key; value = take a.0 s } in
     let first : IsFirst (number ∷ s) (v, drop a.0 s) = record {
       is = ap (λ (n : ℕ). n ∷ s) known ∙ ap (λ (t : List ℕ). status_var_key_number key ∷ t) (sym (take-append-drop a.0 s));
@@ -48,7 +48,7 @@ first_sound (number ∷ s) x e = keyed_sound number s (status_var_key_of number)
 pub first_complete : (v : Variable) (r : List ℕ) → IsWhole v → first_variable (variable_bytes v ++ r) ≡ Some (v, r)
 first_complete v r whole =
     let counted = (measures (layout_of v.key)).complete v.value r whole in
-    ap (λ (k : Result StatusVarKey UnknownStatusVarKey). keyed k (v.value ++ r)) (status_var_key_again v.key)
+    ap (λ (k : Result StatusVarKey UnknownStatusVarKey). keyed k (v.value ++ r)) (status_var_key_is_code.again v.key)
     ∙ ap (variable_at v.key (v.value ++ r)) counted
     ∙ ap (λ (t : List ℕ). Some (record { key = v.key; value = t }, drop (length v.value) (v.value ++ r))) (take-length v.value r)
     ∙ ap (λ (t : List ℕ). Some (v, t)) (drop-length v.value r)

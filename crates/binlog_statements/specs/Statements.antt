@@ -1,7 +1,7 @@
 -- What a query and a load query have in common: the fields of the post-header, and behind it the status variables and the
 -- schema's name, as long as the post-header says; one byte that says nothing; the statement, to the end.
 -- Source: MySQL's internals documentation, "QUERY_EVENT" and "EXECUTE_LOAD_QUERY_EVENT".
-use Rattle.std.specs.Prelude.{◌≡◌, ℕ, suc, ◌<◌, ◌^◌, List, take, length, refl}
+use Rattle.std.specs.Prelude.{◌≡◌, ℕ, suc, ◌<◌, ◌^◌, List, [], take, length, refl}
 use Rattle.std.proofs.Common.{arith, ap, ◌∙◌}
 use Rattle.std.proofs.lemmas.List.{take_all, length-take}
 use Rattle.binlog_wire.specs.Formats.{Format, anywhere, last, number, block, rest, unit, skip_then, ◌⨾◌, seen_as}
@@ -28,6 +28,25 @@ texts h = seen_as
     (λ x. record { status_vars = x.0; schema = x.1.0; query = x.1.1 })
     (λ t. (t.status_vars, (t.schema, t.query))) (λ _. refl) (λ _. refl)
     (status_vars h.status_vars_len ⨾ block h.schema_len ⨾ skip_then 1 rest)
+
+-- the empty statement with these status variables and this schema's name
+abbrev pub new_statement : List ℕ → List ℕ → Statement
+new_statement status_vars schema = record {
+  thread_id = 0;
+  execution_time = 0;
+  error_code = 0;
+  texts = record { status_vars = record { 0 = status_vars }; schema = schema; query = [] };
+}
+
+-- the statement with one of its texts set anew
+abbrev pub with_status_vars : Statement → List ℕ → Statement
+with_status_vars e status_vars = record e { texts = record e.texts { status_vars = record { 0 = status_vars } } }
+
+abbrev pub with_schema : Statement → List ℕ → Statement
+with_schema e schema = record e { texts = record e.texts { schema = schema } }
+
+abbrev pub with_query : Statement → List ℕ → Statement
+with_query e query = record e { texts = record e.texts { query = query } }
 
 -- the statement of a head and of texts
 abbrev pub statement_with : StatementHead → StatementTexts → Statement

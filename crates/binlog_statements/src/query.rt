@@ -24,20 +24,13 @@ pub struct QueryEvent<'a> {
 }
 
 impl<'a> QueryEvent<'a> {
+    ghost use Rattle.binlog_statements.specs.Statements.{new_statement, with_status_vars, with_schema, with_query};
+
     /// The empty statement with this text of status variables, of which the first 65,535 bytes count, and this schema's
     /// name, of which the first 255 bytes count; all numbers are 0.
     pub fn new(status_vars: CowSlice<'a, u8>, schema: CowSlice<'a, u8>) -> Self
         ensures { result ≡ record {
-          statement = record {
-            thread_id = 0;
-            execution_time = 0;
-            error_code = 0;
-            texts = record {
-              status_vars = record { 0 = cow_slice_items status_vars.entry };
-              schema = cow_slice_items schema.entry;
-              query = [];
-            };
-          };
+          statement = new_statement (cow_slice_items status_vars.entry) (cow_slice_items schema.entry);
         } }
     {
         QueryEvent {
@@ -70,48 +63,27 @@ impl<'a> QueryEvent<'a> {
     }
 
     /// The event with this text of status variables, of which the first 65,535 bytes count.
-    pub fn with_status_vars(self, status_vars: CowSlice<'a, u8>) -> Self
-        ensures { result ≡ record self.entry {
-          statement = record self.entry.statement {
-            texts = record self.entry.statement.texts {
-              status_vars = record { 0 = cow_slice_items status_vars.entry };
-            };
-          };
-        } }
+    pub fn with_status_vars(mut self, status_vars: CowSlice<'a, u8>) -> Self
+        ensures { result ≡ record self.entry { statement = with_status_vars self.entry.statement (cow_slice_items status_vars.entry) } }
     {
-        QueryEvent {
-            statement: self.statement.with_status_vars(status_vars),
-        }
+        self.statement = self.statement.with_status_vars(status_vars);
+        self
     }
 
     /// The event with this schema's name, of which the first 255 bytes count.
-    pub fn with_schema(self, schema: CowSlice<'a, u8>) -> Self
-        ensures { result ≡ record self.entry {
-          statement = record self.entry.statement {
-            texts = record self.entry.statement.texts {
-              schema = cow_slice_items schema.entry;
-            };
-          };
-        } }
+    pub fn with_schema(mut self, schema: CowSlice<'a, u8>) -> Self
+        ensures { result ≡ record self.entry { statement = with_schema self.entry.statement (cow_slice_items schema.entry) } }
     {
-        QueryEvent {
-            statement: self.statement.with_schema(schema),
-        }
+        self.statement = self.statement.with_schema(schema);
+        self
     }
 
     /// The event with this statement.
-    pub fn with_query(self, query: CowSlice<'a, u8>) -> Self
-        ensures { result ≡ record self.entry {
-          statement = record self.entry.statement {
-            texts = record self.entry.statement.texts {
-              query = cow_slice_items query.entry;
-            };
-          };
-        } }
+    pub fn with_query(mut self, query: CowSlice<'a, u8>) -> Self
+        ensures { result ≡ record self.entry { statement = with_query self.entry.statement (cow_slice_items query.entry) } }
     {
-        QueryEvent {
-            statement: self.statement.with_query(query),
-        }
+        self.statement = self.statement.with_query(query);
+        self
     }
 
     /// The thread that ran the statement; temporary tables are told apart by it.

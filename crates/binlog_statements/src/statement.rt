@@ -205,20 +205,11 @@ pub struct Statement<'a> {
 }
 
 impl<'a> Statement<'a> {
-    ghost use Rattle.binlog_statements.specs.Statements.{head_of, statement_with};
+    ghost use Rattle.binlog_statements.specs.Statements.{head_of, new_statement, statement_with, with_status_vars, with_schema, with_query};
 
     /// The empty statement with these status variables and this schema.
     pub fn new(status_vars: CowSlice<'a, u8>, schema: CowSlice<'a, u8>) -> Self
-        ensures { result ≡ record {
-          thread_id = 0;
-          execution_time = 0;
-          error_code = 0;
-          texts = record {
-            status_vars = record { 0 = cow_slice_items status_vars.entry };
-            schema = cow_slice_items schema.entry;
-            query = [];
-          };
-        } }
+        ensures { result ≡ new_statement (cow_slice_items status_vars.entry) (cow_slice_items schema.entry) }
     {
         Statement {
             thread_id: 0,
@@ -245,42 +236,27 @@ impl<'a> Statement<'a> {
     }
 
     /// The statement with these status variables.
-    pub fn with_status_vars(self, status_vars: CowSlice<'a, u8>) -> Self
-        ensures { result ≡ record self.entry { texts = record self.entry.texts { status_vars = record { 0 = cow_slice_items status_vars.entry } } } }
+    pub fn with_status_vars(mut self, status_vars: CowSlice<'a, u8>) -> Self
+        ensures { result ≡ with_status_vars self.entry (cow_slice_items status_vars.entry) }
     {
-        let texts = self.texts.with_status_vars(status_vars);
-        Statement {
-            thread_id: self.thread_id,
-            execution_time: self.execution_time,
-            error_code: self.error_code,
-            texts,
-        }
+        self.texts = self.texts.with_status_vars(status_vars);
+        self
     }
 
     /// The statement with this schema's name.
-    pub fn with_schema(self, schema: CowSlice<'a, u8>) -> Self
-        ensures { result ≡ record self.entry { texts = record self.entry.texts { schema = cow_slice_items schema.entry } } }
+    pub fn with_schema(mut self, schema: CowSlice<'a, u8>) -> Self
+        ensures { result ≡ with_schema self.entry (cow_slice_items schema.entry) }
     {
-        let texts = self.texts.with_schema(schema);
-        Statement {
-            thread_id: self.thread_id,
-            execution_time: self.execution_time,
-            error_code: self.error_code,
-            texts,
-        }
+        self.texts = self.texts.with_schema(schema);
+        self
     }
 
     /// The statement with this text.
-    pub fn with_query(self, query: CowSlice<'a, u8>) -> Self
-        ensures { result ≡ record self.entry { texts = record self.entry.texts { query = cow_slice_items query.entry } } }
+    pub fn with_query(mut self, query: CowSlice<'a, u8>) -> Self
+        ensures { result ≡ with_query self.entry (cow_slice_items query.entry) }
     {
-        let texts = self.texts.with_query(query);
-        Statement {
-            thread_id: self.thread_id,
-            execution_time: self.execution_time,
-            error_code: self.error_code,
-            texts,
-        }
+        self.texts = self.texts.with_query(query);
+        self
     }
 
     /// The fields of the post-header.

@@ -1,6 +1,6 @@
 use Rattle.binlog_consts.specs.Codes.{subtype_is_code, checksum_alg_is_code, incident_type_is_code}
 use Rattle.binlog_consts.specs.EventTypeLaws.{event_type_is_code}
-use Rattle.binlog_consts.specs.StatementCodes.{dup_handling_is_code}
+use Rattle.binlog_consts.specs.StatementCodes.{dup_handling_is_code, item_result_is_code}
 use Rattle.binlog_consts.specs.StatusVarKeys.{status_var_key_is_code}
 use Rattle.binlog_consts.specs.Versions.{version_is_code}
 use Rattle.binlog_consts.proofs.laws.numbers_are_codes.Goals as goal
@@ -25,3 +25,6 @@ returns-clause-dup_handlings c = dup_handling_is_code
 
 pub returns-clause-status_vars : goal.returns-clause-status_vars
 returns-clause-status_vars c = status_var_key_is_code
+
+pub returns-clause-item_results : goal.returns-clause-item_results
+returns-clause-item_results c = item_result_is_code

@@ -1,4 +1,4 @@
-use Rattle.std.proofs.Common.{rules, arith, sym, ap, ◌∙◌, ◌++◌, List, ℕ}
+use Rattle.std.proofs.Common.{rules, sym}
 use Rattle.binlog_numbers.specs.VarlenWriting.{take_little_bytes}
 use Rattle.binlog_numbers.proofs.varlen.put_low_bytes.Goals as goal
 

@@ -1,4 +1,4 @@
-use Rattle.std.proofs.Common.{◌≤◌, sym, arith}
+use Rattle.std.proofs.Common.{sym, arith}
 use Rattle.binlog_consts.specs.StatusVarKeys.{status_var_key_past}
 use Rattle.binlog_consts.proofs.status_var_key.StatusVarKeyTryFromU8.try_from.Goals as goal
 

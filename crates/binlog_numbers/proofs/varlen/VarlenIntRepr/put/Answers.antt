@@ -1,4 +1,4 @@
-use Rattle.std.proofs.Common.{rules, arith, ◌≡◌, ℕ, ◌++◌, ◌≤◌, ◌+◌, ◌*◌, ◌^◌, List, [], ◌∷◌, append_assoc, length, refl, sym, ap, ◌∙◌}
+use Rattle.std.proofs.Common.{◌≡◌, ℕ, ◌++◌, List, [], ◌∷◌, append_assoc, refl}
 use Rattle.byteorder.specs.Endian.{little_bytes}
 use Rattle.binlog_numbers.specs.VarlenWriting.{varlen_few, varlen_many, varlen_room, varlen_written}
 use Rattle.binlog_numbers.proofs.varlen.VarlenIntRepr.put.Goals as goal

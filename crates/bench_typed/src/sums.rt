@@ -1,0 +1,110 @@
+//! Sums over what stands in the statements of a log.
+use binlog_file::{BinlogFile, BinlogVersion, Error, EventRef, EventType};
+use binlog_statements::{QueryEvent, StatusVarVal};
+use std::alloc::Global;
+use std::fmt;
+use std::io::BufRead;
+
+/// Sums over the statements of a log, modulo 2^64. They are shown one after another, with spaces between.
+#[derive(Debug, Default, Drop)]
+pub(crate) struct Sums {
+    /// How many statements there are.
+    statements: u64,
+    /// How many bytes the names of their schemas and their texts have.
+    text_bytes: u64,
+    /// How many status variables they have.
+    variables: u64,
+    /// The numbers of these variables, and for those that are none, how many bytes or names they have.
+    values: u64,
+}
+
+impl fmt::Display for Sums {
+    fn fmt<W: fmt::Write>(&self, f: &mut fmt::Formatter<W>) -> fmt::Result {
+        write!(
+            f,
+            "{} {} {} {}",
+            self.statements, self.text_bytes, self.variables, self.values
+        )
+    }
+}
+
+impl Sums {
+    // Counts an event, if it is a statement.
+    fn count_event(&mut self, alloc: Global, event: EventRef<'_>) -> Result<(), Error> {
+        if event.header().event_type_raw() == u8::from(EventType::QUERY_EVENT) {
+            self.count_statement(alloc, &event.read_event(alloc)?)?;
+        }
+        Ok(())
+    }
+
+    fn count_statement(&mut self, alloc: Global, statement: &QueryEvent<'_>) -> Result<(), Error> {
+        let text_bytes = statement
+            .schema_raw()
+            .len()
+            .wrapping_add(statement.query_raw().len());
+        self.statements = self.statements.wrapping_add(1);
+        self.text_bytes = self.text_bytes.wrapping_add(text_bytes as u64);
+        for var in statement.status_vars().iter() {
+            let value = var.get_value(alloc).map_err(|_| Error::Memory)?;
+            self.variables = self.variables.wrapping_add(1);
+            self.values = self.values.wrapping_add(number(&value));
+        }
+        Ok(())
+    }
+}
+
+// The number that a value is, or the sum of its numbers, or how many bytes or names it has.
+fn number(value: &StatusVarVal<'_>) -> u64 {
+    match value {
+        StatusVarVal::Flags2(bits) => u64::from(*bits),
+        StatusVarVal::SqlMode(bits) | StatusVarVal::TableMapForUpdate(bits) => *bits,
+        StatusVarVal::Catalog(bytes)
+        | StatusVarVal::CommitTs(bytes)
+        | StatusVarVal::CommitTs2(bytes) => bytes.len() as u64,
+        StatusVarVal::AutoIncrement { increment, offset } => {
+            u64::from(*increment) + u64::from(*offset)
+        }
+        StatusVarVal::Charset {
+            charset_client,
+            collation_connection,
+            collation_server,
+        } => {
+            u64::from(*charset_client)
+                + u64::from(*collation_connection)
+                + u64::from(*collation_server)
+        }
+        StatusVarVal::TimeZone(text) | StatusVarVal::CatalogNz(text) => text.len() as u64,
+        StatusVarVal::LcTimeNames(number)
+        | StatusVarVal::CharsetDatabase(number)
+        | StatusVarVal::DefaultCollationForUtf8mb4(number) => u64::from(*number),
+        StatusVarVal::MasterDataWritten(bytes) => u64::from(u32::from_le_bytes(*bytes)),
+        StatusVarVal::Invoker { username, hostname } => {
+            (username.len() as u64).wrapping_add(hostname.len() as u64)
+        }
+        StatusVarVal::UpdatedDbNames(names) => names.len() as u64,
+        StatusVarVal::Microseconds(number) => u64::from(*number),
+        StatusVarVal::ExplicitDefaultsForTimestamp(is_set) => u64::from(*is_set),
+        StatusVarVal::DdlLoggedWithXid(number) => *number,
+        StatusVarVal::SqlRequirePrimaryKey(number) | StatusVarVal::DefaultTableEncryption(number) =>
+            u64::from(*number),
+    }
+}
+
+/// The sums over a binlog file with a file header before it, up to the first item that is an error.
+///
+/// # Errors
+///
+/// Those of [`BinlogFile`], of reading a statement, and [`Error::Memory`] where a list of names takes memory that isn't
+/// there.
+pub(crate) fn sums_of<R: BufRead + Drop>(alloc: Global, input: R) -> Result<Sums, Error> {
+    let mut file = BinlogFile::new(alloc, BinlogVersion::Version4, input)?;
+    let mut sums = Sums::default();
+    // Bounded, so that the loop is proved to end; what is lent can't be iterated over.
+    'items: for _ in 0..u64::MAX {
+        let Some(item) = file.next_ref() else {
+            return Ok(sums);
+        };
+        sums.count_event(alloc, item?)?;
+    }
+    Ok(sums)
+}

@@ -1,0 +1,78 @@
+//! What the bodies of statements and the texts of status variables are read as and written as, by rows from outside.
+use binlog_consts::BinlogVersion;
+use binlog_description::{
+    BinlogCtx, BinlogEvent, BinlogEventHeader, DescriptionRef, FormatDescriptionEvent, read_body,
+};
+use binlog_wire::{Error, MySerialize};
+use std::alloc::Global;
+use std::borrow::CowSlice;
+use std::process::Abort;
+
+mod load_queries;
+mod memory;
+mod queries;
+mod user_variables;
+mod variables;
+
+/// The body of the first statement in a log of MySQL 5.0.86.
+const CREATE_TABLE: &[u8] =
+    b"\x01\0\0\0\0\0\0\0\x04\0\0\x1a\0\0\0\x40\0\0\x01\0\0\0\0\0\0\0\0\x06\x03std\x04\x08\0\x08\0\x08\0\
+    test\0create table t1(a int) engine= innodb";
+
+/// Its status variables.
+const STATUS: &[u8] = b"\0\0\x40\0\0\x01\0\0\0\0\0\0\0\0\x06\x03std\x04\x08\0\x08\0\x08\0";
+
+/// A load query: thread 1, schema `d`, the locale 8, file 2, the places 3 and 4, duplicates replaced.
+const LOAD: &[u8] =
+    b"\x01\0\0\0\0\0\0\0\x01\0\0\x03\0\x02\0\0\0\x03\0\0\0\x04\0\0\0\x02\x07\x08\0d\0LOAD";
+
+/// The user variable `a`, an integer of one byte, without a byte of flags.
+const INTEGER: &[u8] = b"\x01\0\0\0a\0\x02\x3f\0\0\0\x01\0\0\0\x07";
+
+// A description that states these post-header lengths.
+fn stating<'a>(lengths: &'a [u8]) -> FormatDescriptionEvent<'a> {
+    let lengths = CowSlice::Borrowed(lengths);
+    FormatDescriptionEvent::new(BinlogVersion::Version4).with_event_type_header_lengths(lengths)
+}
+
+// Reads a whole body as an event of its own type under this description.
+fn read_under<'a, T: BinlogEvent<'a> + Drop>(
+    alloc: Global,
+    fde: DescriptionRef<'a>,
+    body: &'a [u8],
+) -> Result<T, Error> {
+    let event_size = BinlogEventHeader::LEN + body.len();
+    let ctx = BinlogCtx::new(event_size, fde, u8::from(T::EVENT_TYPE));
+    read_body(alloc, ctx, body)
+}
+
+// Reads a whole body as an event of its own type under the default description.
+fn read<'a, T: BinlogEvent<'a> + Drop>(alloc: Global, body: &'a [u8]) -> Result<T, Error> {
+    read_under(alloc, DescriptionRef::new(BinlogVersion::Version4), body)
+}
+
+// Whether a value is written with so many bytes, which begin with these.
+fn is_written_with<T: MySerialize>(
+    rt: &(impl Abort + AllocGlobal),
+    value: &T,
+    len: usize,
+    front: &[u8],
+) {
+    let mut bytes = Vec::new(rt.alloc());
+    assert_eq!(rt; value.serialize(rt.alloc(), &mut bytes), Ok(()));
+    assert_eq!(rt; bytes.len(), len);
+    assert!(rt; bytes.starts_with(front));
+}
+
+// Whether each front of a body of fewer bytes than these is refused for its end.
+fn fronts_are_refused<'a, T: BinlogEvent<'a> + Drop>(
+    rt: &(impl Abort + AllocGlobal),
+    body: &'a [u8],
+    len: usize,
+) {
+    for end in 0..len {
+        let front = body.get(..end).unwrap_or(body);
+        let refused = read::<T>(rt.alloc(), front).err();
+        assert_eq!(rt; refused, Some(Error::EndOfBody), "of {end} bytes");
+    }
+}
