@@ -31,7 +31,7 @@ impl fmt::Display for Sums {
 impl Sums {
     // Counts an event, if it is a statement.
     fn count_event(&mut self, alloc: Global, event: EventRef<'_>) -> Result<(), Error> {
-        if event.header().event_type_raw() == u8::from(EventType::QUERY_EVENT) {
+        if let Ok(EventType::QUERY_EVENT) = event.header().event_type() {
             self.count_statement(alloc, &event.read_event(alloc)?)?;
         }
         Ok(())
