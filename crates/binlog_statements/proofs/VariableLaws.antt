@@ -1,5 +1,5 @@
 -- Each text has one list of status variables, and they are read one after the other.
-use Rattle.std.proofs.Common.{◌≡◌, ◌≢◌, ℕ, zero, suc, ◌+◌, ◌≤◌, ◌<◌, List, [], ◌∷◌, ◌++◌, length, take, drop, Option, Some, None, Result, Ok, Err, All, refl, sym, ap, subst, ◌∙◌, append_assoc, arith, length-append, length-drop}
+use Rattle.std.proofs.Common.{◌≡◌, ◌≢◌, ℕ, zero, suc, ◌+◌, ◌≤◌, ◌<◌, List, [], ◌∷◌, ◌++◌, length, take, drop, Option, Some, None, Result, Ok, Err, All, refl, sym, ap, subst, ◌∙◌, append_assoc, arith, length-append}
 use Rattle.std.specs.List.{flat_map}
 use Rattle.std.proofs.lemmas.List.{take-append-drop, append-nil}
 use Rattle.std.proofs.lemmas.List.Concat.{flat_map-append}
@@ -7,7 +7,7 @@ use Rattle.std.proofs.lemmas.List.Elements.{All-nil, All-cons, All-head, All-tai
 use Rattle.binlog_consts.specs.declared.status_var_key.StatusVarKey.{StatusVarKey}
 use Rattle.binlog_consts.specs.declared.status_var_key.UnknownStatusVarKey.{UnknownStatusVarKey}
 use Rattle.binlog_consts.specs.StatusVarKeys.{status_var_key_number, status_var_key_of, status_var_key_is_code}
-use Rattle.binlog_statements.specs.Layouts.{layout_of, IsLaidOut, value_len}
+use Rattle.binlog_statements.specs.Layouts.{layout_of, value_len}
 use Rattle.binlog_statements.specs.StatusVariables.{Variable, variable_bytes, IsWhole, BeginsWith, AreVariablesOf, variable_at, keyed, first_variable, with_others, variables_within, variables, HasNoKey, IsFirstOfKey}
 use Rattle.binlog_statements.proofs.LayoutLaws.{measures, drop-length, take-length}
 

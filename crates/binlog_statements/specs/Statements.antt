@@ -1,7 +1,7 @@
 -- What a query and a load query have in common: the fields of the post-header, and behind it the status variables and the
 -- schema's name, as long as the post-header says; one byte that says nothing; the statement, to the end.
 -- Source: MySQL's internals documentation, "QUERY_EVENT" and "EXECUTE_LOAD_QUERY_EVENT".
-use Rattle.std.specs.Prelude.{◌≡◌, ℕ, suc, ◌<◌, ◌^◌, List, [], take, length, refl}
+use Rattle.std.specs.Prelude.{◌≡◌, ℕ, suc, ◌<◌, List, [], take, length, refl}
 use Rattle.std.proofs.Common.{arith, ap, ◌∙◌}
 use Rattle.std.proofs.lemmas.List.{take_all, length-take}
 use Rattle.binlog_wire.specs.Formats.{Format, anywhere, last, number, block, rest, unit, skip_then, ◌⨾◌, seen_as}

@@ -1,7 +1,7 @@
 -- What the value of each status variable means.
 -- Source: MySQL's internals documentation, "QUERY_EVENT", and the documentation of its source code,
 -- `mysql::binlog::event::Query_event`.
-use Rattle.std.specs.Prelude.{◌≡◌, ◌≢◌, ◌↔◌, ℕ, List, [], ◌∷◌, ◌++◌, drop, IsTrue}
+use Rattle.std.specs.Prelude.{◌≡◌, ◌≢◌, ◌↔◌, [], ◌∷◌, ◌++◌, drop, IsTrue}
 use Rattle.byteorder.specs.Endian.{little_number}
 use Rattle.binlog_consts.specs.declared.status_var_key.StatusVarKey.TheVariants as keys
 use Rattle.binlog_statements.specs.Layouts.{counted, AreNames}

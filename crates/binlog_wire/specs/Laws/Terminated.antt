@@ -1,10 +1,10 @@
 -- Bytes that end before a zero byte.
-use Rattle.std.proofs.Common.{◌≡◌, ℕ, zero, suc, ◌+◌, ◌<◌, ◌≤◌, true, List, [], ◌∷◌, ◌++◌, length, take, drop, Option, None, Some, Ok, Err, refl, sym, ap, subst, arith, ◌∙◌}
+use Rattle.std.proofs.Common.{◌≡◌, ℕ, zero, suc, ◌+◌, ◌<◌, ◌≤◌, List, [], ◌∷◌, ◌++◌, length, take, drop, Option, None, Some, Ok, Err, refl, sym, ap, subst, arith, ◌∙◌}
 use Rattle.std.proofs.lemmas.Bool.{eqb-true}
 use Rattle.std.specs.Prelude.{MatchOption, ◌-◌}
 use Rattle.std.proofs.lemmas.List.{length-append, length-drop, take_all}
 use Rattle.memchr.specs.Find.{NoneBefore, Nowhere, Passes, is_byte, IsFirstByte}
-use Rattle.binlog_wire.specs.Reading.{ends, Read, ◌>>=◌}
+use Rattle.binlog_wire.specs.Reading.{ends}
 use Rattle.binlog_wire.specs.Fields.{IsBytes, HasNoZero, IsTerminated, terminated_at}
 use Rattle.binlog_wire.specs.Laws.{KeepsTo, bind_ok}
 

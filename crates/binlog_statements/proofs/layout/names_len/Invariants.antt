@@ -1,4 +1,4 @@
-use Rattle.std.proofs.Common.{◌≡◌, ℕ, ◌≤◌, ◌-◌, length}
+use Rattle.std.proofs.Common.{◌≡◌, ◌≤◌, ◌-◌, length}
 use Rattle.binlog_statements.specs.Layouts.{names_len, plus}
 use Rattle.binlog_statements.proofs.layout.names_len.Given as goal
 

@@ -1,7 +1,6 @@
 use Rattle.std.proofs.Common.{◌≡◌, ◌≢◌, sym, ◌∙◌, rules}
 use denote.Enum.Bare.{same_true, same_false}
 use Rattle.binlog_consts.specs.contracts.status_var_key.StatusVarKey.{the_type}
-use Rattle.binlog_statements.specs.StatusVariables.{Variable}
 use Rattle.binlog_statements.specs.StatusVars.{variable_of}
 use Rattle.binlog_statements.proofs.VariableLaws.{first_here, first_later, none_later, none_here}
 use Rattle.binlog_statements.proofs.status_vars.StatusVars.get_status_var.Goals as goal

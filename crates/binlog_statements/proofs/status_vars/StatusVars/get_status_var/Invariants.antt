@@ -1,4 +1,4 @@
-use Rattle.std.proofs.Common.{ℕ, List, take}
+use Rattle.std.proofs.Common.{take}
 use Rattle.binlog_statements.specs.StatusVariables.{Variable, variables, HasNoKey, IsFirstOfKey}
 use Rattle.binlog_statements.proofs.status_vars.StatusVars.get_status_var.Given as goal
 
