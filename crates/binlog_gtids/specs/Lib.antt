@@ -6,6 +6,7 @@ pub mod Tagged
 pub mod TaggedBounds
 pub mod TaggedFields
 pub mod TaggedReading
+pub mod TaggedWriting
 pub mod Taking
 pub mod Untagged
 pub mod Writable

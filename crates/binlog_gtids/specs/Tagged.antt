@@ -101,8 +101,19 @@ tagged_code g = ((2, (written_size g, 0)), entries g)
 
 abbrev pub tagged_with : GtidEvent → ℕ → ℕ → ℕ → GtidEvent
 tagged_with g original_commit_timestamp original_server_version ticket = record {
-  flags = g.flags; sid = g.sid; gno = g.gno; tag = Some (tag_in g.tag); has_clock = false; last_committed = g.last_committed; sequence_number = g.sequence_number;
-  immediate_commit_timestamp = g.immediate_commit_timestamp; original_commit_timestamp = original_commit_timestamp; tx_length = g.tx_length; immediate_server_version = g.immediate_server_version; original_server_version = original_server_version; commit_group_ticket = ticket;
+  flags = g.flags;
+  sid = g.sid;
+  gno = g.gno;
+  tag = Some (tag_in g.tag);
+  has_clock = false;
+  last_committed = g.last_committed;
+  sequence_number = g.sequence_number;
+  immediate_commit_timestamp = g.immediate_commit_timestamp;
+  original_commit_timestamp = original_commit_timestamp;
+  tx_length = g.tx_length;
+  immediate_server_version = g.immediate_server_version;
+  original_server_version = original_server_version;
+  commit_group_ticket = ticket;
 }
 
 abbrev pub tagged_normal : GtidEvent → GtidEvent
@@ -159,16 +170,19 @@ size_fits : (n : ℕ) → n + 2 < 16384 → (t : Bool) → cond t (n + 1) (n + 2
 size_fits n small true = omega arith
 size_fits n small false = omega arith
 
-whole_size : (n size : ℕ) → Solves n size → (m : ℕ) → n ≡ 2 + m → length (head.written (2, (size, 0))) + m ≡ size
+pub whole_size : (n size : ℕ) → Solves n size → (m : ℕ) → n ≡ 2 + m → length (head.written (2, (size, 0))) + m ≡ size
 whole_size n size e m is = omega (arith, e, length-append (varlen_written size) (varlen_written 0), one_byte 0 (omega arith))
 
 pub tagged_choice : IsChoice tagged_fields tagged_of tagged_code tagged_normal FitsTagged
 tagged_choice = record {
   fits = λ g fits.
       let n : ℕ = 2 + length (entries_written g) in
-      let small : n + 2 < 16384 = omega (arith, fits.1) in
-      (((omega arith, refl), (size_fits n small (ltb (n + 1) 128), omega arith)), refl, fits.0,
-       sym (whole_size n (least_size n) (least_size_solves n small) (length (entries_written g)) refl));
+      let small : n + 2 < 16384 = omega (arith, fits.1) in (
+        ((omega arith, refl), (size_fits n small (ltb (n + 1) 128), omega arith)),
+        refl,
+        fits.0,
+        sym (whole_size n (least_size n) (least_size_solves n small) (length (entries_written g)) refl),
+      );
   shows = λ g fits.
       ap (λ (es : List Entry). tagged_of ((2, (written_size g, 0)), es)) (kept g (eqb g.immediate_commit_timestamp g.original_commit_timestamp) (eqb g.immediate_server_version g.original_server_version) (eqb 0 g.commit_group_ticket))
       ∙ entries_say (2, (written_size g, 0)) g;

@@ -29,7 +29,7 @@ maybe : (b : Bool) (e : Entry) (es : List Entry) (k l : ℕ) → length (entry.w
 maybe true e es k l h i = omega (arith, i)
 maybe false e es k l h i = more e es k l h i
 
-few_by : (g : GtidEvent) (a b c : Bool) → length g.sid ≡ 16 → length (tag_in g.tag) ≤ 32 → length (each_written entry.written (entries_by a b c g)) ≤ 400
+pub few_by : (g : GtidEvent) (a b c : Bool) → length g.sid ≡ 16 → length (tag_in g.tag) ≤ 32 → length (each_written entry.written (entries_by a b c g)) ≤ 400
 few_by g a b c sid tag =
     let ticket : List Entry = cond c [] ((11, inl g.commit_group_ticket) ∷ []) in
     let tickets : length (each_written entry.written ticket) ≤ 18 + 0 = maybe c (11, inl g.commit_group_ticket) [] 18 0 (pair 11 g.commit_group_ticket) (omega arith) in

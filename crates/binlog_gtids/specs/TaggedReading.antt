@@ -40,9 +40,9 @@ tests whole h false false = refl
 
 behind_head : (whole : ℕ) (x : Read Head)
     → (x >>= λ h.
-        cond (ltb (h.0.1.0 + length h.1) whole) (Err (invalid (kinds.PayloadSize h.0.1.0)))
-        (cond (ltb whole h.0.1.0) (Err ends)
-        ((fields h.0.1.1).reads (take (left_within h.0.1.0 (length h.1) whole) h.1) >>= λ v. Ok ((h.0, v.0), drop (left_within h.0.1.0 (length h.1) whole) h.1))))
+    cond (ltb (h.0.1.0 + length h.1) whole) (Err (invalid (kinds.PayloadSize h.0.1.0)))
+    (cond (ltb whole h.0.1.0) (Err ends)
+    ((fields h.0.1.1).reads (take (left_within h.0.1.0 (length h.1) whole) h.1) >>= λ v. Ok ((h.0, v.0), drop (left_within h.0.1.0 (length h.1) whole) h.1))))
     ≡ (x >>= counted_by whole >>= fields_in)
 behind_head whole (Ok h) = tests whole h (ltb (h.0.1.0 + length h.1) whole) (ltb whole h.0.1.0)
 behind_head whole (Err d) = refl

@@ -117,18 +117,18 @@ event_same : (es : List Entry) (tag : List ℕ) → event_of (taken es no_fields
 event_same es tag =
     let f : TaggedFields = taken es no_fields in
     let sid : unwrap_or f.sid (replicate 16 0) ≡ bytes_or (replicate 16 0) (last_of 1 es) =
-        ap (λ (o : Option (List ℕ)). unwrap_or o (replicate 16 0)) (known (λ f. f.sid) 1 bytes_in (λ e f. refl) es no_fields) ∙ bytes_same (last_of 1 es) (replicate 16 0) in
+    ap (λ (o : Option (List ℕ)). unwrap_or o (replicate 16 0)) (known (λ f. f.sid) 1 bytes_in (λ e f. refl) es no_fields) ∙ bytes_same (last_of 1 es) (replicate 16 0) in
     let flags : unwrap_or f.flags 0 ≡ number_or 0 (last_of 0 es) = number_known (λ f. f.flags) 0 refl (λ e f. refl) es 0 in
     let gno : unwrap_or f.gno 0 ≡ number_or 0 (last_of 2 es) = number_known (λ f. f.gno) 2 refl (λ e f. refl) es 0 in
     let committed : unwrap_or f.last_committed 0 ≡ number_or 0 (last_of 4 es) = number_known (λ f. f.last_committed) 4 refl (λ e f. refl) es 0 in
     let number : unwrap_or f.sequence_number 0 ≡ number_or 0 (last_of 5 es) = number_known (λ f. f.sequence_number) 5 refl (λ e f. refl) es 0 in
     let time : unwrap_or f.immediate_commit_timestamp 0 ≡ number_or 0 (last_of 6 es) = number_known (λ f. f.immediate_commit_timestamp) 6 refl (λ e f. refl) es 0 in
     let original : unwrap_or f.original_commit_timestamp (unwrap_or f.immediate_commit_timestamp 0) ≡ number_or (number_or 0 (last_of 6 es)) (last_of 7 es) =
-        ap (λ (n : ℕ). unwrap_or f.original_commit_timestamp n) time ∙ number_known (λ f. f.original_commit_timestamp) 7 refl (λ e f. refl) es (number_or 0 (last_of 6 es)) in
+    ap (λ (n : ℕ). unwrap_or f.original_commit_timestamp n) time ∙ number_known (λ f. f.original_commit_timestamp) 7 refl (λ e f. refl) es (number_or 0 (last_of 6 es)) in
     let long : unwrap_or f.tx_length 0 ≡ number_or 0 (last_of 8 es) = number_known (λ f. f.tx_length) 8 refl (λ e f. refl) es 0 in
     let version : unwrap_or f.immediate_server_version 999999 ≡ number_or 999999 (last_of 9 es) = number_known (λ f. f.immediate_server_version) 9 refl (λ e f. refl) es 999999 in
     let older : unwrap_or f.original_server_version (unwrap_or f.immediate_server_version 999999) ≡ number_or (number_or 999999 (last_of 9 es)) (last_of 10 es) =
-        ap (λ (n : ℕ). unwrap_or f.original_server_version n) version ∙ number_known (λ f. f.original_server_version) 10 refl (λ e f. refl) es (number_or 999999 (last_of 9 es)) in
+    ap (λ (n : ℕ). unwrap_or f.original_server_version n) version ∙ number_known (λ f. f.original_server_version) 10 refl (λ e f. refl) es (number_or 999999 (last_of 9 es)) in
     let ticket : unwrap_or f.commit_group_ticket 0 ≡ number_or 0 (last_of 11 es) = number_known (λ f. f.commit_group_ticket) 11 refl (λ e f. refl) es 0 in
     cc
 

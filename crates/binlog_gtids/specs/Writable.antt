@@ -114,10 +114,19 @@ tagged_fits g range tag writable =
     let long : List Entry = (8, inl g.tx_length) ∷ (9, inl g.immediate_server_version) ∷ version in
     let lengths : EachFits entry.Fits long = ((omega arith, wide g.tx_length range.tx_length), ((omega arith, limited g.immediate_server_version 4294967295 range.immediate_server_version (omega arith)), versions)) in
     let times : EachFits entry.Fits (cond (eqb g.immediate_commit_timestamp g.original_commit_timestamp) long ((7, inl g.original_commit_timestamp) ∷ long)) =
-        maybe (eqb g.immediate_commit_timestamp g.original_commit_timestamp) (7, inl g.original_commit_timestamp) long (omega arith, wide g.original_commit_timestamp range.original_commit_timestamp) lengths in
-    (((omega arith, limited g.flags 255 range.flags (omega arith)),
-      ((omega arith, (range.sid, range.sid_bytes)),
-       ((omega arith, gno),
-        ((omega arith, ((omega arith, refl), tag)),
-         ((omega arith, committed), ((omega arith, number), ((omega arith, wide g.immediate_commit_timestamp range.immediate_commit_timestamp), times))))))),
-     few_bytes g range.sid short)
+    maybe (eqb g.immediate_commit_timestamp g.original_commit_timestamp) (7, inl g.original_commit_timestamp) long (omega arith, wide g.original_commit_timestamp range.original_commit_timestamp) lengths in (
+      (
+        (omega arith, limited g.flags 255 range.flags (omega arith)),
+        (
+          (omega arith, (range.sid, range.sid_bytes)),
+          (
+            (omega arith, gno),
+            (
+              (omega arith, ((omega arith, refl), tag)),
+              ((omega arith, committed), ((omega arith, number), ((omega arith, wide g.immediate_commit_timestamp range.immediate_commit_timestamp), times))),
+            ),
+          ),
+        ),
+      ),
+      few_bytes g range.sid short,
+    )

@@ -1,5 +1,5 @@
 //! The event that names the transaction behind it.
-ghost use Rattle.std.specs.Prelude.{◌≡◌, ◌++◌, ◌+◌, ◌<◌, ◌≤◌, ℕ, Option, None, Some, Bool, true, false, if◌then◌else◌, length, replicate, refl, bit_and, is_some, option_copied, IfOk, IsOkUnless, vec_len, vec_capacity};
+ghost use Rattle.std.specs.Prelude.{◌≡◌, ◌++◌, ◌+◌, ◌<◌, ◌≤◌, ℕ, Option, None, Some, Bool, true, false, if◌then◌else◌, length, replicate, refl, bit_and, is_some, option_copied, MatchOption, IsOk, Err, IfOk, IsOkUnless, vec_len, vec_capacity};
 ghost use Rattle.bitflags.specs.Sets.{known_bits};
 ghost use Rattle.binlog_wire.specs.Reading.{Gives, read_as};
 ghost use Rattle.binlog_wire.specs.declared.error.Error.TheVariants.{Memory};
@@ -7,7 +7,7 @@ ghost use Rattle.binlog_consts.specs.declared.event_type.EventType.TheVariants.{
 ghost use Rattle.binlog_gtids.specs.Flags.{gtid_flags};
 ghost use Rattle.binlog_gtids.specs.Gtids.{gtid, by_tag, raw_type_of, gtid_written, gtid_written_is, unwritable};
 ghost use Rattle.binlog_gtids.specs.Untagged.{untagged, head, clock, clock_of, with_clock, without_clock, is_untagged_type};
-ghost use Rattle.binlog_gtids.specs.Writable.{unwritable_untagged};
+ghost use Rattle.binlog_gtids.specs.Writable.{unwritable_untagged, unwritable_tagged};
 
 use crate::clock::{
     UNDEFINED_VERSION, put_logical_times, put_times, put_versions, read_length, read_logical_times,
@@ -15,6 +15,7 @@ use crate::clock::{
 };
 use crate::gtid_flags::GtidFlags;
 use crate::sid::read_sid;
+use crate::tagged::read_tagged;
 use binlog_consts::EventType;
 use binlog_description::{BinlogCtx, BinlogEvent};
 use binlog_numbers::{LenEnc, Tag};
@@ -471,8 +472,9 @@ fn is_untagged_type(raw_type: u8) -> bool
     matches!(raw_type, 33 | 34)
 }
 
-/// [`Error::WrongEventType`] under a raw type other than 33 and 34; [`Error::EndOfBody`] where the bytes end within a
-/// field, and [`Error::InvalidData`] for a length that begins with `fb` or `ff`. No memory is taken.
+/// Without a tag under the raw types 33 and 34, with one under 42, and [`Error::WrongEventType`] under any other;
+/// [`Error::EndOfBody`] where the bytes end within a field, and [`Error::InvalidData`] for a field that isn't allowed. Memory is
+/// taken for a tag alone.
 impl<'de> MyDeserialize<'de> for GtidEvent {
     const SIZE: Option<usize> = None;
 
@@ -480,12 +482,16 @@ impl<'de> MyDeserialize<'de> for GtidEvent {
 
     ghost reads = { λ ctx. (gtid ctx.event_type_raw).reads };
 
+    ghost grows = { λ ctx. ctx.event_type_raw ≡ 42 };
+
     fn deserialize(
-        _alloc: Global,
+        alloc: Global,
         ctx: BinlogCtx<'de>,
         buf: &mut ParseBuf<'de>,
     ) -> Result<Self, Error> {
-        if is_untagged_type(ctx.event_type_raw) {
+        if ctx.event_type_raw == 42 {
+            read_tagged(alloc, buf)
+        } else if is_untagged_type(ctx.event_type_raw) {
             read_untagged(buf)
         } else {
             Err(Error::WrongEventType(ctx.event_type_raw))
@@ -542,14 +548,12 @@ impl GtidEvent {
     }
 }
 
-impl Put for GtidEvent {
-    ghost bytes = { untagged.written };
-
-    ghost refusal = { unwritable };
-
+impl GtidEvent {
     /// [`Error::Unwritable`], with a clock code only: the first in this order of an immediate time from 2^55, an original
     /// time that differs from 2^56, an immediate version from 2^31.
-    fn check(&self) -> Result<(), Error> {
+    pub(crate) fn check_untagged(&self) -> Result<(), Error>
+        ensures { MatchOption (unwritable_untagged self.now) (IsOk result) (λ why. result ≡ Err why) }
+    {
         if !self.has_clock {
             return Ok(());
         }
@@ -567,7 +571,26 @@ impl Put for GtidEvent {
         Ok(())
     }
 
-    fn written_len(&self) -> usize {
+    /// [`Error::Unwritable`] for the first in this order of a number, a `last_committed` and a `sequence_number` from 2^63.
+    fn check_tagged(&self) -> Result<(), Error>
+        ensures { MatchOption (unwritable_tagged self.now) (IsOk result) (λ why. result ≡ Err why) }
+    {
+        if self.gno >= 1 << 63 {
+            return Err(Error::Unwritable(Field::Gno));
+        }
+        if self.last_committed >= 1 << 63 {
+            return Err(Error::Unwritable(Field::LastCommitted));
+        }
+        if self.sequence_number >= 1 << 63 {
+            return Err(Error::Unwritable(Field::SequenceNumber));
+        }
+        Ok(())
+    }
+
+    /// How many bytes the body takes without a tag.
+    pub(crate) fn untagged_len(&self) -> usize
+        ensures { result ≡ length (untagged.written self.now) }
+    {
         if self.has_clock {
             HEAD_LEN + 1 + self.clock_len()
         } else {
@@ -575,11 +598,48 @@ impl Put for GtidEvent {
         }
     }
 
-    fn put(&self, buf: &mut Vec<u8>) {
+    /// Appends the body without a tag, where `buf` has room for it.
+    pub(crate) fn put_untagged(&self, buf: &mut Vec<u8>)
+        requires writable { unwritable_untagged self.now ≡ None }
+        requires room { vec_len buf.old + length (untagged.written self.now) ≤ vec_capacity buf.old }
+        ensures items { buf.new.items ≡ buf.old.items ++ untagged.written self.now }
+        ensures len { vec_len buf.new ≡ vec_len buf.old + length (untagged.written self.now) }
+        ensures capacity { vec_capacity buf.old ≤ vec_capacity buf.new }
+    {
         self.put_head(buf);
         if self.has_clock {
             u8::put(Self::LOGICAL_TIMESTAMP_TYPECODE, buf);
             self.put_clock(buf);
+        }
+    }
+}
+
+impl Put for GtidEvent {
+    ghost bytes = { gtid_written };
+
+    ghost refusal = { unwritable };
+
+    /// [`Error::Unwritable`] for the first field that the form can't hold. With a tag: a number, a `last_committed` or a
+    /// `sequence_number` from 2^63. Without one, with a clock code only: an immediate time from 2^55, an original time that
+    /// differs from 2^56, an immediate version from 2^31.
+    fn check(&self) -> Result<(), Error> {
+        match &self.tag {
+            Some(_) => self.check_tagged(),
+            None => self.check_untagged(),
+        }
+    }
+
+    fn written_len(&self) -> usize {
+        match &self.tag {
+            Some(tag) => self.tagged_len(tag) as usize,
+            None => self.untagged_len(),
+        }
+    }
+
+    fn put(&self, buf: &mut Vec<u8>) {
+        match &self.tag {
+            Some(tag) => self.put_tagged(tag, buf),
+            None => self.put_untagged(buf),
         }
     }
 }
@@ -589,9 +649,9 @@ impl<'a> BinlogEvent<'a> for GtidEvent {
 
     ghost format = { λ _ raw. gtid raw };
 
-    ghost raw_type = { λ _. 33 };
+    ghost raw_type = { raw_type_of };
 
     ghost reading = { λ _. refl };
 
-    ghost writing = { λ _ _ _. refl };
+    ghost writing = { λ _ event _. gtid_written_is event };
 }

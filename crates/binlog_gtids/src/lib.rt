@@ -14,6 +14,7 @@ mod previous_gtids_sid;
 mod sid;
 mod tagged;
 mod tagged_fields;
+mod tagged_writing;
 
 pub use anonymous_gtid_event::AnonymousGtidEvent;
 pub use gtid_event::GtidEvent;

@@ -108,7 +108,9 @@ fn read_value<'a>(
         (λ e. ((id < 12) × Refuses ⊥ e ((value_of_id id).reads buf.old)) ⊎ ((11 < id) × (e ≡ InvalidData (kinds.UnknownField id)))) }
 {
     match id {
-        field_id::GTID_FLAGS => fields.flags = Some(read_limited(field_id::GTID_FLAGS, 255, buf)? as u8),
+        field_id::GTID_FLAGS => fields.flags = Some(
+            read_limited(field_id::GTID_FLAGS, 255, buf)? as u8,
+        ),
         field_id::SID => fields.sid = Some(read_sid_bytes(buf)?),
         field_id::GNO => {
             fields.gno = Some(read_not_negative(field_id::GNO, buf)?);
@@ -128,10 +130,14 @@ fn read_value<'a>(
         }
         field_id::TRANSACTION_LENGTH => fields.tx_length = Some(Varlen::read(buf)?),
         field_id::IMMEDIATE_SERVER_VERSION => {
-            fields.immediate_server_version = Some(read_limited(field_id::IMMEDIATE_SERVER_VERSION, MAX_VERSION, buf)? as u32);
+            fields.immediate_server_version = Some(
+                read_limited(field_id::IMMEDIATE_SERVER_VERSION, MAX_VERSION, buf)? as u32,
+            );
         }
         field_id::ORIGINAL_SERVER_VERSION => {
-            fields.original_server_version = Some(read_limited(field_id::ORIGINAL_SERVER_VERSION, MAX_VERSION, buf)? as u32);
+            fields.original_server_version = Some(
+                read_limited(field_id::ORIGINAL_SERVER_VERSION, MAX_VERSION, buf)? as u32,
+            );
         }
         field_id::COMMIT_GROUP_TICKET => fields.commit_group_ticket = Some(Varlen::read(buf)?),
         _ => return Err(Error::InvalidData(Invalid::UnknownField(id))),

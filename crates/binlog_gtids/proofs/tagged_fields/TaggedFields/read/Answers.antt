@@ -25,8 +25,9 @@ loop-buf-preserved c =
     let last = c.args.last_id in
     let known = c.loop-buf.invariant in
     let step = c.in_ok-read_entry.ensures in
-    let goes : is_tail last c.loop-buf.buf ≡ false = sym c.is_tail.ensures ∙ c.loop-buf-test.true in
-    (known.0 ++ step.0 ∷ [],
-    until_more entry (IsTail last) (is_tail last) (tail_is_end last) ((fields last).reads c.args.body.now) known.0 c.loop-buf.buf known.3 step.0 c.read_entry.new.buf goes step.1 known.1,
-    step.2 ∙ ap (with_entry step.0) known.2 ∙ sym (taken_more known.0 step.0 no_fields),
-    (entry.keeps.sound c.loop-buf.buf (step.0, c.read_entry.new.buf) known.3 step.1).1)
+    let goes : is_tail last c.loop-buf.buf ≡ false = sym c.is_tail.ensures ∙ c.loop-buf-test.true in (
+      known.0 ++ step.0 ∷ [],
+      until_more entry (IsTail last) (is_tail last) (tail_is_end last) ((fields last).reads c.args.body.now) known.0 c.loop-buf.buf known.3 step.0 c.read_entry.new.buf goes step.1 known.1,
+      step.2 ∙ ap (with_entry step.0) known.2 ∙ sym (taken_more known.0 step.0 no_fields),
+      (entry.keeps.sound c.loop-buf.buf (step.0, c.read_entry.new.buf) known.3 step.1).1,
+    )
