@@ -1,4 +1,12 @@
+pub mod EntryReading
 pub mod Flags
+pub mod Gtids
 pub mod PreviousGtids
+pub mod Tagged
+pub mod TaggedBounds
+pub mod TaggedFields
+pub mod TaggedReading
+pub mod TaggedWriting
+pub mod Taking
 pub mod Untagged
 pub mod Writable

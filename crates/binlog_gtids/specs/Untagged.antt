@@ -63,12 +63,13 @@ clock_if false c = None
 abbrev pub fields_of : GtidEvent → Head × Option Clock
 fields_of g = ((g.flags, (g.sid, g.gno)), clock_if g.has_clock (clock_of g))
 
--- the event of these fields; without a clock both versions are unknown, and everything else is 0
+-- the event of these fields, without a tag and a ticket; without a clock both versions are unknown, and everything else is 0
 abbrev pub untagged_with : Head → Option Clock → GtidEvent
 untagged_with h (Some c) = record {
   flags = h.0;
   sid = h.1.0;
   gno = h.1.1;
+  tag = None;
   has_clock = true;
   last_committed = c.0.0;
   sequence_number = c.0.1;
@@ -77,11 +78,13 @@ untagged_with h (Some c) = record {
   tx_length = c.1.1.0;
   immediate_server_version = c.1.1.1.0;
   original_server_version = c.1.1.1.1;
+  commit_group_ticket = 0;
 }
 untagged_with h None = record {
   flags = h.0;
   sid = h.1.0;
   gno = h.1.1;
+  tag = None;
   has_clock = false;
   last_committed = 0;
   sequence_number = 0;
@@ -90,6 +93,7 @@ untagged_with h None = record {
   tx_length = 0;
   immediate_server_version = 999999;
   original_server_version = 999999;
+  commit_group_ticket = 0;
 }
 
 abbrev pub without_clock : Head → GtidEvent
@@ -106,7 +110,7 @@ abbrev pub untagged_normal : GtidEvent → GtidEvent
 untagged_normal g = untagged_with (g.flags, (g.sid, g.gno)) (clock_if g.has_clock (clock_of g))
 
 abbrev pub FitsUntagged : GtidEvent → Type 0
-FitsUntagged g = (head ⨾ behind 2 clock).Fits (fields_of g)
+FitsUntagged g = (head ⨾ behind 2 clock).Fits (fields_of g) × (g.tag ≡ None)
 
 fields_again : (h : Head) (c : Option Clock) → fields_of (untagged_with h c) ≡ (h, c)
 fields_again h (Some c) = refl
@@ -122,7 +126,7 @@ twice_by g false = refl
 
 pub untagged_choice : IsChoice (head ⨾ behind 2 clock) untagged_of fields_of untagged_normal FitsUntagged
 untagged_choice = record {
-  fits = λ g fits. fits;
+  fits = λ g fits. fits.0;
   shows = λ g fits. ap (λ (v : GtidEvent). Ok v) (shows_by g g.has_clock);
   settled = λ s a r g h d.
       let e : untagged_with a.0 a.1 ≡ g = cc in
@@ -174,22 +178,6 @@ put_marked s h k p q r mark e f g = rw (g, f, e) (append_assoc (s ++ h) (mark �
 pub untagged_bytes : (g : GtidEvent) (b : Bool) → g.has_clock ≡ b → untagged.written g ≡ written_by g b
 untagged_bytes g b e = ap (written_by g) e
 
--- a GTID stands under the types 33 and 34, and under no other
+-- these are the types of GTIDs without a tag
 abbrev pub is_untagged_type : ℕ → Bool
 is_untagged_type raw = cond (eqb raw 33) true (eqb raw 34)
-
-abbrev pub gtid : ℕ → Format last GtidEvent
-gtid raw = choose (is_untagged_type raw) untagged (nowhere raw)
-
-pub gtid_untagged : (raw : ℕ) → is_untagged_type raw ≡ true → (gtid raw).reads ≡ untagged.reads
-gtid_untagged raw e = ap (λ (b : Bool). (choose {place = last} b untagged (nowhere raw)).reads) e
-
--- the same body, as an anonymous event
-abbrev pub anonymous_of : GtidEvent → AnonymousGtidEvent
-anonymous_of g = record { 0 = g }
-
-abbrev pub gtid_of : AnonymousGtidEvent → GtidEvent
-gtid_of a = a.0
-
-abbrev pub anonymous : ℕ → Format last AnonymousGtidEvent
-anonymous raw = seen_as anonymous_of gtid_of (λ _. refl) (λ _. refl) (gtid raw)

@@ -1,13 +1,13 @@
 //! The event before a transaction that has no GTID.
 ghost use Rattle.std.specs.Prelude.{◌≡◌, refl, IfOk, IsOkUnless};
 ghost use Rattle.binlog_wire.specs.declared.error.Error.TheVariants.{Memory};
-ghost use Rattle.binlog_gtids.specs.Untagged.{anonymous};
-ghost use Rattle.binlog_gtids.specs.Writable.{unwritable};
+ghost use Rattle.binlog_gtids.specs.Gtids.{anonymous, unwritable_anonymous};
+ghost use Rattle.binlog_gtids.specs.Untagged.{untagged};
 
 use crate::gtid_event::GtidEvent;
 use binlog_consts::EventType;
 use binlog_description::{BinlogCtx, BinlogEvent};
-use binlog_wire::{Error, MyDeserialize, ParseBuf, Put};
+use binlog_wire::{Error, Field, MyDeserialize, ParseBuf, Put};
 use std::alloc::Global;
 
 /// The transaction behind this event has no GTID. Its body is that of a [`GtidEvent`] without a tag.
@@ -40,6 +40,8 @@ impl<'de> MyDeserialize<'de> for AnonymousGtidEvent {
 
     ghost reads = { λ ctx. (anonymous ctx.event_type_raw).reads };
 
+    ghost grows = { λ ctx. ctx.event_type_raw ≡ 42 };
+
     fn deserialize(
         alloc: Global,
         ctx: BinlogCtx<'de>,
@@ -50,20 +52,24 @@ impl<'de> MyDeserialize<'de> for AnonymousGtidEvent {
 }
 
 impl Put for AnonymousGtidEvent {
-    ghost bytes = { (anonymous 34).written };
+    ghost bytes = { λ event. untagged.written event.0 };
 
-    ghost refusal = { λ event. unwritable event.0 };
+    ghost refusal = { λ event. unwritable_anonymous event.0 };
 
+    /// [`Error::Unwritable`] for a tag, and else as of a [`GtidEvent`].
     fn check(&self) -> Result<(), Error> {
-        self.0.check()
+        if self.0.is_tagged() {
+            return Err(Error::Unwritable(Field::Tag));
+        }
+        self.0.check_untagged()
     }
 
     fn written_len(&self) -> usize {
-        self.0.written_len()
+        self.0.untagged_len()
     }
 
     fn put(&self, buf: &mut Vec<u8>) {
-        self.0.put(buf);
+        self.0.put_untagged(buf);
     }
 }
 

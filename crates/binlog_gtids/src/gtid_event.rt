@@ -1,12 +1,13 @@
 //! The event that names the transaction behind it.
-ghost use Rattle.std.specs.Prelude.{◌≡◌, ◌++◌, ◌+◌, ◌<◌, ◌≤◌, ℕ, Option, None, Some, Bool, true, false, if◌then◌else◌, length, replicate, refl, bit_and, IfOk, IsOkUnless, vec_len, vec_capacity};
+ghost use Rattle.std.specs.Prelude.{◌≡◌, ◌++◌, ◌+◌, ◌<◌, ◌≤◌, ℕ, Option, None, Some, Bool, true, false, if◌then◌else◌, length, replicate, refl, bit_and, is_some, option_copied, MatchOption, IsOk, Err, IfOk, IsOkUnless, vec_len, vec_capacity};
 ghost use Rattle.bitflags.specs.Sets.{known_bits};
 ghost use Rattle.binlog_wire.specs.Reading.{Gives, read_as};
 ghost use Rattle.binlog_wire.specs.declared.error.Error.TheVariants.{Memory};
-ghost use Rattle.binlog_consts.specs.declared.event_type.EventType.TheVariants.{GTID_EVENT};
+ghost use Rattle.binlog_consts.specs.declared.event_type.EventType.TheVariants.{GTID_EVENT, GTID_TAGGED_LOG_EVENT};
 ghost use Rattle.binlog_gtids.specs.Flags.{gtid_flags};
-ghost use Rattle.binlog_gtids.specs.Untagged.{gtid, untagged, head, clock, clock_of, with_clock, without_clock, is_untagged_type};
-ghost use Rattle.binlog_gtids.specs.Writable.{unwritable};
+ghost use Rattle.binlog_gtids.specs.Gtids.{gtid, by_tag, raw_type_of, gtid_written, gtid_written_is, unwritable};
+ghost use Rattle.binlog_gtids.specs.Untagged.{untagged, head, clock, clock_of, with_clock, without_clock, is_untagged_type};
+ghost use Rattle.binlog_gtids.specs.Writable.{unwritable_untagged, unwritable_tagged};
 
 use crate::clock::{
     UNDEFINED_VERSION, put_logical_times, put_times, put_versions, read_length, read_logical_times,
@@ -14,9 +15,10 @@ use crate::clock::{
 };
 use crate::gtid_flags::GtidFlags;
 use crate::sid::read_sid;
+use crate::tagged::read_tagged;
 use binlog_consts::EventType;
 use binlog_description::{BinlogCtx, BinlogEvent};
-use binlog_numbers::LenEnc;
+use binlog_numbers::{LenEnc, Tag};
 use binlog_wire::{Error, Field, IntRepr, LeU64, MyDeserialize, ParseBuf, Put, RawFlags};
 use bitflags::Flags;
 use std::alloc::Global;
@@ -32,17 +34,19 @@ const HEAD_LEN: usize = 25;
 /// servers. An original that is equal to the immediate isn't written. See `Gtid_event` in MySQL's source documentation.
 #[derive(Debug, PartialEq, Eq, Hash, Drop)]
 pub struct GtidEvent {
-    flags: u8,
-    sid: [u8; 16],
-    gno: u64,
-    has_clock: bool,
-    last_committed: u64,
-    sequence_number: u64,
-    immediate_commit_timestamp: u64,
-    original_commit_timestamp: u64,
-    tx_length: u64,
-    immediate_server_version: u32,
-    original_server_version: u32,
+    pub(crate) flags: u8,
+    pub(crate) sid: [u8; 16],
+    pub(crate) gno: u64,
+    pub(crate) tag: Option<Tag<'static>>,
+    pub(crate) has_clock: bool,
+    pub(crate) last_committed: u64,
+    pub(crate) sequence_number: u64,
+    pub(crate) immediate_commit_timestamp: u64,
+    pub(crate) original_commit_timestamp: u64,
+    pub(crate) tx_length: u64,
+    pub(crate) immediate_server_version: u32,
+    pub(crate) original_server_version: u32,
+    pub(crate) commit_group_ticket: u64,
 }
 
 impl GtidEvent {
@@ -50,6 +54,10 @@ impl GtidEvent {
     pub const POST_HEADER_LENGTH: usize = 42;
     /// How many bytes a source's id takes.
     pub const ENCODED_SID_LENGTH: usize = 16;
+    /// The serialization version of GTIDs with a tag.
+    pub const TAGGED_SERIALIZATION_VERSION_V2: u8 = 2;
+    /// The ticket that is none.
+    pub const COMMIT_GROUP_TICKET_UNSET: u64 = 0;
     /// The clock code.
     pub const LOGICAL_TIMESTAMP_TYPECODE: u8 = 2;
     /// How many bytes an immediate commit time takes.
@@ -67,6 +75,7 @@ impl GtidEvent {
           flags = 0;
           sid = sid;
           gno = gno;
+          tag = None;
           has_clock = true;
           last_committed = 0;
           sequence_number = 0;
@@ -75,12 +84,14 @@ impl GtidEvent {
           tx_length = 0;
           immediate_server_version = 0;
           original_server_version = 0;
+          commit_group_ticket = 0;
         } }
     {
         GtidEvent {
             flags: 0,
             sid,
             gno,
+            tag: None,
             has_clock: true,
             last_committed: 0,
             sequence_number: 0,
@@ -89,14 +100,91 @@ impl GtidEvent {
             tx_length: 0,
             immediate_server_version: 0,
             original_server_version: 0,
+            commit_group_ticket: 0,
         }
     }
 
-    /// The type under which the event is written: [`EventType::GTID_EVENT`].
-    pub fn event_type(&self) -> EventType
-        ensures { result ≡ GTID_EVENT }
+    /// The GTID of this source, tag and number, without a clock code, with both versions unknown and everything else 0.
+    pub fn new_tagged(sid: [u8; 16], tag: Tag<'static>, gno: u64) -> Self
+        ensures { result ≡ record {
+          flags = 0;
+          sid = sid;
+          gno = gno;
+          tag = Some tag.entry;
+          has_clock = false;
+          last_committed = 0;
+          sequence_number = 0;
+          immediate_commit_timestamp = 0;
+          original_commit_timestamp = 0;
+          tx_length = 0;
+          immediate_server_version = 999999;
+          original_server_version = 999999;
+          commit_group_ticket = 0;
+        } }
     {
-        EventType::GTID_EVENT
+        GtidEvent {
+            flags: 0,
+            sid,
+            gno,
+            tag: Some(tag),
+            has_clock: false,
+            last_committed: 0,
+            sequence_number: 0,
+            immediate_commit_timestamp: 0,
+            original_commit_timestamp: 0,
+            tx_length: 0,
+            immediate_server_version: Self::UNDEFINED_SERVER_VERSION,
+            original_server_version: Self::UNDEFINED_SERVER_VERSION,
+            commit_group_ticket: 0,
+        }
+    }
+
+    /// Whether there is a tag.
+    pub fn is_tagged(&self) -> bool
+        ensures { result ≡ is_some self.now.tag }
+    {
+        self.tag.is_some()
+    }
+
+    /// The type under which the event is written: [`EventType::GTID_TAGGED_LOG_EVENT`] with a tag, and
+    /// [`EventType::GTID_EVENT`] without.
+    pub fn event_type(&self) -> EventType
+        ensures { result ≡ by_tag self.now.tag GTID_TAGGED_LOG_EVENT GTID_EVENT }
+    {
+        match &self.tag {
+            Some(_) => EventType::GTID_TAGGED_LOG_EVENT,
+            None => EventType::GTID_EVENT,
+        }
+    }
+
+    /// The event with this tag.
+    pub fn with_tag(mut self, tag: Tag<'static>) -> Self
+        ensures { result ≡ record self { tag = Some tag.entry } }
+    {
+        self.tag = Some(tag);
+        self
+    }
+
+    /// The tag, if there is one.
+    pub fn tag(&self) -> Option<&Tag<'static>>
+        ensures { option_copied result ≡ self.now.tag }
+    {
+        self.tag.as_ref()
+    }
+
+    /// The event with this ticket.
+    pub fn with_commit_group_ticket(mut self, commit_group_ticket: u64) -> Self
+        ensures { result ≡ record self { commit_group_ticket = commit_group_ticket } }
+    {
+        self.commit_group_ticket = commit_group_ticket;
+        self
+    }
+
+    /// The ticket of the group of transactions that are committed together; 0 is none.
+    pub fn commit_group_ticket(&self) -> u64
+        ensures { result ≡ self.now.commit_group_ticket }
+    {
+        self.commit_group_ticket
     }
 
     /// The event with these flags.
@@ -276,14 +364,19 @@ impl GtidEvent {
     }
 
     /// The same event once more.
-    pub fn clone(&self, _alloc: Global) -> Result<Self, Error>
+    pub fn clone(&self, alloc: Global) -> Result<Self, Error>
         ensures ok { IfOk result (λ copy. copy ≡ self.now) }
         ensures memory { IsOkUnless result Memory }
     {
+        let tag = match &self.tag {
+            Some(tag) => Some(tag.clone(alloc)?),
+            None => None,
+        };
         Ok(GtidEvent {
             flags: self.flags,
             sid: self.sid,
             gno: self.gno,
+            tag,
             has_clock: self.has_clock,
             last_committed: self.last_committed,
             sequence_number: self.sequence_number,
@@ -292,6 +385,7 @@ impl GtidEvent {
             tx_length: self.tx_length,
             immediate_server_version: self.immediate_server_version,
             original_server_version: self.original_server_version,
+            commit_group_ticket: self.commit_group_ticket,
         })
     }
 
@@ -318,6 +412,7 @@ fn read_head(buf: &mut ParseBuf<'_>) -> Result<GtidEvent, Error>
         flags,
         sid,
         gno,
+        tag: None,
         has_clock: false,
         last_committed: 0,
         sequence_number: 0,
@@ -326,6 +421,7 @@ fn read_head(buf: &mut ParseBuf<'_>) -> Result<GtidEvent, Error>
         tx_length: 0,
         immediate_server_version: UNDEFINED_VERSION,
         original_server_version: UNDEFINED_VERSION,
+        commit_group_ticket: 0,
     })
 }
 
@@ -342,6 +438,7 @@ fn read_clock(event: GtidEvent, buf: &mut ParseBuf<'_>) -> Result<GtidEvent, Err
         flags: event.flags,
         sid,
         gno: event.gno,
+        tag: None,
         has_clock: true,
         last_committed,
         sequence_number,
@@ -350,6 +447,7 @@ fn read_clock(event: GtidEvent, buf: &mut ParseBuf<'_>) -> Result<GtidEvent, Err
         tx_length,
         immediate_server_version,
         original_server_version,
+        commit_group_ticket: 0,
     })
 }
 
@@ -374,8 +472,9 @@ fn is_untagged_type(raw_type: u8) -> bool
     matches!(raw_type, 33 | 34)
 }
 
-/// [`Error::WrongEventType`] under a raw type other than 33 and 34; [`Error::EndOfBody`] where the bytes end within a
-/// field, and [`Error::InvalidData`] for a length that begins with `fb` or `ff`. No memory is taken.
+/// Without a tag under the raw types 33 and 34, with one under 42, and [`Error::WrongEventType`] under any other;
+/// [`Error::EndOfBody`] where the bytes end within a field, and [`Error::InvalidData`] for a field that isn't allowed. Memory is
+/// taken for a tag alone.
 impl<'de> MyDeserialize<'de> for GtidEvent {
     const SIZE: Option<usize> = None;
 
@@ -383,12 +482,16 @@ impl<'de> MyDeserialize<'de> for GtidEvent {
 
     ghost reads = { λ ctx. (gtid ctx.event_type_raw).reads };
 
+    ghost grows = { λ ctx. ctx.event_type_raw ≡ 42 };
+
     fn deserialize(
-        _alloc: Global,
+        alloc: Global,
         ctx: BinlogCtx<'de>,
         buf: &mut ParseBuf<'de>,
     ) -> Result<Self, Error> {
-        if is_untagged_type(ctx.event_type_raw) {
+        if ctx.event_type_raw == 42 {
+            read_tagged(alloc, buf)
+        } else if is_untagged_type(ctx.event_type_raw) {
             read_untagged(buf)
         } else {
             Err(Error::WrongEventType(ctx.event_type_raw))
@@ -445,14 +548,12 @@ impl GtidEvent {
     }
 }
 
-impl Put for GtidEvent {
-    ghost bytes = { untagged.written };
-
-    ghost refusal = { unwritable };
-
+impl GtidEvent {
     /// [`Error::Unwritable`], with a clock code only: the first in this order of an immediate time from 2^55, an original
     /// time that differs from 2^56, an immediate version from 2^31.
-    fn check(&self) -> Result<(), Error> {
+    pub(crate) fn check_untagged(&self) -> Result<(), Error>
+        ensures { MatchOption (unwritable_untagged self.now) (IsOk result) (λ why. result ≡ Err why) }
+    {
         if !self.has_clock {
             return Ok(());
         }
@@ -470,7 +571,26 @@ impl Put for GtidEvent {
         Ok(())
     }
 
-    fn written_len(&self) -> usize {
+    /// [`Error::Unwritable`] for the first in this order of a number, a `last_committed` and a `sequence_number` from 2^63.
+    fn check_tagged(&self) -> Result<(), Error>
+        ensures { MatchOption (unwritable_tagged self.now) (IsOk result) (λ why. result ≡ Err why) }
+    {
+        if self.gno >= 1 << 63 {
+            return Err(Error::Unwritable(Field::Gno));
+        }
+        if self.last_committed >= 1 << 63 {
+            return Err(Error::Unwritable(Field::LastCommitted));
+        }
+        if self.sequence_number >= 1 << 63 {
+            return Err(Error::Unwritable(Field::SequenceNumber));
+        }
+        Ok(())
+    }
+
+    /// How many bytes the body takes without a tag.
+    pub(crate) fn untagged_len(&self) -> usize
+        ensures { result ≡ length (untagged.written self.now) }
+    {
         if self.has_clock {
             HEAD_LEN + 1 + self.clock_len()
         } else {
@@ -478,11 +598,48 @@ impl Put for GtidEvent {
         }
     }
 
-    fn put(&self, buf: &mut Vec<u8>) {
+    /// Appends the body without a tag, where `buf` has room for it.
+    pub(crate) fn put_untagged(&self, buf: &mut Vec<u8>)
+        requires writable { unwritable_untagged self.now ≡ None }
+        requires room { vec_len buf.old + length (untagged.written self.now) ≤ vec_capacity buf.old }
+        ensures items { buf.new.items ≡ buf.old.items ++ untagged.written self.now }
+        ensures len { vec_len buf.new ≡ vec_len buf.old + length (untagged.written self.now) }
+        ensures capacity { vec_capacity buf.old ≤ vec_capacity buf.new }
+    {
         self.put_head(buf);
         if self.has_clock {
             u8::put(Self::LOGICAL_TIMESTAMP_TYPECODE, buf);
             self.put_clock(buf);
+        }
+    }
+}
+
+impl Put for GtidEvent {
+    ghost bytes = { gtid_written };
+
+    ghost refusal = { unwritable };
+
+    /// [`Error::Unwritable`] for the first field that the form can't hold. With a tag: a number, a `last_committed` or a
+    /// `sequence_number` from 2^63. Without one, with a clock code only: an immediate time from 2^55, an original time that
+    /// differs from 2^56, an immediate version from 2^31.
+    fn check(&self) -> Result<(), Error> {
+        match &self.tag {
+            Some(_) => self.check_tagged(),
+            None => self.check_untagged(),
+        }
+    }
+
+    fn written_len(&self) -> usize {
+        match &self.tag {
+            Some(tag) => self.tagged_len(tag) as usize,
+            None => self.untagged_len(),
+        }
+    }
+
+    fn put(&self, buf: &mut Vec<u8>) {
+        match &self.tag {
+            Some(tag) => self.put_tagged(tag, buf),
+            None => self.put_untagged(buf),
         }
     }
 }
@@ -492,9 +649,9 @@ impl<'a> BinlogEvent<'a> for GtidEvent {
 
     ghost format = { λ _ raw. gtid raw };
 
-    ghost raw_type = { λ _. 33 };
+    ghost raw_type = { raw_type_of };
 
     ghost reading = { λ _. refl };
 
-    ghost writing = { λ _ _ _. refl };
+    ghost writing = { λ _ event _. gtid_written_is event };
 }

@@ -1,9 +1,11 @@
 //! Laws of the definitions, each a function whose contract says it.
-ghost use Rattle.std.specs.Prelude.{◌≡◌, List, None};
+ghost use Rattle.std.specs.Prelude.{◌≡◌, ◌+◌, ◌<◌, ◌≤◌, ℕ, List, [], None, length};
+ghost use Rattle.binlog_numbers.specs.Sized.{Solves, least_size};
+ghost use Rattle.binlog_numbers.specs.Varlen.{IsVarlen};
 ghost use Rattle.binlog_numbers.specs.Repeated.{EachFits};
 ghost use Rattle.binlog_gtids.specs.PreviousGtids.{FitsSid, sids_format, unwritable_sids};
-ghost use Rattle.binlog_gtids.specs.Untagged.{gtid};
-ghost use Rattle.binlog_gtids.specs.Writable.{InRange, unwritable};
+ghost use Rattle.binlog_gtids.specs.Gtids.{gtid, raw_type_of, unwritable, HasTag};
+ghost use Rattle.binlog_gtids.specs.Writable.{InRange};
 ghost use Rattle.binlog_gtids.specs.declared.gtid_event.GtidEvent.{GtidEvent};
 ghost use Rattle.binlog_gtids.specs.declared.previous_gtids_sid.PreviousGtidsSid.{PreviousGtidsSid};
 
@@ -12,10 +14,16 @@ use crate::gtid_event::GtidEvent;
 use crate::previous_gtids_event::PreviousGtidsEvent;
 use binlog_description::BinlogEvent;
 
-/// A GTID whose fields are in the ranges of their types, and that isn't refused, fits its form: so what is written of it
-/// reads as its normal form.
+/// A GTID whose fields are in the ranges of their types, and that isn't refused, fits the form of its own type: so what is
+/// written of it reads as its normal form.
 pub fn writable_gtids_fit()
-    ensures { (event : GtidEvent) → InRange event → unwritable event ≡ None → (gtid 33).Fits event }
+    ensures { (event : GtidEvent) → InRange event → HasTag event.tag → unwritable event ≡ None → (gtid (raw_type_of event)).Fits event }
+{}
+
+/// The payload size that is written counts n other bytes and its own; no smaller one does, however it is spelled.
+pub fn payload_sizes()
+    ensures solves { (n : ℕ) → n + 2 < 16384 → Solves n (least_size n) }
+    ensures least { (n : ℕ) (s : List ℕ) (size : ℕ) → IsVarlen s size [] → size ≡ n + length s → least_size n ≤ size }
 {}
 
 /// Entries of previous GTIDs whose parts are in the ranges of their types, and that aren't refused, fit their form.
@@ -35,6 +43,8 @@ pub fn constants() {
     prove!(GtidEvent::POST_HEADER_LENGTH == 42);
     prove!(GtidEvent::ENCODED_SID_LENGTH == 16);
     prove!(GtidEvent::LOGICAL_TIMESTAMP_TYPECODE == 2);
+    prove!(GtidEvent::TAGGED_SERIALIZATION_VERSION_V2 == 2);
+    prove!(GtidEvent::COMMIT_GROUP_TICKET_UNSET == 0);
     prove!(GtidEvent::IMMEDIATE_COMMIT_TIMESTAMP_LENGTH == 7);
     prove!(GtidEvent::ORIGINAL_COMMIT_TIMESTAMP_LENGTH == 7);
     prove!(GtidEvent::UNDEFINED_SERVER_VERSION == 999_999);

@@ -5,12 +5,16 @@
 
 mod anonymous_gtid_event;
 mod clock;
+pub mod field_id;
 mod gtid_event;
 mod gtid_flags;
 pub mod laws;
 mod previous_gtids_event;
 mod previous_gtids_sid;
 mod sid;
+mod tagged;
+mod tagged_fields;
+mod tagged_writing;
 
 pub use anonymous_gtid_event::AnonymousGtidEvent;
 pub use gtid_event::GtidEvent;

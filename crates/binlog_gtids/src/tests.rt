@@ -143,7 +143,7 @@ fn times_that_do_not_fit(rt: HostRuntime) -> Result<(), Fail> {
 fn other_types_hold_no_gtid(rt: HostRuntime) -> Result<(), Fail> {
     let alloc = rt.alloc();
     let fde = FormatDescriptionEvent::new(BinlogVersion::Version4);
-    for raw_type in [0, 16, 32, 35, 255] {
+    for raw_type in [0, 16, 32, 35, 41, 43, 255] {
         let refused: Result<GtidEvent, Error> = read(alloc, &fde, raw_type, HEAD);
         assert!(rt; refused.err() == Some(Error::WrongEventType(raw_type)));
         let refused: Result<AnonymousGtidEvent, Error> = read(alloc, &fde, raw_type, HEAD);
@@ -352,5 +352,131 @@ fn tag_that_is_none_is_refused(rt: HostRuntime) -> Result<(), Fail> {
     )?;
     let refused = Some(Error::InvalidData(Invalid::Tag));
     assert!(rt; refusal(alloc, body.as_slice()) == refused);
+    Ok(())
+}
+
+// Reads a body with a tag.
+fn read_tagged<'a>(alloc: Global, body: &'a [u8]) -> Result<GtidEvent, Error> {
+    let fde = FormatDescriptionEvent::new(BinlogVersion::Version4);
+    read_in(alloc, &fde, body)
+}
+
+// Reads a body with a tag under this description.
+fn read_in(
+    alloc: Global,
+    fde: &FormatDescriptionEvent<'_>,
+    body: &[u8],
+) -> Result<GtidEvent, Error> {
+    read(alloc, fde, 42, body)
+}
+
+// The GTID of this tag, the source of all `ab`, and the number 1.
+fn tagged(alloc: Global, tag: &'static [u8]) -> Result<GtidEvent, Error> {
+    Ok(GtidEvent::new_tagged(UUID, Tag::from_bytes(tag)?.into_owned(alloc)?, 1))
+}
+
+/// A tagged body of 68 bytes.
+const BACKUP: &[u8] =
+    b"\x02\x88\0\0\0\x02\xad\x02\xad\x02\xad\x02\xad\x02\xad\x02\xad\x02\xad\x02\xad\x02\xad\x02\xad\x02\xad\x02\xad\x02\xad\x02\xad\x02\xad\x02\xad\x02\x04\x04\x06\x0cbackup\x08\0\x0a\0\x0c\x41\x1f\x0e\xa1\x0f\x10\0\x12\xc3\x02\x0b\x14\xa3\xff\x0a";
+
+#[test]
+fn tagged_gtid_is_written(rt: HostRuntime) -> Result<(), Fail> {
+    let alloc = rt.alloc();
+    let event = tagged(alloc, b"backup")?
+        .with_immediate_commit_timestamp(2000)
+        .with_original_commit_timestamp(1000)
+        .with_immediate_server_version(90200)
+        .with_original_server_version(90100);
+    assert_eq!(rt; event.len(BinlogVersion::Version4), 68);
+    assert!(rt; event.event_type() == EventType::GTID_TAGGED_LOG_EVENT);
+    assert_eq!(rt; written(alloc, &event)?.as_slice(), BACKUP);
+    assert!(rt; read_tagged(alloc, BACKUP)? == event);
+    assert!(rt; event.clone(alloc)?.into_owned(alloc)? == event);
+    Ok(())
+}
+
+// A body of 127 bytes with this sequence number in the second row of a size of one byte.
+fn long_event(alloc: Global, sequence_number: u64) -> Result<GtidEvent, Error> {
+    let event = tagged(alloc, b"abcdefghijklmnopqrstuvwxyz012345")?
+        .with_last_committed((1 << 63) - 1)
+        .with_sequence_number(sequence_number)
+        .with_immediate_commit_timestamp(u64::MAX)
+        .with_original_commit_timestamp(0)
+        .with_tx_length(u64::MAX)
+        .with_commit_group_ticket(u64::MAX);
+    Ok(event)
+}
+
+#[test]
+fn payload_size_counts_itself(rt: HostRuntime) -> Result<(), Fail> {
+    let alloc = rt.alloc();
+    let event = long_event(alloc, 1 << 34)?;
+    let bytes = written(alloc, &event)?;
+    assert_eq!(rt; bytes.len(), 127);
+    assert!(rt; bytes.as_slice().starts_with(b"\x02\xfe\0"));
+    assert!(rt; read_tagged(alloc, bytes.as_slice())? == event);
+    let longer = long_event(alloc, 1 << 41)?;
+    let bytes = written(alloc, &longer)?;
+    assert_eq!(rt; longer.len(BinlogVersion::Version4), 129);
+    assert!(rt; bytes.as_slice().starts_with(b"\x02\x05\x02\0"));
+    Ok(())
+}
+
+// Why a body with a tag is refused.
+fn tagged_refusal(alloc: Global, body: &[u8]) -> Option<Error> {
+    read_tagged(alloc, body).err()
+}
+
+#[test]
+fn tagged_bodies_are_refused(rt: HostRuntime) -> Result<(), Fail> {
+    let alloc = rt.alloc();
+    for body in [b"".as_slice(), b"\x02\xff\x01\x02", b"\x02\x08\0"] {
+        assert!(rt; tagged_refusal(alloc, body) == Some(Error::EndOfBody));
+    }
+    let refused = |why| Some(Error::InvalidData(why));
+    assert!(rt; tagged_refusal(alloc, b"\0\x14\0") == refused(Invalid::SerializationVersion(0)));
+    assert!(rt; tagged_refusal(alloc, b"\x02\x02\0") == refused(Invalid::PayloadSize(1)));
+    assert!(rt; tagged_refusal(alloc, b"\x02\x06\0") == refused(Invalid::MissingTag));
+    let negative = b"\x02\x16\0\x06\x08test\x04\x02";
+    assert!(rt; tagged_refusal(alloc, negative) == refused(Invalid::Negative(2)));
+    let unknown = b"\x02\x0e\xc8\0\0\xc6\0";
+    assert!(rt; tagged_refusal(alloc, unknown) == refused(Invalid::UnknownField(99)));
+    Ok(())
+}
+
+#[test]
+fn tagged_spellings_are_read(rt: HostRuntime) -> Result<(), Fail> {
+    let alloc = rt.alloc();
+    let later = read_tagged(alloc, b"\x02\x1a\0\x06\x08test\x04\x04\x04\x08")?;
+    assert_eq!(rt; later.gno(), 2);
+    let ended = read_tagged(alloc, b"\x02\x18\x12\x06\x08test\xc6\xff\xff")?;
+    assert_eq!(rt; ended.len(BinlogVersion::Version4), 42);
+    let long = read_tagged(alloc, b"\x02\x29\0\0\x06\x08test")?;
+    assert_eq!(rt; written(alloc, &long)?.len(), 42);
+    let over = b"\x02\x18\x12\x06\x08test\xc6\xff\xff\0";
+    assert!(rt; tagged_refusal(alloc, over) == Some(Error::RemainingBytes(1)));
+    Ok(())
+}
+
+#[test]
+fn cut_tagged_bodies_are_refused(rt: HostRuntime) {
+    for len in 0..BACKUP.len() {
+        let front = ParseBuf(BACKUP).checked_eat(len).unwrap_or(b"");
+        assert!(rt; tagged_refusal(rt.alloc(), front) == Some(Error::EndOfBody));
+    }
+}
+
+#[test]
+fn tagged_numbers_that_do_not_fit(rt: HostRuntime) -> Result<(), Fail> {
+    let alloc = rt.alloc();
+    let mut buf = Vec::from_slice(alloc, b"\xaa")?;
+    let late = tagged(alloc, b"test")?
+        .with_gno(1 << 63)
+        .with_last_committed(1 << 63);
+    assert!(rt; late.serialize(alloc, &mut buf) == Err(Error::Unwritable(Field::Gno)));
+    let anonymous = AnonymousGtidEvent(late);
+    let refusal = Err(Error::Unwritable(Field::Tag));
+    assert!(rt; anonymous.serialize(alloc, &mut buf) == refusal);
+    assert_eq!(rt; buf.as_slice(), b"\xaa".as_slice());
     Ok(())
 }

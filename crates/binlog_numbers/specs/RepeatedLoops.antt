@@ -11,7 +11,7 @@ use Rattle.binlog_numbers.specs.Repeated.{times_at, each_written}
 abbrev pub behind_values : {V : Type 0} → List V → Read (List V) → Read (List V)
 behind_values vs x = x >>= λ y. Ok (vs ++ y.0, y.1)
 
-one_more : {V : Type 0} (vs : List V) (v : V) (x : Read (List V)) → behind_values vs (x >>= λ b. Ok (v ∷ b.0, b.1)) ≡ behind_values (vs ++ v ∷ []) x
+pub one_more : {V : Type 0} (vs : List V) (v : V) (x : Read (List V)) → behind_values vs (x >>= λ b. Ok (v ∷ b.0, b.1)) ≡ behind_values (vs ++ v ∷ []) x
 one_more {V} vs v (Ok x) = ap (λ (ws : List V). Ok (ws, x.1)) (sym (append_assoc vs (v ∷ []) x.0))
 one_more vs v (Err d) = refl
 

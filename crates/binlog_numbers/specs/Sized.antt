@@ -15,13 +15,13 @@ Solves n size = size ≡ n + length (varlen_written size)
 abbrev pub least_size : ℕ → ℕ
 least_size n = cond (ltb (n + 1) 128) (n + 1) (n + 2)
 
-one_byte : (size : ℕ) → size < 128 → length (varlen_written size) ≡ 1
+pub one_byte : (size : ℕ) → size < 128 → length (varlen_written size) ≡ 1
 unfolding varlen_written
 one_byte size small =
     let h : ltb size (2 ^ (7 * 1)) ≡ true = lt-ltb _ _ (omega arith) in
     rw h (length-little_bytes 1 (size * 2 ^ 1 + 2 ^ (1 - 1) - 1))
 
-two_bytes : (size : ℕ) → 128 ≤ size → size < 16384 → length (varlen_written size) ≡ 2
+pub two_bytes : (size : ℕ) → 128 ≤ size → size < 16384 → length (varlen_written size) ≡ 2
 unfolding varlen_written
 two_bytes size big small =
     let h : ltb size (2 ^ (7 * 1)) ≡ false = le-ltb _ _ (omega arith) in

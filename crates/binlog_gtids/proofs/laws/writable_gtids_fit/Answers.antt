@@ -1,5 +1,5 @@
-use Rattle.binlog_gtids.specs.Writable.{untagged_fits}
+use Rattle.binlog_gtids.specs.Gtids.{gtid_fits}
 use Rattle.binlog_gtids.proofs.laws.writable_gtids_fit.Goals as goal
 
 pub returns : goal.returns
-returns c = untagged_fits
+returns c = gtid_fits

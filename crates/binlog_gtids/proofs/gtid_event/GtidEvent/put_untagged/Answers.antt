@@ -1,6 +1,6 @@
 use Rattle.std.proofs.Common.{rules, arith, ◌≡◌, ◌++◌, ℕ, List, length, true, false, sym, ap, ◌∙◌}
 use Rattle.binlog_gtids.specs.Untagged.{head, clock, clock_of, untagged_length, untagged_bytes, put_marked}
-use Rattle.binlog_gtids.proofs.gtid_event.GtidEventPut.put.Goals as goal
+use Rattle.binlog_gtids.proofs.gtid_event.GtidEvent.put_untagged.Goals as goal
 
 pub put_clock-requires-clause-room : goal.put_clock-requires-clause-room
 put_clock-requires-clause-room c =

@@ -1,0 +1,266 @@
+//! Writing a GTID with a tag.
+ghost use Rattle.std.specs.Prelude.{◌≡◌, ◌++◌, ◌+◌, ◌*◌, ◌<◌, ◌≤◌, Some, length, vec_len, vec_capacity};
+ghost use Rattle.binlog_numbers.specs.Repeated.{each_written};
+ghost use Rattle.binlog_numbers.specs.Sized.{least_size};
+ghost use Rattle.binlog_numbers.specs.VarlenWriting.{varlen_written};
+ghost use Rattle.binlog_gtids.specs.Tagged.{tagged, written_size, entries_written};
+ghost use Rattle.binlog_gtids.specs.TaggedWriting.{number_field, changed_field, sid_field, tag_field, first_fields, last_fields};
+
+use crate::field_id;
+use crate::gtid_event::GtidEvent;
+use binlog_numbers::{Tag, Varlen, varlen_uint_size};
+use binlog_wire::IntRepr;
+
+/// The greatest id of a field that may not be ignored, as it is written.
+const LAST_ID: u64 = 0;
+
+/// The least size that counts these bytes, the version, the last id, and its own bytes.
+fn payload_size(fields_len: usize) -> u64
+    requires { fields_len ≤ 900 }
+    ensures size { result ≡ least_size (2 + fields_len) }
+    ensures small { result ≤ 1000 }
+{
+    let others = 2 + fields_len as u64;
+    if others + 1 < 128 {
+        others + 1
+    } else {
+        others + 2
+    }
+}
+
+/// How many bytes a field takes whose value is a number.
+fn number_len(id: u64, number: u64) -> usize
+    ensures count { result ≡ length (number_field id number) }
+    ensures small { result ≤ 18 }
+{
+    varlen_uint_size(id) + varlen_uint_size(number)
+}
+
+/// How many bytes a field takes whose value is a signed number.
+fn signed_len(id: u64, number: u64) -> usize
+    ensures count { result ≡ length (number_field id (2 * number)) }
+    ensures small { result ≤ 18 }
+{
+    if number < 1 << 63 {
+        number_len(id, 2 * number)
+    } else {
+        varlen_uint_size(id) + 9
+    }
+}
+
+/// How many bytes a field takes that is written only where its number isn't the usual one.
+fn changed_len(id: u64, usual: u64, number: u64) -> usize
+    ensures count { result ≡ length (changed_field id usual number) }
+    ensures small { result ≤ 18 }
+{
+    if usual == number {
+        0
+    } else {
+        number_len(id, number)
+    }
+}
+
+/// How many bytes a source's id takes, a number for each byte.
+fn sid_len(sid: &[u8]) -> usize
+    requires { length sid.now ≡ 16 }
+    ensures count { result ≡ length (sid_field sid.now) }
+    ensures small { result ≤ 153 }
+{
+    let mut len = varlen_uint_size(field_id::SID);
+    for byte in sid {
+        len += varlen_uint_size(u64::from(*byte));
+    }
+    len
+}
+
+/// How many bytes a tag takes.
+fn tag_len(tag: &Tag<'_>) -> usize
+    ensures count { result ≡ length (tag_field tag.now) }
+    ensures small { result ≤ 50 }
+{
+    let len = tag.as_str().len();
+    number_len(field_id::TAG, len as u64) + len
+}
+
+/// Appends a field whose value is a number, where `buf` has room for it.
+fn put_number(id: u64, number: u64, buf: &mut Vec<u8>)
+    requires { vec_len buf.old + length (number_field id number) ≤ vec_capacity buf.old }
+    ensures items { buf.new.items ≡ buf.old.items ++ number_field id number }
+    ensures len { vec_len buf.new ≡ vec_len buf.old + length (number_field id number) }
+    ensures capacity { vec_capacity buf.old ≤ vec_capacity buf.new }
+{
+    Varlen::put(id, buf);
+    Varlen::put(number, buf);
+}
+
+/// Appends a field unless its number is the usual one, where `buf` has room for it.
+fn put_changed(id: u64, usual: u64, number: u64, buf: &mut Vec<u8>)
+    requires { vec_len buf.old + length (changed_field id usual number) ≤ vec_capacity buf.old }
+    ensures items { buf.new.items ≡ buf.old.items ++ changed_field id usual number }
+    ensures len { vec_len buf.new ≡ vec_len buf.old + length (changed_field id usual number) }
+    ensures capacity { vec_capacity buf.old ≤ vec_capacity buf.new }
+{
+    if usual != number {
+        put_number(id, number, buf);
+    }
+}
+
+/// Appends each byte as a number, where `buf` has room for them.
+fn put_bytes(bytes: &[u8], buf: &mut Vec<u8>)
+    requires { vec_len buf.old + length (each_written varlen_written bytes.now) ≤ vec_capacity buf.old }
+    ensures items { buf.new.items ≡ buf.old.items ++ each_written varlen_written bytes.now }
+    ensures len { vec_len buf.new ≡ vec_len buf.old + length (each_written varlen_written bytes.now) }
+    ensures capacity { vec_capacity buf.old ≤ vec_capacity buf.new }
+{
+    for byte in bytes {
+        Varlen::put(u64::from(*byte), buf);
+    }
+}
+
+/// Appends a source's id, where `buf` has room for it.
+fn put_sid(sid: &[u8], buf: &mut Vec<u8>)
+    requires { vec_len buf.old + length (sid_field sid.now) ≤ vec_capacity buf.old }
+    ensures items { buf.new.items ≡ buf.old.items ++ sid_field sid.now }
+    ensures len { vec_len buf.new ≡ vec_len buf.old + length (sid_field sid.now) }
+    ensures capacity { vec_capacity buf.old ≤ vec_capacity buf.new }
+{
+    Varlen::put(field_id::SID, buf);
+    put_bytes(sid, buf);
+}
+
+/// Appends a tag, where `buf` has room for it.
+fn put_tag(tag: &Tag<'_>, buf: &mut Vec<u8>)
+    requires { vec_len buf.old + length (tag_field tag.now) ≤ vec_capacity buf.old }
+    ensures items { buf.new.items ≡ buf.old.items ++ tag_field tag.now }
+    ensures len { vec_len buf.new ≡ vec_len buf.old + length (tag_field tag.now) }
+    ensures capacity { vec_capacity buf.old ≤ vec_capacity buf.new }
+{
+    let text = tag.as_str().as_bytes();
+    put_number(field_id::TAG, text.len() as u64, buf);
+    buf.extend_from_slice(text).unwrap();
+}
+
+impl GtidEvent {
+    /// How many bytes the fields up to the logical times take.
+    fn first_len(&self, tag: &Tag<'_>) -> usize
+        ensures count { result ≡ length (first_fields self.now tag.now) }
+        ensures small { result ≤ 275 }
+    {
+        number_len(field_id::GTID_FLAGS, u64::from(self.flags))
+            + sid_len(&self.sid)
+            + signed_len(field_id::GNO, self.gno)
+            + tag_len(tag)
+            + signed_len(field_id::LAST_COMMITTED, self.last_committed)
+            + signed_len(field_id::SEQUENCE_NUMBER, self.sequence_number)
+    }
+
+    /// How many bytes the fields from the commit times on take.
+    fn last_len(&self) -> usize
+        ensures count { result ≡ length (last_fields self.now) }
+        ensures small { result ≤ 108 }
+    {
+        let (time, version) = (
+            self.immediate_commit_timestamp,
+            u64::from(self.immediate_server_version),
+        );
+        number_len(field_id::IMMEDIATE_COMMIT_TIMESTAMP, time)
+            + changed_len(
+                field_id::ORIGINAL_COMMIT_TIMESTAMP,
+                time,
+                self.original_commit_timestamp,
+            )
+            + number_len(field_id::TRANSACTION_LENGTH, self.tx_length)
+            + number_len(field_id::IMMEDIATE_SERVER_VERSION, version)
+            + changed_len(
+                field_id::ORIGINAL_SERVER_VERSION,
+                version,
+                u64::from(self.original_server_version),
+            )
+            + changed_len(
+                field_id::COMMIT_GROUP_TICKET,
+                Self::COMMIT_GROUP_TICKET_UNSET,
+                self.commit_group_ticket,
+            )
+    }
+
+    /// Appends the fields up to the logical times, where `buf` has room for them.
+    fn put_first(&self, tag: &Tag<'_>, buf: &mut Vec<u8>)
+        requires gno { self.now.gno < 9223372036854775808 }
+        requires last_committed { self.now.last_committed < 9223372036854775808 }
+        requires sequence_number { self.now.sequence_number < 9223372036854775808 }
+        requires room { vec_len buf.old + length (first_fields self.now tag.now) ≤ vec_capacity buf.old }
+        ensures items { buf.new.items ≡ buf.old.items ++ first_fields self.now tag.now }
+        ensures len { vec_len buf.new ≡ vec_len buf.old + length (first_fields self.now tag.now) }
+        ensures capacity { vec_capacity buf.old ≤ vec_capacity buf.new }
+    {
+        put_number(field_id::GTID_FLAGS, u64::from(self.flags), buf);
+        put_sid(&self.sid, buf);
+        put_number(field_id::GNO, 2 * self.gno, buf);
+        put_tag(tag, buf);
+        put_number(field_id::LAST_COMMITTED, 2 * self.last_committed, buf);
+        put_number(field_id::SEQUENCE_NUMBER, 2 * self.sequence_number, buf);
+    }
+
+    /// Appends the fields from the commit times on, where `buf` has room for them.
+    fn put_last(&self, buf: &mut Vec<u8>)
+        requires room { vec_len buf.old + length (last_fields self.now) ≤ vec_capacity buf.old }
+        ensures items { buf.new.items ≡ buf.old.items ++ last_fields self.now }
+        ensures len { vec_len buf.new ≡ vec_len buf.old + length (last_fields self.now) }
+        ensures capacity { vec_capacity buf.old ≤ vec_capacity buf.new }
+    {
+        let (time, version) = (
+            self.immediate_commit_timestamp,
+            u64::from(self.immediate_server_version),
+        );
+        put_number(field_id::IMMEDIATE_COMMIT_TIMESTAMP, time, buf);
+        put_changed(
+            field_id::ORIGINAL_COMMIT_TIMESTAMP,
+            time,
+            self.original_commit_timestamp,
+            buf,
+        );
+        put_number(field_id::TRANSACTION_LENGTH, self.tx_length, buf);
+        put_number(field_id::IMMEDIATE_SERVER_VERSION, version, buf);
+        put_changed(
+            field_id::ORIGINAL_SERVER_VERSION,
+            version,
+            u64::from(self.original_server_version),
+            buf,
+        );
+        put_changed(
+            field_id::COMMIT_GROUP_TICKET,
+            Self::COMMIT_GROUP_TICKET_UNSET,
+            self.commit_group_ticket,
+            buf,
+        );
+    }
+
+    /// How many bytes the body takes with this tag: the payload size that is stated.
+    pub(crate) fn tagged_len(&self, tag: &Tag<'_>) -> u64
+        requires { self.now.tag ≡ Some tag.now }
+        ensures size { result ≡ written_size self.now }
+        ensures count { result ≡ length (tagged.written self.now) }
+        ensures small { result ≤ 1000 }
+    {
+        payload_size(self.first_len(tag) + self.last_len())
+    }
+
+    /// Appends the body with this tag, where `buf` has room for it.
+    pub(crate) fn put_tagged(&self, tag: &Tag<'_>, buf: &mut Vec<u8>)
+        requires tag { self.now.tag ≡ Some tag.now }
+        requires gno { self.now.gno < 9223372036854775808 }
+        requires last_committed { self.now.last_committed < 9223372036854775808 }
+        requires sequence_number { self.now.sequence_number < 9223372036854775808 }
+        requires room { vec_len buf.old + length (tagged.written self.now) ≤ vec_capacity buf.old }
+        ensures items { buf.new.items ≡ buf.old.items ++ tagged.written self.now }
+        ensures len { vec_len buf.new ≡ vec_len buf.old + length (tagged.written self.now) }
+        ensures capacity { vec_capacity buf.old ≤ vec_capacity buf.new }
+    {
+        let size = self.tagged_len(tag);
+        u8::put(Self::TAGGED_SERIALIZATION_VERSION_V2, buf);
+        Varlen::put(size, buf);
+        Varlen::put(LAST_ID, buf);
+        self.put_first(tag, buf);
+        self.put_last(buf);
+    }
+}
