@@ -46,9 +46,9 @@ module _ {V : Type 0} (f : Format anywhere V) (End : List ℕ → Type 0) (test 
       let left : IsBytes m = (f.keeps.sound s (v, m) fits e).1 in
       let less : suc (length m) ≤ length s = shorter s (v, m) fits e in
       let steps : until_at test f.reads s ≡ until_in (suc (length s)) test f.reads s =
-          enough_steps (length s) (length s) (suc (length s)) s fits (omega arith) (omega arith) (omega arith) in
+      enough_steps (length s) (length s) (suc (length s)) s fits (omega arith) (omega arith) (omega arith) in
       let inner : until_in (length s) test f.reads m ≡ until_at test f.reads m =
-          enough_steps (length m) (length s) (length m) m left (omega arith) (omega arith) (omega arith) in
+      enough_steps (length m) (length s) (length m) m left (omega arith) (omega arith) (omega arith) in
       steps ∙ rw (goes, e, inner) refl
 
   -- the values so far, and behind them those that are left: one value more
