@@ -1,11 +1,10 @@
 -- What the parts of a reading of fields need.
-use Rattle.std.proofs.Common.{◌≡◌, ℕ, ◌<◌, ◌⊎◌, inl, inr, Bool, true, false, cond, ltb, List, Result, Ok, Err, sym, ap, subst, ◌∙◌, arith}
+use Rattle.std.proofs.Common.{◌≡◌, ℕ, ◌<◌, ◌⊎◌, inl, inr, Bool, false, cond, ltb, List, Ok, Err, sym, ap, subst, ◌∙◌, arith}
 use Rattle.std.proofs.lemmas.Bool.{lt-ltb, le-ltb}
 use Rattle.binlog_wire.specs.declared.error.Error.{Error}
 use Rattle.binlog_wire.specs.declared.error.Error.TheVariants as errors
-use Rattle.binlog_wire.specs.declared.error.Invalid.{Invalid}
 use Rattle.binlog_wire.specs.declared.error.Invalid.TheVariants as kinds
-use Rattle.binlog_wire.specs.Reading.{Read, Refusal, invalid, ◌>>=◌, Refuses}
+use Rattle.binlog_wire.specs.Reading.{Read, invalid, ◌>>=◌, Refuses}
 use Rattle.binlog_wire.specs.Fields.{meant, read_decoded}
 use Rattle.binlog_numbers.specs.Varlen.{varlen_at}
 use Rattle.binlog_numbers.specs.Refusing.{refused_as}

@@ -1,12 +1,11 @@
 -- The body of a GTID with a tag: a byte 2; the size of the whole body, which counts itself; the last id that may not be
 -- ignored; fields.
-use Rattle.std.proofs.Common.{◌≡◌, ℕ, zero, suc, ◌+◌, ◌-◌, ◌*◌, ◌^◌, ◌<◌, ◌≤◌, ◌⊎◌, inl, inr, Bool, true, false, cond, ltb, eqb, Option, None, Some, List, [], ◌∷◌, ◌++◌, length, replicate, Result, Ok, Err, refl, sym, ap, subst, ◌∙◌, arith}
-use Rattle.std.proofs.lemmas.Bool.{ltb-true, ltb-false, lt-ltb, le-ltb, eqb-true, eq-eqb}
+use Rattle.std.proofs.Common.{◌≡◌, ℕ, ◌+◌, ◌^◌, ◌<◌, inl, inr, Bool, true, false, cond, ltb, eqb, Option, None, Some, List, [], ◌∷◌, length, replicate, Result, Ok, Err, refl, sym, ap, subst, ◌∙◌, arith}
+use Rattle.std.proofs.lemmas.Bool.{eqb-true}
 use Rattle.std.proofs.lemmas.List.{length-append}
 use Rattle.binlog_wire.specs.declared.error.Invalid.{Invalid}
 use Rattle.binlog_wire.specs.declared.error.Invalid.TheVariants as kinds
-use Rattle.binlog_wire.specs.Formats.{Place, anywhere, last, Format, allowed, ◌⨾◌}
-use Rattle.binlog_wire.specs.Laws.Numbers.{length-little_bytes}
+use Rattle.binlog_wire.specs.Formats.{anywhere, last, Format, allowed, ◌⨾◌}
 use Rattle.binlog_numbers.specs.VarlenWriting.{varlen, varlen_written}
 use Rattle.binlog_numbers.specs.Chosen.{IsChoice, chosen}
 use Rattle.binlog_numbers.specs.Repeated.{each_written, each_normal, EachFits}

@@ -1,12 +1,11 @@
 -- A tagged GTID of which each field fits takes few bytes, so its size fits two bytes.
-use Rattle.std.proofs.Common.{◌≡◌, ℕ, zero, suc, ◌+◌, ◌*◌, ◌^◌, ◌<◌, ◌≤◌, ◌⊎◌, inl, inr, Bool, true, false, cond, eqb, ltb, List, [], ◌∷◌, ◌++◌, length, refl, sym, ap, ◌∙◌, arith}
+use Rattle.std.proofs.Common.{◌≡◌, ℕ, ◌+◌, ◌*◌, ◌<◌, ◌≤◌, inl, inr, Bool, true, false, cond, eqb, List, [], ◌∷◌, ◌++◌, length, arith}
 use Rattle.std.proofs.lemmas.List.{length-append}
-use Rattle.std.proofs.lemmas.Bool.{ltb-true}
-use Rattle.binlog_numbers.specs.VarlenWriting.{varlen, varlen_written, varlen_most}
-use Rattle.binlog_numbers.specs.Repeated.{each_written, EachFits}
+use Rattle.binlog_numbers.specs.VarlenWriting.{varlen_written, varlen_most}
+use Rattle.binlog_numbers.specs.Repeated.{each_written}
 use Rattle.binlog_gtids.specs.TaggedFields.{Entry, entry}
 use Rattle.binlog_gtids.specs.declared.gtid_event.GtidEvent.{GtidEvent}
-use Rattle.binlog_gtids.specs.Tagged.{entries, entries_by, entries_written, tag_in, FitsTagged}
+use Rattle.binlog_gtids.specs.Tagged.{entries_by, entries_written, tag_in}
 
 pair : (id n : ℕ) → length (varlen_written id ++ varlen_written n) ≤ 18
 pair id n = omega (arith, length-append (varlen_written id) (varlen_written n), varlen_most id, varlen_most n)

@@ -1,13 +1,12 @@
 -- The fields of a GTID with a tag: an id and a value, a number or bytes.
 -- Source: MySQL's source documentation, `Gtid_event`, and the documentation of its serialization library.
-use Rattle.std.proofs.Common.{◌≡◌, ℕ, zero, suc, ◌+◌, ◌-◌, ◌*◌, ◌/◌, ◌%◌, ◌^◌, ◌<◌, ◌≤◌, ◌⊎◌, inl, inr, Bool, true, false, cond, ltb, eqb, List, [], ◌∷◌, ◌++◌, length, get_or, Result, Ok, Err, refl, sym, ap, subst, ◌∙◌, arith}
-use Rattle.std.proofs.lemmas.Bool.{ltb-true, ltb-false, lt-ltb, le-ltb, eqb-true, eq-eqb}
+use Rattle.std.proofs.Common.{◌≡◌, ℕ, suc, ◌*◌, ◌/◌, ◌%◌, ◌^◌, ◌<◌, ◌⊎◌, inl, inr, Bool, true, false, cond, ltb, eqb, List, [], ◌∷◌, Result, Ok, Err, refl, subst, arith}
+use Rattle.std.proofs.lemmas.Bool.{ltb-true, lt-ltb, le-ltb}
 use Rattle.binlog_wire.specs.declared.error.Invalid.{Invalid}
 use Rattle.binlog_wire.specs.declared.error.Invalid.TheVariants as kinds
-use Rattle.binlog_wire.specs.Reading.{ends, invalid, Read, Refusal}
+use Rattle.binlog_wire.specs.Reading.{Read}
 use Rattle.binlog_wire.specs.Fields.{IsBytes}
-use Rattle.binlog_wire.specs.Laws.{KeepsTo}
-use Rattle.binlog_wire.specs.Formats.{Place, anywhere, last, Format, block, silent, then, made}
+use Rattle.binlog_wire.specs.Formats.{anywhere, last, Format, then, made}
 use Rattle.binlog_numbers.specs.Varlen.{IsVarlen, varlen_at, keeps_varlen}
 use Rattle.binlog_numbers.specs.VarlenWriting.{varlen}
 use Rattle.binlog_numbers.specs.Chosen.{IsChoice, chosen, choose, tested, passes_ok}

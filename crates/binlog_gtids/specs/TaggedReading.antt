@@ -3,10 +3,9 @@ use Rattle.std.specs.Prelude.{⊤}
 use Rattle.std.proofs.Common.{◌≡◌, ℕ, ◌+◌, ◌-◌, ◌≤◌, Bool, true, false, cond, ltb, List, [], length, take, drop, Result, Ok, Err, refl, sym, ap, ◌∙◌, arith}
 use Rattle.std.proofs.lemmas.Bool.{le-ltb}
 use Rattle.binlog_wire.specs.declared.error.Error.{Error}
-use Rattle.binlog_wire.specs.declared.error.Error.TheVariants as errors
 use Rattle.binlog_wire.specs.declared.error.Invalid.{Invalid}
 use Rattle.binlog_wire.specs.declared.error.Invalid.TheVariants as kinds
-use Rattle.binlog_wire.specs.Reading.{Refusal, ends, invalid, Read, ◌>>=◌, Refuses, Gives}
+use Rattle.binlog_wire.specs.Reading.{Refusal, ends, invalid, Read, ◌>>=◌, Gives}
 use Rattle.binlog_numbers.specs.Refusing.{refused_as}
 use Rattle.binlog_wire.specs.Fields.{meant, read_decoded}
 use Rattle.binlog_numbers.specs.Within.{left_within}

@@ -1,13 +1,12 @@
 -- A GTID with a tag, written a part at a time.
-use Rattle.std.proofs.Common.{◌≡◌, ℕ, ◌+◌, ◌*◌, ◌≤◌, ◌<◌, Bool, true, false, cond, eqb, Option, Some, List, [], ◌∷◌, ◌++◌, length, refl, sym, ap, ◌∙◌, append_assoc, arith}
+use Rattle.std.proofs.Common.{◌≡◌, ℕ, ◌+◌, ◌*◌, ◌<◌, Bool, true, false, cond, eqb, Option, Some, List, [], ◌∷◌, ◌++◌, length, refl, sym, ap, ◌∙◌, append_assoc, arith}
 use Rattle.std.proofs.lemmas.List.{append-nil, length-append}
-use Rattle.binlog_numbers.specs.VarlenWriting.{varlen_written, varlen_most}
+use Rattle.binlog_numbers.specs.VarlenWriting.{varlen_written}
 use Rattle.binlog_numbers.specs.Repeated.{each_written}
 use Rattle.binlog_numbers.specs.Sized.{least_size, least_size_solves}
 use Rattle.binlog_gtids.specs.declared.gtid_event.GtidEvent.{GtidEvent}
 use Rattle.binlog_gtids.specs.TaggedFields.{entry}
 use Rattle.binlog_gtids.specs.Tagged.{head, tagged, tag_in, entries_by, entries_written, written_size, whole_size}
-use Rattle.binlog_gtids.specs.TaggedBounds.{few_by}
 
 -- ---- fields
 

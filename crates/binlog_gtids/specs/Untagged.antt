@@ -3,15 +3,14 @@
 -- Source: MySQL's source documentation, `Gtid_event` and `Gtid_log_event`.
 use Rattle.std.proofs.Common.{◌≡◌, ℕ, ◌+◌, Bool, true, false, cond, eqb, Option, None, Some, List, [], ◌∷◌, length, ◌++◌, Result, Ok, refl, ap, subst, sym, ◌∙◌, append_assoc, arith}
 use Rattle.binlog_wire.specs.declared.error.Invalid.{Invalid}
-use Rattle.binlog_wire.specs.Formats.{Format, anywhere, last, number, block, unit, if_left, nowhere, seen_as, ◌⨾◌}
+use Rattle.binlog_wire.specs.Formats.{Format, anywhere, last, number, block, unit, if_left, ◌⨾◌}
 use Rattle.std.proofs.lemmas.List.{length-append}
 use Rattle.binlog_wire.specs.Fields.{little_bytes}
 use Rattle.binlog_wire.specs.Laws.Numbers.{length-little_bytes}
 use Rattle.binlog_numbers.specs.LenEnc.{lenenc, lenenc_written}
-use Rattle.binlog_numbers.specs.Chosen.{IsChoice, chosen, choose}
+use Rattle.binlog_numbers.specs.Chosen.{IsChoice, chosen}
 use Rattle.binlog_numbers.specs.Announced.{announced, announced_written, behind, behind_written}
 use Rattle.binlog_gtids.specs.declared.gtid_event.GtidEvent.{GtidEvent}
-use Rattle.binlog_gtids.specs.declared.anonymous_gtid_event.AnonymousGtidEvent.{AnonymousGtidEvent}
 
 -- flags, source, number
 abbrev pub Head : Type 0

@@ -1,5 +1,5 @@
 -- Which GTIDs can't be written, and by which field, the first in the order of the body.
-use Rattle.std.proofs.Common.{◌≡◌, ℕ, suc, ◌^◌, ◌<◌, ◌≤◌, inl, inr, Bool, true, false, cond, eqb, ltb, Option, None, Some, List, [], ◌∷◌, length, refl, arith}
+use Rattle.std.proofs.Common.{◌≡◌, ℕ, suc, ◌^◌, ◌<◌, ◌≤◌, inl, Bool, true, false, cond, eqb, ltb, Option, None, Some, List, [], ◌∷◌, length, refl, arith}
 use Rattle.std.proofs.lemmas.Bool.{ltb-true, lt-ltb, eqb-true}
 use Rattle.binlog_numbers.specs.Tags.{is_tag, tag_short}
 use Rattle.binlog_numbers.specs.Repeated.{EachFits}

@@ -1,4 +1,4 @@
-use Rattle.std.proofs.Common.{◌≡◌, ◌∷◌, ℕ, List, Option, Some, Ok, Err, refl, sym, ap, subst, ◌∙◌}
+use Rattle.std.proofs.Common.{◌≡◌, ◌∷◌, ℕ, List, Some, Ok, Err, refl, sym, ap, subst, ◌∙◌}
 use Rattle.binlog_wire.specs.Fields.{read_decoded}
 use Rattle.binlog_wire.specs.Laws.{bind_ok}
 use Rattle.binlog_wire.specs.Reading.{Gives, Read, ◌>>=◌, read_as}

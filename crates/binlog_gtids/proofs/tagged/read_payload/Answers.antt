@@ -1,4 +1,4 @@
-use Rattle.std.proofs.Common.{◌≡◌, ◌-◌, ℕ, List, length, take, drop, refl, ap, arith}
+use Rattle.std.proofs.Common.{◌-◌, ℕ, List, refl, arith}
 use Rattle.binlog_gtids.specs.Tagged.{Head}
 use Rattle.binlog_gtids.specs.TaggedReading.{payload_ok}
 use Rattle.binlog_gtids.proofs.tagged.read_payload.Goals as goal

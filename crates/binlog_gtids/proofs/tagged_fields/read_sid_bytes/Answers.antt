@@ -1,11 +1,11 @@
-use Rattle.std.proofs.Common.{◌≡◌, ◌+◌, ◌++◌, ◌∷◌, [], ℕ, List, length, take, ap, sym, ◌∙◌, add-one, arith}
+use Rattle.std.proofs.Common.{◌≡◌, ◌+◌, ◌++◌, ◌∷◌, [], ℕ, List, take, ap, ◌∙◌, add-one, arith}
 use Rattle.std.specs.Prelude.{slice_set}
 use Rattle.std.proofs.Math.ListN.{length-set}
 use Rattle.std.proofs.Math.Seq.{take-suc-set}
 use Rattle.std.proofs.lemmas.Result.{err_from_is_err_and}
 use Rattle.binlog_numbers.specs.Refusing.{refused_as}
 use Rattle.binlog_numbers.specs.Repeated.{times_at}
-use Rattle.binlog_numbers.specs.RepeatedLoops.{behind_values, times_turn, times_refused}
+use Rattle.binlog_numbers.specs.RepeatedLoops.{times_turn, times_refused}
 use Rattle.binlog_gtids.specs.TaggedFields.{at_most}
 use Rattle.binlog_gtids.proofs.tagged_fields.read_sid_bytes.Goals as goal
 

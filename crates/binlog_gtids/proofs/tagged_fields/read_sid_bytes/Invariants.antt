@@ -1,4 +1,4 @@
-use Rattle.std.proofs.Common.{◌≡◌, ◌-◌, ◌≤◌, length, take}
+use Rattle.std.proofs.Common.{◌≡◌, ◌-◌, length, take}
 use Rattle.binlog_numbers.specs.Repeated.{times_at}
 use Rattle.binlog_numbers.specs.RepeatedLoops.{behind_values}
 use Rattle.binlog_gtids.specs.TaggedFields.{at_most}

@@ -1,6 +1,6 @@
-use Rattle.std.proofs.Common.{◌≡◌, ℕ, inl, inr, List, ap, refl, arith}
+use Rattle.std.proofs.Common.{ℕ, inl, inr, List, ap, refl, arith}
 use Rattle.std.proofs.lemmas.Result.{err_from_is_err_and}
-use Rattle.binlog_wire.specs.Reading.{Read, read_as, Refuses}
+use Rattle.binlog_wire.specs.Reading.{Read, read_as}
 use Rattle.binlog_numbers.specs.Refusing.{refused_as}
 use Rattle.binlog_numbers.specs.Repeated.{times_at}
 use Rattle.binlog_gtids.specs.TaggedFields.{Value, at_most, value_of_id}

@@ -1,9 +1,9 @@
-use Rattle.std.proofs.Common.{◌≡◌, ◌++◌, ◌∷◌, [], ℕ, List, length, false, Ok, Err, refl, sym, ap, ◌∙◌, arith}
+use Rattle.std.proofs.Common.{◌≡◌, ◌++◌, ◌∷◌, [], List, false, Ok, Err, refl, sym, ap, ◌∙◌, arith}
 use Rattle.binlog_wire.specs.Reading.{Read}
 use Rattle.binlog_numbers.specs.Looping.{shorter, until_more}
 use Rattle.binlog_numbers.specs.RepeatedLoops.{behind_values}
 use Rattle.binlog_gtids.specs.TaggedFields.{Entry, entry, fields, is_tail, IsTail, tail_is_end}
-use Rattle.binlog_gtids.specs.Taking.{no_fields, taken, taken_more, with_entry}
+use Rattle.binlog_gtids.specs.Taking.{no_fields, taken_more, with_entry}
 use Rattle.binlog_gtids.proofs.tagged_fields.TaggedFields.read.Goals as goal
 
 behind_none : (x : Read (List Entry)) → x ≡ behind_values [] x
