@@ -28,10 +28,12 @@ const HEAD_LEN: usize = 25;
 
 /// The transaction behind this event has this GTID: the id of the source and the number within it.
 ///
-/// A GTID without a tag, as servers before 8.3 write them. Its body is flags, 1 byte; the source's id, 16; the number, 8.
-/// If the clock code 2 follows: `last_committed` and `sequence_number`, 8 bytes each, and then, as far as the body goes, the
-/// times of the commit on the immediate and the original server, the length of the transaction, and the versions of these
-/// servers. An original that is equal to the immediate isn't written. See `Gtid_event` in MySQL's source documentation.
+/// Without a tag, as servers before 8.3 write it, its body is flags, 1 byte; the source's id, 16; the number, 8. If the clock
+/// code 2 follows: `last_committed` and `sequence_number`, 8 bytes each, and then, as far as the body goes, the times of the
+/// commit on the immediate and the original server, the length of the transaction, and the versions of these servers. With a
+/// tag, its body is the serialization version 2, the size of the whole body, the last id that may not be ignored, and fields,
+/// each an id ([`field_id`](crate::field_id)) and a value, in variable-length integers. An original that is equal to the
+/// immediate isn't written. See `Gtid_event` in MySQL's source documentation.
 #[derive(Debug, PartialEq, Eq, Hash, Drop)]
 pub struct GtidEvent {
     pub(crate) flags: u8,

@@ -10,6 +10,7 @@ ghost use Rattle.binlog_gtids.specs.declared.gtid_event.GtidEvent.{GtidEvent};
 ghost use Rattle.binlog_gtids.specs.declared.previous_gtids_sid.PreviousGtidsSid.{PreviousGtidsSid};
 
 use crate::anonymous_gtid_event::AnonymousGtidEvent;
+use crate::field_id;
 use crate::gtid_event::GtidEvent;
 use crate::previous_gtids_event::PreviousGtidsEvent;
 use binlog_description::BinlogEvent;
@@ -49,4 +50,20 @@ pub fn constants() {
     prove!(GtidEvent::ORIGINAL_COMMIT_TIMESTAMP_LENGTH == 7);
     prove!(GtidEvent::UNDEFINED_SERVER_VERSION == 999_999);
     prove!(GtidEvent::IMMEDIATE_SERVER_VERSION_LENGTH == 4);
+}
+
+/// The ids of the fields of a GTID with a tag.
+pub fn field_ids() {
+    prove!(field_id::GTID_FLAGS == 0);
+    prove!(field_id::SID == 1);
+    prove!(field_id::GNO == 2);
+    prove!(field_id::TAG == 3);
+    prove!(field_id::LAST_COMMITTED == 4);
+    prove!(field_id::SEQUENCE_NUMBER == 5);
+    prove!(field_id::IMMEDIATE_COMMIT_TIMESTAMP == 6);
+    prove!(field_id::ORIGINAL_COMMIT_TIMESTAMP == 7);
+    prove!(field_id::TRANSACTION_LENGTH == 8);
+    prove!(field_id::IMMEDIATE_SERVER_VERSION == 9);
+    prove!(field_id::ORIGINAL_SERVER_VERSION == 10);
+    prove!(field_id::COMMIT_GROUP_TICKET == 11);
 }

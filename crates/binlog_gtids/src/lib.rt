@@ -1,6 +1,7 @@
 //! The events of a MySQL binary log that say which transaction follows, by its global transaction identifier (GTID).
 //!
-//! Their bodies stand in `specs/`: `Untagged` for GTIDs without a tag, and `Writable` for what can't be written.
+//! Their bodies stand in `specs/`: `Gtids` for the body by its raw type, `Untagged` and `Tagged` for its two forms,
+//! `PreviousGtids` for the GTIDs of earlier files, and `Writable` for what can't be written.
 #![tactic(auto)]
 
 mod anonymous_gtid_event;

@@ -480,3 +480,23 @@ fn tagged_numbers_that_do_not_fit(rt: HostRuntime) -> Result<(), Fail> {
     assert_eq!(rt; buf.as_slice(), b"\xaa".as_slice());
     Ok(())
 }
+
+// Where one allocation is refused, a tag isn't there, and a buffer holds what it held.
+#[test]
+fn refused_memory_leaves_the_buffer(rt: HostRuntime) -> Result<(), Fail> {
+    let alloc = rt.alloc();
+    match read_tagged(alloc, BACKUP) {
+        Ok(event) => {
+            let mut bytes = Vec::new(alloc);
+            match event.serialize(alloc, &mut bytes) {
+                Ok(()) => assert_eq!(rt; bytes.as_slice(), BACKUP),
+                Err(error) => {
+                    assert_eq!(rt; error, Error::Memory);
+                    assert!(rt; bytes.is_empty());
+                }
+            }
+        }
+        Err(error) => assert_eq!(rt; error, Error::Memory),
+    }
+    Ok(())
+}
