@@ -3,6 +3,10 @@
 //!
 //! Each has several spellings, all of which are read; the shortest is written. Their grammar, and the laws that tie
 //! reading and writing to it, stand in `specs/`: `LenEnc`, `Varlen`, `VarlenWriting`, `Signed`.
+//!
+//! Beside them stand tags ([`Tag`]), intervals of transaction numbers ([`GnoInterval`]), and values of which a count before
+//! them says how many there are ([`Items`]); the formats of repeated, chosen and announced parts, and of a body that says
+//! its own size, are in `specs/`: `Repeated`, `Chosen`, `Announced`, `Within`, `Sized`.
 #![tactic(auto)]
 
 mod gno_interval;
