@@ -77,7 +77,9 @@ fn number(value: &StatusVarVal<'_>) -> u64 {
         StatusVarVal::LcTimeNames(number)
         | StatusVarVal::CharsetDatabase(number)
         | StatusVarVal::DefaultCollationForUtf8mb4(number) => u64::from(*number),
-        StatusVarVal::MasterDataWritten(bytes) => u64::from(u32::from_le_bytes(*bytes)),
+        StatusVarVal::MasterDataWritten(bytes) => {
+            little_endian(bytes[0], bytes[1], bytes[2], bytes[3])
+        }
         StatusVarVal::Invoker { username, hostname } => {
             (username.len() as u64).wrapping_add(hostname.len() as u64)
         }
@@ -88,6 +90,13 @@ fn number(value: &StatusVarVal<'_>) -> u64 {
         StatusVarVal::SqlRequirePrimaryKey(number) | StatusVarVal::DefaultTableEncryption(number) =>
             u64::from(*number),
     }
+}
+
+// The number of these bytes, the lowest first. Not inlined: the bytes come one by one, so that no value of another kind
+// has to stand in memory for them.
+#[inline(never)]
+fn little_endian(first: u8, second: u8, third: u8, fourth: u8) -> u64 {
+    u64::from(u32::from_le_bytes([first, second, third, fourth]))
 }
 
 /// The sums over a binlog file with a file header before it, up to the first item that is an error.

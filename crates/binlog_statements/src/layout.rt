@@ -93,7 +93,8 @@ fn text_len(bytes: &[u8]) -> Option<usize>
     }
 }
 
-/// How long the names at the front are, their count counted.
+/// How long the names at the front are, their count counted. Not inlined, so that other layouts keep their registers.
+#[inline(never)]
 fn counted_names_len(bytes: &[u8]) -> Option<usize>
     ensures { result ≡ counted_names_len bytes.now }
 {

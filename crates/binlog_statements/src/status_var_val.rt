@@ -164,7 +164,8 @@ fn text<'a>(raw: &'a [u8]) -> RawBytes<'a, U8Bytes>
     RawBytes::new(CowSlice::Borrowed(&raw[1..]))
 }
 
-/// The two texts, each behind its length.
+/// The two texts, each behind its length. Not inlined, so that other values keep their registers.
+#[inline(never)]
 fn two_texts<'a>(raw: &'a [u8]) -> (RawBytes<'a, U8Bytes>, RawBytes<'a, U8Bytes>)
     requires { Both IsCounted IsCounted raw.now }
     ensures { raw.now ≡ counted result.0 ++ counted result.1 }
@@ -173,7 +174,9 @@ fn two_texts<'a>(raw: &'a [u8]) -> (RawBytes<'a, U8Bytes>, RawBytes<'a, U8Bytes>
     (text(first), text(second))
 }
 
-/// The names, each ended by a zero byte; refused by [`Error::Memory`] alone.
+/// The names, each ended by a zero byte; refused by [`Error::Memory`] alone. Not inlined, so that other values keep their
+/// registers.
+#[inline(never)]
 fn names<'a>(alloc: Global, raw: &'a [u8]) -> Result<Vec<RawBytes<'a, NullBytes>>, Error>
     requires { IsWholeLen Names raw.now }
     ensures { IfOk result (λ names. AreNames raw.now names.items) }
