@@ -6,7 +6,8 @@ Usage: refused_memory.py
 The programs and tests are those that are built in crates/NAME/out. Each runs with its first allocation refused, then with
 its second one, and so on until a run asks for fewer. The listing must then have the first lines and the status 3, what is
 written back must be a front of the log, and a test must pass: those run in whose full name the word `memory` stands. A
-test whose name says that reading takes no memory must make no allocation at all, also none whose refusal it would hide.
+test whose name says that reading takes no memory must make no allocation at all, also none whose refusal it would hide,
+and one whose name says that something makes one allocation exactly one.
 The last line is `N passed, M failed`, where each run counts; the exit status is 1 if one failed. Without the C compiler `cc`
 nothing is run, and both numbers are 0.
 """
@@ -81,12 +82,16 @@ def test_fault(run):
     return None if run.status == SUCCESS else f"it fails:\n{run.output.decode(errors='replace')}"
 
 
-def takes_none(name):
-    return name.rpartition("::")[2].startswith("reading") and name.endswith("takes_no_memory")
+def stated_allocations(name):
+    """How many allocations a test makes by its name, or None where the name doesn't say."""
+    if name.rpartition("::")[2].startswith("reading") and name.endswith("takes_no_memory"):
+        return 0
+    return 1 if name.endswith("makes_one_allocation") else None
 
 
-def taken_fault(run):
-    return f"it makes {len(run.allocations)} allocations" if run.allocations else test_fault(run)
+def stated_fault(run, stated):
+    made = len(run.allocations)
+    return test_fault(run) if made == stated else f"it makes {made} allocations, not {stated}"
 
 
 def all_failures(watch):
@@ -95,8 +100,9 @@ def all_failures(watch):
             command = [watched.program(name)]
             yield from failures(watch, f"{name} over {log}", command, content, fault(content))
     for program, name in watched.tests():
-        if takes_none(name):
-            wrong = taken_fault(watch.run([program, name]))
+        stated = stated_allocations(name)
+        if stated is not None:
+            wrong = stated_fault(watch.run([program, name]), stated)
             yield wrong and f"{name}: {wrong}"
         elif "memory" in name:
             yield from failures(watch, name, [program, name], b"", test_fault)

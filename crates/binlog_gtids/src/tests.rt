@@ -332,15 +332,17 @@ fn cut_previous_gtids_are_refused(rt: HostRuntime) -> Result<(), Fail> {
     Ok(())
 }
 
-// The counts say more than the bytes carry; no memory is asked for them.
+/// One entry without a tag whose count of intervals is the greatest.
+const COUNTED_INTERVALS: &[u8] =
+    b"\x01\0\0\0\0\0\0\0\xab\xab\xab\xab\xab\xab\xab\xab\xab\xab\xab\xab\xab\xab\xab\xab\xff\xff\xff\xff\xff\xff\xff\xff";
+
+// They say more than the bytes carry; no memory is asked for them.
 #[test]
-fn counts_without_their_bytes(rt: HostRuntime) -> Result<(), Fail> {
+fn reading_counts_alone_takes_no_memory(rt: HostRuntime) {
     let alloc = rt.alloc();
     assert!(rt; refusal(alloc, b"\x01\xff\xff\xff\xff\xff\xff\x01") == Some(Error::EndOfBody));
     assert!(rt; refusal(alloc, b"\xff\xff\xff\xff\xff\xff\xff\0") == Some(Error::EndOfBody));
-    let body = joined(alloc, &[b"\x01\0\0\0\0\0\0\0", &UUID, &[0xff; 8]])?;
-    assert!(rt; refusal(alloc, body.as_slice()) == Some(Error::EndOfBody));
-    Ok(())
+    assert!(rt; refusal(alloc, COUNTED_INTERVALS) == Some(Error::EndOfBody));
 }
 
 #[test]
@@ -407,18 +409,33 @@ fn long_event(alloc: Global, sequence_number: u64) -> Result<GtidEvent, Error> {
     Ok(event)
 }
 
+/// What stands behind the payload size of this body.
+const LONG_FIELDS: &[u8] =
+    b"\0\0\0\x02\xad\x02\xad\x02\xad\x02\xad\x02\xad\x02\xad\x02\xad\x02\xad\x02\xad\x02\xad\x02\xad\x02\xad\x02\xad\x02\xad\x02\xad\x02\xad\x02\x04\x04\x06\x40abcdefghijklmnopqrstuvwxyz012345\x08\xff\xfe\xff\xff\xff\xff\xff\xff\xff\x0a\x1f\0\0\0\0\x02\x0c\xff\xff\xff\xff\xff\xff\xff\xff\xff\x0e\0\x10\xff\xff\xff\xff\xff\xff\xff\xff\xff\x12\xfb\x11\x7a\x16\xff\xff\xff\xff\xff\xff\xff\xff\xff";
+
 #[test]
 fn payload_size_counts_itself(rt: HostRuntime) -> Result<(), Fail> {
     let alloc = rt.alloc();
     let event = long_event(alloc, 1 << 34)?;
     let bytes = written(alloc, &event)?;
-    assert_eq!(rt; bytes.len(), 127);
-    assert!(rt; bytes.as_slice().starts_with(b"\x02\xfe\0"));
+    let want = joined(alloc, &[b"\x02\xfe", LONG_FIELDS])?;
+    assert_eq!(rt; want.len(), 127);
+    assert_eq!(rt; bytes.as_slice(), want.as_slice());
     assert!(rt; read_tagged(alloc, bytes.as_slice())? == event);
     let longer = long_event(alloc, 1 << 41)?;
     let bytes = written(alloc, &longer)?;
     assert_eq!(rt; longer.len(BinlogVersion::Version4), 129);
     assert!(rt; bytes.as_slice().starts_with(b"\x02\x05\x02\0"));
+    Ok(())
+}
+
+// A body of 128 bytes says so in two, though 127 in one would do.
+#[test]
+fn payload_size_is_not_the_least(rt: HostRuntime) -> Result<(), Fail> {
+    let alloc = rt.alloc();
+    let body = joined(alloc, &[b"\x02\x01\x02", LONG_FIELDS])?;
+    assert_eq!(rt; body.len(), 128);
+    assert!(rt; read_tagged(alloc, body.as_slice())? == long_event(alloc, 1 << 34)?);
     Ok(())
 }
 
@@ -444,6 +461,10 @@ fn tagged_bodies_are_refused(rt: HostRuntime) -> Result<(), Fail> {
     Ok(())
 }
 
+/// A tagged body of 42 bytes: the tag `test`, and zeros else.
+const TEST: &[u8] =
+    b"\x02\x54\0\0\0\x02\0\0\0\0\0\0\0\0\0\0\0\0\0\0\0\0\x04\0\x06\x08test\x08\0\x0a\0\x0c\0\x10\0\x12\xfb\x11\x7a";
+
 #[test]
 fn tagged_spellings_are_read(rt: HostRuntime) -> Result<(), Fail> {
     let alloc = rt.alloc();
@@ -451,19 +472,47 @@ fn tagged_spellings_are_read(rt: HostRuntime) -> Result<(), Fail> {
     assert_eq!(rt; later.gno(), 2);
     let ended = read_tagged(alloc, b"\x02\x18\x12\x06\x08test\xc6\xff\xff")?;
     assert_eq!(rt; ended.len(BinlogVersion::Version4), 42);
+    assert_eq!(rt; written(alloc, &ended)?.as_slice(), TEST);
     let long = read_tagged(alloc, b"\x02\x29\0\0\x06\x08test")?;
-    assert_eq!(rt; written(alloc, &long)?.len(), 42);
+    assert_eq!(rt; written(alloc, &long)?.as_slice(), TEST);
     let over = b"\x02\x18\x12\x06\x08test\xc6\xff\xff\0";
     assert!(rt; tagged_refusal(alloc, over) == Some(Error::RemainingBytes(1)));
     Ok(())
 }
 
+// What is in the buffer that an event with this body is written into, where a byte stands there before.
+fn written_behind(alloc: Global, body: &[u8]) -> Result<Vec<u8>, Error> {
+    let mut buf = Vec::from_slice(alloc, b"\xaa")?;
+    read_tagged(alloc, body)?.serialize(alloc, &mut buf)?;
+    Ok(buf)
+}
+
 #[test]
-fn cut_tagged_bodies_are_refused(rt: HostRuntime) {
+fn tagged_bodies_follow_what_is_there(rt: HostRuntime) -> Result<(), Fail> {
+    let alloc = rt.alloc();
+    let want = joined(alloc, &[b"\xaa", BACKUP])?;
+    assert_eq!(rt; written_behind(alloc, BACKUP)?.as_slice(), want.as_slice());
+    let want = joined(alloc, &[b"\xaa", TEST])?;
+    assert_eq!(rt; written_behind(alloc, TEST)?.as_slice(), want.as_slice());
+    let long = joined(alloc, &[b"\x02\xfe", LONG_FIELDS])?;
+    let want = joined(alloc, &[b"\xaa", long.as_slice()])?;
+    assert_eq!(rt;
+        written_behind(alloc, long.as_slice())?.as_slice(),
+        want.as_slice()
+    );
+    Ok(())
+}
+
+#[test]
+fn cut_tagged_bodies_are_refused(rt: HostRuntime) -> Result<(), Fail> {
+    let alloc = rt.alloc();
     for len in 0..BACKUP.len() {
         let front = ParseBuf(BACKUP).checked_eat(len).unwrap_or(b"");
-        assert!(rt; tagged_refusal(rt.alloc(), front) == Some(Error::EndOfBody));
+        assert!(rt; tagged_refusal(alloc, front) == Some(Error::EndOfBody));
     }
+    let longer = joined(alloc, &[BACKUP, &[0]])?;
+    assert!(rt; tagged_refusal(alloc, longer.as_slice()) == Some(Error::RemainingBytes(1)));
+    Ok(())
 }
 
 #[test]
@@ -485,18 +534,39 @@ fn tagged_numbers_that_do_not_fit(rt: HostRuntime) -> Result<(), Fail> {
 #[test]
 fn refused_memory_leaves_the_buffer(rt: HostRuntime) -> Result<(), Fail> {
     let alloc = rt.alloc();
+    let Ok(mut bytes) = Vec::from_slice(alloc, b"\xaa") else {
+        return Ok(());
+    };
     match read_tagged(alloc, BACKUP) {
-        Ok(event) => {
-            let mut bytes = Vec::new(alloc);
-            match event.serialize(alloc, &mut bytes) {
-                Ok(()) => assert_eq!(rt; bytes.as_slice(), BACKUP),
-                Err(error) => {
-                    assert_eq!(rt; error, Error::Memory);
-                    assert!(rt; bytes.is_empty());
-                }
+        Ok(event) => match event.serialize(alloc, &mut bytes) {
+            Ok(()) => assert!(rt; bytes.as_slice().ends_with(BACKUP)),
+            Err(error) => {
+                assert_eq!(rt; error, Error::Memory);
+                assert_eq!(rt; bytes.as_slice(), b"\xaa".as_slice());
             }
-        }
+        },
         Err(error) => assert_eq!(rt; error, Error::Memory),
     }
+    Ok(())
+}
+
+// The allocation is that of the tag.
+#[test]
+fn reading_a_tag_makes_one_allocation(rt: HostRuntime) -> Result<(), Fail> {
+    assert_eq!(rt; read_tagged(rt.alloc(), BACKUP)?.gno(), 1);
+    Ok(())
+}
+
+// The buffer grows once.
+#[test]
+fn writing_a_tag_makes_one_allocation(rt: HostRuntime) -> Result<(), Fail> {
+    let event = GtidEvent::new_tagged(UUID, Tag::from_bytes(b"test")?, 1);
+    assert_eq!(rt; written(rt.alloc(), &event)?.len(), 58);
+    Ok(())
+}
+
+#[test]
+fn writing_makes_one_allocation(rt: HostRuntime) -> Result<(), Fail> {
+    assert_eq!(rt; written(rt.alloc(), &GtidEvent::new([0; 16], 1))?.len(), 54);
     Ok(())
 }
