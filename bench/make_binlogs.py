@@ -23,11 +23,13 @@ import make_sample  # noqa: E402  (found by way of the line above)
 LARGE, SMALL = 500_000_000, 5_000_000
 LONG_EVENT = 5_000_000
 
-QUERY, WRITE_ROWS, UPDATE_ROWS = 2, 30, 31
+QUERY, WRITE_ROWS, UPDATE_ROWS, GTID, GTID_TAGGED = 2, 30, 31, 33, 42
 
 SIZE_OFFSET = 9
 LOG_POS_OFFSET = 13
 U32_RANGE = 2**32
+
+SERVER_VERSION = 90_200
 
 CRC32_ALGORITHM = b"\1"
 CHECKSUM = struct.Struct("<I")
@@ -67,10 +69,90 @@ def long_events(generator):
         yield event(type_number, rows_body(number, rows), number)
 
 
+def gtid_events(generator):
+    """GTID events of some 80 bytes, each second one with a tag."""
+    sids = [generator.randbytes(16) for _ in range(4)]
+    for number in range(4096):
+        sid, times = generator.choice(sids), gtid_times(generator)
+        length = generator.randrange(200, 100_000)
+        if number % 2 == 0:
+            yield event(GTID, untagged_gtid(sid, number, times, length), number)
+        else:
+            tag = generator.choice([b"backup", b"reports_2026", b"a"])
+            yield event(GTID_TAGGED, tagged_gtid(sid, tag, number, times, length), number)
+
+
+def gtid_times(generator):
+    """The immediate time, in microseconds, and an original one, which half of the time is another."""
+    immediate = make_sample.TIMESTAMP * 1_000_000 + generator.randrange(10**9)
+    return immediate, immediate - generator.choice([0, generator.randrange(1, 10**6)])
+
+
+def untagged_gtid(sid, number, times, length):
+    """With a clock code, as servers from 8.0 on write it."""
+    immediate, original = times
+    stated = [immediate] if immediate == original else [immediate | 1 << 55, original]
+    return b"".join(
+        [
+            b"\0" + sid + struct.pack("<Q", number + 1),
+            b"\2" + struct.pack("<QQ", number, number + 1),
+            *(time.to_bytes(7, "little") for time in stated),
+            length_encoded(length),
+            struct.pack("<I", SERVER_VERSION),
+        ]
+    )
+
+
+def tagged_gtid(sid, tag, number, times, length):
+    immediate, original = times
+    fields = [
+        (0, variable(0)),
+        (1, b"".join(map(variable, sid))),
+        (2, signed(number + 1)),
+        (3, variable(len(tag)) + tag),
+        (4, signed(number)),
+        (5, signed(number + 1)),
+        (6, variable(immediate)),
+        *([] if immediate == original else [(7, variable(original))]),
+        (8, variable(length)),
+        (9, variable(SERVER_VERSION)),
+    ]
+    last_id = variable(0)
+    payload = last_id + b"".join(variable(number) + value for number, value in fields)
+    return b"\2" + payload_size(1 + len(payload)) + payload
+
+
+def payload_size(others):
+    """The size of a body, which counts itself."""
+    sizes = {count: variable(others + count) for count in (1, 2)}
+    return next(size for count, size in sizes.items() if len(size) == count)
+
+
+def variable(number):
+    """As few bytes as hold it; the low ones of the first say how many bytes follow it."""
+    count = max(1, -(-number.bit_length() // 7))
+    if count > 8:
+        return b"\xff" + number.to_bytes(8, "little")
+    return (number << count | (1 << count - 1) - 1).to_bytes(count, "little")
+
+
+def signed(number):
+    """One that isn't negative."""
+    return variable(2 * number)
+
+
+def length_encoded(number):
+    """One from 251 on, and below 2^24."""
+    if number < 1 << 16:
+        return b"\xfc" + number.to_bytes(2, "little")
+    return b"\xfd" + number.to_bytes(3, "little")
+
+
 KINDS = {
     "statements": statement_events,
     "rows": row_events,
     "long": long_events,
+    "gtids": gtid_events,
     "statements_crc32": statement_events,
     "rows_crc32": row_events,
 }

@@ -1,12 +1,15 @@
-//! The statements of a log and their status variables.
+//! The statements of a log and their status variables, and its GTIDs.
 
 use crate::footer::Footer;
 use crate::frames::{event_type, Frames, Next, HEADER_LENGTH};
+use crate::gtids::Gtid;
 use crate::Outcome;
 use std::io::{self, Read, Write};
 
 const QUERY: u8 = 2;
 const FORMAT_DESCRIPTION: u8 = 15;
+const GTID: u8 = 33;
+const GTID_TAGGED: u8 = 42;
 
 /// Where a description states the length of a statement's post-header.
 const STATED_LENGTH: usize = HEADER_LENGTH + 57 + 1;
@@ -19,9 +22,12 @@ struct Sums {
     text_bytes: u64,
     variables: u64,
     values: u64,
+    gtids: u64,
+    tag_bytes: u64,
+    numbers: u64,
 }
 
-/// Sums over the statements up to the first item that is an error.
+/// Sums over the statements and the GTIDs up to the first item that is an error.
 pub fn sum(mut frames: Frames<impl Read>, output: &mut impl Write) -> io::Result<Outcome> {
     let mut in_force = Footer::NONE;
     let mut head_length = STATEMENT_HEAD_LENGTH;
@@ -37,9 +43,14 @@ pub fn sum(mut frames: Frames<impl Read>, output: &mut impl Write) -> io::Result
                 if event_type(frame) == FORMAT_DESCRIPTION {
                     head_length = stated_length(frame);
                 }
-                if event_type(frame) == QUERY
-                    && sums.count(&frame[HEADER_LENGTH..], head_length).is_none()
-                {
+                let body = &frame[HEADER_LENGTH..];
+                let counted = match event_type(frame) {
+                    QUERY => sums.count(body, head_length),
+                    GTID => Gtid::untagged(body).map(|gtid| sums.count_gtid(&gtid)),
+                    GTID_TAGGED => Gtid::tagged(body).map(|gtid| sums.count_gtid(&gtid)),
+                    _ => Some(()),
+                };
+                if counted.is_none() {
                     return Ok(Outcome::ErrorItem);
                 }
             }
@@ -52,8 +63,14 @@ pub fn sum(mut frames: Frames<impl Read>, output: &mut impl Write) -> io::Result
         text_bytes,
         variables,
         values,
+        gtids,
+        tag_bytes,
+        numbers,
     } = sums;
-    writeln!(output, "{statements} {text_bytes} {variables} {values}")?;
+    writeln!(
+        output,
+        "{statements} {text_bytes} {variables} {values} {gtids} {tag_bytes} {numbers}"
+    )?;
     Ok(Outcome::Fine)
 }
 
@@ -82,6 +99,26 @@ impl Sums {
         self.text_bytes += (schema.len() + query.len()) as u64;
         self.count_variables(variables);
         Some(())
+    }
+
+    #[inline]
+    fn count_gtid(&mut self, gtid: &Gtid) {
+        let numbers = [
+            gtid.flags.into(),
+            gtid.sid.iter().map(|byte| u64::from(*byte)).sum(),
+            gtid.gno,
+            gtid.last_committed,
+            gtid.sequence_number,
+            gtid.immediate_time,
+            gtid.original_time,
+            gtid.length,
+            gtid.immediate_version.into(),
+            gtid.original_version.into(),
+            gtid.ticket,
+        ];
+        self.gtids += 1;
+        self.tag_bytes += gtid.tag.len() as u64;
+        self.numbers = numbers.into_iter().fold(self.numbers, u64::wrapping_add);
     }
 
     /// Up to the first that isn't whole.

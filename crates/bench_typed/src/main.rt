@@ -1,7 +1,8 @@
-//! Reads the statements of the binary log on standard input, and their status variables, and prints a line of sums over
-//! what stands in them. The benchmark measures it.
+//! Reads the statements of the binary log on standard input, with their status variables, and its GTIDs, and prints a line
+//! of sums over what stands in them. The benchmark measures it.
 #![tactic(auto)]
 
+mod gtids;
 mod sums;
 
 use binlog_file::Error;

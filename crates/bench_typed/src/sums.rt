@@ -1,11 +1,12 @@
-//! Sums over what stands in the statements of a log.
+//! Sums over what stands in the statements of a log, and in its GTIDs.
+use crate::gtids::GtidSums;
 use binlog_file::{BinlogFile, BinlogVersion, Error, EventRef, EventType};
 use binlog_statements::{QueryEvent, StatusVarVal};
 use std::alloc::Global;
 use std::fmt;
 use std::io::BufRead;
 
-/// Sums over the statements of a log, modulo 2^64. They are shown one after another, with spaces between.
+/// Sums over the statements and the GTIDs of a log, modulo 2^64. They are shown one after another, with spaces between.
 #[derive(Debug, Default, Drop)]
 pub(crate) struct Sums {
     /// How many statements there are.
@@ -16,23 +17,31 @@ pub(crate) struct Sums {
     variables: u64,
     /// The numbers of these variables, and for those that are none, how many bytes or names they have.
     values: u64,
+    /// Those over its GTIDs.
+    gtids: GtidSums,
 }
 
 impl fmt::Display for Sums {
     fn fmt<W: fmt::Write>(&self, f: &mut fmt::Formatter<W>) -> fmt::Result {
         write!(
             f,
-            "{} {} {} {}",
-            self.statements, self.text_bytes, self.variables, self.values
+            "{} {} {} {} {}",
+            self.statements, self.text_bytes, self.variables, self.values, self.gtids
         )
     }
 }
 
 impl Sums {
-    // Counts an event, if it is a statement.
+    // Counts an event, if it is a statement or a GTID.
     fn count_event(&mut self, alloc: Global, event: EventRef<'_>) -> Result<(), Error> {
-        if let Ok(EventType::QUERY_EVENT) = event.header().event_type() {
-            self.count_statement(alloc, &event.read_event(alloc)?)?;
+        match event.header().event_type() {
+            Ok(EventType::QUERY_EVENT) => {
+                self.count_statement(alloc, &event.read_event(alloc)?)?;
+            }
+            Ok(EventType::GTID_EVENT | EventType::GTID_TAGGED_LOG_EVENT) => {
+                self.gtids.count(&event.read_event(alloc)?);
+            }
+            _ => {}
         }
         Ok(())
     }
@@ -103,7 +112,7 @@ fn little_endian(first: u8, second: u8, third: u8, fourth: u8) -> u64 {
 ///
 /// # Errors
 ///
-/// Those of [`BinlogFile`], of reading a statement, and [`Error::Memory`] where a list of names takes memory that isn't
+/// Those of [`BinlogFile`], of reading a statement or a GTID, and [`Error::Memory`] where a list of names takes memory that isn't
 /// there.
 pub(crate) fn sums_of<R: BufRead + Drop>(alloc: Global, input: R) -> Result<Sums, Error> {
     let mut file = BinlogFile::new(alloc, BinlogVersion::Version4, input)?;
