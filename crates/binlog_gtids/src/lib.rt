@@ -16,6 +16,7 @@ mod sid;
 mod tagged;
 mod tagged_fields;
 mod tagged_writing;
+mod untagged;
 
 pub use anonymous_gtid_event::AnonymousGtidEvent;
 pub use gtid_event::GtidEvent;

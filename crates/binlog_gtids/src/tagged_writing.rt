@@ -1,15 +1,16 @@
 //! Writing a GTID with a tag.
-ghost use Rattle.std.specs.Prelude.{◌≡◌, ◌++◌, ◌+◌, ◌*◌, ◌<◌, ◌≤◌, Some, length, vec_len, vec_capacity};
+ghost use Rattle.std.specs.Prelude.{◌≡◌, ◌++◌, ◌+◌, ◌*◌, ◌<◌, ◌≤◌, Some, length, MatchOption, IsOk, Err, vec_len, vec_capacity};
 ghost use Rattle.binlog_numbers.specs.Repeated.{each_written};
 ghost use Rattle.binlog_numbers.specs.Sized.{least_size};
 ghost use Rattle.binlog_numbers.specs.VarlenWriting.{varlen_written};
 ghost use Rattle.binlog_gtids.specs.Tagged.{tagged, written_size, entries_written};
+ghost use Rattle.binlog_gtids.specs.Writable.{unwritable_tagged};
 ghost use Rattle.binlog_gtids.specs.TaggedWriting.{number_field, changed_field, sid_field, tag_field, first_fields, last_fields};
 
 use crate::field_id;
 use crate::gtid_event::GtidEvent;
 use binlog_numbers::{Tag, Varlen, varlen_uint_size};
-use binlog_wire::IntRepr;
+use binlog_wire::{Error, Field, IntRepr};
 
 /// The greatest id of a field that may not be ignored, as it is written.
 const LAST_ID: u64 = 0;
@@ -141,6 +142,22 @@ fn put_tag(tag: &Tag<'_>, buf: &mut Vec<u8>)
 }
 
 impl GtidEvent {
+    /// [`Error::Unwritable`] for the first in this order of a number, a `last_committed` and a `sequence_number` from 2^63.
+    pub(crate) fn check_tagged(&self) -> Result<(), Error>
+        ensures { MatchOption (unwritable_tagged self.now) (IsOk result) (λ why. result ≡ Err why) }
+    {
+        if self.gno >= 1 << 63 {
+            return Err(Error::Unwritable(Field::Gno));
+        }
+        if self.last_committed >= 1 << 63 {
+            return Err(Error::Unwritable(Field::LastCommitted));
+        }
+        if self.sequence_number >= 1 << 63 {
+            return Err(Error::Unwritable(Field::SequenceNumber));
+        }
+        Ok(())
+    }
+
     /// How many bytes the fields up to the logical times take.
     fn first_len(&self, tag: &Tag<'_>) -> usize
         ensures count { result ≡ length (first_fields self.now tag.now) }

@@ -5,7 +5,7 @@ use Rattle.binlog_wire.specs.Reading.{Gives, Read, ◌>>=◌, read_as}
 use Rattle.binlog_numbers.specs.Announced.{behind_at}
 use Rattle.binlog_gtids.specs.declared.gtid_event.GtidEvent.{GtidEvent}
 use Rattle.binlog_gtids.specs.Untagged.{Head, Clock, head, clock, untagged, untagged_of, with_clock, without_clock}
-use Rattle.binlog_gtids.proofs.gtid_event.read_untagged.Goals as goal
+use Rattle.binlog_gtids.proofs.untagged.read_untagged.Goals as goal
 
 -- what follows a head
 abbrev whole : Read Head → Read GtidEvent
