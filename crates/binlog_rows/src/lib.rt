@@ -5,4 +5,9 @@
 #![tactic(auto)]
 
 mod column_bitmap;
+mod mapped_columns;
+mod mapped_table;
 mod table_id;
+mod table_map_event;
+
+pub use table_map_event::TableMapEvent;
