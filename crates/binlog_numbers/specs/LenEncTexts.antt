@@ -1,17 +1,21 @@
 -- Texts behind their length, a length-encoded integer.
 -- Source: MySQL's documentation, "Protocol::LengthEncodedString".
-use Rattle.std.proofs.Common.{◌≡◌, ℕ, ◌+◌, ◌<◌, ◌≤◌, Bool, true, false, cond, ltb, eqb, List, [], ◌∷◌, length, take, drop, Result, Ok, Err, refl, ap, subst, ◌∙◌, arith}
-use Rattle.std.proofs.lemmas.List.{length-take, length-drop}
+use Rattle.std.proofs.Common.{◌≡◌, ℕ, ◌+◌, ◌≤◌, Bool, true, false, cond, ltb, eqb, List, [], ◌∷◌, length, take, drop, Ok, Err, refl, ap, subst, ◌∙◌, arith}
+use Rattle.std.proofs.lemmas.List.{length-take, length-drop, length-append}
 use Rattle.binlog_wire.specs.declared.error.Invalid.TheVariants as kinds
-use Rattle.binlog_wire.specs.Reading.{ends, invalid, Read, ◌>>=◌}
+use Rattle.binlog_wire.specs.Reading.{ends, invalid, ◌>>=◌}
 use Rattle.binlog_wire.specs.Fields.{number_at, block_at, then_at, little_number}
 use Rattle.binlog_wire.specs.Laws.{bind_ok, guard_ok}
 use Rattle.binlog_wire.specs.Formats.{Format, anywhere, block, then, made}
-use Rattle.binlog_numbers.specs.LenEnc.{lenenc, lenenc_at}
+use Rattle.binlog_numbers.specs.LenEnc.{lenenc, lenenc_at, lenenc_written, lenenc_most}
 
 -- a length, and then as many bytes
 abbrev pub lenenc_text : Format anywhere (List ℕ)
 lenenc_text = made {A = ℕ × List ℕ} (λ x. x.1) (λ t. (length t, t)) (then lenenc (λ n. block n)) (λ s x r h. ap (λ (n : ℕ). (n, x.1)) h.2.0) (λ t. refl)
+
+-- a text takes at most nine bytes more than it has
+pub lenenc_text_most : (text : List ℕ) → length (lenenc_text.written text) ≤ length text + 9
+lenenc_text_most text = omega (arith, length-append (lenenc_written (length text)) text, lenenc_most (length text))
 
 -- ---- what is read is no longer than what was there
 

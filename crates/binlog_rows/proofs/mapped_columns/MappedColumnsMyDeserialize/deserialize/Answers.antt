@@ -1,5 +1,5 @@
-use Rattle.std.proofs.Common.{List, ℕ, ◌≡◌, length, ap, sym, ◌∙◌, arith}
-use Rattle.binlog_rows.specs.TableMaps.{columns_left}
+use Rattle.std.proofs.Common.{◌≡◌, length, ap, sym, ◌∙◌, arith}
+use Rattle.binlog_rows.proofs.ColumnsLeft.{columns_left}
 use Rattle.binlog_rows.proofs.mapped_columns.MappedColumnsMyDeserialize.deserialize.Goals as goal
 
 pub invariant_of-result : goal.invariant_of-result
