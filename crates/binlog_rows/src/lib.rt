@@ -5,6 +5,7 @@
 #![tactic(auto)]
 
 mod column_bitmap;
+pub mod laws;
 mod mapped_columns;
 mod mapped_table;
 mod table_id;

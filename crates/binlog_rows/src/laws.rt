@@ -1,0 +1,31 @@
+//! Laws of the definitions, each a function whose contract says it.
+ghost use Rattle.std.specs.Prelude.{◌≡◌, ◌↔◌, ◌⊎◌, ℕ, List, Err};
+ghost use Rattle.binlog_wire.specs.Fields.{IsBytes};
+ghost use Rattle.binlog_wire.specs.Reading.{Refusal, ends, invalid};
+ghost use Rattle.binlog_wire.specs.declared.error.Invalid.TheVariants.{LenEnc};
+ghost use Rattle.binlog_rows.specs.TableMaps.{table_map};
+ghost use Rattle.binlog_rows.specs.TableMapRefusals.{IsInNumbersPlace};
+
+use crate::table_map_event::TableMapEvent;
+use binlog_description::BinlogEvent;
+use binlog_wire::MyDeserialize;
+
+/// A table map is refused for a length-encoded number exactly where a front of the bytes spells the fields before the count
+/// of columns, or before the length of the metadata, and the next byte is `fb` or `ff`; and for nothing else but the end of
+/// its bytes.
+pub fn refused_table_maps()
+    ensures numbers { (post_header : ℕ) (s : List ℕ) (b : ℕ) → IsBytes s
+        → ((table_map post_header).reads s ≡ Err (invalid (LenEnc b))) ↔ IsInNumbersPlace post_header b s }
+    ensures others { (post_header : ℕ) (s : List ℕ) (why : Refusal) → IsBytes s → (table_map post_header).reads s ≡ Err why
+        → (why ≡ ends) ⊎ ((b : ℕ) × (why ≡ invalid (LenEnc b))) }
+{}
+
+/// The numbers of the types of events.
+pub fn event_types() {
+    prove!(TableMapEvent::EVENT_TYPE as u8 == 19);
+}
+
+/// The sizes of what always takes as many bytes.
+pub fn sizes() {
+    prove!(matches!(TableMapEvent::SIZE, None));
+}
