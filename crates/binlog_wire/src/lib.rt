@@ -4,9 +4,10 @@
 //! [`MySerialize`]: numbers ([`RawInt`]), byte strings ([`RawBytes`]), sets of flags ([`RawFlags`]), numbers that stand
 //! for something ([`Const`], [`RawConst`]) and bytes that say nothing ([`Skip`]). Their contracts, and the laws by
 //! which a body is put together from fields, stand in `specs/`: `Reading`, `Fields`, `Laws`; `Formats` puts
-//! all that is said of a body together.
+//! all that is said of a body together. [`BitView`] shows bytes as bits.
 #![tactic(auto)]
 
+mod bit_view;
 mod error;
 mod number;
 mod output;
@@ -15,6 +16,7 @@ mod raw;
 mod room;
 mod traits;
 
+pub use bit_view::BitView;
 pub use error::{Error, Field, Invalid};
 pub use number::{read_u16_at, read_u32_at};
 pub use output::write_bytes;
@@ -25,6 +27,6 @@ pub use raw::bytes::{
 };
 pub use raw::constant::{Const, Constant, RawConst, Skip};
 pub use raw::flags::RawFlags;
-pub use raw::int::{IntRepr, LeU16, LeU32, LeU56, LeU64, RawInt};
+pub use raw::int::{IntRepr, LeU16, LeU32, LeU48, LeU56, LeU64, RawInt};
 pub use room::reserve;
 pub use traits::{MyDeserialize, MySerialize, Put};

@@ -1,5 +1,5 @@
 //! Numbers as fields: their widths, and numbers as they stand.
-ghost use Rattle.std.specs.Prelude.{◌≡◌, ◌++◌, ◌+◌, ◌≤◌, ℕ, List, Option, Some, OnOk, OnErr, IsOkUnless, length, vec_len, vec_capacity};
+ghost use Rattle.std.specs.Prelude.{◌≡◌, ◌++◌, ◌+◌, ◌^◌, ◌<◌, ◌≤◌, ℕ, List, Option, Some, OnOk, OnErr, IfOk, IsOkUnless, length, vec_len, vec_capacity};
 ghost use Rattle.std.specs.Int.{w8, cast_signed, cast_unsigned};
 ghost use Rattle.byteorder.specs.Endian.{little_bytes};
 ghost use Rattle.binlog_wire.specs.declared.error.Error.TheVariants.{Memory};
@@ -176,6 +176,47 @@ impl IntRepr for LeU32 {
     }
 }
 
+/// A number of six bytes, least byte first. Of a number from 2^48 on, the low six bytes are written.
+#[derive(Drop)]
+pub struct LeU48;
+
+impl IntRepr for LeU48 {
+    type Primitive = u64;
+
+    const SIZE: Option<usize> = Some(6);
+
+    ghost SIZE = { Some 6 };
+
+    ghost reads = { number_at 6 };
+
+    ghost written = { little_bytes 6 };
+
+    #[inline]
+    fn read(buf: &mut ParseBuf<'_>) -> Result<u64, Error>
+        ensures number { Gives ⊥ buf.new result (number_at 6 buf.old) }
+        ensures small { IfOk result (λ number. number < 2 ^ 48) }
+    {
+        if buf.0.len() < 6 {
+            return Err(Error::EndOfBody);
+        }
+        // Two parts, since their types say how large the number can be.
+        let low = LittleEndian::read_u32(buf.0);
+        let high = LittleEndian::read_u16(&buf.0[4..]);
+        buf.0 = &buf.0[6..];
+        Ok(u64::from(high) << 32 | u64::from(low))
+    }
+
+    #[inline]
+    fn written_len(_number: u64) -> usize {
+        6
+    }
+
+    #[inline]
+    fn put(number: u64, buf: &mut Vec<u8>) {
+        buf.extend_from_slice(&number.to_le_bytes()[..6]).unwrap();
+    }
+}
+
 /// A number of seven bytes, least byte first. Of a number from 2^56 on, the low seven bytes are written.
 #[derive(Drop)]
 pub struct LeU56;
@@ -248,7 +289,7 @@ impl IntRepr for LeU64 {
     }
 }
 
-/// A number, in the bytes that its kind `K` says: `u8`, `i8`, [`LeU16`], [`LeU32`], [`LeU56`] or [`LeU64`].
+/// A number, in the bytes that its kind `K` says: `u8`, `i8`, [`LeU16`], [`LeU32`], [`LeU48`], [`LeU56`] or [`LeU64`].
 #[derive(Drop)]
 #[derive_where(Clone, Debug, PartialEq, Eq, Hash; K::Primitive)]
 pub struct RawInt<K: IntRepr>(pub K::Primitive, #[derive_where(skip)] PhantomData<K>);
@@ -342,6 +383,7 @@ mod tests {
         assert_eq!(rt; RawInt::<i8>::SIZE, Some(1));
         assert_eq!(rt; RawInt::<LeU16>::SIZE, Some(2));
         assert_eq!(rt; RawInt::<LeU32>::SIZE, Some(4));
+        assert_eq!(rt; RawInt::<LeU48>::SIZE, Some(6));
         assert_eq!(rt; RawInt::<LeU56>::SIZE, Some(7));
         assert_eq!(rt; RawInt::<LeU64>::SIZE, Some(8));
         assert_eq!(rt; Skip::<3>::SIZE, Some(3));

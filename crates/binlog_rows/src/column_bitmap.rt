@@ -1,0 +1,108 @@
+//! One bit for each column of a table.
+ghost use Rattle.std.specs.Prelude.{◌≡◌, ℕ, List, length, IfOk, IsOkUnless};
+ghost use Rattle.binlog_wire.specs.declared.error.Error.TheVariants.{Memory};
+ghost use Rattle.binlog_rows.specs.Columns.{bitmap};
+
+use binlog_wire::{BitView, EofBytes, Error, MyDeserialize, ParseBuf, Put, RawBytes};
+use std::alloc::Global;
+use std::borrow::CowSlice;
+use std::hash::{Hash, Hasher};
+use std::marker::Model;
+
+/// One bit for each of so many columns, the first column's the least bit of the first byte, in as few bytes as hold them.
+/// Bits behind the last column's are kept.
+///
+/// Contracts see the number of columns and the list of the bytes.
+#[derive(Debug, PartialEq, Eq, Hash, Drop)]
+pub struct ColumnBitmap<'a> {
+    len: u64,
+    bits: RawBytes<'a, EofBytes>,
+}
+
+impl<'a> Model for ColumnBitmap<'a> {
+    ghost use Rattle.std.specs.Prelude.{ℕ, List};
+    ghost use Rattle.binlog_rows.specs.Columns.{IsBitmap};
+
+    ghost Value = { ℕ × List ℕ };
+
+    ghost view = { λ columns. (columns.len, columns.bits) };
+
+    ghost invariant = { λ columns. IsBitmap (columns.len, columns.bits) };
+
+    ghost inverse = { λ columns. record { len = columns.0; bits = columns.1 } };
+}
+
+impl<'a> ColumnBitmap<'a> {
+    /// How many columns there are.
+    pub fn len(&self) -> u64
+        ensures { result ≡ self.now.0 }
+    {
+        self.len
+    }
+
+    /// The bits.
+    pub fn view(&self) -> BitView<'_>
+        ensures len { result.len ≡ self.now.0 }
+        ensures bytes { result.bytes.now ≡ self.now.1 }
+    {
+        BitView::new(self.bits.as_bytes(), self.len).unwrap()
+    }
+
+    /// The same bits, with their bytes owned; refused by [`Error::Memory`] alone.
+    pub fn into_owned(self, alloc: Global) -> Result<ColumnBitmap<'static>, Error>
+        ensures ok { IfOk result (λ owned. owned ≡ self.entry) }
+        ensures memory { IsOkUnless result Memory }
+    {
+        let ColumnBitmap { len, bits } = self;
+        let bits = bits.into_owned(alloc)?;
+        Ok(ColumnBitmap { len, bits })
+    }
+
+    /// The same bits once more: lent bytes stay lent, and owned ones are copied. Refused by [`Error::Memory`] alone.
+    pub fn clone(&self, alloc: Global) -> Result<Self, Error>
+        ensures ok { IfOk result (λ copy. copy ≡ self.now) }
+        ensures memory { IsOkUnless result Memory }
+    {
+        let bits = self.bits.clone(alloc)?;
+        Ok(ColumnBitmap {
+            len: self.len,
+            bits,
+        })
+    }
+}
+
+/// The bits of as many columns as the context says; [`Error::EndOfBody`] where fewer bytes are left than they need.
+impl<'de> MyDeserialize<'de> for ColumnBitmap<'de> {
+    const SIZE: Option<usize> = None;
+
+    type Ctx = u64;
+
+    ghost reads = { λ len. (bitmap len).reads };
+
+    fn deserialize(_alloc: Global, len: u64, buf: &mut ParseBuf<'de>) -> Result<Self, Error> {
+        let bits = buf
+            .checked_eat(len.div_ceil(8) as usize)
+            .ok_or(Error::EndOfBody)?;
+        Ok(ColumnBitmap {
+            len,
+            bits: RawBytes::new(CowSlice::Borrowed(bits)),
+        })
+    }
+}
+
+/// The bytes of the bits.
+impl Put for ColumnBitmap<'_> {
+    ghost bytes = { λ columns. columns.1 };
+
+    fn check(&self) -> Result<(), Error> {
+        Ok(())
+    }
+
+    fn written_len(&self) -> usize {
+        self.bits.written_len()
+    }
+
+    fn put(&self, buf: &mut Vec<u8>) {
+        self.bits.put(buf);
+    }
+}
