@@ -1,29 +1,78 @@
 //! Laws of the definitions, each a function whose contract says it.
-use crate::rows_event_of::{
-    DeleteRowsEvent, DeleteRowsEventV1, PartialUpdateRowsEvent, UpdateRowsEvent,
-    UpdateRowsEventV1, WriteRowsEvent, WriteRowsEventV1,
+
+use crate::rows_form::RowsForm;
+use crate::rows_kind::{
+    DeleteRows, DeleteRowsV1, PartialUpdateRows, RowsKind, UpdateRows, UpdateRowsV1, WriteRows,
+    WriteRowsV1,
 };
-use binlog_description::BinlogEvent;
-use binlog_wire::MyDeserialize;
 
 /// The numbers of the types of events.
 pub fn event_types() {
-    prove!(WriteRowsEventV1::EVENT_TYPE as u8 == 23);
-    prove!(UpdateRowsEventV1::EVENT_TYPE as u8 == 24);
-    prove!(DeleteRowsEventV1::EVENT_TYPE as u8 == 25);
-    prove!(WriteRowsEvent::EVENT_TYPE as u8 == 30);
-    prove!(UpdateRowsEvent::EVENT_TYPE as u8 == 31);
-    prove!(DeleteRowsEvent::EVENT_TYPE as u8 == 32);
-    prove!(PartialUpdateRowsEvent::EVENT_TYPE as u8 == 39);
+    prove!(WriteRowsV1::EVENT_TYPE as u8 == 23);
+    prove!(UpdateRowsV1::EVENT_TYPE as u8 == 24);
+    prove!(DeleteRowsV1::EVENT_TYPE as u8 == 25);
+    prove!(WriteRows::EVENT_TYPE as u8 == 30);
+    prove!(UpdateRows::EVENT_TYPE as u8 == 31);
+    prove!(DeleteRows::EVENT_TYPE as u8 == 32);
+    prove!(PartialUpdateRows::EVENT_TYPE as u8 == 39);
 }
 
-/// The sizes of what always takes as many bytes: none does.
-pub fn sizes() {
-    prove!(matches!(WriteRowsEventV1::SIZE, None));
-    prove!(matches!(UpdateRowsEventV1::SIZE, None));
-    prove!(matches!(DeleteRowsEventV1::SIZE, None));
-    prove!(matches!(WriteRowsEvent::SIZE, None));
-    prove!(matches!(UpdateRowsEvent::SIZE, None));
-    prove!(matches!(DeleteRowsEvent::SIZE, None));
-    prove!(matches!(PartialUpdateRowsEvent::SIZE, None));
+/// Which parts each kind of row events has.
+pub fn forms() {
+    prove!(matches!(
+        WriteRowsV1::FORM,
+        RowsForm {
+            has_extra: false,
+            has_before: false,
+            has_after: true
+        }
+    ));
+    prove!(matches!(
+        UpdateRowsV1::FORM,
+        RowsForm {
+            has_extra: false,
+            has_before: true,
+            has_after: true
+        }
+    ));
+    prove!(matches!(
+        DeleteRowsV1::FORM,
+        RowsForm {
+            has_extra: false,
+            has_before: true,
+            has_after: false
+        }
+    ));
+    prove!(matches!(
+        WriteRows::FORM,
+        RowsForm {
+            has_extra: true,
+            has_before: false,
+            has_after: true
+        }
+    ));
+    prove!(matches!(
+        UpdateRows::FORM,
+        RowsForm {
+            has_extra: true,
+            has_before: true,
+            has_after: true
+        }
+    ));
+    prove!(matches!(
+        DeleteRows::FORM,
+        RowsForm {
+            has_extra: true,
+            has_before: true,
+            has_after: false
+        }
+    ));
+    prove!(matches!(
+        PartialUpdateRows::FORM,
+        RowsForm {
+            has_extra: true,
+            has_before: true,
+            has_after: true
+        }
+    ));
 }

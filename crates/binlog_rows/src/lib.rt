@@ -27,3 +27,6 @@ pub use rows_kind::{
     DeleteRows, DeleteRowsV1, HasAfterImage, HasBeforeImage, PartialUpdateRows, RowsKind,
     UpdateRows, UpdateRowsV1, WriteRows, WriteRowsV1,
 };
+
+#[cfg(test)]
+mod tests;

@@ -9,8 +9,8 @@ ghost use Rattle.binlog_rows.specs.RowsData.{event_in, form_in, data_written};
 
 use crate::rows_event::RowsEvent;
 use crate::rows_event_of::{
-    DeleteRowsEvent, DeleteRowsEventV1, PartialUpdateRowsEvent, UpdateRowsEvent,
-    UpdateRowsEventV1, WriteRowsEvent, WriteRowsEventV1,
+    DeleteRowsEvent, DeleteRowsEventV1, PartialUpdateRowsEvent, UpdateRowsEvent, UpdateRowsEventV1,
+    WriteRowsEvent, WriteRowsEventV1,
 };
 use binlog_consts::RowsEventFlags;
 use binlog_wire::{BitView, Error, Put};

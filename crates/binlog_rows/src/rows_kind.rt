@@ -41,6 +41,7 @@ pub struct WriteRows;
 
 impl RowsKind for WriteRows {
     const EVENT_TYPE: EventType = EventType::WRITE_ROWS_EVENT;
+
     const FORM: RowsForm = RowsForm {
         has_extra: true,
         has_before: false,
@@ -64,6 +65,7 @@ pub struct UpdateRows;
 
 impl RowsKind for UpdateRows {
     const EVENT_TYPE: EventType = EventType::UPDATE_ROWS_EVENT;
+
     const FORM: RowsForm = RowsForm {
         has_extra: true,
         has_before: true,
@@ -91,6 +93,7 @@ pub struct DeleteRows;
 
 impl RowsKind for DeleteRows {
     const EVENT_TYPE: EventType = EventType::DELETE_ROWS_EVENT;
+
     const FORM: RowsForm = RowsForm {
         has_extra: true,
         has_before: true,
@@ -114,6 +117,7 @@ pub struct PartialUpdateRows;
 
 impl RowsKind for PartialUpdateRows {
     const EVENT_TYPE: EventType = EventType::PARTIAL_UPDATE_ROWS_EVENT;
+
     const FORM: RowsForm = RowsForm {
         has_extra: true,
         has_before: true,
@@ -141,6 +145,7 @@ pub struct WriteRowsV1;
 
 impl RowsKind for WriteRowsV1 {
     const EVENT_TYPE: EventType = EventType::WRITE_ROWS_EVENT_V1;
+
     const FORM: RowsForm = RowsForm {
         has_extra: false,
         has_before: false,
@@ -164,6 +169,7 @@ pub struct UpdateRowsV1;
 
 impl RowsKind for UpdateRowsV1 {
     const EVENT_TYPE: EventType = EventType::UPDATE_ROWS_EVENT_V1;
+
     const FORM: RowsForm = RowsForm {
         has_extra: false,
         has_before: true,
@@ -191,6 +197,7 @@ pub struct DeleteRowsV1;
 
 impl RowsKind for DeleteRowsV1 {
     const EVENT_TYPE: EventType = EventType::DELETE_ROWS_EVENT_V1;
+
     const FORM: RowsForm = RowsForm {
         has_extra: false,
         has_before: true,
