@@ -8,6 +8,7 @@ mod codes;
 mod event_flags;
 mod event_type;
 pub mod laws;
+mod rows_event_flags;
 mod statement_codes;
 mod status_var_key;
 mod version;
@@ -17,6 +18,7 @@ pub use codes::{
 };
 pub use event_flags::EventFlags;
 pub use event_type::{EventType, UnknownEventType};
+pub use rows_event_flags::RowsEventFlags;
 pub use statement_codes::{ItemResult, LoadDuplicateHandling, UnknownItemResultType, UserVarFlags};
 pub use status_var_key::{StatusVarKey, UnknownStatusVarKey};
 pub use version::BinlogVersion;

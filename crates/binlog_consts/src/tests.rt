@@ -1,6 +1,7 @@
 //! The tables in the fields that hold their numbers, and the texts of what isn't known.
 use crate::{
-    EventFlags, IntvarEventType, UnknownChecksumAlg, UnknownEventType, UnknownIncidentType, laws,
+    EventFlags, IntvarEventType, RowsEventFlags, UnknownChecksumAlg, UnknownEventType,
+    UnknownIncidentType, laws,
 };
 use binlog_wire::{Const, LeU16, MyDeserialize, RawConst, RawFlags};
 use bitflags::Flags;
@@ -13,6 +14,8 @@ fn gives_the_known_flags(rt: HostRuntime) {
     assert!(rt; flags.contains(EventFlags::LOG_EVENT_BINLOG_IN_USE_F));
     assert!(rt; flags.contains(EventFlags::LOG_EVENT_IGNORABLE_F));
     assert_eq!(rt; flags.bits(), 0x81);
+    let raw: RawFlags<RowsEventFlags, LeU16> = RawFlags::new(0xfff1);
+    assert!(rt; raw.get() == RowsEventFlags::STMT_END);
 }
 
 #[test]

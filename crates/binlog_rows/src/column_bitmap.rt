@@ -1,5 +1,5 @@
 //! One bit for each column of a table.
-ghost use Rattle.std.specs.Prelude.{◌≡◌, ℕ, List, length, IfOk, IsOkUnless};
+ghost use Rattle.std.specs.Prelude.{◌≡◌, ◌≤◌, ◌^◌, ℕ, List, length, IfOk, IsOkUnless};
 ghost use Rattle.binlog_wire.specs.declared.error.Error.TheVariants.{Memory};
 ghost use Rattle.binlog_rows.specs.Columns.{bitmap};
 
@@ -98,8 +98,11 @@ impl Put for ColumnBitmap<'_> {
         Ok(())
     }
 
-    fn written_len(&self) -> usize {
-        self.bits.written_len()
+    fn written_len(&self) -> usize
+        ensures count { result ≡ length self.now.1 }
+        ensures small { result ≤ 2 ^ 61 }
+    {
+        self.len.div_ceil(8) as usize
     }
 
     fn put(&self, buf: &mut Vec<u8>) {

@@ -1,0 +1,128 @@
+-- The row events, types 23 to 25, 30 to 32 and 39: a table's rows that were written, updated or deleted. A table's id; flags,
+-- 2 bytes; where the post-header has a length of 10, extra bytes behind a count of 2 bytes that counts itself; the number of
+-- columns, length-encoded; for each of the images that the type has, one bit for each column, set where the column is in that
+-- image; the rows, to the end. Of the types, 23 to 25 are the older ones, which keep no extra bytes.
+-- Source: MySQL's documentation of its source code, `mysql::binlog::event::Rows_event`.
+use Rattle.std.specs.Prelude.{◌≡◌, ℕ, ◌+◌, ◌-◌, ◌==◌, ◌≤◌, Bool, true, false, Option, Some, None, is_some, unwrap_or, IfSome, List, [], ◌++◌, length, take, Ok, refl}
+use Rattle.std.proofs.Common.{ap, arith}
+use Rattle.std.proofs.lemmas.List.{length-take, take_all}
+use Rattle.binlog_wire.specs.Fields.{little_bytes}
+use Rattle.binlog_wire.specs.Formats.{Format, Place, anywhere, last, number, block, rest, silent, then, ◌⨾◌, seen_as, made}
+use Rattle.binlog_numbers.specs.Chosen.{chosen, choose, IsChoice}
+use Rattle.binlog_numbers.specs.LenEnc.{lenenc, lenenc_written}
+use Rattle.binlog_rows.specs.Columns.{table_id, Bitmap, bitmap}
+use Rattle.binlog_rows.specs.declared.rows_form.RowsForm.{RowsForm}
+use Rattle.binlog_rows.specs.declared.rows_head.RowsHead.{RowsHead}
+use Rattle.binlog_rows.specs.declared.rows_columns.RowsColumns.{RowsColumns}
+use Rattle.binlog_rows.specs.declared.rows_event.RowsEvent.{RowsEvent}
+
+-- ---- extra bytes
+
+-- what counts of extra bytes: as many as their count can say besides itself
+abbrev pub kept_extra : List ℕ → List ℕ
+kept_extra = take 65533
+
+-- a count, and as many bytes as it counts besides itself: none for the counts 0 and 1 too
+abbrev pub counted : {place : Place} → Format place (ℕ × List ℕ)
+counted = then (number 2) (λ count. block (count - 2))
+
+pub extra_choice : {place : Place} → IsChoice (counted {place = place}) (λ x. Ok x.1) (λ s. (2 + length (kept_extra s), kept_extra s)) kept_extra (λ s. Unit {0})
+extra_choice = record {
+  fits = λ s fits. (omega (arith, length-take 65533 s), omega (arith, length-take 65533 s));
+  shows = λ s fits. refl;
+  settled = λ s a r b h d.
+      let same : a.1 ≡ b = cc in
+      take_all 65533 b (rw (← same) (omega (arith, h.1.0, h.2.0)));
+  twice = λ s. take_all 65533 (kept_extra s) (omega (arith, length-take 65533 s));
+  again = λ s fits. ap (λ (t : List ℕ). little_bytes 2 (2 + length t) ++ t) (take_all 65533 (kept_extra s) (omega (arith, length-take 65533 s)));
+}
+
+-- Extra bytes behind a count that counts itself.
+abbrev pub extra : {place : Place} → Format place (List ℕ)
+extra = chosen (λ x. Ok x.1) (λ s. (2 + length (kept_extra s), kept_extra s)) kept_extra (λ s. Unit {0}) counted extra_choice
+
+pub forgotten_choice : {place : Place} {V W : Type 0} (x : W) (v : V) (f : Format place V) → IsChoice f (λ u. Ok x) (λ w. v) (λ w. x) (λ w. f.Fits v)
+forgotten_choice {V = V} {W = W} x v f = record {
+  fits = λ w fits. fits;
+  shows = λ w fits. refl;
+  settled = λ s a r b h d. let same : x ≡ b = cc in same;
+  twice = λ w. refl;
+  again = λ w fits. refl;
+}
+
+-- A value that is forgotten: whatever bytes spell, it is read as x; it is written as v.
+abbrev pub forgotten : {place : Place} {V W : Type 0} → W → V → Format place V → Format place W
+forgotten x v f = chosen (λ u. Ok x) (λ w. v) (λ w. x) (λ w. f.Fits v) f (forgotten_choice x v f)
+
+-- a value that is there; none is written as v
+abbrev pub present : {place : Place} {V : Type 0} → V → Format place V → Format place (Option V)
+present v f = made (λ x. Some x) (λ o. unwrap_or o v) f (λ s a r h. refl) (λ o. refl)
+
+-- what an event has where no extra bytes stand: none of them, or no place for them
+abbrev pub no_extra : Bool → Option (List ℕ)
+no_extra true = Some []
+no_extra false = None
+
+-- The extra bytes of an event of a type that keeps them or not, where the post-header has this length: they stand where it is
+-- 10. A type that doesn't keep them forgets them.
+abbrev pub extra_in : Bool → ℕ → Format anywhere (Option (List ℕ))
+extra_in has_extra post_header =
+    choose (post_header == 10)
+    (choose has_extra (present [] extra) (forgotten None [] extra))
+    (silent (no_extra has_extra))
+
+-- ---- a part at a time
+
+abbrev pub head : RowsForm → ℕ → Format anywhere RowsHead
+head form post_header = seen_as
+    (λ x. record { table_id = x.0; flags = x.1.0; extra = x.1.1 })
+    (λ h. (h.table_id, (h.flags, h.extra))) (λ _. refl) (λ _. refl)
+    (table_id post_header ⨾ number 2 ⨾ extra_in form.has_extra post_header)
+
+-- which of so many columns are in an image, in an event that has this image or not
+abbrev pub image : Bool → ℕ → Format anywhere (Option Bitmap)
+image has_image count = choose has_image (present (count, []) (bitmap count)) (silent None)
+
+abbrev pub columns : RowsForm → Format anywhere RowsColumns
+columns form = seen_as
+    (λ x. record { count = x.0; before = x.1.0; after = x.1.1 })
+    (λ c. (c.count, (c.before, c.after))) (λ _. refl) (λ _. refl)
+    (then lenenc (λ count. image form.has_before count ⨾ image form.has_after count))
+
+-- The body of a row event of this form, whose post-header has this length.
+unfoldable pub rows : RowsForm → ℕ → Format last RowsEvent
+rows form post_header = seen_as
+    (λ x. record { head = x.0; columns = x.1.0; rows = x.1.1 })
+    (λ e. (e.head, (e.columns, e.rows))) (λ _. refl) (λ _. refl)
+    (head form post_header ⨾ columns form ⨾ rest)
+
+-- ---- the parts that an event has
+
+-- an image is there, of so many columns, or it isn't
+abbrev pub IsImage : Bool → ℕ → Option Bitmap → Type 0
+IsImage has_image count o = (is_some o ≡ has_image) × IfSome o (λ columns. columns.0 ≡ count)
+
+-- the event has exactly the parts of this form
+pub record IsOfForm (form : RowsForm) (e : RowsEvent) : Type 0 where
+  pub extra : is_some e.head.extra ≡ form.has_extra
+  pub before : IsImage form.has_before e.columns.count e.columns.before
+  pub after : IsImage form.has_after e.columns.count e.columns.after
+
+-- ---- what is written of an event, by the parts that it has
+
+abbrev pub extra_written : Option (List ℕ) → List ℕ
+extra_written (Some s) = little_bytes 2 (2 + length (kept_extra s)) ++ kept_extra s
+extra_written None = []
+
+abbrev pub head_written : RowsHead → List ℕ
+head_written h = little_bytes 6 h.table_id ++ (little_bytes 2 h.flags ++ extra_written h.extra)
+
+abbrev pub image_written : Option Bitmap → List ℕ
+image_written (Some columns) = columns.1
+image_written None = []
+
+abbrev pub columns_written : RowsColumns → List ℕ
+columns_written c = lenenc_written c.count ++ (image_written c.before ++ image_written c.after)
+
+abbrev pub rows_written : RowsEvent → List ℕ
+rows_written e = head_written e.head ++ (columns_written e.columns ++ e.rows)

@@ -1,0 +1,153 @@
+//! The columns of a row event.
+ghost use Rattle.std.specs.Prelude.{◌≡◌, ◌+◌, ◌^◌, ◌≤◌, length, IfOk, IsOkUnless};
+ghost use Rattle.binlog_wire.specs.declared.error.Error.TheVariants.{Memory};
+ghost use Rattle.binlog_wire.specs.Reading.{Gives};
+ghost use Rattle.binlog_rows.specs.Rows.{image, columns, image_written, columns_written, IsImage};
+
+use crate::column_bitmap::ColumnBitmap;
+use crate::rows_form::RowsForm;
+use binlog_numbers::LenEnc;
+use binlog_wire::{Error, IntRepr, ParseBuf, Put};
+use std::alloc::Global;
+
+/// How many columns the table has, and which of them are in each image of a row.
+#[derive(Debug, PartialEq, Eq, Hash, Drop)]
+pub struct RowsColumns<'a> {
+    pub count: u64,
+    pub before: Option<ColumnBitmap<'a>>,
+    pub after: Option<ColumnBitmap<'a>>,
+}
+
+/// Which of so many columns are in an image, in an event that has this image or not.
+fn read_image<'a>(
+    alloc: Global,
+    has_image: bool,
+    count: u64,
+    buf: &mut ParseBuf<'a>,
+) -> Result<Option<ColumnBitmap<'a>>, Error>
+    ensures reads { Gives ⊥ buf.new result ((image has_image count).reads buf.old) }
+    ensures image { IfOk result (λ image. IsImage has_image count image) }
+{
+    if has_image {
+        Ok(Some(buf.parse(alloc, count)?))
+    } else {
+        Ok(None)
+    }
+}
+
+/// The same columns, owned, if there are any; refused by [`Error::Memory`] alone.
+fn own_image<'a>(
+    alloc: Global,
+    image: Option<ColumnBitmap<'a>>,
+) -> Result<Option<ColumnBitmap<'static>>, Error>
+    ensures ok { IfOk result (λ owned. owned ≡ image.entry) }
+    ensures memory { IsOkUnless result Memory }
+{
+    match image {
+        Some(image) => Ok(Some(image.into_owned(alloc)?)),
+        None => Ok(None),
+    }
+}
+
+/// The same columns once more, if there are any; refused by [`Error::Memory`] alone.
+fn copy_image<'a>(
+    alloc: Global,
+    image: &Option<ColumnBitmap<'a>>,
+) -> Result<Option<ColumnBitmap<'a>>, Error>
+    ensures ok { IfOk result (λ copy. copy ≡ image.now) }
+    ensures memory { IsOkUnless result Memory }
+{
+    match image {
+        Some(image) => Ok(Some(image.clone(alloc)?)),
+        None => Ok(None),
+    }
+}
+
+/// How many bytes are written for an image.
+fn image_len(image: &Option<ColumnBitmap<'_>>) -> usize
+    ensures count { result ≡ length (image_written image.now) }
+    ensures small { result ≤ 2 ^ 61 }
+{
+    match image {
+        Some(image) => image.written_len(),
+        None => 0,
+    }
+}
+
+impl<'a> RowsColumns<'a> {
+    /// Takes the columns of an event of this form off the front of `buf`. [`Error::EndOfBody`] where it ends within them,
+    /// [`Invalid::LenEnc`](binlog_wire::Invalid::LenEnc) for a count that begins with `fb` or `ff`.
+    pub fn read(alloc: Global, form: RowsForm, buf: &mut ParseBuf<'a>) -> Result<Self, Error>
+        ensures reads { Gives ⊥ buf.new result ((columns form).reads buf.old) }
+        ensures before { IfOk result (λ columns. IsImage form.has_before columns.count columns.before) }
+        ensures after { IfOk result (λ columns. IsImage form.has_after columns.count columns.after) }
+    {
+        let count = LenEnc::read(buf)?;
+        let before = read_image(alloc, form.has_before, count, buf)?;
+        let after = read_image(alloc, form.has_after, count, buf)?;
+        Ok(RowsColumns {
+            count,
+            before,
+            after,
+        })
+    }
+
+    /// The same columns, with their bytes owned; refused by [`Error::Memory`] alone.
+    pub fn into_owned(self, alloc: Global) -> Result<RowsColumns<'static>, Error>
+        ensures ok { IfOk result (λ owned. owned ≡ self.entry) }
+        ensures memory { IsOkUnless result Memory }
+    {
+        let RowsColumns {
+            count,
+            before,
+            after,
+        } = self;
+        let before = own_image(alloc, before)?;
+        let after = own_image(alloc, after)?;
+        Ok(RowsColumns {
+            count,
+            before,
+            after,
+        })
+    }
+
+    /// The same columns once more: lent bytes stay lent, and owned ones are copied. Refused by [`Error::Memory`] alone.
+    pub fn clone(&self, alloc: Global) -> Result<Self, Error>
+        ensures ok { IfOk result (λ copy. copy ≡ self.now) }
+        ensures memory { IsOkUnless result Memory }
+    {
+        let before = copy_image(alloc, &self.before)?;
+        let after = copy_image(alloc, &self.after)?;
+        Ok(RowsColumns {
+            count: self.count,
+            before,
+            after,
+        })
+    }
+}
+
+impl Put for RowsColumns<'_> {
+    ghost bytes = { columns_written };
+
+    fn check(&self) -> Result<(), Error> {
+        Ok(())
+    }
+
+    fn written_len(&self) -> usize
+        ensures count { result ≡ length (columns_written self.now) }
+        ensures small { result ≤ 2 ^ 62 + 9 }
+    {
+        LenEnc::written_len(self.count) + image_len(&self.before) + image_len(&self.after)
+    }
+
+    #[tactic(auto, using(std::proofs::Common::append_assoc))]
+    fn put(&self, buf: &mut Vec<u8>) {
+        LenEnc::put(self.count, buf);
+        if let Some(before) = &self.before {
+            before.put(buf);
+        }
+        if let Some(after) = &self.after {
+            after.put(buf);
+        }
+    }
+}

@@ -1,0 +1,168 @@
+//! The table, the flags and the extra bytes of a row event.
+ghost use Rattle.std.specs.Prelude.{◌≡◌, ◌+◌, ◌++◌, ◌≤◌, length, is_some, vec_len, vec_capacity, IfOk, IsOkUnless};
+ghost use Rattle.binlog_wire.specs.declared.error.Error.TheVariants.{Memory};
+ghost use Rattle.binlog_wire.specs.Reading.{Gives, result_now};
+ghost use Rattle.binlog_wire.specs.Formats.{anywhere};
+ghost use Rattle.binlog_rows.specs.Rows.{extra, extra_in, extra_written, head, head_written};
+
+use crate::rows_form::RowsForm;
+use crate::table_id::TableId;
+use binlog_wire::{BareBytes, Error, IntRepr, LeU16, ParseBuf, Put, RawBytes};
+use std::alloc::Global;
+use std::borrow::CowSlice;
+
+/// The most extra bytes, 65,533: with them, their count is 65,535.
+pub const MAX_EXTRA_LEN: usize = 65533;
+
+/// The post-header length of an event that has extra bytes.
+const WITH_EXTRA: u8 = 10;
+
+/// How many bytes the count of extra bytes takes; it counts itself.
+const COUNT_LEN: usize = 2;
+
+/// What stands before the columns of a row event.
+#[derive(Debug, PartialEq, Eq, Hash, Drop)]
+pub struct RowsHead<'a> {
+    pub table_id: TableId,
+    pub flags: u16,
+    pub extra: Option<RawBytes<'a, BareBytes<MAX_EXTRA_LEN>>>,
+}
+
+/// Takes extra bytes and their count off the front of `buf`; [`Error::EndOfBody`] where it ends within them.
+fn read_extra<'a>(buf: &mut ParseBuf<'a>) -> Result<&'a [u8], Error>
+    ensures { Gives ⊥ buf.new (result_now result) ((extra {place = anywhere}).reads buf.old) }
+{
+    let count = usize::from(LeU16::read(buf)?);
+    buf.checked_eat(count.saturating_sub(COUNT_LEN))
+        .ok_or(Error::EndOfBody)
+}
+
+/// The extra bytes of an event whose type keeps them or not, where its post-header has this length.
+fn read_extra_in<'a>(
+    has_extra: bool,
+    post_header: u8,
+    buf: &mut ParseBuf<'a>,
+) -> Result<Option<RawBytes<'a, BareBytes<MAX_EXTRA_LEN>>>, Error>
+    ensures reads { Gives ⊥ buf.new result ((extra_in has_extra post_header).reads buf.old) }
+    ensures kept { IfOk result (λ extra. is_some extra ≡ has_extra) }
+{
+    let bytes = if post_header == WITH_EXTRA {
+        read_extra(buf)?
+    } else {
+        &[]
+    };
+    if has_extra {
+        Ok(Some(RawBytes::new(CowSlice::Borrowed(bytes))))
+    } else {
+        Ok(None)
+    }
+}
+
+/// How many bytes are written for extra bytes, with their count.
+fn extra_len(extra: &Option<RawBytes<'_, BareBytes<MAX_EXTRA_LEN>>>) -> usize
+    ensures count { result ≡ length (extra_written extra.now) }
+    ensures small { result ≤ 65535 }
+{
+    match extra {
+        Some(extra) => COUNT_LEN + extra.written_len(),
+        None => 0,
+    }
+}
+
+/// Appends extra bytes behind their count, where `buf` has room for them.
+#[tactic(auto, using(std::proofs::Common::append_assoc))]
+fn put_extra(extra: &Option<RawBytes<'_, BareBytes<MAX_EXTRA_LEN>>>, buf: &mut Vec<u8>)
+    requires { vec_len buf.old + length (extra_written extra.now) ≤ vec_capacity buf.old }
+    ensures items { buf.new.items ≡ buf.old.items ++ extra_written extra.now }
+    ensures len { vec_len buf.new ≡ vec_len buf.old + length (extra_written extra.now) }
+    ensures capacity { vec_capacity buf.old ≤ vec_capacity buf.new }
+{
+    if let Some(extra) = extra {
+        let len = COUNT_LEN + extra.written_len();
+        LeU16::put(len as u16, buf);
+        extra.put(buf);
+    }
+}
+
+impl<'a> RowsHead<'a> {
+    /// Takes a head off the front of `buf`, in an event of this form whose post-header has this length;
+    /// [`Error::EndOfBody`] where it ends within the head.
+    pub fn read(
+        alloc: Global,
+        form: RowsForm,
+        post_header: u8,
+        buf: &mut ParseBuf<'a>,
+    ) -> Result<Self, Error>
+        ensures reads { Gives ⊥ buf.new result ((head form post_header).reads buf.old) }
+        ensures kept { IfOk result (λ head. is_some head.extra ≡ form.has_extra) }
+    {
+        let table_id = buf.parse(alloc, post_header)?;
+        let flags = LeU16::read(buf)?;
+        let extra = read_extra_in(form.has_extra, post_header, buf)?;
+        Ok(RowsHead {
+            table_id,
+            flags,
+            extra,
+        })
+    }
+
+    /// The same head, with its bytes owned; refused by [`Error::Memory`] alone.
+    pub fn into_owned(self, alloc: Global) -> Result<RowsHead<'static>, Error>
+        ensures ok { IfOk result (λ owned. owned ≡ self.entry) }
+        ensures memory { IsOkUnless result Memory }
+    {
+        let RowsHead {
+            table_id,
+            flags,
+            extra,
+        } = self;
+        let extra = match extra {
+            Some(extra) => Some(extra.into_owned(alloc)?),
+            None => None,
+        };
+        Ok(RowsHead {
+            table_id,
+            flags,
+            extra,
+        })
+    }
+
+    /// The same head once more: lent bytes stay lent, and owned ones are copied. Refused by [`Error::Memory`] alone.
+    pub fn clone(&self, alloc: Global) -> Result<Self, Error>
+        ensures ok { IfOk result (λ copy. copy ≡ self.now) }
+        ensures memory { IsOkUnless result Memory }
+    {
+        let extra = match &self.extra {
+            Some(extra) => Some(extra.clone(alloc)?),
+            None => None,
+        };
+        Ok(RowsHead {
+            table_id: self.table_id,
+            flags: self.flags,
+            extra,
+        })
+    }
+}
+
+/// With a count of extra bytes exactly where there are some to be kept, even none.
+impl Put for RowsHead<'_> {
+    ghost bytes = { head_written };
+
+    fn check(&self) -> Result<(), Error> {
+        Ok(())
+    }
+
+    fn written_len(&self) -> usize
+        ensures count { result ≡ length (head_written self.now) }
+        ensures small { result ≤ 65543 }
+    {
+        TableId::LEN + 2 + extra_len(&self.extra)
+    }
+
+    #[tactic(auto, using(std::proofs::Common::append_assoc))]
+    fn put(&self, buf: &mut Vec<u8>) {
+        self.table_id.put(buf);
+        LeU16::put(self.flags, buf);
+        put_extra(&self.extra, buf);
+    }
+}
