@@ -2,6 +2,7 @@ pub mod Announced
 pub mod Chosen
 pub mod GnoIntervals
 pub mod LenEnc
+pub mod LenEncTexts
 pub mod Looping
 pub mod Refusing
 pub mod Repeated

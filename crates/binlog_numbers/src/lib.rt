@@ -2,7 +2,8 @@
 //! variable-length integers of MySQL's serialization library ([`Varlen`]).
 //!
 //! Each has several spellings, all of which are read; the shortest is written. Their grammar, and the laws that tie
-//! reading and writing to it, stand in `specs/`: `LenEnc`, `Varlen`, `VarlenWriting`, `Signed`.
+//! reading and writing to it, stand in `specs/`: `LenEnc`, `Varlen`, `VarlenWriting`, `Signed`. [`LenEncBytes`] are behind a
+//! length of the first kind (`LenEncTexts`).
 //!
 //! Beside them stand tags ([`Tag`]), intervals of transaction numbers ([`GnoInterval`]), and values of which a count before
 //! them says how many there are ([`Items`]); the formats of repeated, chosen and announced parts, and of a body that says
@@ -13,6 +14,7 @@ mod gno_interval;
 mod items;
 pub mod laws;
 mod lenenc;
+mod lenenc_bytes;
 mod tag;
 mod text;
 mod varlen;
@@ -20,6 +22,7 @@ mod varlen;
 pub use gno_interval::GnoInterval;
 pub use items::Items;
 pub use lenenc::{LenEnc, lenenc_int_len};
+pub use lenenc_bytes::LenEncBytes;
 pub use tag::Tag;
 pub use text::read_varlen_text;
 pub use varlen::{

@@ -1,13 +1,32 @@
 //! Laws of the definitions, each a function whose contract says it.
+ghost use Rattle.std.specs.Prelude.{◌≡◌, ◌↔◌, ◌⊎◌, ℕ, List, Err};
+ghost use Rattle.binlog_wire.specs.Fields.{IsBytes};
+ghost use Rattle.binlog_wire.specs.Reading.{Refusal, ends, invalid};
+ghost use Rattle.binlog_wire.specs.declared.error.Invalid.TheVariants.{LenEnc};
+ghost use Rattle.binlog_rows.specs.TableMaps.{table_map};
+ghost use Rattle.binlog_rows.specs.TableMapRefusals.{IsInNumbersPlace};
 
-use crate::rows_form::RowsForm;
 use crate::rows_kind::{
     DeleteRows, DeleteRowsV1, PartialUpdateRows, RowsKind, UpdateRows, UpdateRowsV1, WriteRows,
     WriteRowsV1,
 };
+use crate::table_map_event::TableMapEvent;
+use binlog_description::BinlogEvent;
+use binlog_wire::MyDeserialize;
+
+/// A table map is refused for a length-encoded number exactly where a front of the bytes spells the fields before the count
+/// of columns, or before the length of the metadata, and the next byte is `fb` or `ff`; and for nothing else but the end of
+/// its bytes.
+pub fn refused_table_maps()
+    ensures numbers { (post_header : ℕ) (s : List ℕ) (b : ℕ) → IsBytes s
+        → ((table_map post_header).reads s ≡ Err (invalid (LenEnc b))) ↔ IsInNumbersPlace post_header b s }
+    ensures others { (post_header : ℕ) (s : List ℕ) (why : Refusal) → IsBytes s → (table_map post_header).reads s ≡ Err why
+        → (why ≡ ends) ⊎ ((b : ℕ) × (why ≡ invalid (LenEnc b))) }
+{}
 
 /// The numbers of the types of events.
 pub fn event_types() {
+    prove!(TableMapEvent::EVENT_TYPE as u8 == 19);
     prove!(WriteRowsV1::EVENT_TYPE as u8 == 23);
     prove!(UpdateRowsV1::EVENT_TYPE as u8 == 24);
     prove!(DeleteRowsV1::EVENT_TYPE as u8 == 25);
@@ -17,62 +36,7 @@ pub fn event_types() {
     prove!(PartialUpdateRows::EVENT_TYPE as u8 == 39);
 }
 
-/// Which parts each kind of row events has.
-pub fn forms() {
-    prove!(matches!(
-        WriteRowsV1::FORM,
-        RowsForm {
-            has_extra: false,
-            has_before: false,
-            has_after: true
-        }
-    ));
-    prove!(matches!(
-        UpdateRowsV1::FORM,
-        RowsForm {
-            has_extra: false,
-            has_before: true,
-            has_after: true
-        }
-    ));
-    prove!(matches!(
-        DeleteRowsV1::FORM,
-        RowsForm {
-            has_extra: false,
-            has_before: true,
-            has_after: false
-        }
-    ));
-    prove!(matches!(
-        WriteRows::FORM,
-        RowsForm {
-            has_extra: true,
-            has_before: false,
-            has_after: true
-        }
-    ));
-    prove!(matches!(
-        UpdateRows::FORM,
-        RowsForm {
-            has_extra: true,
-            has_before: true,
-            has_after: true
-        }
-    ));
-    prove!(matches!(
-        DeleteRows::FORM,
-        RowsForm {
-            has_extra: true,
-            has_before: true,
-            has_after: false
-        }
-    ));
-    prove!(matches!(
-        PartialUpdateRows::FORM,
-        RowsForm {
-            has_extra: true,
-            has_before: true,
-            has_after: true
-        }
-    ));
+/// The sizes of what always takes as many bytes.
+pub fn sizes() {
+    prove!(matches!(TableMapEvent::SIZE, None));
 }

@@ -1,11 +1,14 @@
 //! The events of rows: table maps, which say how the rows of a table stand in the events behind them, and the events that
 //! write, update and delete rows.
 //!
-//! Their bodies stand in `specs/`: `Columns` for what they share, and a module for each body.
+//! Their bodies stand in `specs/`: `Columns` for what they share, `TableMaps` for table maps and `Rows` for the events of
+//! rows.
 #![tactic(auto)]
 
 mod column_bitmap;
 pub mod laws;
+mod mapped_columns;
+mod mapped_table;
 mod rows_columns;
 mod rows_event;
 mod rows_event_data;
@@ -14,6 +17,7 @@ mod rows_form;
 mod rows_head;
 mod rows_kind;
 mod table_id;
+mod table_map_event;
 
 pub use binlog_consts::RowsEventFlags;
 pub use rows_event::RowsEvent;
@@ -27,6 +31,7 @@ pub use rows_kind::{
     DeleteRows, DeleteRowsV1, HasAfterImage, HasBeforeImage, PartialUpdateRows, RowsKind,
     UpdateRows, UpdateRowsV1, WriteRows, WriteRowsV1,
 };
+pub use table_map_event::TableMapEvent;
 
 #[cfg(test)]
 mod tests;

@@ -280,7 +280,6 @@ fn reads_partially_updated_rows(rt: HostRuntime) -> Result<(), Fail> {
 #[test]
 fn states_types_and_sizes(rt: HostRuntime) {
     laws::event_types();
-    laws::forms();
     assert!(rt; WriteRowsEventV1::EVENT_TYPE == EventType::WRITE_ROWS_EVENT_V1);
     assert!(rt; UpdateRowsEventV1::EVENT_TYPE == EventType::UPDATE_ROWS_EVENT_V1);
     assert!(rt; DeleteRowsEventV1::EVENT_TYPE == EventType::DELETE_ROWS_EVENT_V1);

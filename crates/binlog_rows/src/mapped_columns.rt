@@ -1,0 +1,170 @@
+//! What a table map says of the columns of its table.
+ghost use Rattle.std.specs.Prelude.{◌≡◌, ◌+◌, ◌^◌, ◌<◌, ◌++◌, length, IfOk, IsOkUnless};
+ghost use Rattle.binlog_wire.specs.declared.error.Error.TheVariants.{Memory};
+ghost use Rattle.binlog_rows.specs.TableMaps.{columns};
+
+use crate::column_bitmap::ColumnBitmap;
+use binlog_numbers::{LenEnc, LenEncBytes};
+use binlog_wire::{BitView, EofBytes, Error, IntRepr, MyDeserialize, ParseBuf, Put, RawBytes};
+use std::alloc::Global;
+use std::borrow::CowSlice;
+use std::marker::Model;
+
+/// The columns of a table: the type of each, a byte; what the types leave open; which columns may hold nulls, a bit for
+/// each; and what else is said.
+///
+/// Contracts see these four, without how many columns there are.
+#[derive(Debug, PartialEq, Eq, Hash, Drop)]
+pub struct MappedColumns<'a> {
+    types: RawBytes<'a, EofBytes>,
+    metadata: RawBytes<'a, LenEncBytes>,
+    null_bits: ColumnBitmap<'a>,
+    optional_metadata: RawBytes<'a, EofBytes>,
+}
+
+impl<'a> Model for MappedColumns<'a> {
+    ghost use Rattle.binlog_rows.specs.TableColumns.{TableColumns, AreColumns};
+
+    ghost Value = { TableColumns };
+
+    ghost view = { λ c. record { types = c.types; metadata = c.metadata; null_bits = c.null_bits; optional_metadata = c.optional_metadata } };
+
+    ghost invariant = { λ c. AreColumns (record { types = c.types; metadata = c.metadata; null_bits = c.null_bits; optional_metadata = c.optional_metadata }) };
+
+    ghost inverse = { λ v. record { types = v.types; metadata = v.metadata; null_bits = v.null_bits; optional_metadata = v.optional_metadata } };
+}
+
+impl<'a> MappedColumns<'a> {
+    /// How many columns there are.
+    pub fn count(&self) -> u64
+        ensures { result ≡ length self.now.types }
+    {
+        self.null_bits.len()
+    }
+
+    /// The type of each column.
+    pub fn types(&self) -> &[u8]
+        ensures { result.now ≡ self.now.types }
+    {
+        self.types.as_bytes()
+    }
+
+    /// What the types leave open.
+    pub fn metadata(&self) -> &[u8]
+        ensures { result.now ≡ self.now.metadata }
+    {
+        self.metadata.as_bytes()
+    }
+
+    /// Which columns may hold nulls.
+    pub fn null_bits(&self) -> BitView<'_>
+        ensures len { result.len ≡ length self.now.types }
+        ensures columns { self.now.null_bits.0 ≡ length self.now.types }
+        ensures bytes { result.bytes.now ≡ self.now.null_bits.1 }
+    {
+        self.null_bits.view()
+    }
+
+    /// What else is said.
+    pub fn optional_metadata(&self) -> &[u8]
+        ensures { result.now ≡ self.now.optional_metadata }
+    {
+        self.optional_metadata.as_bytes()
+    }
+
+    /// The same columns, with their bytes owned; refused by [`Error::Memory`] alone.
+    pub fn into_owned(self, alloc: Global) -> Result<MappedColumns<'static>, Error>
+        ensures ok { IfOk result (λ owned. owned ≡ self.entry) }
+        ensures memory { IsOkUnless result Memory }
+    {
+        let MappedColumns {
+            types,
+            metadata,
+            null_bits,
+            optional_metadata,
+        } = self;
+        let types = types.into_owned(alloc)?;
+        let metadata = metadata.into_owned(alloc)?;
+        let null_bits = null_bits.into_owned(alloc)?;
+        let optional_metadata = optional_metadata.into_owned(alloc)?;
+        Ok(MappedColumns {
+            types,
+            metadata,
+            null_bits,
+            optional_metadata,
+        })
+    }
+
+    /// The same columns once more: lent bytes stay lent, and owned ones are copied. Refused by [`Error::Memory`] alone.
+    pub fn clone(&self, alloc: Global) -> Result<Self, Error>
+        ensures ok { IfOk result (λ copy. copy ≡ self.now) }
+        ensures memory { IsOkUnless result Memory }
+    {
+        let types = self.types.clone(alloc)?;
+        let metadata = self.metadata.clone(alloc)?;
+        let null_bits = self.null_bits.clone(alloc)?;
+        let optional_metadata = self.optional_metadata.clone(alloc)?;
+        Ok(MappedColumns {
+            types,
+            metadata,
+            null_bits,
+            optional_metadata,
+        })
+    }
+}
+
+/// [`Error::EndOfBody`] where the bytes end before the optional metadata, and
+/// [`Invalid::LenEnc`](binlog_wire::Invalid::LenEnc) where `fb` or `ff` stands in the place of the count of columns, or of the
+/// length of the metadata.
+impl<'de> MyDeserialize<'de> for MappedColumns<'de> {
+    const SIZE: Option<usize> = None;
+
+    type Ctx = ();
+
+    ghost reads = { λ _. columns.reads };
+
+    fn deserialize(alloc: Global, _ctx: (), buf: &mut ParseBuf<'de>) -> Result<Self, Error> {
+        // All parts are of one slice, which bounds their sum.
+        let _ = &buf.0;
+        let count = LenEnc::read(buf)?;
+        let types: ParseBuf<'de> = buf.parse(alloc, count as usize)?;
+        let metadata = buf.parse(alloc, ())?;
+        let null_bits = buf.parse(alloc, count)?;
+        let optional_metadata = buf.parse(alloc, ())?;
+        Ok(MappedColumns {
+            types: RawBytes::new(CowSlice::Borrowed(types.0)),
+            metadata,
+            null_bits,
+            optional_metadata,
+        })
+    }
+}
+
+impl Put for MappedColumns<'_> {
+    ghost bytes = { columns.written };
+
+    fn check(&self) -> Result<(), Error> {
+        Ok(())
+    }
+
+    #[tactic(auto, using(binlog_numbers::specs::LenEncTexts::lenenc_text_most))]
+    fn written_len(&self) -> usize
+        ensures count { result ≡ length (columns.written self.now) }
+        ensures small { result < 2 ^ 63 + 2 ^ 5 }
+    {
+        LenEnc::written_len(self.types.len() as u64)
+            + self.types.written_len()
+            + self.metadata.written_len()
+            + self.null_bits.written_len()
+            + self.optional_metadata.written_len()
+    }
+
+    #[tactic(auto, using(std::proofs::Common::append_assoc))]
+    fn put(&self, buf: &mut Vec<u8>) {
+        LenEnc::put(self.types.len() as u64, buf);
+        self.types.put(buf);
+        self.metadata.put(buf);
+        self.null_bits.put(buf);
+        self.optional_metadata.put(buf);
+    }
+}

@@ -1,0 +1,199 @@
+//! The event that names a table and its columns.
+ghost use Rattle.std.specs.Prelude.{◌≡◌, ◌^◌, ◌<◌, length, take, IfOk, IsOkUnless};
+ghost use Rattle.std.specs.Cow.{cow_str_bytes};
+ghost use Rattle.std.specs.Str.Lossy.{utf8_lossy};
+ghost use Rattle.binlog_wire.specs.declared.error.Error.TheVariants.{Memory};
+
+use crate::mapped_columns::MappedColumns;
+use crate::mapped_table::MappedTable;
+use binlog_consts::EventType;
+use binlog_description::{BinlogCtx, BinlogEvent};
+use binlog_wire::{BitView, Error, MyDeserialize, ParseBuf, Put, Skip};
+use std::alloc::Global;
+use std::borrow::CowStr;
+
+/// A table and its columns: the row events behind it name the table by the id that this event gives it.
+///
+/// Its body is the table's id, 6 bytes, or 4 where the format description states a post-header of 6 bytes for the type;
+/// flags, 2 bytes; the database's name behind its length in one byte, and one byte that says nothing; the table's name in the
+/// same form, and one such byte; how many columns there are, a length-encoded number; the type of each column, 1 byte; the
+/// types' metadata behind its length-encoded length; a bit for each column, the least bit of a byte first; and optional
+/// metadata, to the end. See "TABLE_MAP_EVENT" in MySQL's internals documentation, and
+/// `mysql::binlog::event::Table_map_event` in that of its source code.
+#[derive(Debug, PartialEq, Eq, Hash, Drop)]
+pub struct TableMapEvent<'a> {
+    table: MappedTable<'a>,
+    columns: MappedColumns<'a>,
+}
+
+impl<'a> TableMapEvent<'a> {
+    /// The id of the table, below 2^48.
+    pub fn table_id(&self) -> u64
+        ensures id { result ≡ self.now.table.id }
+        ensures small { result < 2 ^ 48 }
+    {
+        self.table.id.get()
+    }
+
+    /// The flags, of which the server uses none by now.
+    pub fn flags_raw(&self) -> u16
+        ensures { result ≡ self.now.table.flags }
+    {
+        self.table.flags
+    }
+
+    /// How many columns the table has.
+    pub fn columns_count(&self) -> u64
+        ensures { result ≡ length self.now.columns.types }
+    {
+        self.columns.count()
+    }
+
+    /// The name of the database: at most 255 bytes.
+    pub fn database_name_raw(&self) -> &[u8]
+        ensures { result.now ≡ take 255 self.now.table.database_name }
+    {
+        self.table.database_name.as_bytes()
+    }
+
+    /// The bytes of [`TableMapEvent::database_name_raw`] as UTF-8 text, with U+FFFD in place of what isn't; refused by
+    /// [`Error::Memory`] alone.
+    pub fn database_name(&self, alloc: Global) -> Result<CowStr<'_, Global>, Error>
+        ensures ok { IfOk result (λ text. cow_str_bytes text ≡ utf8_lossy (take 255 self.now.table.database_name)) }
+        ensures memory { IsOkUnless result Memory }
+    {
+        self.table.database_name.as_str(alloc)
+    }
+
+    /// The name of the table: at most 255 bytes.
+    pub fn table_name_raw(&self) -> &[u8]
+        ensures { result.now ≡ take 255 self.now.table.table_name }
+    {
+        self.table.table_name.as_bytes()
+    }
+
+    /// The bytes of [`TableMapEvent::table_name_raw`] as UTF-8 text, with U+FFFD in place of what isn't; refused by
+    /// [`Error::Memory`] alone.
+    pub fn table_name(&self, alloc: Global) -> Result<CowStr<'_, Global>, Error>
+        ensures ok { IfOk result (λ text. cow_str_bytes text ≡ utf8_lossy (take 255 self.now.table.table_name)) }
+        ensures memory { IsOkUnless result Memory }
+    {
+        self.table.table_name.as_str(alloc)
+    }
+
+    /// The type of each column, a byte for each.
+    pub fn columns_type_raw(&self) -> &[u8]
+        ensures { result.now ≡ self.now.columns.types }
+    {
+        self.columns.types()
+    }
+
+    /// What the types of the columns leave open, such as lengths: as many bytes for each column as its type says.
+    pub fn columns_metadata_raw(&self) -> &[u8]
+        ensures { result.now ≡ self.now.columns.metadata }
+    {
+        self.columns.metadata()
+    }
+
+    /// Which columns may hold nulls: a bit for each column, in the order of the columns.
+    pub fn null_bitmask(&self) -> BitView<'_>
+        ensures len { result.len ≡ length self.now.columns.types }
+        ensures columns { self.now.columns.null_bits.0 ≡ length self.now.columns.types }
+        ensures bytes { result.bytes.now ≡ self.now.columns.null_bits.1 }
+    {
+        self.columns.null_bits()
+    }
+
+    /// What else is said of the columns, such as signs, character sets and names, as it stands.
+    pub fn optional_metadata_raw(&self) -> &[u8]
+        ensures { result.now ≡ self.now.columns.optional_metadata }
+    {
+        self.columns.optional_metadata()
+    }
+
+    /// The same event, with its bytes owned; refused by [`Error::Memory`] alone.
+    pub fn into_owned(self, alloc: Global) -> Result<TableMapEvent<'static>, Error>
+        ensures ok { IfOk result (λ owned. owned ≡ self.entry) }
+        ensures memory { IsOkUnless result Memory }
+    {
+        let table = self.table.into_owned(alloc)?;
+        let columns = self.columns.into_owned(alloc)?;
+        Ok(TableMapEvent { table, columns })
+    }
+
+    /// The same event once more: lent bytes stay lent, and owned ones are copied. Refused by [`Error::Memory`] alone.
+    pub fn clone(&self, alloc: Global) -> Result<Self, Error>
+        ensures ok { IfOk result (λ copy. copy ≡ self.now) }
+        ensures memory { IsOkUnless result Memory }
+    {
+        let table = self.table.clone(alloc)?;
+        let columns = self.columns.clone(alloc)?;
+        Ok(TableMapEvent { table, columns })
+    }
+}
+
+/// [`Error::EndOfBody`] where the bytes end before the optional metadata, and
+/// [`Invalid::LenEnc`](binlog_wire::Invalid::LenEnc) where `fb` or `ff` stands in the place of the count of columns, or of the
+/// length of the metadata. No memory is taken.
+impl<'de> MyDeserialize<'de> for TableMapEvent<'de> {
+    ghost use Rattle.binlog_consts.specs.declared.event_type.EventType.TheVariants.{TABLE_MAP_EVENT};
+    ghost use Rattle.binlog_description.specs.DescriptionRefs.{description_of};
+    ghost use Rattle.binlog_description.specs.PostHeaders.{post_header};
+    ghost use Rattle.binlog_rows.specs.TableMaps.{table_map};
+
+    const SIZE: Option<usize> = None;
+
+    type Ctx = BinlogCtx<'de>;
+
+    ghost reads = { λ ctx. (table_map (post_header (description_of ctx.fde) TABLE_MAP_EVENT)).reads };
+
+    fn deserialize(
+        alloc: Global,
+        ctx: BinlogCtx<'de>,
+        buf: &mut ParseBuf<'de>,
+    ) -> Result<Self, Error> {
+        let post_header = ctx.fde.get_event_type_header_length(EventType::TABLE_MAP_EVENT);
+        let table = buf.parse(alloc, post_header)?;
+        buf.parse::<Skip<1>>(alloc, ())?;
+        let columns = buf.parse(alloc, ())?;
+        Ok(TableMapEvent { table, columns })
+    }
+}
+
+impl Put for TableMapEvent<'_> {
+    ghost use Rattle.binlog_rows.specs.TableMaps.{table_map};
+
+    ghost bytes = { (table_map 8).written };
+
+    fn check(&self) -> Result<(), Error> {
+        Ok(())
+    }
+
+    fn written_len(&self) -> usize {
+        self.table.written_len() + 1 + self.columns.written_len()
+    }
+
+    #[tactic(auto, using(std::proofs::Common::append_assoc))]
+    fn put(&self, buf: &mut Vec<u8>) {
+        self.table.put(buf);
+        Skip::<1>.put(buf);
+        self.columns.put(buf);
+    }
+}
+
+impl<'a> BinlogEvent<'a> for TableMapEvent<'a> {
+    ghost use Rattle.std.specs.Prelude.{refl};
+    ghost use Rattle.binlog_consts.specs.declared.event_type.EventType.TheVariants.{TABLE_MAP_EVENT};
+    ghost use Rattle.binlog_description.specs.PostHeaders.{post_header};
+    ghost use Rattle.binlog_rows.specs.TableMaps.{table_map};
+
+    const EVENT_TYPE: EventType = EventType::TABLE_MAP_EVENT;
+
+    ghost format = { λ d _. table_map (post_header d TABLE_MAP_EVENT) };
+
+    ghost raw_type = { λ _. 19 };
+
+    ghost reading = { λ _. refl };
+
+    ghost writing = { λ _ _ _. refl };
+}
