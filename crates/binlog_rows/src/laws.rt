@@ -6,7 +6,6 @@ ghost use Rattle.binlog_wire.specs.declared.error.Invalid.TheVariants.{LenEnc};
 ghost use Rattle.binlog_rows.specs.TableMaps.{table_map};
 ghost use Rattle.binlog_rows.specs.TableMapRefusals.{IsInNumbersPlace};
 
-use crate::rows_form::RowsForm;
 use crate::rows_kind::{
     DeleteRows, DeleteRowsV1, PartialUpdateRows, RowsKind, UpdateRows, UpdateRowsV1, WriteRows,
     WriteRowsV1,
@@ -40,64 +39,4 @@ pub fn event_types() {
 /// The sizes of what always takes as many bytes.
 pub fn sizes() {
     prove!(matches!(TableMapEvent::SIZE, None));
-}
-
-/// Which parts each kind of row events has.
-pub fn forms() {
-    prove!(matches!(
-        WriteRowsV1::FORM,
-        RowsForm {
-            has_extra: false,
-            has_before: false,
-            has_after: true
-        }
-    ));
-    prove!(matches!(
-        UpdateRowsV1::FORM,
-        RowsForm {
-            has_extra: false,
-            has_before: true,
-            has_after: true
-        }
-    ));
-    prove!(matches!(
-        DeleteRowsV1::FORM,
-        RowsForm {
-            has_extra: false,
-            has_before: true,
-            has_after: false
-        }
-    ));
-    prove!(matches!(
-        WriteRows::FORM,
-        RowsForm {
-            has_extra: true,
-            has_before: false,
-            has_after: true
-        }
-    ));
-    prove!(matches!(
-        UpdateRows::FORM,
-        RowsForm {
-            has_extra: true,
-            has_before: true,
-            has_after: true
-        }
-    ));
-    prove!(matches!(
-        DeleteRows::FORM,
-        RowsForm {
-            has_extra: true,
-            has_before: true,
-            has_after: false
-        }
-    ));
-    prove!(matches!(
-        PartialUpdateRows::FORM,
-        RowsForm {
-            has_extra: true,
-            has_before: true,
-            has_after: true
-        }
-    ));
 }

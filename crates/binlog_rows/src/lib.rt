@@ -1,7 +1,8 @@
 //! The events of rows: table maps, which say how the rows of a table stand in the events behind them, and the events that
 //! write, update and delete rows.
 //!
-//! Their bodies stand in `specs/`: `Columns` for what they share, and a module for each body.
+//! Their bodies stand in `specs/`: `Columns` for what they share, `TableMaps` for table maps and `Rows` for the events of
+//! rows.
 #![tactic(auto)]
 
 mod column_bitmap;
