@@ -1,6 +1,7 @@
 //! One bit for each column of a table.
 ghost use Rattle.std.specs.Prelude.{◌≡◌, ◌≤◌, ◌^◌, ℕ, List, length, IfOk, IsOkUnless};
 ghost use Rattle.binlog_wire.specs.declared.error.Error.TheVariants.{Memory};
+ghost use Rattle.binlog_wire.specs.Reading.{Gives};
 ghost use Rattle.binlog_rows.specs.Columns.{bitmap};
 
 use binlog_wire::{BitView, EofBytes, Error, MyDeserialize, ParseBuf, Put, RawBytes};
@@ -33,6 +34,19 @@ impl<'a> Model for ColumnBitmap<'a> {
 }
 
 impl<'a> ColumnBitmap<'a> {
+    /// Takes the bits of so many columns off the front of `buf`, as `deserialize` does.
+    pub fn read(len: u64, buf: &mut ParseBuf<'a>) -> Result<Self, Error>
+        ensures { Gives ⊥ buf.new result ((bitmap len).reads buf.old) }
+    {
+        let bits = buf
+            .checked_eat(len.div_ceil(8) as usize)
+            .ok_or(Error::EndOfBody)?;
+        Ok(ColumnBitmap {
+            len,
+            bits: RawBytes::new(CowSlice::Borrowed(bits)),
+        })
+    }
+
     /// How many columns there are.
     pub fn len(&self) -> u64
         ensures { result ≡ self.now.0 }
@@ -80,13 +94,7 @@ impl<'de> MyDeserialize<'de> for ColumnBitmap<'de> {
     ghost reads = { λ len. (bitmap len).reads };
 
     fn deserialize(_alloc: Global, len: u64, buf: &mut ParseBuf<'de>) -> Result<Self, Error> {
-        let bits = buf
-            .checked_eat(len.div_ceil(8) as usize)
-            .ok_or(Error::EndOfBody)?;
-        Ok(ColumnBitmap {
-            len,
-            bits: RawBytes::new(CowSlice::Borrowed(bits)),
-        })
+        ColumnBitmap::read(len, buf)
     }
 }
 

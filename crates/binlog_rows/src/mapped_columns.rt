@@ -1,11 +1,13 @@
 //! What a table map says of the columns of its table.
 ghost use Rattle.std.specs.Prelude.{◌≡◌, ◌+◌, ◌^◌, ◌<◌, ◌++◌, length, IfOk, IsOkUnless};
 ghost use Rattle.binlog_wire.specs.declared.error.Error.TheVariants.{Memory};
+ghost use Rattle.binlog_wire.specs.Fields.{block_at};
+ghost use Rattle.binlog_wire.specs.Reading.{Gives, result_now};
 ghost use Rattle.binlog_rows.specs.TableMaps.{columns};
 
 use crate::column_bitmap::ColumnBitmap;
 use binlog_numbers::{LenEnc, LenEncBytes};
-use binlog_wire::{BitView, EofBytes, Error, IntRepr, MyDeserialize, ParseBuf, Put, RawBytes};
+use binlog_wire::{BitView, BytesRepr, EofBytes, Error, IntRepr, MyDeserialize, ParseBuf, Put, RawBytes};
 use std::alloc::Global;
 use std::borrow::CowSlice;
 use std::marker::Model;
@@ -35,6 +37,25 @@ impl<'a> Model for MappedColumns<'a> {
 }
 
 impl<'a> MappedColumns<'a> {
+    /// Takes columns off the front of `buf`, as `deserialize` does.
+    pub fn read(buf: &mut ParseBuf<'a>) -> Result<Self, Error>
+        ensures { Gives ⊥ buf.new result (columns.reads buf.old) }
+    {
+        // All parts are of one slice, which bounds their sum.
+        let _ = &buf.0;
+        let count = LenEnc::read(buf)?;
+        let types = take(count as usize, buf)?;
+        let metadata = LenEncBytes::read((), buf)?;
+        let null_bits = ColumnBitmap::read(count, buf)?;
+        let optional_metadata = EofBytes::read((), buf)?;
+        Ok(MappedColumns {
+            types: RawBytes::new(CowSlice::Borrowed(types)),
+            metadata: RawBytes::new(CowSlice::Borrowed(metadata)),
+            null_bits,
+            optional_metadata: RawBytes::new(CowSlice::Borrowed(optional_metadata)),
+        })
+    }
+
     /// How many columns there are.
     pub fn count(&self) -> u64
         ensures { result ≡ length self.now.types }
@@ -123,20 +144,8 @@ impl<'de> MyDeserialize<'de> for MappedColumns<'de> {
 
     ghost reads = { λ _. columns.reads };
 
-    fn deserialize(alloc: Global, _ctx: (), buf: &mut ParseBuf<'de>) -> Result<Self, Error> {
-        // All parts are of one slice, which bounds their sum.
-        let _ = &buf.0;
-        let count = LenEnc::read(buf)?;
-        let types: ParseBuf<'de> = buf.parse(alloc, count as usize)?;
-        let metadata = buf.parse(alloc, ())?;
-        let null_bits = buf.parse(alloc, count)?;
-        let optional_metadata = buf.parse(alloc, ())?;
-        Ok(MappedColumns {
-            types: RawBytes::new(CowSlice::Borrowed(types.0)),
-            metadata,
-            null_bits,
-            optional_metadata,
-        })
+    fn deserialize(_alloc: Global, _ctx: (), buf: &mut ParseBuf<'de>) -> Result<Self, Error> {
+        MappedColumns::read(buf)
     }
 }
 
@@ -167,4 +176,11 @@ impl Put for MappedColumns<'_> {
         self.null_bits.put(buf);
         self.optional_metadata.put(buf);
     }
+}
+
+// Takes as many bytes off the front of `buf`.
+fn take<'a>(count: usize, buf: &mut ParseBuf<'a>) -> Result<&'a [u8], Error>
+    ensures { Gives ⊥ buf.new (result_now result) (block_at count buf.old) }
+{
+    buf.checked_eat(count).ok_or(Error::EndOfBody)
 }

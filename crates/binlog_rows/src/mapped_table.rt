@@ -1,11 +1,14 @@
 //! Which table a table map is of.
 ghost use Rattle.std.specs.Prelude.{◌≡◌, ◌^◌, ◌≤◌, length, IfOk, IsOkUnless};
 ghost use Rattle.binlog_wire.specs.declared.error.Error.TheVariants.{Memory};
+ghost use Rattle.binlog_wire.specs.Fields.{block_at};
+ghost use Rattle.binlog_wire.specs.Reading.{Gives, read_as};
 ghost use Rattle.binlog_rows.specs.TableMaps.{table};
 
 use crate::table_id::TableId;
-use binlog_wire::{Error, IntRepr, LeU16, MyDeserialize, ParseBuf, Put, RawBytes, RawInt, Skip, U8Bytes};
+use binlog_wire::{BytesRepr, Error, IntRepr, LeU16, MyDeserialize, ParseBuf, Put, RawBytes, Skip, U8Bytes};
 use std::alloc::Global;
+use std::borrow::CowSlice;
 
 /// A table: its id, flags, and the names of its database and of the table itself.
 #[derive(Debug, PartialEq, Eq, Hash, Drop)]
@@ -17,6 +20,23 @@ pub struct MappedTable<'a> {
 }
 
 impl<'a> MappedTable<'a> {
+    /// Takes a table off the front of `buf`, as `deserialize` does.
+    pub fn read(post_header: u8, buf: &mut ParseBuf<'a>) -> Result<Self, Error>
+        ensures { Gives ⊥ buf.new result ((table post_header).reads buf.old) }
+    {
+        let id = TableId::read(post_header, buf)?;
+        let flags = LeU16::read(buf)?;
+        let database_name = U8Bytes::read((), buf)?;
+        skip_byte(buf)?;
+        let table_name = U8Bytes::read((), buf)?;
+        Ok(MappedTable {
+            id,
+            flags,
+            database_name: RawBytes::new(CowSlice::Borrowed(database_name)),
+            table_name: RawBytes::new(CowSlice::Borrowed(table_name)),
+        })
+    }
+
     /// The same table, with its names owned; refused by [`Error::Memory`] alone.
     pub fn into_owned(self, alloc: Global) -> Result<MappedTable<'static>, Error>
         ensures ok { IfOk result (λ owned. owned ≡ self.entry) }
@@ -58,21 +78,11 @@ impl<'de> MyDeserialize<'de> for MappedTable<'de> {
     ghost reads = { λ post_header. (table post_header).reads };
 
     fn deserialize(
-        alloc: Global,
+        _alloc: Global,
         post_header: u8,
         buf: &mut ParseBuf<'de>,
     ) -> Result<Self, Error> {
-        let id = buf.parse(alloc, post_header)?;
-        let flags = buf.parse::<RawInt<LeU16>>(alloc, ())?.0;
-        let database_name = buf.parse(alloc, ())?;
-        buf.parse::<Skip<1>>(alloc, ())?;
-        let table_name = buf.parse(alloc, ())?;
-        Ok(MappedTable {
-            id,
-            flags,
-            database_name,
-            table_name,
-        })
+        MappedTable::read(post_header, buf)
     }
 }
 
@@ -97,5 +107,16 @@ impl Put for MappedTable<'_> {
         self.database_name.put(buf);
         Skip::<1>.put(buf);
         self.table_name.put(buf);
+    }
+}
+
+/// Takes the byte that stands behind a name and says nothing off the front of `buf`.
+pub(crate) fn skip_byte(buf: &mut ParseBuf<'_>) -> Result<(), Error>
+    ensures { Gives ⊥ buf.new result (read_as (λ _. tt) (block_at 1 buf.old)) }
+{
+    if buf.checked_skip(1) {
+        Ok(())
+    } else {
+        Err(Error::EndOfBody)
     }
 }

@@ -1,6 +1,7 @@
 //! The ids of tables.
 ghost use Rattle.std.specs.Prelude.{◌≡◌, ◌^◌, ◌<◌};
 ghost use Rattle.binlog_wire.specs.Fields.{little_bytes};
+ghost use Rattle.binlog_wire.specs.Reading.{Gives};
 ghost use Rattle.binlog_rows.specs.Columns.{table_id};
 
 use binlog_wire::{Error, IntRepr, LeU32, LeU48, MyDeserialize, ParseBuf, Put};
@@ -31,6 +32,18 @@ impl TableId {
     /// How many bytes are written for an id.
     pub const LEN: usize = 6;
 
+    /// Takes an id off the front of `buf`, as `deserialize` does.
+    pub fn read(post_header: u8, buf: &mut ParseBuf<'_>) -> Result<Self, Error>
+        ensures { Gives ⊥ buf.new result ((table_id post_header).reads buf.old) }
+    {
+        let number = if post_header == 6 {
+            u64::from(LeU32::read(buf)?)
+        } else {
+            LeU48::read(buf)?
+        };
+        Ok(TableId { number })
+    }
+
     /// The number.
     pub fn get(self) -> u64
         ensures number { result ≡ self }
@@ -54,12 +67,7 @@ impl<'de> MyDeserialize<'de> for TableId {
         post_header: u8,
         buf: &mut ParseBuf<'de>,
     ) -> Result<Self, Error> {
-        let number = if post_header == 6 {
-            u64::from(LeU32::read(buf)?)
-        } else {
-            LeU48::read(buf)?
-        };
-        Ok(TableId { number })
+        TableId::read(post_header, buf)
     }
 }
 

@@ -5,9 +5,9 @@ ghost use Rattle.std.specs.Str.Lossy.{utf8_lossy};
 ghost use Rattle.binlog_wire.specs.declared.error.Error.TheVariants.{Memory};
 
 use crate::mapped_columns::MappedColumns;
-use crate::mapped_table::MappedTable;
+use crate::mapped_table::{MappedTable, skip_byte};
 use binlog_consts::EventType;
-use binlog_description::{BinlogCtx, BinlogEvent};
+use binlog_description::{BinlogCtx, BinlogEvent, DescriptionRef};
 use binlog_wire::{BitView, Error, MyDeserialize, ParseBuf, Put, Skip};
 use std::alloc::Global;
 use std::borrow::CowStr;
@@ -27,6 +27,30 @@ pub struct TableMapEvent<'a> {
 }
 
 impl<'a> TableMapEvent<'a> {
+    ghost use Rattle.binlog_wire.specs.Reading.{Gives};
+    ghost use Rattle.binlog_consts.specs.declared.event_type.EventType.TheVariants.{TABLE_MAP_EVENT};
+    ghost use Rattle.binlog_description.specs.DescriptionRefs.{description_of};
+    ghost use Rattle.binlog_description.specs.PostHeaders.{post_header};
+    ghost use Rattle.binlog_rows.specs.TableMaps.{table_map};
+
+    /// Takes a table map off the front of `buf` under a format description, as `deserialize` does, which takes no memory
+    /// either: for a reader that has no allocator.
+    ///
+    /// # Errors
+    ///
+    /// - [`Error::EndOfBody`] where the bytes end before the optional metadata.
+    /// - [`Invalid::LenEnc`](binlog_wire::Invalid::LenEnc) where `fb` or `ff` stands in the place of the count of columns,
+    ///   or of the length of the metadata.
+    pub fn read(fde: DescriptionRef<'_>, buf: &mut ParseBuf<'a>) -> Result<Self, Error>
+        ensures { Gives ⊥ buf.new result ((table_map (post_header (description_of fde.entry) TABLE_MAP_EVENT)).reads buf.old) }
+    {
+        let post_header = fde.get_event_type_header_length(EventType::TABLE_MAP_EVENT);
+        let table = MappedTable::read(post_header, buf)?;
+        skip_byte(buf)?;
+        let columns = MappedColumns::read(buf)?;
+        Ok(TableMapEvent { table, columns })
+    }
+
     /// The id of the table, below 2^48.
     pub fn table_id(&self) -> u64
         ensures id { result ≡ self.now.table.id }
@@ -148,15 +172,11 @@ impl<'de> MyDeserialize<'de> for TableMapEvent<'de> {
     ghost reads = { λ ctx. (table_map (post_header (description_of ctx.fde) TABLE_MAP_EVENT)).reads };
 
     fn deserialize(
-        alloc: Global,
+        _alloc: Global,
         ctx: BinlogCtx<'de>,
         buf: &mut ParseBuf<'de>,
     ) -> Result<Self, Error> {
-        let post_header = ctx.fde.get_event_type_header_length(EventType::TABLE_MAP_EVENT);
-        let table = buf.parse(alloc, post_header)?;
-        buf.parse::<Skip<1>>(alloc, ())?;
-        let columns = buf.parse(alloc, ())?;
-        Ok(TableMapEvent { table, columns })
+        TableMapEvent::read(ctx.fde, buf)
     }
 }
 
