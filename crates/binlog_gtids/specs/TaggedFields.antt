@@ -1,10 +1,10 @@
 -- The fields of a GTID with a tag: an id and a value, a number or bytes.
 -- Source: MySQL's source documentation, `Gtid_event`, and the documentation of its serialization library.
-use Rattle.std.proofs.Common.{◌≡◌, ℕ, suc, ◌*◌, ◌/◌, ◌%◌, ◌^◌, ◌<◌, ◌⊎◌, inl, inr, Bool, true, false, cond, ltb, eqb, List, [], ◌∷◌, Result, Ok, Err, refl, subst, arith}
+use Rattle.std.proofs.Common.{◌≡◌, ℕ, suc, ◌*◌, ◌/◌, ◌%◌, ◌^◌, ◌<◌, ◌≤◌, ◌⊎◌, inl, inr, Bool, true, false, cond, ltb, eqb, List, [], ◌∷◌, Result, length, Ok, Err, refl, ap, ◌∙◌, subst, arith}
 use Rattle.std.proofs.lemmas.Bool.{ltb-true, lt-ltb, le-ltb}
 use Rattle.binlog_wire.specs.declared.error.Invalid.{Invalid}
 use Rattle.binlog_wire.specs.declared.error.Invalid.TheVariants as kinds
-use Rattle.binlog_wire.specs.Reading.{Read}
+use Rattle.binlog_wire.specs.Reading.{Read, Refusal}
 use Rattle.binlog_wire.specs.Fields.{IsBytes}
 use Rattle.binlog_wire.specs.Formats.{anywhere, last, Format, then, made}
 use Rattle.binlog_numbers.specs.Varlen.{IsVarlen, varlen_at, keeps_varlen}
@@ -119,9 +119,23 @@ tail_only last_id (b ∷ s) fits h =
     let y = ignored_ok last_id (varlen_at (b ∷ s)) h in
     inr (y.0.0, y.0.1, (keeps_varlen.sound (b ∷ s) y.0 fits y.1).0, y.2, y.3)
 
-tail_by : (last_id : ℕ) (s : List ℕ) (id : ℕ) (m : List ℕ) → varlen_at s ≡ Ok (id, m) → 11 < id → last_id < id → is_tail last_id s ≡ true
+pub tail_by : (last_id : ℕ) (s : List ℕ) (id : ℕ) (m : List ℕ) → varlen_at s ≡ Ok (id, m) → 11 < id → last_id < id → is_tail last_id s ≡ true
 tail_by last_id [] id m e known more = refl
 tail_by last_id (b ∷ s) id m e above more = rw (e, lt-ltb _ _ above, lt-ltb _ _ more) refl
+
+counted_by : (last_id id : ℕ) (a b : Bool) → ltb 11 id ≡ a → ltb last_id id ≡ b → (11 < id → id ≤ last_id) → cond a b false ≡ false
+counted_by last_id id false b ha hb counts = refl
+counted_by last_id id true false ha hb counts = refl
+counted_by last_id id true true ha hb counts = absurd (omega (arith, counts (ltb-true _ _ ha), ltb-true _ _ hb))
+
+-- an id that is known, or may not be ignored, and bytes that are none
+pub id_goes_on : (last_id : ℕ) (s : List ℕ) (id : ℕ) (m : List ℕ) → varlen_at s ≡ Ok (id, m) → (11 < id → id ≤ last_id) → is_tail last_id s ≡ false
+id_goes_on last_id [] id m e counts = absurd cc
+id_goes_on last_id (b ∷ s) id m e counts = ap (ignored last_id) e ∙ counted_by last_id id (ltb 11 id) (ltb last_id id) refl refl counts
+
+pub no_id_goes_on : (last_id : ℕ) (s : List ℕ) (d : Refusal) → 1 ≤ length s → varlen_at s ≡ Err d → is_tail last_id s ≡ false
+no_id_goes_on last_id [] d some e = absurd (omega arith)
+no_id_goes_on last_id (b ∷ s) d some e = ap (ignored last_id) e
 
 tail_holds : (last_id : ℕ) (s : List ℕ) → IsTail last_id s → is_tail last_id s ≡ true
 tail_holds last_id s (inl e) = rw e refl

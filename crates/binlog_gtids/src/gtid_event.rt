@@ -415,13 +415,14 @@ impl<'de> MyDeserialize<'de> for GtidEvent {
         ctx: BinlogCtx<'de>,
         buf: &mut ParseBuf<'de>,
     ) -> Result<Self, Error> {
-        if ctx.event_type_raw == 42 {
-            read_tagged(alloc, buf)
+        let event = if ctx.event_type_raw == 42 {
+            read_tagged(alloc, buf)?
         } else if is_untagged_type(ctx.event_type_raw) {
-            read_untagged(buf)
+            read_untagged(buf)?
         } else {
-            Err(Error::WrongEventType(ctx.event_type_raw))
-        }
+            return Err(Error::WrongEventType(ctx.event_type_raw));
+        };
+        Ok(event)
     }
 }
 

@@ -1,13 +1,14 @@
 //! The fields of a GTID with a tag, as they are read.
-ghost use Rattle.std.specs.Prelude.{◌≡◌, ◌≤◌, ◌<◌, refl, ◌⊎◌, List, [], Ok, MatchResult, IfOk};
+ghost use Rattle.std.specs.Prelude.{◌≡◌, ◌≤◌, ◌<◌, refl, ◌⊎◌, List, [], Ok, true, false, length, MatchOption, MatchResult, IfOk};
 ghost use Rattle.binlog_wire.specs.declared.error.Error.TheVariants.{InvalidData};
 ghost use Rattle.binlog_wire.specs.Reading.{Gives, Refuses};
 ghost use Rattle.binlog_wire.specs.declared.error.Invalid.TheVariants as kinds;
 ghost use Rattle.binlog_numbers.specs.Chosen.{tested};
 ghost use Rattle.binlog_numbers.specs.Repeated.{times_at};
 ghost use Rattle.binlog_numbers.specs.Tags.{is_tag};
+ghost use Rattle.binlog_numbers.specs.Varlen.{varlen_at};
 ghost use Rattle.binlog_numbers.specs.VarlenTexts.{varlen_text};
-ghost use Rattle.binlog_gtids.specs.TaggedFields.{Entry, Value, entry, value_of_id, at_most, not_negative, is_tail, fields};
+ghost use Rattle.binlog_gtids.specs.TaggedFields.{Entry, Value, value_of_id, at_most, not_negative, is_tail, fields};
 ghost use Rattle.binlog_gtids.specs.Taking.{no_fields, with_entry, taken};
 
 use crate::field_id;
@@ -83,18 +84,22 @@ fn read_tag<'a>(buf: &mut ParseBuf<'a>) -> Result<Tag<'a>, Error>
     Tag::from_bytes(text)
 }
 
-/// Whether the fields end here: no byte is left, or the id of a field that isn't known and may be ignored comes next.
-fn is_tail(last_id: u64, buf: &ParseBuf<'_>) -> bool
-    ensures { result ≡ is_tail last_id buf.now }
+/// Takes the id of the next field, or none where the fields end: no byte is left, or the id of a field that isn't known and
+/// may be ignored comes next.
+#[inline]
+fn next_id(last_id: u64, buf: &mut ParseBuf<'_>) -> Result<Option<u64>, Error>
+    ensures { MatchResult result
+        (λ next. MatchOption next (is_tail last_id buf.old ≡ true) (λ id. (is_tail last_id buf.old ≡ false) × (varlen_at buf.old ≡ Ok (id, buf.new))))
+        (λ e. (1 ≤ length buf.old) × Refuses ⊥ e (varlen_at buf.old)) }
 {
     if buf.is_empty() {
-        return true;
+        return Ok(None);
     }
-    let mut ahead = ParseBuf(buf.0);
-    match Varlen::read(&mut ahead) {
-        Ok(id) => id > field_id::COMMIT_GROUP_TICKET && id > last_id,
-        Err(_) => false,
+    let id = Varlen::read(buf)?;
+    if id > field_id::COMMIT_GROUP_TICKET && id > last_id {
+        return Ok(None);
     }
+    Ok(Some(id))
 }
 
 /// Takes the value of the field of this id, 0 to 11.
@@ -145,16 +150,6 @@ fn read_value<'a>(
     Ok(())
 }
 
-/// Takes the id and the value of a field.
-fn read_entry<'a>(fields: &mut TaggedFields<'a>, buf: &mut ParseBuf<'a>) -> Result<(), Error>
-    ensures { MatchResult result
-        (λ _. (e : Entry) × (entry.reads buf.old ≡ Ok (e, buf.new)) × (fields.new ≡ with_entry e fields.old))
-        (λ e. Refuses ⊥ e (entry.reads buf.old)) }
-{
-    let id = Varlen::read(buf)?;
-    read_value(id, fields, buf)
-}
-
 impl<'a> TaggedFields<'a> {
     /// No field.
     fn none() -> Self
@@ -184,8 +179,8 @@ impl<'a> TaggedFields<'a> {
     {
         let mut fields = Self::none();
         let mut buf = ParseBuf(body);
-        while !is_tail(last_id, &buf) {
-            read_entry(&mut fields, &mut buf)?;
+        while let Some(id) = next_id(last_id, &mut buf)? {
+            read_value(id, &mut fields, &mut buf)?;
         }
         Ok(fields)
     }

@@ -11,6 +11,7 @@ pub mod Signed
 pub mod Sized
 pub mod Tags
 pub mod Varlen
+pub mod VarlenReading
 pub mod VarlenTexts
 pub mod VarlenWriting
 pub mod Within

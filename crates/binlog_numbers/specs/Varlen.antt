@@ -1,7 +1,7 @@
 -- Variable-length numbers: k bytes, 1 to 8, whose number is n * 2 ^ k + 2 ^ (k - 1) - 1; or 255 and 8 bytes.
 use Rattle.std.proofs.Common.{◌≡◌, ℕ, zero, suc, ◌+◌, ◌-◌, ◌*◌, ◌/◌, ◌%◌, ◌^◌, ◌<◌, ◌≤◌, ◌⊎◌, Bool, true, false, cond, ltb, eqb, List, [], ◌∷◌, ◌++◌, Ok, Err, refl, sym, ap, subst, ◌∙◌, arith, inl, inr}
 use Rattle.std.specs.Int.{w8, trailing_ones}
-use Rattle.std.proofs.lemmas.Bool.{cases_lt, ltb-true, lt-ltb, eqb-true, eq-eqb}
+use Rattle.std.proofs.lemmas.Bool.{cases_lt, ltb-true, lt-ltb, le-ltb, eqb-true, eq-eqb}
 use Rattle.std.proofs.lemmas.Nat.{shr_high, mod_low, shr_below, mod-pow-add, pow-add, shr_split, pow_pos, mod_below}
 use Rattle.std.proofs.Math.Nat.{pow-succ', mul-le-mul_right}
 use lib.Count.{count_trailing_zeros}
@@ -84,9 +84,27 @@ all_ones b hb h =
       | inr above ↦ omega arith
     ]
 
+pub eight_ones : trailing_ones w8 255 ≡ 8
+unfolding count_trailing_zeros
+eight_ones = refl
+
+-- only 255 has as many ones as bits
+pub ones_most : (b : ℕ) → b < 256 → trailing_ones w8 b ≤ 8
+ones_most b fits =
+    elim (cases_lt (trailing_ones w8 b) 8) [
+      | inl below ↦ omega arith
+      | inr above ↦ let eight : trailing_ones w8 b ≡ 8 = ap (trailing_ones w8) (all_ones b fits (le-ltb _ _ above)) ∙ eight_ones in omega (arith, eight)
+    ]
+
+pub ones_all : (b : ℕ) → b < 256 → 8 ≤ trailing_ones w8 b → b ≡ 255
+ones_all b fits above = all_ones b fits (le-ltb _ _ above)
+
+pub ones_are : (b j : ℕ) → b < 256 → j < 8 → b % 2 ^ suc j ≡ 2 ^ j - 1 → trailing_ones w8 b ≡ j
+ones_are b j hb hj low = eqb-true _ _ (sym (low_bits b j hb hj) ∙ eq-eqb _ _ low)
+
 -- ---- from bits to numbers
 
-pow256 : (n : ℕ) → 256 ^ n ≡ 2 ^ (7 * n + n)
+pub pow256 : (n : ℕ) → 256 ^ n ≡ 2 ^ (7 * n + n)
 pow256 zero = refl
 pow256 (suc n) =
     let e : 7 * suc n + suc n ≡ 8 + (7 * n + n) = omega arith in
@@ -123,7 +141,7 @@ short_again j n r h small =
     let low : 2 ^ j - 1 < 2 ^ suc j = omega arith in
     let byte : x % 256 < 256 = omega arith in
     let bits : x % 256 % 2 ^ suc j ≡ 2 ^ j - 1 = low_of_byte x j h ∙ mod_low n (suc j) (2 ^ j - 1) low in
-    let count : trailing_ones w8 (x % 256) ≡ j = eqb-true _ _ (sym (low_bits (x % 256) j byte h) ∙ eq-eqb _ _ bits) in
+    let count : trailing_ones w8 (x % 256) ≡ j = ones_are (x % 256) j byte h bits in
     let fits : x < 256 ^ suc j = omega (arith, held n j small) in
     rw (count, lt-ltb j 8 h, (keeps_number (suc j)).complete (little_bytes (suc j) x ++ r) x r (fits, refl), shr_high n (suc j) (2 ^ j - 1) low) refl
 

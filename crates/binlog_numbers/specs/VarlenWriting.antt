@@ -1,12 +1,10 @@
 -- Variable-length numbers as a format: the shortest spelling is written.
-use Rattle.std.proofs.Common.{◌≡◌, ℕ, zero, suc, ◌+◌, ◌-◌, ◌*◌, ◌/◌, ◌^◌, ◌<◌, ◌≤◌, ◌⊎◌, inl, inr, Bool, true, false, cond, ltb, List, [], ◌∷◌, ◌++◌, length, get_or, take, drop, Ok, refl, sym, ap, subst, ◌∙◌, arith}
+use Rattle.std.proofs.Common.{◌≡◌, ℕ, zero, suc, ◌+◌, ◌-◌, ◌*◌, ◌^◌, ◌<◌, ◌≤◌, ◌⊎◌, inl, inr, Bool, true, false, cond, ltb, List, ◌∷◌, ◌++◌, length, take, refl, sym, ap, subst, ◌∙◌, arith}
 use Rattle.std.proofs.lemmas.Bool.{cases_lt, ltb-true, ltb-false, lt-ltb, le-ltb}
 use Rattle.std.proofs.lemmas.Nat.{pow_below}
 use Rattle.std.proofs.Math.Nat.{pow-le-pow_right}
-use Rattle.std.specs.Int.{w8, trailing_ones, byte_at, bytes_low_first}
-use Rattle.byteorder.specs.Endian.{little_number}
+use Rattle.std.specs.Int.{byte_at, bytes_low_first}
 use Rattle.std.proofs.lemmas.List.{length-append}
-use Rattle.byteorder.specs.Numbers.{little_from-take}
 use Rattle.byteorder.specs.Endian.{little_bytes}
 use Rattle.binlog_wire.specs.Laws.Numbers.{length-number, length-little_bytes}
 use Rattle.binlog_wire.specs.Formats.{Place, Format}
@@ -206,20 +204,3 @@ varlen_room n (suc i) some high small =
     let h : n * 2 ^ suc i + 2 ^ suc i ≤ 256 ^ suc i = held n i small in
     let p : 256 ^ suc i ≤ 256 ^ 8 = pow-le-pow_right (omega arith) high in
     omega (arith, h, p)
-
--- ---- what a reader of the first byte needs
-
-pub varlen_short : (s : List ℕ) (b ones : ℕ) → 1 ≤ length s → b ≡ get_or s 0 b → ones ≡ trailing_ones w8 b → ones < 8 → ones + 1 ≤ length s
-    → varlen_at s ≡ Ok (little_number (ones + 1) s / 2 ^ (ones + 1), drop (ones + 1) s)
-varlen_short [] b ones some first e small long = absurd (omega arith)
-varlen_short (a ∷ s) b ones some first e small long =
-    let one : ones + 1 ≡ suc ones = omega arith in
-    let same : ones ≡ trailing_ones w8 a = rw (← first) e in
-    let there : ltb (length (a ∷ s)) (suc ones) ≡ false = le-ltb _ _ (omega (arith, long)) in
-    rw (one, ← same, lt-ltb ones 8 small, there) refl
-
-pub varlen_taken : (s : List ℕ) (b ones number : ℕ) (bytes left : List ℕ) → 1 ≤ length s → b ≡ get_or s 0 b → ones ≡ trailing_ones w8 b → ones < 8 → ones + 1 ≤ length s
-    → bytes ≡ take (ones + 1) s → number ≡ little_number (ones + 1) bytes → left ≡ drop (ones + 1) s → varlen_at s ≡ Ok (number / 2 ^ (ones + 1), left)
-varlen_taken s b ones number bytes left some first e small long taken is gone =
-    let same : little_number (ones + 1) s ≡ number = sym (little_from-take 0 (ones + 1) (ones + 1) s (omega arith)) ∙ ap (little_number (ones + 1)) (sym taken) ∙ sym is in
-    varlen_short s b ones some first e small long ∙ rw (same, gone) refl

@@ -43,13 +43,14 @@ impl IntRepr for LenEnc {
     fn read(buf: &mut ParseBuf<'_>) -> Result<u64, Error> {
         let (first, rest) = buf.0.split_first().ok_or(Error::EndOfBody)?;
         buf.0 = rest;
-        match *first {
-            0xfb | 0xff => Err(Error::InvalidData(Invalid::LenEnc(*first))),
-            0xfc => Ok(u64::from(LeU16::read(buf)?)),
-            0xfd => read_u24(buf),
-            0xfe => LeU64::read(buf),
-            small => Ok(u64::from(small)),
-        }
+        let number = match *first {
+            0xfb | 0xff => return Err(Error::InvalidData(Invalid::LenEnc(*first))),
+            0xfc => u64::from(LeU16::read(buf)?),
+            0xfd => read_u24(buf)?,
+            0xfe => LeU64::read(buf)?,
+            small => u64::from(small),
+        };
+        Ok(number)
     }
 
     #[tactic(auto, unfolding(crate::specs::LenEnc::lenenc_written))]

@@ -5,18 +5,17 @@ use std::borrow::CowStr;
 use std::string::String;
 use std::test::Fail;
 
-/// Whether the number is written as these bytes, counted so, and read back with nothing left.
+/// Whether the number is written as these bytes, counted so, and read back, with nothing left and with bytes behind it.
 fn is_spelled(rt: &HostRuntime, number: u64, bytes: &[u8]) -> Result<bool, Fail> {
     let mut buf = Vec::new(rt.alloc());
     write_varlen_uint(&mut buf, number)?;
+    let is_written = buf.as_slice() == bytes && varlen_uint_size(number) == bytes.len();
     let mut input = ParseBuf(bytes);
-    let read = read_varlen_uint(&mut input)?;
-    Ok(
-        buf.as_slice() == bytes
-            && varlen_uint_size(number) == bytes.len()
-            && read == number
-            && input.is_empty(),
-    )
+    let is_read = read_varlen_uint(&mut input)? == number && input.is_empty();
+    buf.extend_from_slice(&[0xff; 8])?;
+    let mut input = ParseBuf(buf.as_slice());
+    let is_read_before = read_varlen_uint(&mut input)? == number && input.0 == [0xff; 8].as_slice();
+    Ok(is_written && is_read && is_read_before)
 }
 
 #[test]
@@ -25,6 +24,8 @@ fn variable_length_integers_are_spelled(rt: HostRuntime) -> Result<(), Fail> {
     assert!(rt; is_spelled(&rt, 127, &[0xfe])?);
     assert!(rt; is_spelled(&rt, 128, &[1, 2])?);
     assert!(rt; is_spelled(&rt, 16383, &[0xfd, 0xff])?);
+    assert!(rt; is_spelled(&rt, 16384, &[3, 0, 2])?);
+    assert!(rt; is_spelled(&rt, 1 << 21, &[7, 0, 0, 2])?);
     assert!(rt; is_spelled(&rt, (1 << 56) - 1, b"\x7f\xff\xff\xff\xff\xff\xff\xff")?);
     assert!(rt; is_spelled(&rt, 1 << 56, b"\xff\0\0\0\0\0\0\0\x01")?);
     assert!(rt; is_spelled(&rt, u64::MAX, &[0xff; 9])?);

@@ -1,9 +1,11 @@
 //! Variable-length integers of MySQL's serialization library.
-ghost use Rattle.std.specs.Prelude.{◌≡◌, ◌++◌, ◌+◌, ◌-◌, ◌*◌, ◌^◌, ◌≤◌, ℕ, List, Option, None, length, vec_len, vec_capacity, OnOk, OnErr, IsOkUnless};
+ghost use Rattle.std.specs.Prelude.{◌≡◌, ◌++◌, ◌+◌, ◌-◌, ◌*◌, ◌^◌, ◌<◌, ◌≤◌, ℕ, List, Option, None, length, vec_len, vec_capacity, IsTrue, OnOk, OnErr, IsOkUnless};
+ghost use Rattle.std.specs.Int.{w8, trailing_ones};
 ghost use Rattle.byteorder.specs.Endian.{little_bytes};
 ghost use Rattle.binlog_wire.specs.declared.error.Error.TheVariants.{Memory};
 ghost use Rattle.binlog_wire.specs.Reading.{Read, Gives, read_as};
 ghost use Rattle.binlog_numbers.specs.Varlen.{varlen_at};
+ghost use Rattle.binlog_numbers.specs.VarlenReading.{number_of};
 ghost use Rattle.binlog_numbers.specs.VarlenWriting.{varlen_written};
 ghost use Rattle.binlog_numbers.specs.Signed.{zigzag, unzigzag, varlen_signed_at, signed_written};
 
@@ -18,6 +20,48 @@ use byteorder::{ByteOrder, LittleEndian};
 #[derive(Drop)]
 pub struct Varlen;
 
+/// Whether a number that begins with this byte takes no other.
+#[inline]
+fn is_whole(first: u8) -> bool
+    ensures { IsTrue result → trailing_ones w8 first ≡ 0 }
+{
+    first % 2 == 0
+}
+
+/// Whether a number that begins with this byte takes one byte more.
+#[inline]
+fn has_second(first: u8) -> bool
+    ensures { IsTrue result → trailing_ones w8 first ≡ 1 }
+{
+    first % 4 == 1
+}
+
+/// How many bytes a number takes that begins with this byte.
+#[inline]
+fn width_from(first: u8) -> usize
+    ensures count { result ≡ trailing_ones w8 first + 1 }
+    ensures most { result ≤ 9 }
+    ensures last { 9 ≤ result → first ≡ 255 }
+{
+    first.trailing_ones() as usize + 1
+}
+
+/// The number in the first `width` bytes, 1 to 9. Not inlined: most numbers take a byte or two, which are read without it.
+#[inline(never)]
+fn number_in(bytes: &[u8], width: usize) -> u64
+    requires some { 1 ≤ width }
+    requires most { width ≤ 9 }
+    requires there { width ≤ length bytes.now }
+    ensures { result ≡ number_of width bytes.now }
+{
+    match width {
+        3 => LittleEndian::read_uint(bytes, 3) >> 3,
+        9 => LittleEndian::read_u64(&bytes[1..]),
+        _ if bytes.len() < 8 => LittleEndian::read_uint(bytes, width) >> width,
+        _ => LittleEndian::read_u64(bytes) << (64 - 8 * width) >> (64 - 7 * width),
+    }
+}
+
 impl IntRepr for Varlen {
     type Primitive = u64;
 
@@ -29,20 +73,24 @@ impl IntRepr for Varlen {
 
     ghost written = { varlen_written };
 
+    #[inline]
     fn read(buf: &mut ParseBuf<'_>) -> Result<u64, Error> {
-        let first = match buf.0.first() {
-            None => return Err(Error::EndOfBody),
-            Some(first) => *first,
+        let (number, width) = match *buf.0 {
+            [first, ..] if is_whole(first) => (u64::from(first / 2), 1),
+            [first, _, ..] if has_second(first) => {
+                (u64::from(LittleEndian::read_u16(buf.0) / 4), 2)
+            }
+            [first, ..] => {
+                let width = width_from(first);
+                if buf.len() < width {
+                    return Err(Error::EndOfBody);
+                }
+                (number_in(buf.0, width), width)
+            }
+            [] => return Err(Error::EndOfBody),
         };
-        let ones = first.trailing_ones() as usize;
-        if ones < 8 {
-            let width = ones + 1;
-            let bytes = buf.checked_eat(width).ok_or(Error::EndOfBody)?;
-            Ok(LittleEndian::read_uint(bytes, width) >> width)
-        } else {
-            buf.checked_skip(1);
-            buf.checked_eat_u64_le().ok_or(Error::EndOfBody)
-        }
+        buf.0 = &buf.0[width..];
+        Ok(number)
     }
 
     fn written_len(number: u64) -> usize {

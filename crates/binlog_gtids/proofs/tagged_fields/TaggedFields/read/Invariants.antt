@@ -6,8 +6,8 @@ use Rattle.binlog_gtids.specs.TaggedFields.{Entry, entry, fields, is_tail}
 use Rattle.binlog_gtids.specs.Taking.{no_fields, taken}
 use Rattle.binlog_gtids.proofs.tagged_fields.TaggedFields.read.Given as goal
 
-abbrev pub invariant-loop-buf : goal.invariant-loop-buf
-invariant-loop-buf l = (es : List Entry) × ((fields l.last_id).reads l.fn.body ≡ behind_values es (until_at (is_tail l.last_id) entry.reads l.buf)) × (l.fields ≡ taken es no_fields) × IsBytes l.buf
+abbrev pub invariant-loop-fields : goal.invariant-loop-fields
+invariant-loop-fields l = (es : List Entry) × ((fields l.last_id).reads l.fn.body ≡ behind_values es (until_at (is_tail l.last_id) entry.reads l.buf)) × (l.fields ≡ taken es no_fields) × IsBytes l.buf
 
-abbrev pub decreases-loop-buf : goal.decreases-loop-buf
-decreases-loop-buf l = length l.buf
+abbrev pub decreases-loop-fields : goal.decreases-loop-fields
+decreases-loop-fields l = length l.buf

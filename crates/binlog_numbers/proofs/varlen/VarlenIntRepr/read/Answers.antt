@@ -1,15 +1,21 @@
-use Rattle.std.proofs.Common.{rules, arith, get_or, subst, List, ℕ, ◌≡◌, take, drop, ◌+◌, ◌≤◌, length, refl}
-use Rattle.binlog_numbers.specs.VarlenWriting.{varlen_taken}
+use Rattle.std.proofs.Common.{◌≡◌, ℕ, List, length, refl, ap, arith}
+use Rattle.binlog_numbers.specs.VarlenReading.{varlen_one, varlen_two, varlen_whole, varlen_rest}
 use Rattle.binlog_numbers.proofs.varlen.VarlenIntRepr.read.Goals as goal
+use Rattle.binlog_numbers.proofs.varlen.VarlenIntRepr.read.Goals.{then-is_whole, else-is_whole+in-len2-up, else-is_whole+else-buf-lt1-2+in-len1-up-2+else-len-width}
 
-pub returns-in_ok-bytes : goal.returns-in_ok-bytes
-returns-in_ok-bytes c =
-    let f = c.in_ok-bytes.ensures.ok_part in
-    let taken : c.in_ok-bytes.bytes.now ≡ take (c.trailing_ones-ones.result + 1) c.args.buf.now = rw f at c.checked_eat.ensures.taken in
-    let left : c.checked_eat.new.self ≡ drop (c.trailing_ones-ones.result + 1) c.args.buf.now = rw f at c.checked_eat.ensures.left in
-    let first : c.in-Some.first.now ≡ get_or c.buf.inside.0.now 0 c.in-Some.first.now = c.in-Some.ensures.item.1 in
-    let view : c.buf.inside.0.now ≡ c.args.buf.now = search rules in
-    let head : c.in-Some.first.now ≡ get_or c.args.buf.now 0 c.in-Some.first.now = subst (λ (s : List ℕ). c.in-Some.first.now ≡ get_or s 0 c.in-Some.first.now) view first in
-    let long : c.trailing_ones-ones.result + 1 ≤ length c.args.buf.now = c.checked_eat.ensures.enough.0 (rw f refl) in
-    varlen_taken c.args.buf.now c.in-Some.first.now c.trailing_ones-ones.result c.read_uint.result c.in_ok-bytes.bytes.now c.checked_eat.new.self
-    (omega (arith, long)) head c.trailing_ones-ones.ensures c.if-ones-lt8.true long taken c.read_uint.ensures left
+pub returns : goal.returns
+returns c =
+    let s : List ℕ = c.args.buf.now in
+    let t : List ℕ = c.buf.inside.0.now in
+    let same : t ≡ s = c.buf.view_is in
+    elim c.if-is_whole.branch [
+      | then-is_whole w ↦
+          rw (← same) (varlen_rest t t c.if-is_whole.number w.from.result 1 refl w.number-is
+          (rw w.from.ensures (varlen_one t c.in-len1-up.len_at_least (c.is_whole.ensures w.if-is_whole.true))))
+      | else-is_whole+in-len2-up w ↦
+          rw (← same) (varlen_rest t t c.if-is_whole.number w.from-in-len2-up.result 2 refl w.number-is
+          (rw (w.from-in-len2-up.ensures, w.read_u16.ensures) (varlen_two t w.in-len2-up.len_at_least (w.has_second.ensures w.if-has_second.true))))
+      | else-is_whole+else-buf-lt1-2+in-len1-up-2+else-len-width w ↦
+          rw (← same) (varlen_rest t t c.if-is_whole.number w.number_in.result w.width_from-width.result refl w.number-is
+          (rw w.number_in.ensures (varlen_whole t w.width_from-width.result c.in-len1-up.len_at_least w.width_from-width.ensures.count w.width_from-width.ensures.last (omega (arith, w.if-len-width.false, w.len.ensures, ap length same)))))
+    ]
