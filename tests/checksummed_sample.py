@@ -31,14 +31,16 @@ def crc32(event):
     return struct.pack("<I", zlib.crc32(event[:FLAGS_OFFSET] + cleared + event[FLAGS_OFFSET + 1 :]))
 
 
-def description_body(server_version, binlog_version=4, header_length=19):
+def description_body(
+    server_version, binlog_version=4, header_length=19, type_header_lengths=POST_HEADER_LENGTHS
+):
     return b"".join(
         [
             struct.pack("<H", binlog_version),
             server_version.ljust(50, b"\0"),
             bytes(4),  # not created with the file
             bytes([header_length]),
-            POST_HEADER_LENGTHS,
+            type_header_lengths,
         ]
     )
 

@@ -235,6 +235,72 @@ def rotates():
         yield f"a rotate of {length} bytes with its checksum", described(rotate, EVENT)
 
 
+# A table map of id 5: the table `t` of the database `d`, with one column.
+TABLE_MAP_BODY = bytes.fromhex("05 00 00 00 00 00 01 00 01 64 00 01 74 00 01 03 00 01")
+
+# The same of 20 columns, whose types leave something open, with optional metadata.
+LONG_TABLE_MAP_BODY = b"".join(
+    [
+        bytes.fromhex("06 00 00 00 00 00 01 00 01 64 00 01 75 00"),
+        bytes([20]) + 20 * b"\x0f",
+        bytes.fromhex("fc 28 00") + 40 * b"\x10",
+        bytes.fromhex("ff ff 0f"),
+        b"optional",
+    ]
+)
+
+
+def table_map(body):
+    return make_sample.frame(listing_model.TABLE_MAP, body, 0)
+
+
+def rows_log():
+    """A log of rows: table maps, events of rows, and a rotate that clears the maps."""
+    rows = make_sample.frame(30, bytes.fromhex("05 00 00 00 00 00 01 00 02 00 01 01 fe 07"), 0)
+    rotate = make_sample.frame(make_sample.ROTATE, make_sample.ROTATE_BODY, 0)
+    maps = table_map(TABLE_MAP_BODY) + table_map(LONG_TABLE_MAP_BODY)
+    description = checksummed_sample.description(algorithm=checksummed_sample.OFF)
+    return MAGIC + description + maps + rows + rotate + maps
+
+
+def short_table_maps():
+    """Each front of a table map, without and with a checksum, and with one more byte."""
+    for body in (TABLE_MAP_BODY, LONG_TABLE_MAP_BODY):
+        for length in range(len(body) + 1):
+            front = table_map(body[:length])
+            yield f"{length} bytes of a table map of {len(body)}", MAGIC + front + EVENT
+            yield f"{length} bytes of it under checksums", described(front, EVENT)
+        yield f"a table map of {len(body)} bytes and one more", MAGIC + table_map(body + b"\0") + EVENT
+
+
+def counted_table_maps():
+    """Table maps whose count of columns is spelled otherwise, or is none."""
+    before, behind = TABLE_MAP_BODY[:14], TABLE_MAP_BODY[15:]
+    for count in ("fa", "fb", "fc 01 00", "fd 01 00 00", "fe 01" + 7 * " 00", "ff", "fc ff ff", "fe" + 8 * " ff"):
+        content = MAGIC + table_map(before + bytes.fromhex(count) + behind) + EVENT
+        yield f"a table map of {count} columns", content
+
+
+def stated_table_maps():
+    """Table maps under descriptions that state other post-header lengths."""
+    short_id = TABLE_MAP_BODY[:4] + TABLE_MAP_BODY[6:]
+    for length in (0, 6, 7, 8, 10, 255):
+        stated = checksummed_sample.description(
+            algorithm=checksummed_sample.OFF, type_header_lengths=18 * b"\0" + bytes([length])
+        )
+        events = table_map(TABLE_MAP_BODY) + table_map(short_id) + EVENT
+        yield f"table maps of {length} stated bytes", MAGIC + stated + events
+
+
+def table_maps():
+    for kind in (no_change, truncations, changed_bytes, changed_sizes):
+        for name, content in kind(rows_log()):
+            yield f"rows: {name}", content
+    yield from short_table_maps()
+    yield from counted_table_maps()
+    yield from stated_table_maps()
+
+
 def checksummed_cases():
     sample = checksummed_sample.sample()
     for kind in (no_change, truncations, changed_bytes, changed_sizes, with_tails):
@@ -255,6 +321,7 @@ def all_cases(sample):
     yield from with_tails(sample)
     yield from whole_files(sample)
     yield from checksummed_cases()
+    yield from table_maps()
 
 
 def run(program, content):

@@ -61,7 +61,7 @@ pub record AppendsFront (old new : Option (List ℕ)) (bytes : List ℕ) : Type 
 -- All items that are left are listed, and nothing else.
 pub record ListsAll (s : StreamState) (rest : List ℕ) (was : Bool) (old new : Option (List ℕ)) (has_errors : Bool) : Type 0 where
   pub items : List (Result EventView Error)
-  pub are : AreLeft s rest was items
+  pub are : AreLeft s.fde rest was items
   pub written : Appends old new (listing 0 items)
   pub errors : has_errors ≡ list_any is_err items
 
@@ -72,7 +72,7 @@ pub record ListsBefore (error : Error) (s : StreamState) (rest : List ℕ) (was 
   pub state : StreamState
   pub unread : List ℕ
   pub ended : Bool
-  pub before : (more : List (Result EventView Error)) → AreLeft state unread ended more → AreLeft s rest was (items ++ more)
+  pub before : (more : List (Result EventView Error)) → AreLeft state.fde unread ended more → AreLeft s.fde rest was (items ++ more)
   pub written : Appends old new (listing 0 items)
   pub refused : Gives Handles state after (Some unread) ended (Some (Err error)) left is
   pub outside : is_outside error ≡ true
@@ -80,7 +80,7 @@ pub record ListsBefore (error : Error) (s : StreamState) (rest : List ℕ) (was 
 -- The writer failed: it has a front of the listing.
 pub record ListsFront (s : StreamState) (rest : List ℕ) (was : Bool) (old new : Option (List ℕ)) : Type 0 where
   pub items : List (Result EventView Error)
-  pub are : AreLeft s rest was items
+  pub are : AreLeft s.fde rest was items
   pub written : AppendsFront old new (listing 0 items)
 
 -- What listing the items that are left may answer, what is then written, and where the iteration stands.
