@@ -12,3 +12,6 @@ mod table_id;
 mod table_map_event;
 
 pub use table_map_event::TableMapEvent;
+
+#[cfg(test)]
+mod tests;
