@@ -59,7 +59,8 @@ impl<'a> TableMapEvent<'a> {
         self.table.id.get()
     }
 
-    /// The flags, of which the server uses none by now.
+    /// The flags, as they stand: bit 0 says that the lengths of bit columns are exact. See `Table_map_event::enum_flag` in MySQL's
+    /// source documentation.
     pub fn flags_raw(&self) -> u16
         ensures { result ≡ self.now.table.flags }
     {
