@@ -7,7 +7,9 @@ ghost use Rattle.binlog_rows.specs.TableMaps.{columns};
 
 use crate::column_bitmap::ColumnBitmap;
 use binlog_numbers::{LenEnc, LenEncBytes};
-use binlog_wire::{BitView, BytesRepr, EofBytes, Error, IntRepr, MyDeserialize, ParseBuf, Put, RawBytes};
+use binlog_wire::{
+    BitView, BytesRepr, EofBytes, Error, IntRepr, MyDeserialize, ParseBuf, Put, RawBytes,
+};
 use std::alloc::Global;
 use std::borrow::CowSlice;
 use std::marker::Model;

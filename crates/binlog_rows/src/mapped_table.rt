@@ -6,7 +6,9 @@ ghost use Rattle.binlog_wire.specs.Reading.{Gives, read_as};
 ghost use Rattle.binlog_rows.specs.TableMaps.{table};
 
 use crate::table_id::TableId;
-use binlog_wire::{BytesRepr, Error, IntRepr, LeU16, MyDeserialize, ParseBuf, Put, RawBytes, Skip, U8Bytes};
+use binlog_wire::{
+    BytesRepr, Error, IntRepr, LeU16, MyDeserialize, ParseBuf, Put, RawBytes, Skip, U8Bytes,
+};
 use std::alloc::Global;
 use std::borrow::CowSlice;
 
