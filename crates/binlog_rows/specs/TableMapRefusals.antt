@@ -156,10 +156,10 @@ types_reason n r d fits e =
     by_cases (then_err (block_at n) (λ _. then_at lenenc_text.reads (λ _. then_at (bitmap n).reads (λ _. rest_at))) r d e)
     (λ h. inl (ends_block n r d h))
     (λ x.
-        let p = (keeps_block n).sound r x.0 fits x.1 in
-        by_cases (then_err lenenc_text.reads (λ _. then_at (bitmap n).reads (λ _. rest_at)) x.0.1 d x.2)
-        (λ h. by_cases (text_reason x.0.1 d p.1 h) (λ end. inl end) (λ number. inr (x.0.0, x.0.1, p.0, number)))
-        (λ h. inl (last_ends n h.0.1 d h.2)))
+    let p = (keeps_block n).sound r x.0 fits x.1 in
+    by_cases (then_err lenenc_text.reads (λ _. then_at (bitmap n).reads (λ _. rest_at)) x.0.1 d x.2)
+    (λ h. by_cases (text_reason x.0.1 d p.1 h) (λ end. inl end) (λ number. inr (x.0.0, x.0.1, p.0, number)))
+    (λ h. inl (last_ends n h.0.1 d h.2)))
 
 -- the count is refused, or a number behind it and its types
 abbrev AfterTable : List ℕ → Refusal → Type 0
@@ -170,8 +170,8 @@ columns_reason q d fits e =
     by_cases (then_err lenenc_at (λ n. then_at (block_at n) (λ _. then_at lenenc_text.reads (λ _. then_at (bitmap n).reads (λ _. rest_at)))) q d (as_err columns_of (fields.reads q) d e))
     (λ h. by_cases (lenenc_err q d fits h) (λ end. inl end) (λ number. inr (inl number)))
     (λ x.
-        let p = keeps_lenenc.sound q x.0 fits x.1 in
-        by_cases (types_reason x.0.0 x.0.1 d p.1 x.2) (λ end. inl end) (λ after. inr (inr (x.0.0, x.0.1, p.0, after))))
+    let p = keeps_lenenc.sound q x.0 fits x.1 in
+    by_cases (types_reason x.0.0 x.0.1 d p.1 x.2) (λ end. inl end) (λ after. inr (inr (x.0.0, x.0.1, p.0, after))))
 
 -- a number is refused behind the table and one byte
 abbrev AfterSkipped : ℕ → List ℕ → Refusal → Type 0
@@ -182,12 +182,12 @@ map_reason post_header s d fits e =
     by_cases (then_err (table post_header).reads (λ _. skipped_at 1 columns.reads) s d (as_err _ (then_at (table post_header).reads (λ _. skipped_at 1 columns.reads) s) d e))
     (λ h. inl (table_ends post_header s d h))
     (λ x.
-        let p = (table post_header).keeps.sound s x.0 fits x.1 in
-        by_cases (bind_err (block_at 1 x.0.1) (λ y. columns.reads y.1) d x.2)
-        (λ h. inl (ends_block 1 x.0.1 d h))
-        (λ y.
-            let k = (keeps_block 1).sound x.0.1 y.0 p.1 y.1 in
-            by_cases (columns_reason y.0.1 d k.1 y.2) (λ end. inl end) (λ after. inr (x.0.0, x.0.1, p.0, y.0.0, y.0.1, k.0, after))))
+    let p = (table post_header).keeps.sound s x.0 fits x.1 in
+    by_cases (bind_err (block_at 1 x.0.1) (λ y. columns.reads y.1) d x.2)
+    (λ h. inl (ends_block 1 x.0.1 d h))
+    (λ y.
+    let k = (keeps_block 1).sound x.0.1 y.0 p.1 y.1 in
+    by_cases (columns_reason y.0.1 d k.1 y.2) (λ end. inl end) (λ after. inr (x.0.0, x.0.1, p.0, y.0.0, y.0.1, k.0, after))))
 
 in_place : (post_header : ℕ) (s : List ℕ) (d : Refusal) → AfterSkipped post_header s d → (b : ℕ) × IsInNumbersPlace post_header b s × (d ≡ invalid (kinds.LenEnc b))
 in_place post_header s d (t, m, ht, skipped, q, hq, inl h) = (h.0, (h.3, inl ((t, tt), h.1, (m, ht, (skipped, q, hq, (refl, sym h.2))))), h.4)

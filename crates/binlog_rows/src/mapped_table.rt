@@ -4,7 +4,9 @@ ghost use Rattle.binlog_wire.specs.declared.error.Error.TheVariants.{Memory};
 ghost use Rattle.binlog_rows.specs.TableMaps.{table};
 
 use crate::table_id::TableId;
-use binlog_wire::{Error, IntRepr, LeU16, MyDeserialize, ParseBuf, Put, RawBytes, RawInt, Skip, U8Bytes};
+use binlog_wire::{
+    Error, IntRepr, LeU16, MyDeserialize, ParseBuf, Put, RawBytes, RawInt, Skip, U8Bytes,
+};
 use std::alloc::Global;
 
 /// A table: its id, flags, and the names of its database and of the table itself.
@@ -57,11 +59,7 @@ impl<'de> MyDeserialize<'de> for MappedTable<'de> {
 
     ghost reads = { λ post_header. (table post_header).reads };
 
-    fn deserialize(
-        alloc: Global,
-        post_header: u8,
-        buf: &mut ParseBuf<'de>,
-    ) -> Result<Self, Error> {
+    fn deserialize(alloc: Global, post_header: u8, buf: &mut ParseBuf<'de>) -> Result<Self, Error> {
         let id = buf.parse(alloc, post_header)?;
         let flags = buf.parse::<RawInt<LeU16>>(alloc, ())?.0;
         let database_name = buf.parse(alloc, ())?;

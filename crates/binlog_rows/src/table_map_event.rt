@@ -35,7 +35,8 @@ impl<'a> TableMapEvent<'a> {
         self.table.id.get()
     }
 
-    /// The flags, of which the server uses none by now.
+    /// The flags, as they stand: bit 0 says that the lengths of bit columns are exact. See `Table_map_event::enum_flag` in MySQL's
+    /// source documentation.
     pub fn flags_raw(&self) -> u16
         ensures { result ≡ self.now.table.flags }
     {
@@ -152,7 +153,9 @@ impl<'de> MyDeserialize<'de> for TableMapEvent<'de> {
         ctx: BinlogCtx<'de>,
         buf: &mut ParseBuf<'de>,
     ) -> Result<Self, Error> {
-        let post_header = ctx.fde.get_event_type_header_length(EventType::TABLE_MAP_EVENT);
+        let post_header = ctx
+            .fde
+            .get_event_type_header_length(EventType::TABLE_MAP_EVENT);
         let table = buf.parse(alloc, post_header)?;
         buf.parse::<Skip<1>>(alloc, ())?;
         let columns = buf.parse(alloc, ())?;

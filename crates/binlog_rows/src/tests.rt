@@ -1,2 +1,3 @@
-//! What the bodies of row events are read as and written as, by rows from outside.
+//! What the bodies of table maps and row events are read as and written as, by rows from outside.
 mod rows;
+mod table_maps;
