@@ -7,13 +7,13 @@ use Rattle.binlog_rows.specs.TableColumns.{TableColumns}
 use Rattle.binlog_rows.specs.TableMaps.{Fields, fields, columns_of, columns, table_map}
 use Rattle.binlog_rows.specs.declared.table_map_event.TableMapEvent.{TableMapEvent}
 
-lenenc_small : (s : List ℕ) (n : ℕ) (r : List ℕ) → IsLenEnc s n r → n < 256 ^ 8
+pub lenenc_small : (s : List ℕ) (n : ℕ) (r : List ℕ) → IsLenEnc s n r → n < 256 ^ 8
 lenenc_small s n r (inl h) = omega (arith, h.1)
 lenenc_small s n r (inr (inl h)) = omega (arith, h.2.0)
 lenenc_small s n r (inr (inr (inl h))) = omega (arith, h.2.0)
 lenenc_small s n r (inr (inr (inr h))) = h.2.0
 
-id_small_by : (t : Bool) (n : ℕ) → n < 256 ^ cond t 4 6 → n < 256 ^ 6
+pub id_small_by : (t : Bool) (n : ℕ) → n < 256 ^ cond t 4 6 → n < 256 ^ 6
 id_small_by true n h = omega (arith, h)
 id_small_by false n h = h
 

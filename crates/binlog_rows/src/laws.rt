@@ -3,8 +3,12 @@ ghost use Rattle.std.specs.Prelude.{◌≡◌, ◌↔◌, ◌⊎◌, ℕ, List, 
 ghost use Rattle.binlog_wire.specs.Fields.{IsBytes};
 ghost use Rattle.binlog_wire.specs.Reading.{Refusal, ends, invalid};
 ghost use Rattle.binlog_wire.specs.declared.error.Invalid.TheVariants.{LenEnc};
+ghost use Rattle.binlog_rows.specs.Forms.{default_length};
+ghost use Rattle.binlog_rows.specs.Rows.{rows};
 ghost use Rattle.binlog_rows.specs.TableMaps.{table_map};
 ghost use Rattle.binlog_rows.specs.TableMapRefusals.{IsInNumbersPlace};
+ghost use Rattle.binlog_rows.specs.declared.rows_form.RowsForm.{RowsForm};
+ghost use Rattle.binlog_rows.specs.declared.rows_event.RowsEvent.{RowsEvent};
 ghost use Rattle.binlog_rows.specs.declared.table_map_event.TableMapEvent.{TableMapEvent};
 
 use crate::rows_kind::{
@@ -30,6 +34,13 @@ pub fn refused_table_maps()
 pub fn read_table_maps_fit()
     ensures { (post_header : ℕ) (s : List ℕ) (event : TableMapEvent) (r : List ℕ) → (table_map post_header).spells s event r
         → (table_map 8).Fits event }
+{}
+
+/// A row event that was read, under whichever description, fits the format in which it is written: so what is written of it
+/// reads as its normal form.
+pub fn read_row_events_fit()
+    ensures { (form : RowsForm) (post_header : ℕ) (s : List ℕ) (event : RowsEvent) (r : List ℕ) → (rows form post_header).spells s event r
+        → (rows form (default_length form)).Fits event }
 {}
 
 /// The numbers of the types of events.
