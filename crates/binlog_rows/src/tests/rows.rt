@@ -298,7 +298,6 @@ fn reads_short_ids(rt: HostRuntime) -> Result<(), Fail> {
     let fde = stating(OF_SIX);
     let event: WriteRowsEvent = read_under(rt.alloc(), fde.as_ref(), SHORT_ID)?;
     assert_eq!(rt; event.table_id(), 5);
-    assert_eq!(rt; event.event().extra_data(), Some(b"".as_slice()));
     is_written(&rt, &event, WRITTEN);
     Ok(())
 }
