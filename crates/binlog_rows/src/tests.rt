@@ -1,3 +1,0 @@
-//! What the bodies of table maps and of row events are read as and written as, by rows from outside.
-mod rows;
-mod table_maps;
