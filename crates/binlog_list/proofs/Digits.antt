@@ -39,7 +39,7 @@ four_bytes bytes rest h = absurd (omega arith)
 pub error_parts : (index word number new_line : List ℕ) → index ++ (word ++ (number ++ new_line)) ≡ index ++ word ++ number ++ new_line
 error_parts index word number new_line = simp append_assoc refl
 
-pub event_parts : (space new_line a b c d e f g : List ℕ)
-    → a ++ (space ++ (b ++ (space ++ (c ++ (space ++ (d ++ (space ++ (e ++ (space ++ (f ++ (space ++ (g ++ new_line))))))))))))
-    ≡ a ++ space ++ b ++ space ++ c ++ space ++ d ++ space ++ e ++ space ++ f ++ space ++ g ++ new_line
-event_parts space new_line a b c d e f g = simp append_assoc refl
+pub event_parts : (space new_line a b c d e f g h : List ℕ)
+    → a ++ (space ++ (b ++ (space ++ (c ++ (space ++ (d ++ (space ++ (e ++ (space ++ (f ++ (space ++ (g ++ (space ++ (h ++ new_line))))))))))))))
+    ≡ a ++ space ++ b ++ space ++ c ++ space ++ d ++ space ++ e ++ space ++ f ++ space ++ g ++ space ++ h ++ new_line
+event_parts space new_line a b c d e f g h = simp append_assoc refl

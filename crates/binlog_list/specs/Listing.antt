@@ -5,7 +5,7 @@ use Rattle.std.specs.Int.{w16, to_be_bytes}
 use Rattle.std.specs.Io.KnownBytes.{Appends}
 use Rattle.hex.specs.Hex.{encode_lower}
 use Rattle.binlog_wire.specs.declared.error.Error.{Error}
-use Rattle.binlog_wire.specs.declared.error.Error.TheVariants.{EndOfInput, InvalidFileHeader, Reader, Writer}
+use Rattle.binlog_wire.specs.declared.error.Error.TheVariants.{EndOfInput, InvalidFileHeader, Memory, Reader, Writer}
 use Rattle.binlog_wire.specs.Errors.{error_number, is_outside}
 use Rattle.binlog_consts.specs.declared.version.BinlogVersion.TheVariants.{Version4}
 use Rattle.binlog_description.specs.Headers.{header_of}
@@ -15,6 +15,8 @@ use Rattle.binlog_file.specs.Events.{EventView}
 use Rattle.binlog_file.specs.State.{StreamState, Handles, first_state}
 use Rattle.binlog_file.specs.Streams.{Gives}
 use Rattle.binlog_file.specs.StreamItems.{AreLeft}
+use Rattle.binlog_list.specs.Words.{word_text, word_of, TakesMemoryFor}
+use Rattle.binlog_list.specs.declared.word.Word.{Word}
 
 -- ---- lines
 
@@ -27,21 +29,22 @@ abbrev pub checksum_text : Option (List ℕ) → List ℕ
 checksum_text None = codes "-"
 checksum_text (Some checksum) = encode_lower checksum
 
--- `index type size log_pos flags data_len checksum`
-unfoldable pub event_line : ℕ → EventView → List ℕ
-event_line index event =
+-- `index type size log_pos flags data_len checksum word`
+unfoldable pub event_line : ℕ → EventView → Word → List ℕ
+event_line index event word =
     let header = header_of event.frame in
     decimal index ++ codes " " ++ decimal header.event_type ++ codes " " ++ decimal header.event_size
     ++ codes " " ++ decimal header.log_pos ++ codes " " ++ four_digits header.flags
     ++ codes " " ++ decimal (length (data_of event.fde.footer event.frame))
-    ++ codes " " ++ checksum_text (checksum_of event.fde.footer event.frame) ++ codes "\n"
+    ++ codes " " ++ checksum_text (checksum_of event.fde.footer event.frame)
+    ++ codes " " ++ word_text word ++ codes "\n"
 
 -- `index error E<number>`
 unfoldable pub error_line : ℕ → Error → List ℕ
 error_line index error = decimal index ++ codes " error E" ++ decimal (error_number error) ++ codes "\n"
 
 abbrev pub item_line : ℕ → Result EventView Error → List ℕ
-item_line index (Ok event) = event_line index event
+item_line index (Ok event) = event_line index event (word_of event)
 item_line index (Err error) = error_line index error
 
 -- the lines of these items, the first of which has this index
@@ -77,6 +80,17 @@ pub record ListsBefore (error : Error) (s : StreamState) (rest : List ℕ) (was 
   pub refused : Gives Handles state after (Some unread) ended (Some (Err error)) left is
   pub outside : is_outside error ≡ true
 
+-- All items are listed before an event whose data took memory when it was read, and memory ran out; the iteration stands
+-- behind that event.
+pub record ListsBeforeData (s : StreamState) (rest : List ℕ) (was : Bool) (old : Option (List ℕ)) (after : StreamState) (left : Option (List ℕ)) (is : Bool) (new : Option (List ℕ)) : Type 0 where
+  pub items : List (Result EventView Error)
+  pub event : EventView
+  pub takes : TakesMemoryFor event
+  pub unread : List ℕ
+  pub behind : left ≡ Some unread
+  pub before : (more : List (Result EventView Error)) → AreLeft after.fde unread is more → AreLeft s.fde rest was (items ++ Ok event ∷ more)
+  pub written : Appends old new (listing 0 items)
+
 -- The writer failed: it has a front of the listing.
 pub record ListsFront (s : StreamState) (rest : List ℕ) (was : Bool) (old new : Option (List ℕ)) : Type 0 where
   pub items : List (Result EventView Error)
@@ -87,6 +101,8 @@ pub record ListsFront (s : StreamState) (rest : List ℕ) (was : Bool) (old new 
 abbrev pub ListsItems : StreamState → List ℕ → Bool → Option (List ℕ) → Result Bool Error → StreamState → Option (List ℕ) → Bool → Option (List ℕ) → Type 0
 ListsItems s rest was old (Ok has_errors) after left is new = ListsAll s rest was old new has_errors × (is ≡ true)
 ListsItems s rest was old (Err Writer) after left is new = ListsFront s rest was old new
+ListsItems s rest was old (Err Memory) after left is new =
+    ListsBefore Memory s rest was old after left is new ⊎ ListsBeforeData s rest was old after left is new
 ListsItems s rest was old (Err error) after left is new = ListsBefore error s rest was old after left is new
 
 -- The input is a binlog file, whose items are listed.
@@ -126,7 +142,8 @@ HasLine (Err error) = is_outside error ≡ false
 abbrev pub ListsItem : ℕ → Option (Result EventView Error) → Option (List ℕ) → Option (List ℕ) → Result (Option Bool) Error → Type 0
 ListsItem index None old new (Ok None) = new ≡ old
 ListsItem index (Some item) old new (Ok (Some is_error)) = Appends old new (item_line index item) × (is_error ≡ is_err item) × HasLine item
-ListsItem index (Some (Ok event)) old new (Err error) = (error ≡ Writer) × AppendsFront old new (event_line index event)
+ListsItem index (Some (Ok event)) old new (Err error) =
+    ((error ≡ Writer) × AppendsFront old new (event_line index event (word_of event))) ⊎ ((error ≡ Memory) × (new ≡ old) × TakesMemoryFor event)
 ListsItem index (Some (Err why)) old new (Err error) =
     ((error ≡ why) × (new ≡ old) × (is_outside why ≡ true)) ⊎ ((error ≡ Writer) × (is_outside why ≡ false) × AppendsFront old new (error_line index why))
 ListsItem index item old new answer = ⊥

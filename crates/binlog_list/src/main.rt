@@ -4,6 +4,7 @@
 mod line;
 mod listing;
 mod output;
+mod word;
 
 use binlog_file::Error;
 use listing::{list, status};
