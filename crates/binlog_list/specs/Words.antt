@@ -30,7 +30,7 @@ word_by d s (Err unknown) = words.Unknown
 word_by d s (Ok type) = read_whole (data_read d s type)
 
 -- the word for an event
-abbrev pub word_of : EventView → Word
+unfoldable pub word_of : EventView → Word
 word_of event = word_by event.fde (data_of event.fde.footer event.frame) (event_type_of (header_of event.frame).event_type)
 
 -- reading data of this type may take memory
@@ -39,5 +39,5 @@ MayTakeMemory (Err unknown) = ⊥
 MayTakeMemory (Ok type) = TakesMemory type
 
 -- reading the data of the event may take memory
-abbrev pub TakesMemoryFor : EventView → Type 0
+unfoldable pub TakesMemoryFor : EventView → Type 0
 TakesMemoryFor event = MayTakeMemory (event_type_of (header_of event.frame).event_type)

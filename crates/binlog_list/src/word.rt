@@ -26,10 +26,17 @@ impl Word {
         ensures memory { IfErr result (λ e. (e ≡ Memory) × TakesMemoryFor (view_of event.now)) }
     {
         match event.read_data(alloc) {
-            Ok(Some(_)) => Ok(Word::Read),
+            Ok(Some(data)) => {
+                drop(data);
+                Ok(Word::Read)
+            }
             Ok(None) => Ok(Word::Unknown),
-            Err(Error::Memory) => Err(Error::Memory),
-            Err(_) => Ok(Word::Refused),
+            Err(error) => {
+                if error.is_outside() {
+                    return Err(error);
+                }
+                Ok(Word::Refused)
+            }
         }
     }
 }
