@@ -14,6 +14,7 @@ import sys
 from concurrent.futures import ThreadPoolExecutor
 from pathlib import Path
 
+import bodies_sample
 import checksummed_sample
 import listing_model
 import make_sample
@@ -301,6 +302,26 @@ def table_maps():
     yield from stated_table_maps()
 
 
+# Lengths of post-headers that a description states: none, a server's, and the same for each type.
+STATED_LENGTHS = {
+    "no": b"",
+    "a server's": checksummed_sample.POST_HEADER_LENGTHS,
+    **{f"{length} as": 43 * bytes([length]) for length in (0, 2, 6, 10, 15)},
+}
+
+
+def event_data():
+    """Events of each type, and damaged copies of them, under descriptions that state other lengths."""
+    for name, lengths in STATED_LENGTHS.items():
+        start = MAGIC + checksummed_sample.description(
+            algorithm=checksummed_sample.OFF, type_header_lengths=lengths
+        )
+        yield f"every type under {name} lengths", start + bodies_sample.every_type()
+        for number, body in bodies_sample.BODIES:
+            case = f"type {number}, {len(body)} bytes, under {name} lengths"
+            yield case, start + bodies_sample.damaged_events(number, body)
+
+
 def checksummed_cases():
     sample = checksummed_sample.sample()
     for kind in (no_change, truncations, changed_bytes, changed_sizes, with_tails):
@@ -322,6 +343,7 @@ def all_cases(sample):
     yield from whole_files(sample)
     yield from checksummed_cases()
     yield from table_maps()
+    yield from event_data()
 
 
 def run(program, content):
