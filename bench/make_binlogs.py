@@ -6,13 +6,15 @@ Usage: make_binlogs.py FOLDER
 Of each kind there is a large file (500 MB) for times and a small one (5 MB)
 for instruction counts, and a start file, `start.binlog` or, of the kinds whose
 events have checksums, `start_crc32.binlog`, that holds only what every file of
-the kind begins with. The contents are the same in every run.
+the kind begins with. Of a kind with table maps the start file, `start_KIND.binlog`,
+also holds the first transaction of each table. The contents are the same in every run.
 """
 
 import random
 import struct
 import sys
 import zlib
+from itertools import islice
 from pathlib import Path
 
 HERE = Path(__file__).resolve().parent
@@ -23,13 +25,16 @@ import make_sample  # noqa: E402  (found by way of the line above)
 LARGE, SMALL = 500_000_000, 5_000_000
 LONG_EVENT = 5_000_000
 
-QUERY, WRITE_ROWS, UPDATE_ROWS, GTID, GTID_TAGGED = 2, 30, 31, 33, 42
+QUERY, TABLE_MAP, WRITE_ROWS, UPDATE_ROWS, GTID, GTID_TAGGED = 2, 19, 30, 31, 33, 42
 
 SIZE_OFFSET = 9
 LOG_POS_OFFSET = 13
 U32_RANGE = 2**32
 
 SERVER_VERSION = 90_200
+
+# How many table maps are in force in a log whose row events have table maps.
+MAPPED_TABLES = [1, 100, 10_000]
 
 CRC32_ALGORITHM = b"\1"
 CHECKSUM = struct.Struct("<I")
@@ -80,6 +85,37 @@ def gtid_events(generator):
         else:
             tag = generator.choice([b"backup", b"reports_2026", b"a"])
             yield event(GTID_TAGGED, tagged_gtid(sid, tag, number, times, length), number)
+
+
+def maps_kind(tables):
+    return f"maps_{tables}"
+
+
+def mapped_row_events(tables):
+    """Transactions, each a table map of 50 bytes and a row event of some 115; the tables take turns."""
+
+    def events(generator):
+        for number in range(max(tables, 2048)):
+            table = number % tables
+            yield event(TABLE_MAP, table_map_body(table), number)
+            rows = generator.randbytes(generator.randrange(50, 120))
+            yield event(generator.choice([WRITE_ROWS, UPDATE_ROWS]), rows_body(table, rows), number)
+
+    return events
+
+
+def table_map_body(table):
+    """A table of a number and a text; the number is without a sign, and the text of the character set 45."""
+    database, name = b"test", b"t%d" % table
+    return b"".join(
+        [
+            table.to_bytes(6, "little") + b"\1\0",
+            bytes([len(database)]) + database + b"\0",
+            bytes([len(name)]) + name + b"\0",
+            b"\2\3\x0f" + b"\2\xfc\3" + b"\3",
+            b"\1\1\x80" + b"\2\1\x2d",
+        ]
+    )
 
 
 def gtid_times(generator):
@@ -153,6 +189,7 @@ KINDS = {
     "rows": row_events,
     "long": long_events,
     "gtids": gtid_events,
+    **{maps_kind(tables): mapped_row_events(tables) for tables in MAPPED_TABLES},
     "statements_crc32": statement_events,
     "rows_crc32": row_events,
 }
@@ -163,7 +200,20 @@ def has_checksums(kind):
 
 
 def start_name(kind):
-    return "start_crc32.binlog" if has_checksums(kind) else "start.binlog"
+    if has_checksums(kind):
+        return "start_crc32.binlog"
+    return f"start_{kind}.binlog" if tables_of(kind) else "start.binlog"
+
+
+def make_start(folder, kind):
+    """What every file of a kind begins with; of one with table maps, the first transaction of each table too."""
+    first = list(islice(KINDS[kind](random.Random(kind)), 2 * tables_of(kind)))
+    length = len(file_start(kind)) + sum(map(len, first))
+    write_binlog(folder / start_name(kind), kind, first, length)
+
+
+def tables_of(kind):
+    return next((tables for tables in MAPPED_TABLES if maps_kind(tables) == kind), 0)
 
 
 def event(type_number, body, number):
@@ -290,7 +340,7 @@ def main(arguments):
     folder = Path(arguments[0])
     folder.mkdir(parents=True, exist_ok=True)
     for kind in KINDS:
-        (folder / start_name(kind)).write_bytes(file_start(kind))
+        make_start(folder, kind)
         make_kind(folder, kind)
 
 

@@ -176,13 +176,14 @@ def count_allocations(report):
     return sum(calls[name] for name in ALLOCATING)
 
 
-def counts_per_event(command, folder, kind, name, events):
-    """Without the cost of starting: a file of the first event alone is counted too."""
-    whole = counts(command, folder / f"{kind}_small.binlog", name)
-    start = counts(command, folder / make_binlogs.start_name(kind), name)
-    if whole is None or start is None:
+def counts_per_event(command, lister, folder, kind, name):
+    """Without the cost of starting: the start file, of the first event alone or with table maps, is counted too."""
+    paths = [folder / f"{kind}_small.binlog", folder / make_binlogs.start_name(kind)]
+    counted = [counts(command, path, name) for path in paths]
+    if None in counted:
         return None
-    return [(one - other) / (events - 1) for one, other in zip(whole, start)]
+    whole, start = (count_events(lister, path) for path in paths)
+    return [(one - other) / (whole - start) for one, other in zip(*counted)]
 
 
 def rate(amount, elapsed):
@@ -193,23 +194,23 @@ def per_event(counted, place, decimals):
     return "not counted" if counted is None else f"{counted[place]:,.{decimals}f}"
 
 
-def measured_row(program, baseline, events, folder, kind):
-    """A row of a table; `events` are the numbers of events of the large and the small file."""
+def measured_row(program, baseline, lister, folder, kind):
     path = folder / f"{kind}.binlog"
+    events = count_events(lister, path)
     progress(f"{kind}: measuring times and memory")
     times = best_times({"cat": ["cat"], "program": program, "baseline": baseline}, path)
     memory = peak_memory(program, path)
 
     progress(f"{kind}: counting instructions")
-    counted = counts_per_event(program, folder, kind, "program", events[1])
-    baseline_counted = counts_per_event(baseline, folder, kind, "baseline", events[1])
+    counted = counts_per_event(program, lister, folder, kind, "program")
+    baseline_counted = counts_per_event(baseline, lister, folder, kind, "baseline")
 
     megabytes = path.stat().st_size / 1e6
     return [
-        f"{kind} ({events[0]:,} events, {megabytes:,.0f} MB)",
+        f"{kind} ({events:,} events, {megabytes:,.0f} MB)",
         rate(megabytes, times["cat"]),
         rate(megabytes, times["program"]),
-        rate(events[0], times["program"]),
+        rate(events, times["program"]),
         f"{times['program'] / times['baseline']:.2f}",
         f"{memory:,}",
         per_event(counted, 0, 0),
@@ -218,11 +219,11 @@ def measured_row(program, baseline, events, folder, kind):
     ]
 
 
-def reading_row(reader, events, folder, kind):
+def reading_row(reader, lister, folder, kind):
     """Instructions for an event; those of a slice without taking the log into memory."""
     progress(f"{kind}: counting instructions of reading")
     ways = [[], ["slice"], ["memory"]]
-    counted = [counts_per_event([reader, *way], folder, kind, "reading", events) for way in ways]
+    counted = [counts_per_event([reader, *way], lister, folder, kind, "reading") for way in ways]
     if None in counted:
         return [kind, "not counted", "not counted"]
     lent, sliced, memory = (one[0] for one in counted)
@@ -232,8 +233,7 @@ def reading_row(reader, events, folder, kind):
 def measure_reading(reader, lister, folder):
     """A row for each kind; the long events are too few to be counted so."""
     kinds = [kind for kind in KINDS if kind != "long"]
-    events = {kind: count_events(lister, folder / f"{kind}_small.binlog") for kind in kinds}
-    return [reading_row(reader, events[kind], folder, kind) for kind in kinds]
+    return [reading_row(reader, lister, folder, kind) for kind in kinds]
 
 
 def measure(program, baseline, compare, lister, folder):
@@ -243,8 +243,7 @@ def measure(program, baseline, compare, lister, folder):
         paths = [folder / f"{kind}.binlog", folder / f"{kind}_small.binlog"]
         for path in paths:
             compare(program, baseline, path)
-        events = [count_events(lister, path) for path in paths]
-        rows.append(measured_row(program, baseline, events, folder, kind))
+        rows.append(measured_row(program, baseline, lister, folder, kind))
     return rows
 
 

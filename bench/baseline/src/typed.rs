@@ -1,18 +1,24 @@
-//! The statements of a log and their status variables, and its GTIDs.
+//! The statements of a log and their status variables, its GTIDs, its table maps and its row events.
 
 use crate::footer::Footer;
 use crate::frames::{event_type, Frames, Next, HEADER_LENGTH};
 use crate::gtids::Gtid;
+use crate::rows::{Maps, RowEvent, TableMap};
 use crate::Outcome;
 use std::io::{self, Read, Write};
 
 const QUERY: u8 = 2;
+const ROTATE: u8 = 4;
 const FORMAT_DESCRIPTION: u8 = 15;
+const TABLE_MAP: u8 = 19;
+const WRITE_ROWS: u8 = 30;
+const UPDATE_ROWS: u8 = 31;
+const DELETE_ROWS: u8 = 32;
 const GTID: u8 = 33;
 const GTID_TAGGED: u8 = 42;
 
-/// Where a description states the length of a statement's post-header.
-const STATED_LENGTH: usize = HEADER_LENGTH + 57 + 1;
+/// Where a description states the lengths of post-headers, from type 1 on.
+const STATED_LENGTHS: usize = HEADER_LENGTH + 57;
 const STATEMENT_HEAD_LENGTH: usize = 13;
 const TOO_MANY_NAMES: u8 = 254;
 
@@ -25,12 +31,27 @@ struct Sums {
     gtids: u64,
     tag_bytes: u64,
     numbers: u64,
+    maps: u64,
+    map_bytes: u64,
+    row_events: u64,
+    row_bytes: u64,
+    row_numbers: u64,
 }
 
-/// Sums over the statements and the GTIDs up to the first item that is an error.
+/// How long post-headers are under the description in force.
+struct PostHeaders {
+    statement: usize,
+    table_map: u8,
+    write_rows: u8,
+    update_rows: u8,
+    delete_rows: u8,
+}
+
+/// Sums over the statements, GTIDs, table maps and row events up to the first item that is an error.
 pub fn sum(mut frames: Frames<impl Read>, output: &mut impl Write) -> io::Result<Outcome> {
     let mut in_force = Footer::NONE;
-    let mut head_length = STATEMENT_HEAD_LENGTH;
+    let mut post_headers = PostHeaders::stated(&[]);
+    let mut maps = Maps::default();
     let mut sums = Sums::default();
     loop {
         match frames.next()? {
@@ -41,11 +62,22 @@ pub fn sum(mut frames: Frames<impl Read>, output: &mut impl Write) -> io::Result
                 }
                 let frame = &frame[..frame.len() - suffix];
                 if event_type(frame) == FORMAT_DESCRIPTION {
-                    head_length = stated_length(frame);
+                    post_headers = PostHeaders::stated(frame);
                 }
                 let body = &frame[HEADER_LENGTH..];
                 let counted = match event_type(frame) {
-                    QUERY => sums.count(body, head_length),
+                    QUERY => sums.count(body, post_headers.statement),
+                    ROTATE => clear_at(body, &mut maps),
+                    TABLE_MAP => TableMap::read(body, post_headers.table_map).map(|map| {
+                        maps.keep(&map);
+                        sums.count_map(&map);
+                    }),
+                    WRITE_ROWS => RowEvent::read(body, post_headers.write_rows, false, true)
+                        .map(|event| sums.count_rows(&event)),
+                    UPDATE_ROWS => RowEvent::read(body, post_headers.update_rows, true, true)
+                        .map(|event| sums.count_rows(&event)),
+                    DELETE_ROWS => RowEvent::read(body, post_headers.delete_rows, true, false)
+                        .map(|event| sums.count_rows(&event)),
                     GTID => Gtid::untagged(body).map(|gtid| sums.count_gtid(&gtid)),
                     GTID_TAGGED => Gtid::tagged(body).map(|gtid| sums.count_gtid(&gtid)),
                     _ => Some(()),
@@ -66,21 +98,51 @@ pub fn sum(mut frames: Frames<impl Read>, output: &mut impl Write) -> io::Result
         gtids,
         tag_bytes,
         numbers,
+        maps,
+        map_bytes,
+        row_events,
+        row_bytes,
+        row_numbers,
     } = sums;
     writeln!(
         output,
-        "{statements} {text_bytes} {variables} {values} {gtids} {tag_bytes} {numbers}"
+        "{statements} {text_bytes} {variables} {values} {gtids} {tag_bytes} {numbers} \
+         {maps} {map_bytes} {row_events} {row_bytes} {row_numbers}"
     )?;
     Ok(Outcome::Fine)
 }
 
-/// How long the post-header of a statement is under this description.
+impl PostHeaders {
+    #[cold]
+    fn stated(description: &[u8]) -> Self {
+        let stated = |event_type: u8, default: u8| {
+            let place = STATED_LENGTHS + usize::from(event_type) - 1;
+            description.get(place).copied().unwrap_or(default)
+        };
+        PostHeaders {
+            statement: usize::from(stated(QUERY, 0)).max(STATEMENT_HEAD_LENGTH),
+            table_map: stated(TABLE_MAP, 8),
+            write_rows: stated(WRITE_ROWS, 10),
+            update_rows: stated(UPDATE_ROWS, 10),
+            delete_rows: stated(DELETE_ROWS, 10),
+        }
+    }
+}
+
+/// A rotate to another position than 0 lets go of the maps.
 #[cold]
-fn stated_length(description: &[u8]) -> usize {
-    let stated = description
-        .get(STATED_LENGTH)
-        .map_or(0, |length| usize::from(*length));
-    stated.max(STATEMENT_HEAD_LENGTH)
+fn clear_at(rotate: &[u8], maps: &mut Maps) -> Option<()> {
+    let (position, _) = rotate.split_first_chunk()?;
+    if u64::from_le_bytes(*position) != 0 {
+        maps.clear();
+    }
+    Some(())
+}
+
+/// How many bits there are, and whether the first is set.
+#[inline]
+fn bits(columns: u64, image: &[u8]) -> u64 {
+    columns + u64::from(image.first().is_some_and(|byte| byte & 1 == 1))
 }
 
 impl Sums {
@@ -119,6 +181,31 @@ impl Sums {
         self.gtids += 1;
         self.tag_bytes += gtid.tag.len() as u64;
         self.numbers = numbers.into_iter().fold(self.numbers, u64::wrapping_add);
+    }
+
+    #[inline]
+    fn count_map(&mut self, map: &TableMap) {
+        let bytes = [
+            map.database.len(),
+            map.table.len(),
+            map.types.len(),
+            map.metadata.len(),
+            map.optional_metadata.len(),
+        ];
+        self.maps += 1;
+        self.map_bytes += bytes.into_iter().sum::<usize>() as u64;
+        let columns = map.types.len() as u64;
+        self.row_numbers += map.id + u64::from(map.flags) + bits(columns, map.null_bits);
+    }
+
+    #[inline]
+    fn count_rows(&mut self, event: &RowEvent) {
+        self.row_events += 1;
+        self.row_bytes += (event.extra.len() + event.rows.len()) as u64;
+        let images = [event.before, event.after];
+        let images = images.map(|image| image.map_or(0, |image| bits(event.columns, image)));
+        self.row_numbers +=
+            event.id + u64::from(event.flags) + event.columns + images[0] + images[1];
     }
 
     /// Up to the first that isn't whole.

@@ -1,8 +1,9 @@
-//! Reads the statements of the binary log on standard input, with their status variables, and its GTIDs, and prints a line
-//! of sums over what stands in them. The benchmark measures it.
+//! Reads the statements of the binary log on standard input, with their status variables, its GTIDs, its table maps and its
+//! row events, and prints a line of sums over what stands in them. The benchmark measures it.
 #![tactic(auto)]
 
 mod gtids;
+mod rows;
 mod sums;
 
 use binlog_file::Error;

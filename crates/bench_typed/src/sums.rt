@@ -1,12 +1,16 @@
-//! Sums over what stands in the statements of a log, and in its GTIDs.
+//! Sums over what stands in the statements of a log, its GTIDs, its table maps and its row events.
 use crate::gtids::GtidSums;
-use binlog_file::{BinlogFile, BinlogVersion, Error, EventRef, EventType};
+use crate::rows::RowSums;
+use binlog_file::{
+    BinlogFile, BinlogVersion, DeleteRowsEvent, Error, EventRef, EventType, UpdateRowsEvent,
+    WriteRowsEvent,
+};
 use binlog_statements::{QueryEvent, StatusVarVal};
 use std::alloc::Global;
 use std::fmt;
 use std::io::BufRead;
 
-/// Sums over the statements and the GTIDs of a log, modulo 2^64. They are shown one after another, with spaces between.
+/// Sums over the statements, the GTIDs and the rows of a log, modulo 2^64. They are shown one after another, with spaces between.
 #[derive(Debug, Default, Drop)]
 pub(crate) struct Sums {
     /// How many statements there are.
@@ -19,20 +23,22 @@ pub(crate) struct Sums {
     values: u64,
     /// Those over its GTIDs.
     gtids: GtidSums,
+    /// Those over its table maps and its row events.
+    rows: RowSums,
 }
 
 impl fmt::Display for Sums {
     fn fmt<W: fmt::Write>(&self, f: &mut fmt::Formatter<W>) -> fmt::Result {
         write!(
             f,
-            "{} {} {} {} {}",
-            self.statements, self.text_bytes, self.variables, self.values, self.gtids
+            "{} {} {} {} {} {}",
+            self.statements, self.text_bytes, self.variables, self.values, self.gtids, self.rows
         )
     }
 }
 
 impl Sums {
-    // Counts an event, if it is a statement or a GTID.
+    // Counts an event, if it is of a type that is summed up.
     fn count_event(&mut self, alloc: Global, event: EventRef<'_>) -> Result<(), Error> {
         match event.header().event_type() {
             Ok(EventType::QUERY_EVENT) => {
@@ -40,6 +46,33 @@ impl Sums {
             }
             Ok(EventType::GTID_EVENT | EventType::GTID_TAGGED_LOG_EVENT) => {
                 self.gtids.count(&event.read_event(alloc)?);
+            }
+            Ok(EventType::TABLE_MAP_EVENT) => self.rows.count_map(&event.read_event(alloc)?),
+            Ok(event_type) => self.count_rows(alloc, event_type, event)?,
+            Err(_) => {}
+        }
+        Ok(())
+    }
+
+    // Counts an event of this type, if it is of rows.
+    fn count_rows(
+        &mut self,
+        alloc: Global,
+        event_type: EventType,
+        event: EventRef<'_>,
+    ) -> Result<(), Error> {
+        match event_type {
+            EventType::WRITE_ROWS_EVENT => {
+                let event: WriteRowsEvent = event.read_event(alloc)?;
+                self.rows.count_rows(event.event());
+            }
+            EventType::UPDATE_ROWS_EVENT => {
+                let event: UpdateRowsEvent = event.read_event(alloc)?;
+                self.rows.count_rows(event.event());
+            }
+            EventType::DELETE_ROWS_EVENT => {
+                let event: DeleteRowsEvent = event.read_event(alloc)?;
+                self.rows.count_rows(event.event());
             }
             _ => {}
         }
@@ -112,7 +145,7 @@ fn little_endian(first: u8, second: u8, third: u8, fourth: u8) -> u64 {
 ///
 /// # Errors
 ///
-/// Those of [`BinlogFile`], of reading a statement or a GTID, and [`Error::Memory`] where a list of names takes memory that isn't
+/// Those of [`BinlogFile`], of reading an event of a type that is summed up, and [`Error::Memory`] where a list of names takes memory that isn't
 /// there.
 pub(crate) fn sums_of<R: BufRead + Drop>(alloc: Global, input: R) -> Result<Sums, Error> {
     let mut file = BinlogFile::new(alloc, BinlogVersion::Version4, input)?;
