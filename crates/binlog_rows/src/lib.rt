@@ -32,3 +32,6 @@ pub use rows_kind::{
     UpdateRows, UpdateRowsV1, WriteRows, WriteRowsV1,
 };
 pub use table_map_event::TableMapEvent;
+
+#[cfg(test)]
+mod tests;
