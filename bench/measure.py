@@ -61,6 +61,11 @@ def printing(command, path, output_path):
         return run(command, path, output)
 
 
+def compare_listings(program, baseline, path):
+    """Both commands list the file alike, but for the word at the end of a line, which the baseline doesn't have."""
+    compare_outputs(["sh", "-c", f"'{program[0]}' | sed 's/ [a-z]*$//'"], baseline, path)
+
+
 def compare_outputs(program, baseline, path):
     """Both commands read the file, and print the same."""
     program_output = path.with_suffix(".program_output")
@@ -262,7 +267,7 @@ def main(arguments):
     lister, copier, typed, reader, baseline = (str(Path(it).resolve()) for it in arguments[:5])
     folder = Path(arguments[5])
     works = {
-        "Listing": ([lister], [baseline], compare_outputs),
+        "Listing": ([lister], [baseline], compare_listings),
         "Writing back": ([copier], [baseline, "--write-back"], compare_written_back),
         "Typed": ([typed], [baseline, "--typed"], compare_outputs),
     }
