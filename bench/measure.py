@@ -1,7 +1,7 @@
 #!/usr/bin/env python3
-"""Measures the programs against the baseline, and reading alone; prints a Markdown table of each.
+"""Measures the programs against the baselines, and reading alone; prints a Markdown table of each.
 
-Usage: measure.py LISTING WRITING_BACK TYPED READING BASELINE FOLDER
+Usage: measure.py LISTING WRITING_BACK TYPED READING SLICE_LISTING BASELINE SLICE_BASELINE FOLDER
 
 FOLDER holds the files of make_binlogs.py. The exit status is 1 if a program
 and the baseline differ on one of them, or if one of them doesn't write back
@@ -37,6 +37,8 @@ COLUMNS = [
 ]
 
 READING_COLUMNS = ["Input", "Lent by a file", "Of a slice"]
+
+SLICE_COLUMNS = ["Input", "Listing of a slice", "Baseline's", "Listing / baseline's"]
 
 ALLOCATING = {"malloc", "calloc", "realloc"}
 
@@ -241,6 +243,25 @@ def measure_reading(reader, lister, folder):
     return [reading_row(reader, lister, folder, kind) for kind in kinds]
 
 
+def slice_row(lister, baseline, counter, folder, kind):
+    """Instructions for a line, those aside that take the log into memory. The whole outputs are the same."""
+    progress(f"{kind}: counting instructions of the listing over a slice")
+    compare_outputs([lister], [baseline], folder / f"{kind}_small.binlog")
+    commands = [[lister], [lister, "memory"], [baseline], [baseline, "--memory"]]
+    counted = [counts_per_event(command, counter, folder, kind, "slice") for command in commands]
+    if None in counted:
+        return [kind, *["not counted"] * 3]
+    whole, memory, baseline_whole, baseline_memory = (one[0] for one in counted)
+    line, baseline_line = whole - memory, baseline_whole - baseline_memory
+    return [kind, f"{line:,.0f}", f"{baseline_line:,.0f}", f"{line / baseline_line:.2f}"]
+
+
+def measure_slices(lister, baseline, counter, folder):
+    """A row for each kind but the long events."""
+    kinds = [kind for kind in KINDS if kind != "long"]
+    return [slice_row(lister, baseline, counter, folder, kind) for kind in kinds]
+
+
 def measure(program, baseline, compare, lister, folder):
     rows = []
     for kind in KINDS:
@@ -262,10 +283,11 @@ def print_table(title, columns, rows):
 
 
 def main(arguments):
-    if len(arguments) != 6:
-        sys.exit("usage: measure.py LISTING WRITING_BACK TYPED READING BASELINE FOLDER")
-    lister, copier, typed, reader, baseline = (str(Path(it).resolve()) for it in arguments[:5])
-    folder = Path(arguments[5])
+    if len(arguments) != 8:
+        sys.exit(__doc__)
+    paths = (str(Path(it).resolve()) for it in arguments[:7])
+    lister, copier, typed, reader, slice_lister, baseline, slice_baseline = paths
+    folder = Path(arguments[7])
     works = {
         "Listing": ([lister], [baseline], compare_listings),
         "Writing back": ([copier], [baseline, "--write-back"], compare_written_back),
@@ -278,6 +300,8 @@ def main(arguments):
             print_table(title, COLUMNS, rows)
         progress("Reading")
         print_table("Reading", READING_COLUMNS, measure_reading(reader, [baseline], folder))
+        rows = measure_slices(slice_lister, slice_baseline, [baseline], folder)
+        print_table("Listing of a slice", SLICE_COLUMNS, rows)
     except Difference as difference:
         sys.exit(f"measure.py: {difference}")
 

@@ -1,9 +1,11 @@
 #!/usr/bin/env python3
-"""Compares the listing program with the model on samples and damaged copies of them.
+"""Compares the listing program and the listing over a slice with the model on samples and damaged copies of them.
 
-Usage: damaged_copies.py [PROGRAM [SAMPLE]]
+Usage: damaged_copies.py [--json] [PROGRAM [SAMPLE]]
 
-PROGRAM reads a binlog on standard input; its default is the built binlog_list.
+PROGRAM reads a binlog on standard input; its default is the built binlog_list, and
+with --json, which compares lines of JSON, the built binlog_json. Without --json the
+built test_slice_listing lists each log too, and has to list it alike.
 Without SAMPLE the sample is made in memory. The last line of the output is
 `N passed, M failed`; the exit status is 1 if something failed.
 """
@@ -16,11 +18,14 @@ from pathlib import Path
 
 import bodies_sample
 import checksummed_sample
+import json_model
 import listing_model
 import make_sample
 
 REPOSITORY = Path(__file__).resolve().parent.parent
-DEFAULT_PROGRAM = REPOSITORY / "crates/binlog_list/out/binlog_list"
+LISTING_PROGRAM = REPOSITORY / "crates/binlog_list/out/binlog_list"
+SLICE_PROGRAM = REPOSITORY / "crates/test_slice_listing/out/test_slice_listing"
+JSON_PROGRAM = REPOSITORY / "crates/binlog_json/out/binlog_json"
 
 PROCESSES_AT_A_TIME = 2
 SHOWN_FAILURES = 20
@@ -322,6 +327,30 @@ def event_data():
             yield case, start + bodies_sample.damaged_events(number, body)
 
 
+# Texts with characters that JSON escapes, of one to four bytes, and bytes that are no text.
+TEXTS = [
+    *(bytes([byte]) for byte in range(256)),
+    bytes(range(128)),
+    "\u0080 \u07ff \u0800 \ud7ff \ue000 \uffff \U00010000 \U0010ffff \u2028".encode("utf-8"),
+    b"caf\xc3",
+    b"\xc0\x80",
+    b"\xe0\x9f\xbf",
+    b"\xed\xa0\x80",
+    b"\xf0\x8f\xbf\xbf",
+    b"\xf4\x90\x80\x80",
+    b"a" * 70_000 + b"\n",
+]
+
+
+def texts():
+    """Statements of these texts, and rotates to files of these names."""
+    for text in TEXTS:
+        body = make_sample.query_body(text[:255], text)
+        query = make_sample.frame(make_sample.QUERY, body, 0)
+        rotate = make_sample.frame(make_sample.ROTATE, bytes(8) + text, 0)
+        yield f"the text {text[:9]} of {len(text)} bytes", MAGIC + query + rotate
+
+
 def checksummed_cases():
     sample = checksummed_sample.sample()
     for kind in (no_change, truncations, changed_bytes, changed_sizes, with_tails):
@@ -344,6 +373,7 @@ def all_cases(sample):
     yield from checksummed_cases()
     yield from table_maps()
     yield from event_data()
+    yield from texts()
 
 
 def run(program, content):
@@ -362,36 +392,50 @@ def first_difference(found, wanted):
     return f"{len(found_lines) - 1} lines, not {len(wanted_lines) - 1}"
 
 
-def failure(program, case):
-    """None if program and model agree on the case, else what is wrong."""
+def failure(programs, model, case):
+    """None if all programs and the model agree on the case, else what is wrong."""
     name, content = case
-    wanted_output, wanted_status = listing_model.expected(content)
-    output, status = run(program, content)
-    faults = []
-    if status != wanted_status:
-        faults.append(f"status {status}, not {wanted_status}")
-    if output != wanted_output:
-        faults.append(first_difference(output, wanted_output))
+    wanted = model.expected(content)
+    faults = [fault for program in programs for fault in all_faults(program, content, wanted)]
     return f"{name}: {'; '.join(faults)}" if faults else None
+
+
+def all_faults(program, content, wanted):
+    wanted_output, wanted_status = wanted
+    output, status = run(program, content)
+    if status != wanted_status:
+        yield f"{Path(program).name}: status {status}, not {wanted_status}"
+    if output != wanted_output:
+        yield f"{Path(program).name}: {first_difference(output, wanted_output)}"
 
 
 def read_arguments():
     parser = argparse.ArgumentParser(description="Compares a listing program with the model.")
-    parser.add_argument("program", nargs="?", type=Path, default=DEFAULT_PROGRAM)
+    parser.add_argument("--json", action="store_true")
+    parser.add_argument("program", nargs="?", type=Path)
     parser.add_argument("sample", nargs="?", type=Path)
     arguments = parser.parse_args()
-    if not arguments.program.is_file():
-        parser.error(f"no program at {arguments.program}")
+    if arguments.program is None:
+        arguments.program = JSON_PROGRAM if arguments.json else LISTING_PROGRAM
+    for program in compared(arguments):
+        if not program.is_file():
+            parser.error(f"no program at {program}")
     return arguments
+
+
+def compared(arguments):
+    """The program, and the listing over a slice beside the one over a file."""
+    return [arguments.program] if arguments.json else [arguments.program, SLICE_PROGRAM]
 
 
 def main():
     arguments = read_arguments()
-    program = str(arguments.program.resolve())
+    programs = [str(program.resolve()) for program in compared(arguments)]
     sample = arguments.sample.read_bytes() if arguments.sample else make_sample.sample()
+    model = json_model if arguments.json else listing_model
     cases = list(all_cases(sample))
     with ThreadPoolExecutor(PROCESSES_AT_A_TIME) as pool:
-        results = list(pool.map(lambda case: failure(program, case), cases))
+        results = list(pool.map(lambda case: failure(programs, model, case), cases))
     failures = [result for result in results if result is not None]
     for message in failures[:SHOWN_FAILURES]:
         print(message)

@@ -1,9 +1,10 @@
 #!/usr/bin/env python3
 """Runs the listing on an input that fails, and on an output that fails: its exit status is 3.
 
-Usage: failing_ends.py [PROGRAM]
+Usage: failing_ends.py [--json] [PROGRAM]
 
-PROGRAM lists the binlog on its standard input; its default is the built binlog_list. An input that fails is a folder, a
+PROGRAM lists the binlog on its standard input; its default is the built binlog_list, and with --json, where the listing
+is lines of JSON, the built binlog_json. An input that fails is a folder, a
 closed descriptor, and a terminal that is hung up behind a front of the sample: all events that are whole by then must be
 listed. An output that fails is a full device, a closed descriptor and a pipe that nobody reads, where the listing is
 short, so that the failure shows when it is flushed, and where it is long. The last line is `N passed, M failed`; the
@@ -17,9 +18,10 @@ import tty
 from concurrent.futures import ThreadPoolExecutor
 from pathlib import Path
 
+import json_model
 import listing_model
 import make_sample
-from damaged_copies import DEFAULT_PROGRAM, EVENT, MAGIC, PROCESSES_AT_A_TIME
+from damaged_copies import EVENT, JSON_PROGRAM, LISTING_PROGRAM, MAGIC, PROCESSES_AT_A_TIME
 
 FAILED = 3
 
@@ -55,10 +57,10 @@ def listed_until_it_fails(program, front):
         os.close(descriptor)
 
 
-def front_failure(program, length):
+def front_failure(program, model, length):
     """None if the events that are whole in a front of the sample are listed, else what is wrong."""
     front = SAMPLE[:length]
-    lines, _ = listing_model.expected(front)
+    lines, _ = model.expected(front)
     return difference(
         f"an input that fails behind {length} bytes",
         listed_until_it_fails(program, front),
@@ -118,9 +120,12 @@ def lengths():
 
 
 def main(arguments):
-    program = str(Path(arguments[0] if arguments else DEFAULT_PROGRAM).resolve())
+    is_json = "--json" in arguments
+    paths = [argument for argument in arguments if argument != "--json"]
+    model = json_model if is_json else listing_model
+    program = str(Path(paths[0] if paths else JSON_PROGRAM if is_json else LISTING_PROGRAM).resolve())
     with ThreadPoolExecutor(PROCESSES_AT_A_TIME) as pool:
-        results = list(pool.map(lambda length: front_failure(program, length), lengths()))
+        results = list(pool.map(lambda length: front_failure(program, model, length), lengths()))
     results += unread_inputs(program)
     results += failing_outputs(program)
     failures = [result for result in results if result is not None]

@@ -4,7 +4,7 @@
 Usage: refused_memory.py
 
 The programs and tests are those that are built in crates/NAME/out. Each runs with its first allocation refused, then with
-its second one, and so on until a run asks for fewer. The listing must then have the first lines and the status 3, what is
+its second one, and so on until a run asks for fewer. The listing and the lines of JSON must then have the first lines and the status 3, what is
 written back must be a front of the log, and a test must pass: those run in whose full name the word `memory` stands. A
 test whose name says that reading takes no memory must make no allocation at all, also none whose refusal it would hide,
 and one whose name says that something makes one allocation exactly one.
@@ -16,6 +16,8 @@ import sys
 from itertools import count
 
 import checksummed_sample
+import json_model
+import json_sample
 import listing_model
 import make_sample
 import watched
@@ -27,6 +29,7 @@ LONG_EVENT = make_sample.frame(make_sample.QUERY, make_sample.query_body(b"test"
 LOGS = {
     "the sample": make_sample.sample(),
     "the sample with checksums": checksummed_sample.sample(),
+    "each body": json_sample.sample(),
     "long events": make_sample.sample() + 3 * LONG_EVENT,
 }
 
@@ -45,8 +48,8 @@ def status_fault(run, wanted):
     return None if run.status == wanted else f"status {run.status}, not {wanted}"
 
 
-def listing_fault(content):
-    lines, _ = listing_model.expected(content)
+def lines_fault(model, content):
+    lines, _ = model.expected(content)
 
     def fault(run):
         if not lines.startswith(run.output) or not (b"\n" + run.output).endswith(b"\n"):
@@ -54,6 +57,14 @@ def listing_fault(content):
         return status_fault(run, OUTSIDE)
 
     return fault
+
+
+def listing_fault(content):
+    return lines_fault(listing_model, content)
+
+
+def json_fault(content):
+    return lines_fault(json_model, content)
 
 
 def written_back_fault(content):
@@ -71,6 +82,8 @@ def failure_fault(_content):
 
 PROGRAMS = {
     "binlog_list": listing_fault,
+    "test_slice_listing": listing_fault,
+    "binlog_json": json_fault,
     "bench_write_back": written_back_fault,
     "bench_typed": failure_fault,
     "test_owned_events": failure_fault,

@@ -28,6 +28,7 @@ impl fmt::Display for RowSums {
 }
 
 impl RowSums {
+    #[inline(always)]
     pub(crate) fn count_map(&mut self, map: &TableMapEvent<'_>) {
         let bytes = map
             .database_name_raw()
@@ -45,6 +46,7 @@ impl RowSums {
             .wrapping_add(bits(map.null_bitmask()));
     }
 
+    #[inline(always)]
     pub(crate) fn count_rows(&mut self, event: &RowsEvent<'_>) {
         let extra = event.extra_data().map_or(0, |extra| extra.len());
         let bytes = extra.wrapping_add(event.rows_data().len());

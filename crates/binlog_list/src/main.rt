@@ -1,13 +1,9 @@
 //! Lists the events of the binary log on standard input.
 #![tactic(auto)]
 
-mod line;
-mod listing;
-mod output;
-mod word;
-
 use binlog_file::Error;
-use listing::{list, status};
+use binlog_lines::status;
+use binlog_listing::list;
 use std::io;
 use std::io::{BufReader, BufWriter, Write};
 use std::process::ExitCode;

@@ -19,6 +19,7 @@ impl BytesRepr for LenEncBytes {
 
     /// [`Error::EndOfBody`] where the bytes end within the length or the text,
     /// [`Invalid::LenEnc`](binlog_wire::Invalid::LenEnc) for a first byte of `fb` or `ff`.
+    #[inline(always)]
     fn read<'a>(_ctx: (), buf: &mut ParseBuf<'a>) -> Result<&'a [u8], Error> {
         let len = LenEnc::read(buf)?;
         buf.checked_eat(len as usize).ok_or(Error::EndOfBody)

@@ -35,6 +35,7 @@ impl<'a> Model for ColumnBitmap<'a> {
 
 impl<'a> ColumnBitmap<'a> {
     /// Takes the bits of so many columns off the front of `buf`, as `deserialize` does.
+    #[inline(always)]
     pub fn read(len: u64, buf: &mut ParseBuf<'a>) -> Result<Self, Error>
         ensures { Gives ⊥ buf.new result ((bitmap len).reads buf.old) }
     {

@@ -40,6 +40,7 @@ impl<'a> Model for MappedColumns<'a> {
 
 impl<'a> MappedColumns<'a> {
     /// Takes columns off the front of `buf`, as `deserialize` does.
+    #[inline(always)]
     pub fn read(buf: &mut ParseBuf<'a>) -> Result<Self, Error>
         ensures { Gives ⊥ buf.new result (columns.reads buf.old) }
     {
@@ -181,6 +182,7 @@ impl Put for MappedColumns<'_> {
 }
 
 // Takes as many bytes off the front of `buf`.
+#[inline(always)]
 fn take<'a>(count: usize, buf: &mut ParseBuf<'a>) -> Result<&'a [u8], Error>
     ensures { Gives ⊥ buf.new (result_now result) (block_at count buf.old) }
 {

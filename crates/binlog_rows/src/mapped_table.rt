@@ -23,6 +23,7 @@ pub struct MappedTable<'a> {
 
 impl<'a> MappedTable<'a> {
     /// Takes a table off the front of `buf`, as `deserialize` does.
+    #[inline(always)]
     pub fn read(post_header: u8, buf: &mut ParseBuf<'a>) -> Result<Self, Error>
         ensures { Gives ⊥ buf.new result ((table post_header).reads buf.old) }
     {
@@ -113,6 +114,7 @@ impl Put for MappedTable<'_> {
 }
 
 /// Takes the byte that stands behind a name and says nothing off the front of `buf`.
+#[inline(always)]
 pub(crate) fn skip_byte(buf: &mut ParseBuf<'_>) -> Result<(), Error>
     ensures { Gives ⊥ buf.new result (read_as (λ _. tt) (block_at 1 buf.old)) }
 {

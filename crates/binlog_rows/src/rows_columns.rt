@@ -19,6 +19,7 @@ pub struct RowsColumns<'a> {
 }
 
 /// Which of so many columns are in an image, in an event that has this image or not.
+#[inline(always)]
 fn read_image<'a>(
     alloc: Global,
     has_image: bool,
@@ -77,6 +78,7 @@ fn image_len(image: &Option<ColumnBitmap<'_>>) -> usize
 impl<'a> RowsColumns<'a> {
     /// Takes the columns of an event of this form off the front of `buf`. [`Error::EndOfBody`] where it ends within them,
     /// [`Invalid::LenEnc`](binlog_wire::Invalid::LenEnc) for a count that begins with `fb` or `ff`.
+    #[inline(always)]
     pub fn read(alloc: Global, form: RowsForm, buf: &mut ParseBuf<'a>) -> Result<Self, Error>
         ensures reads { Gives ⊥ buf.new result ((columns form).reads buf.old) }
         ensures before { IfOk result (λ columns. IsImage form.has_before columns.count columns.before) }

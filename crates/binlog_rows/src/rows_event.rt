@@ -31,6 +31,7 @@ impl<'a> RowsEvent<'a> {
     /// [`Error::EndOfBody`] where the bytes end before the rows,
     /// [`Invalid::LenEnc`](binlog_wire::Invalid::LenEnc) for a count of columns that begins with `fb` or `ff`.
     #[tactic(auto, unfolding(crate::specs::Rows::rows))]
+    #[inline(always)]
     pub(crate) fn read(
         alloc: Global,
         form: RowsForm,

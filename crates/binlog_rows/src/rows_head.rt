@@ -29,6 +29,7 @@ pub struct RowsHead<'a> {
 }
 
 /// Takes extra bytes and their count off the front of `buf`; [`Error::EndOfBody`] where it ends within them.
+#[inline(always)]
 fn read_extra<'a>(buf: &mut ParseBuf<'a>) -> Result<&'a [u8], Error>
     ensures { Gives ⊥ buf.new (result_now result) ((extra {place = anywhere}).reads buf.old) }
 {
@@ -38,6 +39,7 @@ fn read_extra<'a>(buf: &mut ParseBuf<'a>) -> Result<&'a [u8], Error>
 }
 
 /// The extra bytes of an event whose type keeps them or not, where its post-header has this length.
+#[inline(always)]
 fn read_extra_in<'a>(
     has_extra: bool,
     post_header: u8,
@@ -87,6 +89,7 @@ fn put_extra(extra: &Option<RawBytes<'_, BareBytes<MAX_EXTRA_LEN>>>, buf: &mut V
 impl<'a> RowsHead<'a> {
     /// Takes a head off the front of `buf`, in an event of this form whose post-header has this length;
     /// [`Error::EndOfBody`] where it ends within the head.
+    #[inline(always)]
     pub fn read(
         alloc: Global,
         form: RowsForm,

@@ -41,6 +41,7 @@ impl<'a> TableMapEvent<'a> {
     /// - [`Error::EndOfBody`] where the bytes end before the optional metadata.
     /// - [`Invalid::LenEnc`](binlog_wire::Invalid::LenEnc) where `fb` or `ff` stands in the place of the count of columns,
     ///   or of the length of the metadata.
+    #[inline(always)]
     pub fn read(fde: DescriptionRef<'_>, buf: &mut ParseBuf<'a>) -> Result<Self, Error>
         ensures { Gives ⊥ buf.new result ((table_map (post_header (description_of fde.entry) TABLE_MAP_EVENT)).reads buf.old) }
     {

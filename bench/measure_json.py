@@ -1,0 +1,85 @@
+#!/usr/bin/env python3
+"""Measures the lines of JSON beside `mariadb-binlog`, which prints the same statements; prints a Markdown table.
+
+Usage: measure_json.py [PROGRAM [FOLDER]]
+
+PROGRAM is the built binlog_json if not given. FOLDER, `work` beside this file if not given, holds the files of
+make_binlogs.py, and those of statements are made where they are missing. `mariadb-binlog` is of Debian's package
+`mariadb-client`; it refuses the other kinds, which are events of MySQL. Times are of the processor, the best of 5, the two
+in turns, output to /dev/null.
+"""
+
+import os
+import re
+import subprocess
+import sys
+from pathlib import Path
+
+import make_binlogs
+
+KINDS = ("statements", "statements_crc32")
+ROUNDS = 5
+HERE = Path(__file__).resolve().parent
+COLUMNS = ["Input", "Events", "ns / event", "mariadb-binlog's", "Times as fast", "Instructions / event", "MB of JSON"]
+
+
+def seconds(command, path=None):
+    """How long the command takes on the processor."""
+    with open(path or os.devnull, "rb") as file:
+        process = subprocess.Popen(command, stdin=file, stdout=subprocess.DEVNULL)
+        _, status, usage = os.wait4(process.pid, 0)
+        process.returncode = os.waitstatus_to_exitcode(status)
+    if process.returncode != 0:
+        sys.exit(f"{command}: status {process.returncode}")
+    return usage.ru_utime + usage.ru_stime
+
+
+def instructions(program, path):
+    """The instructions of a run, or None where valgrind is missing."""
+    command = ["valgrind", "--tool=callgrind", "--callgrind-out-file=/dev/null", program]
+    try:
+        with open(path, "rb") as file:
+            run = subprocess.run(command, stdin=file, stdout=subprocess.DEVNULL, stderr=subprocess.PIPE, text=True)
+    except FileNotFoundError:
+        return None
+    return int(re.search(r"Collected : (\d+)", run.stderr)[1])
+
+
+def printed(program, path):
+    with open(path, "rb") as file:
+        output = subprocess.run([program], stdin=file, stdout=subprocess.PIPE, check=True).stdout
+    return output.count(b"\n"), len(output)
+
+
+def row(program, folder, kind):
+    path, small = folder / f"{kind}.binlog", folder / f"{kind}_small.binlog"
+    ours, theirs = zip(*((seconds([program], path), seconds(["mariadb-binlog", path])) for _ in range(ROUNDS)))
+    events, size = printed(program, path)
+    few, _ = printed(program, small)
+    counted = instructions(program, small)
+    return [
+        kind,
+        str(events),
+        f"{min(ours) / events * 1e9:.0f}",
+        f"{min(theirs) / events * 1e9:.0f}",
+        f"{min(theirs) / min(ours):.1f}",
+        "not counted" if counted is None else f"{counted / few:.0f}",
+        f"{size / 1e6:.0f}",
+    ]
+
+
+def main(arguments):
+    program = arguments[0] if arguments else str(HERE.parent / "crates/binlog_json/out/binlog_json")
+    folder = Path(arguments[1]) if len(arguments) > 1 else HERE / "work"
+    folder.mkdir(parents=True, exist_ok=True)
+    for kind in KINDS:
+        make_binlogs.make_start(folder, kind)
+        make_binlogs.make_kind(folder, kind)
+    print("| " + " | ".join(COLUMNS) + " |")
+    print("|---" + "|---:" * (len(COLUMNS) - 1) + "|")
+    for kind in KINDS:
+        print("| " + " | ".join(row(program, folder, kind)) + " |", flush=True)
+
+
+if __name__ == "__main__":
+    main(sys.argv[1:])

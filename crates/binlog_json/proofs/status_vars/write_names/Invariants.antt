@@ -1,0 +1,7 @@
+use Rattle.std.proofs.Common.{◌≡◌, ◌∷◌, ◌++◌, [], take, flat_map}
+use Rattle.json.specs.Token.{begin_array}
+use Rattle.binlog_json.specs.Tokens.{text_value}
+use Rattle.binlog_json.proofs.status_vars.write_names.Given as goal
+
+abbrev pub invariant-names : goal.invariant-names
+invariant-names l = l.line ≡ l.fn.line ++ begin_array ∷ [] ++ flat_map text_value (take l.name-index l.fn.names.items)

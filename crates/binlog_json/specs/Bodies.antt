@@ -1,0 +1,67 @@
+-- The objects of smaller events.
+use Rattle.std.specs.Prelude.{ℕ, List, ◌++◌, take, codes, Result, Ok, Err}
+use Rattle.json.specs.Token.{Token}
+use Rattle.binlog_wire.specs.Reading.{Read}
+use Rattle.binlog_wire.specs.Fields.{terminated_at}
+use Rattle.binlog_consts.specs.Codes.{subtype_number, incident_type_number, incident_type_of}
+use Rattle.binlog_consts.specs.Versions.{version_number}
+use Rattle.binlog_consts.specs.declared.codes.IncidentType.{IncidentType}
+use Rattle.binlog_consts.specs.declared.codes.UnknownIncidentType.{UnknownIncidentType}
+use Rattle.binlog_description.specs.declared.format_description.FormatDescriptionEvent.{FormatDescriptionEvent}
+use Rattle.binlog_bodies.specs.declared.events.begin_load_query.BeginLoadQueryEvent.{BeginLoadQueryEvent}
+use Rattle.binlog_bodies.specs.declared.events.rotate.RotateEvent.{RotateEvent}
+use Rattle.binlog_bodies.specs.declared.events.intvar.IntvarEvent.{IntvarEvent}
+use Rattle.binlog_bodies.specs.declared.events.rand.RandEvent.{RandEvent}
+use Rattle.binlog_bodies.specs.declared.events.xid.XidEvent.{XidEvent}
+use Rattle.binlog_bodies.specs.declared.events.incident.IncidentEvent.{IncidentEvent}
+use Rattle.binlog_bodies.specs.declared.events.rows_query.RowsQueryEvent.{RowsQueryEvent}
+use Rattle.binlog_json.specs.Tokens.{number_value, text_value, bytes_value, or_null, member, object}
+
+abbrev pub rotate_object : RotateEvent → List Token
+rotate_object e = object (member (codes "position") (number_value e.position) ++ member (codes "name") (text_value e.name))
+
+abbrev pub intvar_object : IntvarEvent → List Token
+intvar_object e = object (member (codes "subtype") (number_value (subtype_number e.subtype)) ++ member (codes "value") (number_value e.value))
+
+abbrev pub rand_object : RandEvent → List Token
+rand_object e = object (member (codes "seed1") (number_value e.seed1.0) ++ member (codes "seed2") (number_value e.seed2.0))
+
+abbrev pub xid_object : XidEvent → List Token
+xid_object e = object (member (codes "xid") (number_value e.xid))
+
+abbrev pub begin_load_query_object : BeginLoadQueryEvent → List Token
+begin_load_query_object e = object (member (codes "file_id") (number_value e.file_id) ++ member (codes "block_data") (bytes_value e.block_data))
+
+-- the number of an incident, known or not
+abbrev pub incident_number : Result IncidentType UnknownIncidentType → ℕ
+incident_number (Ok type) = incident_type_number type
+incident_number (Err unknown) = unknown.0
+
+abbrev pub incident_object : IncidentEvent → List Token
+incident_object e =
+    object (member (codes "incident_type") (number_value (incident_number (incident_type_of e.incident_type))) ++ member (codes "message") (text_value (take 255 e.message)))
+
+abbrev pub rows_query_object : RowsQueryEvent → List Token
+rows_query_object e = object (member (codes "query") (text_value e.query))
+
+-- what stands in front of its end, or all where it has none
+abbrev pub in_front : List ℕ → Read (List ℕ) → List ℕ
+in_front text (Ok x) = x.0
+in_front text (Err why) = text
+
+-- the bytes in front of the first that is zero, or all
+abbrev pub up_to_zero : List ℕ → List ℕ
+up_to_zero text = in_front text (terminated_at text)
+
+-- the version and the time of a description
+abbrev pub description_head : FormatDescriptionEvent → List Token
+description_head e =
+    member (codes "binlog_version") (number_value (version_number e.binlog_version))
+    ++ member (codes "server_version") (text_value (up_to_zero (take 50 e.server_version)))
+    ++ member (codes "create_timestamp") (number_value e.create_timestamp)
+
+abbrev pub description_object : FormatDescriptionEvent → List Token
+description_object e = object (description_head e
+    ++ member (codes "event_header_length") (number_value 19)
+    ++ member (codes "event_type_header_lengths") (bytes_value e.event_type_header_lengths)
+    ++ member (codes "checksum_alg") (or_null number_value e.footer.checksum_alg))

@@ -1,0 +1,9 @@
+pub mod Tokens
+pub mod Names
+pub mod Bodies
+pub mod Statements
+pub mod StatusVars
+pub mod Gtids
+pub mod Rows
+pub mod Data
+pub mod ItemLines

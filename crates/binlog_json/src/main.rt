@@ -1,0 +1,41 @@
+//! Prints the events of the binary log on standard input as lines of JSON.
+#![tactic(auto)]
+
+mod bodies;
+mod data_value;
+mod gtids;
+mod json_lines;
+mod line;
+mod names;
+mod printing;
+mod rows;
+mod statements;
+mod status_vars;
+
+use binlog_file::Error;
+use binlog_lines::status;
+use printing::print_events;
+use std::io;
+use std::io::{BufReader, BufWriter, Write};
+use std::process::ExitCode;
+
+/// The size of the buffers of the input and the output, in bytes.
+const BUFFER_SIZE: usize = 65_536;
+
+fn run(rt: &(impl Input + Print + AllocGlobal)) -> Result<bool, Error> {
+    let Ok(input) = BufReader::with_capacity(rt.alloc(), BUFFER_SIZE, rt.reader()) else {
+        return Err(Error::Memory);
+    };
+    let Ok(mut output) = BufWriter::with_capacity(rt.alloc(), BUFFER_SIZE, io::writer(rt)) else {
+        return Err(Error::Memory);
+    };
+    let answer = print_events(rt.alloc(), input, &mut output);
+    if output.flush().is_err() {
+        return Err(Error::Writer);
+    }
+    answer
+}
+
+fn main(rt: HostRuntime) -> ExitCode {
+    ExitCode::from(status(&run(&rt)))
+}

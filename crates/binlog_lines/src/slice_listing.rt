@@ -1,0 +1,78 @@
+//! The loop over the items of a log in memory.
+ghost use Rattle.std.specs.Prelude.{◌≡◌, false, Some, IfErr};
+ghost use Rattle.binlog_wire.specs.Errors.{is_outside};
+ghost use Rattle.binlog_file.specs.EventRefs.{item_view};
+ghost use Rattle.binlog_lines.specs.Lines.{Lists, ListsItem};
+ghost use Rattle.binlog_lines.specs.SliceLines.{ListsSlice, answered};
+
+use crate::item_lines::ItemLines;
+use crate::output::write_line;
+use binlog_file::{BinlogSlice, BinlogVersion, Error, EventRef};
+use std::alloc::Global;
+use std::io::Write;
+
+/// Writes the line of each item of a binlog file in memory, the same as [`list`](crate::list) does of a file that is read,
+/// and answers whether an item was an error. It doesn't flush the output.
+///
+/// # Errors
+///
+/// - [`Error::EndOfInput`] where there are fewer than four bytes, and [`Error::InvalidFileHeader`] where the first four
+///   aren't `fe 62 69 6e`; nothing is written then.
+/// - [`Error::Memory`] where memory ran out for a line, after the lines of all items before.
+/// - [`Error::Writer`] where the writer failed; it has a front of the listing.
+pub fn list_slice<W: Write, L: ItemLines>(
+    alloc: Global,
+    bytes: &[u8],
+    lines: &mut L,
+    output: &mut W,
+) -> Result<bool, Error>
+    ensures { Lists L.line L.takes bytes.now (W.contents output.old) result (W.contents output.new) }
+{
+    let slice = BinlogSlice::new(BinlogVersion::Version4, bytes)?;
+    list_items(alloc, slice, lines, output)
+}
+
+// Writes the line of each item of a slice, indexed from 0.
+fn list_items<W: Write, L: ItemLines>(
+    alloc: Global,
+    slice: BinlogSlice<'_>,
+    lines: &mut L,
+    output: &mut W,
+) -> Result<bool, Error>
+    requires { slice.is_ended ≡ false }
+    ensures { ListsSlice L.line L.takes slice.entry (W.contents output.old) result (W.contents output.new) }
+{
+    let mut has_errors = false;
+    let mut index = 0;
+    for item in slice {
+        has_errors |= list_item(alloc, index, item, lines, output)?;
+        index += 1;
+    }
+    Ok(has_errors)
+}
+
+// Writes the line of an item, and answers whether the item is an error.
+#[inline(always)]
+fn list_item<W: Write, L: ItemLines>(
+    alloc: Global,
+    index: u64,
+    item: Result<EventRef<'_>, Error>,
+    lines: &mut L,
+    output: &mut W,
+) -> Result<bool, Error>
+    requires { IfErr item (λ e. is_outside e ≡ false) }
+    ensures { ListsItem L.line L.takes index (Some (item_view item.entry)) (W.contents output.old) (W.contents output.new) (answered result) }
+{
+    match item {
+        Ok(event) => {
+            let line = lines.event_line(alloc, index, &event)?;
+            write_line(output, line)?;
+            Ok(false)
+        }
+        Err(error) => {
+            let line = lines.error_line(alloc, index, &error)?;
+            write_line(output, line)?;
+            Ok(true)
+        }
+    }
+}

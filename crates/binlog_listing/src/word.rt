@@ -1,0 +1,57 @@
+//! The last word of an event's line: whether its data can be read.
+ghost use Rattle.std.specs.Prelude.{◌≡◌, ◌+◌, ◌≤◌, ◌++◌, length, drop, IfOk, IfErr};
+ghost use Rattle.binlog_wire.specs.declared.error.Error.TheVariants.{Memory};
+ghost use Rattle.binlog_file.specs.EventRefs.{view_of};
+ghost use Rattle.binlog_listing.specs.Words.{word_text, word_of, TakesMemoryFor};
+
+use crate::line::write_text;
+use binlog_file::{Error, EventRef};
+use std::alloc::Global;
+
+/// Whether the data of an event can be read.
+#[derive(Clone, Copy)]
+pub(crate) enum Word {
+    /// The data is a body of the event's type.
+    Read,
+    /// The event's type isn't known.
+    Unknown,
+    /// The data isn't a body of the event's type.
+    Refused,
+}
+
+impl Word {
+    /// The word of an event; refused by [`Error::Memory`] alone, for GTIDs with a tag and previous GTIDs.
+    pub(crate) fn of(alloc: Global, event: &EventRef<'_>) -> Result<Word, Error>
+        ensures ok { IfOk result (λ word. word ≡ word_of (view_of event.now)) }
+        ensures memory { IfErr result (λ e. (e ≡ Memory) × TakesMemoryFor (view_of event.now)) }
+    {
+        match event.read_data(alloc) {
+            Ok(Some(data)) => {
+                drop(data);
+                Ok(Word::Read)
+            }
+            Ok(None) => Ok(Word::Unknown),
+            Err(error) => {
+                if error.is_outside() {
+                    return Err(error);
+                }
+                Ok(Word::Refused)
+            }
+        }
+    }
+}
+
+/// Writes the word so that it ends where `end` is, and returns where it starts.
+#[inline(always)]
+pub(crate) fn write_word(word: Word, bytes: &mut [u8], end: usize) -> usize
+    requires { (7 ≤ end) × (end ≤ length bytes.old) }
+    ensures start { result ≤ end }
+    ensures room { end ≤ result + 7 }
+    ensures written { drop result bytes.new ≡ word_text word ++ drop end bytes.old }
+{
+    match word {
+        Word::Read => write_text("read", bytes, end),
+        Word::Unknown => write_text("unknown", bytes, end),
+        Word::Refused => write_text("refused", bytes, end),
+    }
+}
