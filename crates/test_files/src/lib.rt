@@ -1,4 +1,5 @@
-//! Tests of `binlog_file`: where events begin and end, which description is in force, and what a caller does.
+//! Tests of `binlog_file`: where events begin and end, which description is in force, what a caller does, and what refused
+//! memory leaves.
 #![tactic(auto)]
 
 #[cfg(test)]
@@ -7,3 +8,5 @@ mod calling;
 mod describing;
 #[cfg(test)]
 mod framing;
+#[cfg(test)]
+mod memory;

@@ -1,8 +1,6 @@
-//! Tests of `binlog_file`: what is kept from event to event, where memory is refused, and what takes none.
+//! Tests of `binlog_file`: which table maps are in force, and slices, which take no memory.
 #![tactic(auto)]
 
-#[cfg(test)]
-mod memory;
 #[cfg(test)]
 mod slices;
 #[cfg(test)]
