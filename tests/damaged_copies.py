@@ -1,6 +1,8 @@
 #!/usr/bin/env python3
 """Compares the listing program and the listing over a slice with the model on samples and damaged copies of them.
 
+Of encoded events the encoder says, too, what their listing and their lines of JSON are.
+
 Usage: damaged_copies.py [--json] [PROGRAM [SAMPLE]]
 
 PROGRAM reads a binlog on standard input; its default is the built binlog_list, and
@@ -14,10 +16,12 @@ import argparse
 import subprocess
 import sys
 from concurrent.futures import ThreadPoolExecutor
+from itertools import combinations
 from pathlib import Path
 
 import bodies_sample
 import checksummed_sample
+import encoded_logs
 import json_model
 import listing_model
 import make_sample
@@ -35,7 +39,7 @@ HEADER_LENGTH = listing_model.HEADER_LENGTH
 SIZE_OFFSET = 9
 
 
-# A case is a name and the bytes of a file.
+# A case is a name and the bytes of a file, and what has to be printed where the encoder says it.
 
 
 def no_change(sample):
@@ -351,6 +355,13 @@ def texts():
         yield f"the text {text[:9]} of {len(text)} bytes", MAGIC + query + rotate
 
 
+def encoded(is_json):
+    """Logs of encoded events with what the encoder says of them, and logs of damaged copies."""
+    for log in encoded_logs.logs():
+        stated = log.lines if is_json else log.listing
+        yield (log.name, log.content) if stated is None else (log.name, log.content, stated)
+
+
 def checksummed_cases():
     sample = checksummed_sample.sample()
     for kind in (no_change, truncations, changed_bytes, changed_sizes, with_tails):
@@ -362,7 +373,7 @@ def checksummed_cases():
     yield from rotates()
 
 
-def all_cases(sample):
+def all_cases(sample, is_json):
     yield from no_change(sample)
     yield from truncations(sample)
     yield from changed_bytes(sample)
@@ -374,6 +385,7 @@ def all_cases(sample):
     yield from table_maps()
     yield from event_data()
     yield from texts()
+    yield from encoded(is_json)
 
 
 def run(program, content):
@@ -393,20 +405,22 @@ def first_difference(found, wanted):
 
 
 def failure(programs, model, case):
-    """None if all programs and the model agree on the case, else what is wrong."""
-    name, content = case
-    wanted = model.expected(content)
-    faults = [fault for program in programs for fault in all_faults(program, content, wanted)]
+    """None if all programs, the model and the encoder agree on the case, else what is wrong."""
+    name, content, *stated = case
+    results = [(Path(program).name, *run(program, content)) for program in programs]
+    results.append(("the model", *model.expected(content)))
+    results += [("the encoder", output, listing_model.STATUS_FINE) for output in stated]
+    faults = [fault for pair in combinations(results, 2) for fault in all_faults(*pair)]
     return f"{name}: {'; '.join(faults)}" if faults else None
 
 
-def all_faults(program, content, wanted):
-    wanted_output, wanted_status = wanted
-    output, status = run(program, content)
+def all_faults(found, wanted):
+    found_name, output, status = found
+    wanted_name, wanted_output, wanted_status = wanted
     if status != wanted_status:
-        yield f"{Path(program).name}: status {status}, not {wanted_status}"
+        yield f"{found_name}, unlike {wanted_name}: status {status}, not {wanted_status}"
     if output != wanted_output:
-        yield f"{Path(program).name}: {first_difference(output, wanted_output)}"
+        yield f"{found_name}, unlike {wanted_name}: {first_difference(output, wanted_output)}"
 
 
 def read_arguments():
@@ -433,7 +447,7 @@ def main():
     programs = [str(program.resolve()) for program in compared(arguments)]
     sample = arguments.sample.read_bytes() if arguments.sample else make_sample.sample()
     model = json_model if arguments.json else listing_model
-    cases = list(all_cases(sample))
+    cases = list(all_cases(sample, arguments.json))
     with ThreadPoolExecutor(PROCESSES_AT_A_TIME) as pool:
         results = list(pool.map(lambda case: failure(programs, model, case), cases))
     failures = [result for result in results if result is not None]
