@@ -14,6 +14,3 @@ pub use events::rand::RandEvent;
 pub use events::rotate::RotateEvent;
 pub use events::rows_query::RowsQueryEvent;
 pub use events::xid::XidEvent;
-
-#[cfg(test)]
-mod tests;

@@ -22,6 +22,3 @@ pub use rows_event_flags::RowsEventFlags;
 pub use statement_codes::{ItemResult, LoadDuplicateHandling, UnknownItemResultType, UserVarFlags};
 pub use status_var_key::{StatusVarKey, UnknownStatusVarKey};
 pub use version::BinlogVersion;
-
-#[cfg(test)]
-mod tests;

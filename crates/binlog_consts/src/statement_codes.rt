@@ -158,26 +158,3 @@ impl Flags for UserVarFlags {
         UserVarFlags(bits)
     }
 }
-
-#[cfg(test)]
-mod tests {
-    use super::*;
-    use binlog_wire::RawFlags;
-
-    #[test]
-    fn knows_the_values(rt: HostRuntime) {
-        assert_eq!(rt;
-            LoadDuplicateHandling::try_from(2),
-            Ok(LoadDuplicateHandling::LOAD_DUP_REPLACE)
-        );
-        assert_eq!(rt;
-            LoadDuplicateHandling::try_from(3),
-            Err(Invalid::DupHandling(3))
-        );
-        assert_eq!(rt; ItemResult::try_from(2), Ok(ItemResult::INT_RESULT));
-        assert_eq!(rt; ItemResult::try_from(-1), Err(UnknownItemResultType(-1)));
-        assert_eq!(rt; i8::from(ItemResult::DECIMAL_RESULT), 4);
-        let raw: RawFlags<UserVarFlags, u8> = RawFlags::new(0xff);
-        assert!(rt; raw.get() == UserVarFlags::UNSIGNED);
-    }
-}

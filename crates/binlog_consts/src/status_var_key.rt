@@ -104,21 +104,3 @@ impl From<StatusVarKey> for u8 {
         key as u8
     }
 }
-
-#[cfg(test)]
-mod tests {
-    use super::*;
-
-    #[test]
-    fn knows_the_keys(rt: HostRuntime) {
-        assert_eq!(rt; StatusVarKey::try_from(0), Ok(StatusVarKey::Flags2));
-        assert_eq!(rt; StatusVarKey::try_from(11), Ok(StatusVarKey::Invoker));
-        assert_eq!(rt;
-            StatusVarKey::try_from(20),
-            Ok(StatusVarKey::DefaultTableEncryption)
-        );
-        assert_eq!(rt; StatusVarKey::try_from(21), Err(UnknownStatusVarKey(21)));
-        assert_eq!(rt; StatusVarKey::try_from(255), Err(UnknownStatusVarKey(255)));
-        assert_eq!(rt; u8::from(StatusVarKey::Microseconds), 13);
-    }
-}

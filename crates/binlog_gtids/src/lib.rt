@@ -23,6 +23,3 @@ pub use gtid_event::GtidEvent;
 pub use gtid_flags::GtidFlags;
 pub use previous_gtids_event::PreviousGtidsEvent;
 pub use previous_gtids_sid::PreviousGtidsSid;
-
-#[cfg(test)]
-mod tests;

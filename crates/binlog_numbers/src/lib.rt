@@ -29,6 +29,3 @@ pub use varlen::{
     Varlen, VarlenSigned, read_varlen_int, read_varlen_uint, varlen_uint_size, write_varlen_int,
     write_varlen_uint,
 };
-
-#[cfg(test)]
-mod tests;

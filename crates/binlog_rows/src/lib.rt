@@ -32,6 +32,3 @@ pub use rows_kind::{
     UpdateRows, UpdateRowsV1, WriteRows, WriteRowsV1,
 };
 pub use table_map_event::TableMapEvent;
-
-#[cfg(test)]
-mod tests;

@@ -23,6 +23,3 @@ pub use query::QueryEvent;
 pub use status_var_val::StatusVarVal;
 pub use status_vars::{StatusVar, StatusVars, StatusVarsIterator};
 pub use user_var::UserVarEvent;
-
-#[cfg(test)]
-mod tests;

@@ -176,6 +176,3 @@ impl From<AllocError> for Error {
         Error::Memory
     }
 }
-
-#[cfg(test)]
-mod tests;

@@ -3,14 +3,14 @@ use super::{
     OF_ONE_IMAGE, OF_SIX, OF_TEN, UPDATE, UPDATE_V1, WRITE, WRITTEN, by_default, has_bits,
     is_rewritten, is_rewritten_under, read, read_under, stating,
 };
-use crate::{
+use binlog_consts::EventType;
+use binlog_description::{BinlogEvent, DescriptionRef};
+use binlog_rows::{
     DeleteRows, DeleteRowsEvent, DeleteRowsEventV1, DeleteRowsV1, HasAfterImage, HasBeforeImage,
     PartialUpdateRows, PartialUpdateRowsEvent, RowsEventFlags, RowsEventOf, RowsKind, UpdateRows,
     UpdateRowsEvent, UpdateRowsEventV1, UpdateRowsV1, WriteRows, WriteRowsEvent, WriteRowsEventV1,
     WriteRowsV1,
 };
-use binlog_consts::EventType;
-use binlog_description::{BinlogEvent, DescriptionRef};
 use binlog_wire::{Error, Invalid, MyDeserialize};
 use std::alloc::Global;
 

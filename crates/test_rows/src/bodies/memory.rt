@@ -1,10 +1,10 @@
 //! What refused memory leaves. These tests pass wherever an allocation is refused: a refusal is the call's error, and no
 //! answer changes.
 use super::{NINE_COLUMNS, ONE_COLUMN, UPDATE, WRITE, WRITTEN, read};
-use crate::{
+use binlog_description::BinlogEvent;
+use binlog_rows::{
     RowsEvent, RowsEventData, RowsEventOf, RowsKind, TableMapEvent, UpdateRowsEvent, WriteRowsEvent,
 };
-use binlog_description::BinlogEvent;
 use binlog_wire::{Error, MySerialize};
 use std::alloc::Global;
 

@@ -1,7 +1,7 @@
 //! Which status variables a text has.
 use super::STATUS;
-use crate::{StatusVars, StatusVarsIterator};
 use binlog_consts::StatusVarKey;
+use binlog_statements::{StatusVars, StatusVarsIterator};
 use binlog_wire::RawBytes;
 use std::borrow::CowSlice;
 use std::process::Abort;

@@ -1,4 +1,5 @@
-use super::{Error, Field, Invalid};
+//! The numbers and the texts of errors.
+use binlog_wire::{Error, Field, Invalid};
 use std::test::Fail;
 
 #[test]

@@ -1,8 +1,8 @@
 //! The events of statements that load a file.
 use super::{LOAD, fronts_are_refused, is_written_with, read};
-use crate::ExecuteLoadQueryEvent;
 use binlog_consts::{BinlogVersion, LoadDuplicateHandling};
 use binlog_description::BinlogStruct;
+use binlog_statements::ExecuteLoadQueryEvent;
 use binlog_wire::{Error, Invalid};
 use std::borrow::CowSlice;
 use std::process::Abort;

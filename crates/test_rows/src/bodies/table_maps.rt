@@ -3,8 +3,8 @@ use super::{
     NINE_COLUMNS, OF_SIX, ONE_COLUMN, by_default, has_bits, is_rewritten, is_rewritten_under, read,
     read_under, stating,
 };
-use crate::TableMapEvent;
 use binlog_description::DescriptionRef;
+use binlog_rows::TableMapEvent;
 use binlog_wire::{Error, Invalid};
 use std::alloc::Global;
 

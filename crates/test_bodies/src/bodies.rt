@@ -1,5 +1,5 @@
 //! What the bodies of events are read as and written as, by rows from outside.
-use crate::{
+use binlog_bodies::{
     BeginLoadQueryEvent, BinlogCtx, BinlogEvent, BinlogStruct, BinlogVersion, Error, IncidentEvent,
     IntvarEvent, Invalid, RandEvent, RotateEvent, RowsQueryEvent, XidEvent, laws, read_body,
 };

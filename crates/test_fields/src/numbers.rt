@@ -1,5 +1,8 @@
 //! Spellings with exact bytes, as MySQL's documentation and upstream's tests have them.
-use super::*;
+use binlog_numbers::{
+    GnoInterval, LenEnc, Tag, lenenc_int_len, read_varlen_int, read_varlen_uint, varlen_uint_size,
+    write_varlen_int, write_varlen_uint,
+};
 use binlog_wire::{Error, IntRepr, Invalid, MyDeserialize, MySerialize, ParseBuf, RawInt};
 use std::borrow::CowStr;
 use std::string::String;

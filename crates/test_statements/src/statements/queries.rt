@@ -1,8 +1,8 @@
 //! The events of statements.
 use super::{CREATE_TABLE, STATUS, fronts_are_refused, is_written_with, read, read_under, stating};
-use crate::QueryEvent;
 use binlog_consts::BinlogVersion;
 use binlog_description::BinlogStruct;
+use binlog_statements::QueryEvent;
 use binlog_wire::Error;
 use std::borrow::CowSlice;
 

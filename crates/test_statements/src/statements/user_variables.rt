@@ -1,7 +1,7 @@
 //! The events of user variables.
 use super::{INTEGER, fronts_are_refused, read};
-use crate::UserVarEvent;
 use binlog_consts::{ItemResult, UnknownItemResultType, UserVarFlags};
+use binlog_statements::UserVarEvent;
 use binlog_wire::Error;
 use std::process::Abort;
 

@@ -1,9 +1,11 @@
 //! What takes memory, and what refused memory leaves. These tests pass wherever an allocation is refused: a refusal is
 //! the call's error, and no answer changes.
 use super::{CREATE_TABLE, INTEGER, LOAD, STATUS, read};
-use crate::{ExecuteLoadQueryEvent, QueryEvent, StatusVarVal, StatusVarsIterator, UserVarEvent};
 use binlog_consts::BinlogVersion;
 use binlog_description::{BinlogEvent, BinlogStruct};
+use binlog_statements::{
+    ExecuteLoadQueryEvent, QueryEvent, StatusVarVal, StatusVarsIterator, UserVarEvent,
+};
 use binlog_wire::{Error, MySerialize};
 use std::alloc::Global;
 use std::process::Abort;

@@ -1,8 +1,10 @@
 //! Bodies with exact bytes.
-use super::*;
 use binlog_consts::{BinlogVersion, EventType};
 use binlog_description::{
     BinlogCtx, BinlogEvent, BinlogEventHeader, BinlogStruct, FormatDescriptionEvent, read_body,
+};
+use binlog_gtids::{
+    AnonymousGtidEvent, GtidEvent, GtidFlags, PreviousGtidsEvent, PreviousGtidsSid,
 };
 use binlog_numbers::{GnoInterval, Tag};
 use binlog_wire::{Error, Field, Invalid, MySerialize, ParseBuf};

@@ -1,0 +1,7 @@
+//! Tests of `binlog_rows` and `binlog_event_data`: table maps, the events of rows, and the data of an event of any type.
+#![tactic(auto)]
+
+#[cfg(test)]
+mod bodies;
+#[cfg(test)]
+mod event_data;
