@@ -4,8 +4,8 @@
 ghost use Rattle.binlog_wire.specs.Errors.{error_number};
 ghost use Rattle.binlog_consts.specs.EventTypes.{event_type_of};
 ghost use Rattle.binlog_description.specs.Headers.{header_of};
-ghost use Rattle.binlog_file.specs.EventRefs.{view_of};
-ghost use Rattle.binlog_file.specs.Parts.{data_of};
+ghost use Rattle.binlog_events.specs.EventRefs.{view_of};
+ghost use Rattle.binlog_events.specs.Parts.{data_of};
 ghost use Rattle.binlog_json.specs.Tokens.{Adds};
 ghost use Rattle.binlog_json.specs.Data.{empty_object, raw_object, error_object, data_object, name_value, data_value};
 

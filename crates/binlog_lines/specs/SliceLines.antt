@@ -1,7 +1,7 @@
 -- The listing of the items of a slice.
 use Rattle.std.specs.Prelude.{ℕ, Bool, false, List, Option, Some, Result, Ok, Err}
 use Rattle.binlog_wire.specs.declared.error.Error.{Error}
-use Rattle.binlog_file.specs.Events.{EventView}
+use Rattle.binlog_events.specs.Events.{EventView}
 use Rattle.binlog_description.specs.declared.format_description.FormatDescriptionEvent.{FormatDescriptionEvent}
 use Rattle.binlog_file.specs.declared.slice.BinlogSlice.{BinlogSlice}
 use Rattle.binlog_file.specs.Slices.{slice_fde}

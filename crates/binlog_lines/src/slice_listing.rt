@@ -1,7 +1,7 @@
 //! The loop over the items of a log in memory.
 ghost use Rattle.std.specs.Prelude.{◌≡◌, false, Some, IfErr};
 ghost use Rattle.binlog_wire.specs.Errors.{is_outside};
-ghost use Rattle.binlog_file.specs.EventRefs.{item_view};
+ghost use Rattle.binlog_events.specs.EventRefs.{item_view};
 ghost use Rattle.binlog_lines.specs.Lines.{Lists, ListsItem};
 ghost use Rattle.binlog_lines.specs.SliceLines.{ListsSlice, answered};
 

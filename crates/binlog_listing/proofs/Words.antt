@@ -12,8 +12,8 @@ use Rattle.binlog_description.specs.Headers.{header_of}
 use Rattle.binlog_description.specs.declared.format_description.FormatDescriptionEvent.{FormatDescriptionEvent}
 use Rattle.binlog_event_data.specs.ReadData.{TakesMemory, ReadsAs}
 use Rattle.binlog_event_data.specs.declared.event_data.EventData.{EventData}
-use Rattle.binlog_file.specs.Events.{EventView, ReadsEventData}
-use Rattle.binlog_file.specs.Parts.{data_of}
+use Rattle.binlog_events.specs.Events.{EventView, ReadsEventData}
+use Rattle.binlog_events.specs.Parts.{data_of}
 use Rattle.binlog_listing.specs.Words.{word_by, word_of, read_whole, MayTakeMemory, TakesMemoryFor}
 use Rattle.binlog_listing.specs.declared.word.Word.{Word}
 use Rattle.binlog_listing.specs.declared.word.Word.TheVariants as words

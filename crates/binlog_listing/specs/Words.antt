@@ -7,8 +7,8 @@ use Rattle.binlog_consts.specs.declared.event_type.UnknownEventType.{UnknownEven
 use Rattle.binlog_description.specs.Headers.{header_of}
 use Rattle.binlog_description.specs.declared.format_description.FormatDescriptionEvent.{FormatDescriptionEvent}
 use Rattle.binlog_event_data.specs.ReadData.{TakesMemory, data_read}
-use Rattle.binlog_file.specs.Events.{EventView}
-use Rattle.binlog_file.specs.Parts.{data_of}
+use Rattle.binlog_events.specs.Events.{EventView}
+use Rattle.binlog_events.specs.Parts.{data_of}
 use Rattle.binlog_listing.specs.declared.word.Word.{Word}
 use Rattle.binlog_listing.specs.declared.word.Word.TheVariants as words
 

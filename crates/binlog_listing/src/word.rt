@@ -1,7 +1,7 @@
 //! The last word of an event's line: whether its data can be read.
 ghost use Rattle.std.specs.Prelude.{◌≡◌, ◌+◌, ◌≤◌, ◌++◌, length, drop, IfOk, IfErr};
 ghost use Rattle.binlog_wire.specs.declared.error.Error.TheVariants.{Memory};
-ghost use Rattle.binlog_file.specs.EventRefs.{view_of};
+ghost use Rattle.binlog_events.specs.EventRefs.{view_of};
 ghost use Rattle.binlog_listing.specs.Words.{word_text, word_of, TakesMemoryFor};
 
 use crate::line::write_text;
