@@ -15,7 +15,7 @@ use Rattle.binlog_bodies.specs.declared.events.rand.RandEvent.{RandEvent}
 use Rattle.binlog_bodies.specs.declared.events.xid.XidEvent.{XidEvent}
 use Rattle.binlog_bodies.specs.declared.events.incident.IncidentEvent.{IncidentEvent}
 use Rattle.binlog_bodies.specs.declared.events.rows_query.RowsQueryEvent.{RowsQueryEvent}
-use Rattle.binlog_json.specs.Tokens.{number_value, text_value, bytes_value, or_null, member, object}
+use Rattle.json_line.specs.Tokens.{number_value, text_value, bytes_value, or_null, member, object}
 
 abbrev pub rotate_object : RotateEvent → List Token
 rotate_object e = object (member (codes "position") (number_value e.position) ++ member (codes "name") (text_value e.name))

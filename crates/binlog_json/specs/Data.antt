@@ -8,7 +8,7 @@ use Rattle.binlog_description.specs.declared.format_description.FormatDescriptio
 use Rattle.binlog_event_data.specs.ReadData.{data_read}
 use Rattle.binlog_event_data.specs.declared.event_data.EventData.{EventData}
 use Rattle.binlog_event_data.specs.declared.event_data.EventData.TheVariants as variants
-use Rattle.binlog_json.specs.Tokens.{number_value, bytes_value, member, object}
+use Rattle.json_line.specs.Tokens.{number_value, bytes_value, member, object}
 use Rattle.binlog_json.specs.Names.{type_name}
 use Rattle.binlog_json.specs.Bodies.{rotate_object, intvar_object, rand_object, xid_object, begin_load_query_object, incident_object, rows_query_object, description_object}
 use Rattle.binlog_json.specs.Statements.{query_object, execute_load_query_object, user_var_object}

@@ -5,7 +5,7 @@ use Rattle.binlog_numbers.specs.declared.gno_interval.GnoInterval.{GnoInterval}
 use Rattle.binlog_gtids.specs.declared.gtid_event.GtidEvent.{GtidEvent}
 use Rattle.binlog_gtids.specs.declared.previous_gtids_event.PreviousGtidsEvent.{PreviousGtidsEvent}
 use Rattle.binlog_gtids.specs.declared.previous_gtids_sid.PreviousGtidsSid.{PreviousGtidsSid}
-use Rattle.binlog_json.specs.Tokens.{number_value, uuid_value, or_null, member, object, array}
+use Rattle.json_line.specs.Tokens.{number_value, uuid_value, or_null, member, object, array}
 
 -- a tag, or null
 abbrev pub tag_value : Option (List ℕ) → List Token

@@ -9,7 +9,7 @@ use Rattle.binlog_description.specs.Headers.{header_of}
 use Rattle.binlog_description.specs.declared.header.BinlogEventHeader.{BinlogEventHeader}
 use Rattle.binlog_events.specs.Events.{EventView}
 use Rattle.binlog_events.specs.Parts.{data_of, checksum_of}
-use Rattle.binlog_json.specs.Tokens.{number_value, bytes_value, or_null, member, object}
+use Rattle.json_line.specs.Tokens.{number_value, bytes_value, or_null, member, object}
 use Rattle.binlog_json.specs.Data.{name_value, data_value}
 
 -- the type and its name

@@ -11,7 +11,7 @@ use Rattle.binlog_statements.specs.declared.statement.Statement.{Statement}
 use Rattle.binlog_statements.specs.declared.query.QueryEvent.{QueryEvent}
 use Rattle.binlog_statements.specs.declared.execute_load_query.ExecuteLoadQueryEvent.{ExecuteLoadQueryEvent}
 use Rattle.binlog_statements.specs.declared.user_var.UserVarEvent.{UserVarEvent}
-use Rattle.binlog_json.specs.Tokens.{number_value, text_value, bytes_value, member, object}
+use Rattle.json_line.specs.Tokens.{number_value, text_value, bytes_value, member, object}
 use Rattle.binlog_json.specs.StatusVars.{status_vars_value}
 
 -- ---- statements

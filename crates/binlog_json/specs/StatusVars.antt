@@ -5,7 +5,7 @@ use Rattle.json.specs.Token.{Token, string, boolean}
 use Rattle.binlog_consts.specs.declared.status_var_key.StatusVarKey.{StatusVarKey}
 use Rattle.binlog_consts.specs.declared.status_var_key.StatusVarKey.TheVariants.{Flags2, SqlMode, Catalog, AutoIncrement, Charset, TimeZone, CatalogNz, LcTimeNames, CharsetDatabase, TableMapForUpdate, MasterDataWritten, Invoker, UpdatedDbNames, Microseconds, CommitTs, CommitTs2, ExplicitDefaultsForTimestamp, DdlLoggedWithXid, DefaultCollationForUtf8mb4, SqlRequirePrimaryKey, DefaultTableEncryption}
 use Rattle.binlog_statements.specs.StatusVariables.{Variable, variables}
-use Rattle.binlog_json.specs.Tokens.{number_value, text_value, bytes_value, member, object, array}
+use Rattle.json_line.specs.Tokens.{number_value, text_value, bytes_value, member, object, array}
 
 -- the name of a key
 abbrev pub key_name : StatusVarKey → List ℕ

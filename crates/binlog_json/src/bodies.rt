@@ -2,14 +2,14 @@
 #![tactic(auto, using(std::proofs::Common::append_assoc))]
 
 ghost use Rattle.std.specs.Prelude.{◌≡◌};
-ghost use Rattle.binlog_json.specs.Tokens.{Adds};
+ghost use Rattle.json_line.specs.Tokens.{Adds};
 ghost use Rattle.binlog_json.specs.Bodies.{rotate_object, intvar_object, rand_object, xid_object, begin_load_query_object, incident_number, incident_object, rows_query_object, description_head, description_object, up_to_zero};
 
-use crate::line::Line;
 use binlog_file::{
     BeginLoadQueryEvent, FormatDescriptionEvent, IncidentEvent, IncidentType, IntvarEvent,
     RandEvent, RotateEvent, RowsQueryEvent, UnknownIncidentType, XidEvent,
 };
+use json_line::Line;
 use memchr::memchr;
 use std::alloc::AllocError;
 

@@ -6,7 +6,7 @@ ghost use Rattle.binlog_consts.specs.EventTypes.{event_type_of};
 ghost use Rattle.binlog_description.specs.Headers.{header_of};
 ghost use Rattle.binlog_events.specs.EventRefs.{view_of};
 ghost use Rattle.binlog_events.specs.Parts.{data_of};
-ghost use Rattle.binlog_json.specs.Tokens.{Adds};
+ghost use Rattle.json_line.specs.Tokens.{Adds};
 ghost use Rattle.binlog_json.specs.Data.{empty_object, raw_object, error_object, data_object, name_value, data_value};
 
 use crate::bodies::{
@@ -14,11 +14,11 @@ use crate::bodies::{
     write_rotate, write_rows_query, write_xid,
 };
 use crate::gtids::{write_gtid, write_previous_gtids};
-use crate::line::Line;
 use crate::names::name_of;
 use crate::rows::{write_rows, write_table_map};
 use crate::statements::{write_execute_load_query, write_query, write_user_var};
 use binlog_file::{Error, EventData, EventRef, EventType, UnknownEventType};
+use json_line::Line;
 use std::alloc::{AllocError, Global};
 
 /// Writes the name of a type, and null for one that isn't known.
@@ -29,7 +29,7 @@ pub(crate) fn write_name(
     ensures { Adds result line.old line.new (name_value event_type) }
 {
     match event_type {
-        Ok(event_type) => line.string(name_of(event_type)),
+        Ok(event_type) => line.plain_string(name_of(event_type)),
         Err(_) => line.null(),
     }
 }

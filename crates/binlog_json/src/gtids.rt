@@ -2,11 +2,11 @@
 #![tactic(auto, using(std::proofs::Common::append_assoc))]
 
 ghost use Rattle.std.specs.Prelude.{flat_map, option_copied};
-ghost use Rattle.binlog_json.specs.Tokens.{Adds, array};
+ghost use Rattle.json_line.specs.Tokens.{Adds, array};
 ghost use Rattle.binlog_json.specs.Gtids.{tag_value, gtid_id, gtid_clock, gtid_commit, gtid_object, interval_value, sid_object, previous_gtids_object};
 
-use crate::line::Line;
 use binlog_file::{GnoInterval, GtidEvent, PreviousGtidsEvent, PreviousGtidsSid, Tag};
+use json_line::Line;
 use std::alloc::AllocError;
 
 pub(crate) fn write_gtid(line: &mut Line, event: &GtidEvent) -> Result<(), AllocError>

@@ -5,7 +5,6 @@ mod bodies;
 mod data_value;
 mod gtids;
 mod json_lines;
-mod line;
 mod names;
 mod printing;
 mod rows;

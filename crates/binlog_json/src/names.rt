@@ -1,12 +1,14 @@
 //! The names of the types of events.
 ghost use Rattle.std.specs.Prelude.{◌≡◌};
+ghost use Rattle.json_line.specs.Lines.{IsPlainText};
 ghost use Rattle.binlog_json.specs.Names.{type_name};
 
 use binlog_file::EventType;
 
 /// The name of a type, as MySQL has it.
 pub(crate) fn name_of(event_type: EventType) -> &'static str
-    ensures { result.now ≡ type_name event_type }
+    ensures name { result.now ≡ type_name event_type }
+    ensures plain { IsPlainText result.now }
 {
     match event_type {
         EventType::UNKNOWN_EVENT => "UNKNOWN_EVENT",

@@ -3,11 +3,11 @@
 
 ghost use Rattle.std.specs.Prelude.{option_map};
 ghost use Rattle.binlog_rows.specs.Images.{bitmap_of};
-ghost use Rattle.binlog_json.specs.Tokens.{Adds, bits_value, or_null};
+ghost use Rattle.json_line.specs.Tokens.{Adds, bits_value, or_null};
 ghost use Rattle.binlog_json.specs.Rows.{mapped_table, mapped_columns, table_map_object, rows_columns, rows_object};
 
-use crate::line::Line;
 use binlog_file::{BitView, RowsEvent, RowsEventData, TableMapEvent};
+use json_line::Line;
 use std::alloc::AllocError;
 
 pub(crate) fn write_table_map(line: &mut Line, event: &TableMapEvent<'_>) -> Result<(), AllocError>

@@ -4,14 +4,14 @@
 ghost use Rattle.std.specs.Prelude.{◌∷◌, []};
 ghost use Rattle.std.specs.Fmt.{signed_decimal};
 ghost use Rattle.json.specs.Token.{number};
-ghost use Rattle.binlog_json.specs.Tokens.{Adds};
+ghost use Rattle.json_line.specs.Tokens.{Adds};
 ghost use Rattle.binlog_json.specs.Statements.{query_object, execute_load_query_object, loaded_file, user_var_object, user_var_value, statement_head, statement_texts, value_type_number};
 
-use crate::line::Line;
 use crate::status_vars::write_status_vars;
 use binlog_file::{
     ExecuteLoadQueryEvent, ItemResult, QueryEvent, UnknownItemResultType, UserVarEvent,
 };
+use json_line::Line;
 use std::alloc::{AllocError, Global};
 
 pub(crate) fn write_query(

@@ -5,12 +5,13 @@ ghost use Rattle.std.specs.Prelude.{◌≡◌, ◌++◌, codes, flat_map, take};
 ghost use Rattle.binlog_statements.specs.StatusVariables.{Variable};
 ghost use Rattle.binlog_statements.specs.StatusVarValues.{Has};
 ghost use Rattle.binlog_statements.specs.StatusVars.{variable_of};
-ghost use Rattle.binlog_json.specs.Tokens.{Adds, text_value, number_value, member, object, array};
+ghost use Rattle.json_line.specs.Lines.{IsPlainText};
+ghost use Rattle.json_line.specs.Tokens.{Adds, text_value, number_value, member, object, array};
 ghost use Rattle.binlog_json.specs.StatusVars.{key_name, value_of_key, variable_object, status_vars_value};
 
-use crate::line::Line;
 use binlog_file::{StatusVar, StatusVarKey, StatusVarVal, StatusVars};
 use binlog_wire::{NullBytes, RawBytes};
+use json_line::Line;
 use std::alloc::{AllocError, Global};
 
 /// Writes a list of the variables, in order.
@@ -36,10 +37,7 @@ fn write_variable(
 ) -> Result<(), AllocError>
     ensures { Adds result line.old line.new (variable_object (variable_of variable.now)) }
 {
-    line.begin_object()?;
-    line.key("key")?;
-    line.string(name_of_key(variable.key()))?;
-    line.key("value")?;
+    line.begin_entry(name_of_key(variable.key()))?;
     write_parsed_value(line, alloc, variable)?;
     line.end_object()?;
     Ok(())
@@ -154,7 +152,8 @@ fn write_names(line: &mut Line, names: &Vec<RawBytes<'_, NullBytes>>) -> Result<
 
 // The name of a key.
 fn name_of_key(key: StatusVarKey) -> &'static str
-    ensures { result.now ≡ key_name key }
+    ensures name { result.now ≡ key_name key }
+    ensures plain { IsPlainText result.now }
 {
     match key {
         StatusVarKey::Flags2 => "Flags2",

@@ -1,6 +1,6 @@
 use Rattle.std.proofs.Common.{◌≡◌, ◌∷◌, ◌++◌, [], take, flat_map}
 use Rattle.json.specs.Token.{begin_array}
-use Rattle.binlog_json.specs.Tokens.{text_value}
+use Rattle.json_line.specs.Tokens.{text_value}
 use Rattle.binlog_json.proofs.status_vars.write_names.Given as goal
 
 abbrev pub invariant-names : goal.invariant-names

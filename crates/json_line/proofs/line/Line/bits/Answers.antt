@@ -1,6 +1,6 @@
 use Rattle.std.proofs.Common.{arith, sym, ◌∙◌}
-use Rattle.binlog_json.proofs.Tokens.{no_bits, bit_added}
-use Rattle.binlog_json.proofs.line.Line.bits.Goals as goal
+use Rattle.json_line.proofs.Tokens.{no_bits, bit_added}
+use Rattle.json_line.proofs.line.Line.bits.Goals as goal
 
 pub bits-init : goal.bits-init
 bits-init c = no_bits _ _ _ c.in_ok-begin_array.ensures

@@ -1,5 +1,5 @@
-use Rattle.binlog_json.proofs.Texts.{text_is_string}
-use Rattle.binlog_json.proofs.line.Line.text.Goals as goal
+use Rattle.json_line.proofs.Texts.{text_is_string}
+use Rattle.json_line.proofs.line.Line.text.Goals as goal
 
 pub returns-in-Ok : goal.returns-in-Ok
 returns-in-Ok c =

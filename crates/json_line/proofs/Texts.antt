@@ -8,7 +8,7 @@ use Rattle.std.specs.Str.{IsUtf8, IsAscii}
 use Rattle.hex.specs.Hex.{encode_lower, lower_digits}
 use Rattle.hex.proofs.HexLemmas.{IsAscii-encode_with}
 use Rattle.json.specs.Token.{string}
-use Rattle.binlog_json.specs.Tokens.{text_value}
+use Rattle.json_line.specs.Tokens.{text_value}
 
 -- each byte is below 128
 abbrev are_below : List ℕ → Bool

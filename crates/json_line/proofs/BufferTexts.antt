@@ -1,0 +1,17 @@
+-- Writing that ends at a place, as writing that begins at one.
+use Rattle.std.proofs.Common.{◌≡◌, ℕ, ◌+◌, ◌-◌, ◌≤◌, List, ◌++◌, length, take, drop, refl, ap, sym, ◌∙◌, arith, length-append, length-drop, length-take-le, take-add, take_at, take-append-drop}
+use Rattle.json.specs.Filled.{Placed}
+
+-- the digits end at `end`, and nothing else changes
+pub ending_at : (old new digits : List ℕ) (start end : ℕ) → start + length digits ≡ end → end ≤ length old
+    → drop start new ≡ digits ++ drop end old → take start new ≡ take start old → Placed old new start digits end
+ending_at old new digits start end long fits written before =
+    let front : length (take start old) ≡ start = length-take-le start old (omega arith) in
+    let behind : length (drop end old) ≡ length old - end = length-drop end old in
+    let whole : take start old ++ (digits ++ drop end old) ≡ new = (λ i. sym before i ++ sym written i) ∙ take-append-drop start new in
+    record {
+      bytes = ap (λ n. take n new) (sym long) ∙ take-add start (length digits) new ∙ (λ i. before i ++ take (length digits) (written i))
+          ∙ ap (λ l. take start old ++ l) (take_at digits (drop end old) (length digits) refl);
+      moved = sym long;
+      len = omega (arith, front, behind, ap length whole, length-append (take start old) (digits ++ drop end old), length-append digits (drop end old));
+    }

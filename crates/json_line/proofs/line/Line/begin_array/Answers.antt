@@ -1,0 +1,14 @@
+use Rattle.std.proofs.Common.{◌++◌, ◌∷◌, [], false, refl, ap, ◌∙◌}
+use Rattle.json.specs.Token.{begin_array}
+use Rattle.json.proofs.Printed.Utf8.{IsUtf8-are_ascii}
+use Rattle.json_line.proofs.OneMore.{text_begun, pushed, pushed_tokens}
+use Rattle.json_line.proofs.line.Line.begin_array.Goals as goal
+
+pub invariant_of-self-2 : goal.invariant_of-self-2
+invariant_of-self-2 c =
+    pushed _ _ c.self.invariant begin_array tt (IsUtf8-are_ascii _ refl) _ false refl (text_begun _ _ _ begin_array _ refl refl c.in_ok-add.ensures)
+
+pub returns : goal.returns
+returns c =
+    pushed_tokens _ _ c.self.invariant begin_array tt (IsUtf8-are_ascii _ refl) _ false refl (text_begun _ _ _ begin_array _ refl refl c.in_ok-add.ensures)
+    ∙ ap (λ l. l ++ begin_array ∷ []) c.self.view_is

@@ -1,0 +1,20 @@
+-- What a contract sees of a buffer.
+use Rattle.std.specs.Prelude.{◌≡◌, ℕ, Bool, cond, List, [], ◌∷◌, ◌++◌, refl, Result, MatchResult}
+use Rattle.std.specs.Coded.{Coded, code_by, coded×, coded_list, coded_ℕ}
+
+-- the bytes that are written, and how many more may be written before it has to grow
+pub record Buffered : Type 0 where
+  pub text : List ℕ
+  pub room : ℕ
+
+-- it is stored as the pair of its fields
+abbrev pub buffered_code : Coded Buffered
+buffered_code = code_by (List ℕ × ℕ) (coded× (coded_list coded_ℕ) coded_ℕ) (λ b. (b.text, b.room)) (λ p. record { text = p.0; room = p.1 }) (λ _. refl)
+
+-- a comma, where it is wanted
+abbrev pub comma : Bool → List ℕ
+comma wanted = cond wanted (44 ∷ []) []
+
+-- the bytes stand behind the others, or none of them does
+abbrev pub Puts : {A E : Type 0} → Result A E → Buffered → Buffered → List ℕ → Type 0
+Puts result old new bytes = MatchResult result (λ _. new.text ≡ old.text ++ bytes) (λ _. new.text ≡ old.text)

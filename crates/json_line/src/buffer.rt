@@ -1,0 +1,264 @@
+//! Bytes that are written one behind another.
+ghost use Rattle.std.specs.Prelude.{◌≡◌, ◌≤◌, ◌+◌, ◌*◌, [], ◌∷◌, ◌++◌, length, OnOk};
+ghost use Rattle.std.specs.Fmt.{decimal};
+ghost use Rattle.hex.specs.Hex.{encode_lower};
+ghost use Rattle.json_line.specs.Buffers.{Puts, comma};
+
+use crate::place::{place_byte, place_bytes, place_comma, place_hexadecimal, place_number};
+use std::alloc::{AllocError, Global};
+use std::marker::Model;
+
+// The room of a buffer that grows for the first time, in bytes.
+const LEAST_ROOM: usize = 1_024;
+
+// No number of 64 bits has more digits.
+const MAX_DIGITS: usize = 20;
+
+/// Bytes, and room for more of them behind. Contracts see it as [`Buffered`](../specs/Buffers.antt): what is written, and
+/// how much room there is.
+#[derive(Drop)]
+pub(crate) struct Buffer {
+    bytes: Vec<u8>,
+    len: usize,
+}
+
+impl Model for Buffer {
+    ghost use Rattle.std.specs.Prelude.{◌-◌, ◌≤◌, length, take};
+    ghost use Rattle.json_line.specs.Buffers.{Buffered, buffered_code};
+
+    ghost Value = { Buffered };
+
+    ghost coded = { buffered_code };
+
+    ghost view = { λ buffer. record { text = take buffer.len buffer.bytes.items; room = length buffer.bytes.items - buffer.len } };
+
+    ghost invariant = { λ buffer. buffer.len ≤ length buffer.bytes.items };
+}
+
+impl Buffer {
+    /// A buffer that has taken no memory yet.
+    pub(crate) fn new(alloc: Global) -> Self
+        ensures { result.text ≡ [] }
+    {
+        Buffer {
+            bytes: Vec::new(alloc),
+            len: 0,
+        }
+    }
+
+    /// Forgets what is written, and keeps the room.
+    #[inline]
+    pub(crate) fn clear(&mut self)
+        ensures { self.new.text ≡ [] }
+    {
+        self.len = 0;
+    }
+
+    /// What is written.
+    #[inline]
+    pub(crate) fn as_bytes(&self) -> &[u8]
+        ensures { result.now ≡ self.now.text }
+    {
+        &self.bytes[..self.len]
+    }
+
+    // Room for so many bytes.
+    #[inline(always)]
+    fn reserve(&mut self, room: usize) -> Result<(), AllocError>
+        ensures text { self.new.text ≡ self.old.text }
+        ensures room { OnOk result (room ≤ self.new.room) }
+    {
+        if room <= self.bytes.len() - self.len {
+            return Ok(());
+        }
+        self.grow(room)
+    }
+
+    // At least twice the room of before, so that a long line grows few times.
+    #[cold]
+    #[inline(never)]
+    fn grow(&mut self, room: usize) -> Result<(), AllocError>
+        ensures text { self.new.text ≡ self.old.text }
+        ensures room { OnOk result (room ≤ self.new.room) }
+    {
+        let Some(needed) = self.len.checked_add(room) else {
+            return Err(AllocError);
+        };
+        let len = needed
+            .max(self.bytes.len().saturating_mul(2))
+            .max(LEAST_ROOM);
+        self.bytes.resize(len, 0)
+    }
+
+    #[inline(always)]
+    fn put(&mut self, after_value: bool, text: &[u8])
+        requires { length text.now + 1 ≤ self.old.room }
+        ensures { self.new.text ≡ self.old.text ++ (comma after_value ++ text.now) }
+    {
+        let memory = self.bytes.as_mut_slice();
+        let at = place_comma(memory, self.len, after_value);
+        self.len = place_bytes(memory, at, text);
+    }
+
+    /// Writes a comma where it is wanted, and the bytes.
+    #[inline(always)]
+    pub(crate) fn add(&mut self, after_value: bool, text: &[u8]) -> Result<(), AllocError>
+        ensures { Puts result self.old self.new (comma after_value ++ text.now) }
+    {
+        self.reserve(text.len() + 1)?;
+        self.put(after_value, text);
+        Ok(())
+    }
+
+    #[inline(always)]
+    fn put_quoted(&mut self, after_value: bool, text: &[u8])
+        requires { length text.now + 3 ≤ self.old.room }
+        ensures { self.new.text ≡ self.old.text ++ (comma after_value ++ 34 ∷ (text.now ++ 34 ∷ [])) }
+    {
+        let memory = self.bytes.as_mut_slice();
+        let at = place_comma(memory, self.len, after_value);
+        let at = place_byte(memory, at, b'"');
+        let at = place_bytes(memory, at, text);
+        self.len = place_byte(memory, at, b'"');
+    }
+
+    /// Writes a comma where it is wanted, and the bytes between quotation marks.
+    #[inline(always)]
+    pub(crate) fn add_quoted(&mut self, after_value: bool, text: &[u8]) -> Result<(), AllocError>
+        ensures { Puts result self.old self.new (comma after_value ++ 34 ∷ (text.now ++ 34 ∷ [])) }
+    {
+        self.reserve(text.len() + 3)?;
+        self.put_quoted(after_value, text);
+        Ok(())
+    }
+
+    #[inline(always)]
+    fn put_name(&mut self, after_value: bool, name: &[u8])
+        requires { length name.now + 4 ≤ self.old.room }
+        ensures { self.new.text ≡ self.old.text ++ (comma after_value ++ 34 ∷ (name.now ++ 34 ∷ 58 ∷ [])) }
+    {
+        let memory = self.bytes.as_mut_slice();
+        let at = place_comma(memory, self.len, after_value);
+        let at = place_byte(memory, at, b'"');
+        let at = place_bytes(memory, at, name);
+        let at = place_byte(memory, at, b'"');
+        self.len = place_byte(memory, at, b':');
+    }
+
+    /// Writes a comma where it is wanted, the bytes between quotation marks, and a colon.
+    #[inline(always)]
+    pub(crate) fn add_name(&mut self, after_value: bool, name: &[u8]) -> Result<(), AllocError>
+        ensures { Puts result self.old self.new (comma after_value ++ 34 ∷ (name.now ++ 34 ∷ 58 ∷ [])) }
+    {
+        self.reserve(name.len() + 4)?;
+        self.put_name(after_value, name);
+        Ok(())
+    }
+
+    #[inline(always)]
+    fn put_between(&mut self, after_value: bool, before: &[u8], text: &[u8], after: &[u8])
+        requires { length before.now + length text.now + length after.now + 1 ≤ self.old.room }
+        ensures { self.new.text ≡ self.old.text ++ (comma after_value ++ (before.now ++ (text.now ++ after.now))) }
+    {
+        let memory = self.bytes.as_mut_slice();
+        let at = place_comma(memory, self.len, after_value);
+        let at = place_bytes(memory, at, before);
+        let at = place_bytes(memory, at, text);
+        self.len = place_bytes(memory, at, after);
+    }
+
+    /// Writes a comma where it is wanted, and three texts, the first and the last of which are short.
+    #[inline(always)]
+    pub(crate) fn add_between(
+        &mut self,
+        after_value: bool,
+        before: &[u8],
+        text: &[u8],
+        after: &[u8],
+    ) -> Result<(), AllocError>
+        requires { (length before.now ≤ 16) × (length after.now ≤ 16) }
+        ensures { Puts result self.old self.new (comma after_value ++ (before.now ++ (text.now ++ after.now))) }
+    {
+        self.reserve(before.len() + text.len() + after.len() + 1)?;
+        self.put_between(after_value, before, text, after);
+        Ok(())
+    }
+
+    #[inline(always)]
+    fn put_number(&mut self, after_value: bool, number: u64)
+        requires { 21 ≤ self.old.room }
+        ensures { self.new.text ≡ self.old.text ++ (comma after_value ++ decimal number) }
+    {
+        let memory = self.bytes.as_mut_slice();
+        let at = place_comma(memory, self.len, after_value);
+        self.len = place_number(memory, at, number);
+    }
+
+    /// Writes a comma where it is wanted, and a number in decimal.
+    #[inline(always)]
+    pub(crate) fn add_number(&mut self, after_value: bool, number: u64) -> Result<(), AllocError>
+        ensures { Puts result self.old self.new (comma after_value ++ decimal number) }
+    {
+        self.reserve(MAX_DIGITS + 1)?;
+        self.put_number(after_value, number);
+        Ok(())
+    }
+
+    #[inline(always)]
+    fn put_named_number(&mut self, after_value: bool, name: &[u8], number: u64)
+        requires { length name.now + 24 ≤ self.old.room }
+        ensures { self.new.text ≡ self.old.text ++ (comma after_value ++ (34 ∷ (name.now ++ 34 ∷ 58 ∷ [])) ++ decimal number) }
+    {
+        let memory = self.bytes.as_mut_slice();
+        let at = place_comma(memory, self.len, after_value);
+        let at = place_byte(memory, at, b'"');
+        let at = place_bytes(memory, at, name);
+        let at = place_byte(memory, at, b'"');
+        let at = place_byte(memory, at, b':');
+        self.len = place_number(memory, at, number);
+    }
+
+    /// Writes a comma where it is wanted, the bytes between quotation marks, a colon, and a number in decimal.
+    #[inline(always)]
+    pub(crate) fn add_named_number(
+        &mut self,
+        after_value: bool,
+        name: &[u8],
+        number: u64,
+    ) -> Result<(), AllocError>
+        ensures { Puts result self.old self.new (comma after_value ++ (34 ∷ (name.now ++ 34 ∷ 58 ∷ [])) ++ decimal number) }
+    {
+        self.reserve(name.len() + MAX_DIGITS + 4)?;
+        self.put_named_number(after_value, name, number);
+        Ok(())
+    }
+
+    #[inline(always)]
+    fn put_hexadecimal(&mut self, after_value: bool, bytes: &[u8])
+        requires { 2 * length bytes.now + 3 ≤ self.old.room }
+        ensures { self.new.text ≡ self.old.text ++ (comma after_value ++ 34 ∷ (encode_lower bytes.now ++ 34 ∷ [])) }
+    {
+        let memory = self.bytes.as_mut_slice();
+        let at = place_comma(memory, self.len, after_value);
+        let at = place_byte(memory, at, b'"');
+        let at = place_hexadecimal(memory, at, bytes);
+        self.len = place_byte(memory, at, b'"');
+    }
+
+    /// Writes a comma where it is wanted, and the bytes in hexadecimal digits between quotation marks.
+    #[inline(always)]
+    pub(crate) fn add_hexadecimal(
+        &mut self,
+        after_value: bool,
+        bytes: &[u8],
+    ) -> Result<(), AllocError>
+        ensures { Puts result self.old self.new (comma after_value ++ 34 ∷ (encode_lower bytes.now ++ 34 ∷ [])) }
+    {
+        let Some(room) = (2 * bytes.len()).checked_add(3) else {
+            return Err(AllocError);
+        };
+        self.reserve(room)?;
+        self.put_hexadecimal(after_value, bytes);
+        Ok(())
+    }
+}

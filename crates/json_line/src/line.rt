@@ -1,0 +1,395 @@
+//! A line of JSON as it is written: tokens, and values made of them.
+ghost use Rattle.std.specs.Prelude.{◌≡◌, ◌∷◌, ◌++◌, [], codes, IsUtf8, IfOk};
+ghost use Rattle.std.specs.Fmt.{signed_decimal};
+ghost use Rattle.json.specs.Lex.{tokens as read_tokens};
+ghost use Rattle.json.specs.Print.{print, token_text};
+ghost use Rattle.json.specs.Token as tokens;
+ghost use Rattle.json_line.specs.Lines.{IsPlainText};
+ghost use Rattle.json_line.specs.Tokens.{Adds, number_value, bytes_value, text_value, uuid_value, bits_value, or_null, member};
+
+use crate::buffer::Buffer;
+use crate::plain::is_plain;
+use binlog_wire::BitView;
+use json::Writer;
+use std::alloc::{AllocError, Global};
+use std::marker::Model;
+use std::{mem, str};
+use uuid::Uuid;
+
+/// The memory of lines, one after another. Contracts see it as the bytes of the line that was ended last.
+#[derive(Drop)]
+pub struct LineMemory {
+    text: Buffer,
+    token: Vec<u8>,
+}
+
+impl Model for LineMemory {
+    ghost use Rattle.std.specs.Prelude.{ℕ, List};
+    ghost use Rattle.std.specs.Coded.{coded_list, coded_ℕ};
+
+    ghost Value = { List ℕ };
+
+    ghost coded = { coded_list coded_ℕ };
+
+    ghost view = { λ memory. memory.text.text };
+}
+
+impl LineMemory {
+    /// Takes no memory yet.
+    pub fn new(alloc: Global) -> Self
+        ensures { result ≡ [] }
+    {
+        LineMemory {
+            text: Buffer::new(alloc),
+            token: Vec::new(alloc),
+        }
+    }
+
+    /// An empty line in this memory, whose bytes it forgets.
+    pub fn begin(self, alloc: Global) -> Line
+        ensures { result ≡ [] }
+    {
+        let LineMemory { mut text, token } = self;
+        text.clear();
+        Line {
+            alloc,
+            text,
+            after_value: false,
+            token,
+        }
+    }
+
+    /// The bytes of the line that was ended last, with the byte that ends it.
+    pub fn as_bytes(&self) -> &[u8]
+        ensures { result.now ≡ self.now }
+    {
+        self.text.as_bytes()
+    }
+}
+
+/// The text of one line. Contracts see it as the list of its tokens.
+#[derive(Drop)]
+pub struct Line {
+    alloc: Global,
+    text: Buffer,
+    after_value: bool,
+    token: Vec<u8>,
+}
+
+impl Model for Line {
+    ghost use Rattle.std.specs.Prelude.{List};
+    ghost use Rattle.json.specs.Token.{Token, tokens_code};
+    ghost use Rattle.json.specs.Lex.{tokens};
+    ghost use Rattle.json_line.specs.Lines.{IsLine};
+
+    ghost Value = { List Token };
+
+    ghost coded = { tokens_code };
+
+    ghost view = { λ line. tokens line.text.text };
+
+    ghost invariant = { λ line. IsLine line.text.text line.after_value };
+}
+
+fn boolean_text(value: bool) -> &'static [u8]
+    ensures { result.now ≡ token_text (tokens.boolean value) }
+{
+    if value { b"true" } else { b"false" }
+}
+
+// A writer of one token, in the memory that is kept for it.
+fn token_writer(token: &mut Vec<u8>, alloc: Global) -> Writer<Global>
+    ensures before { result.before ≡ [] }
+    ensures tokens { result.tokens ≡ [] }
+{
+    let mut memory = mem::replace(token, Vec::new(alloc));
+    memory.clear();
+    Writer::new(memory)
+}
+
+/// Each call adds its tokens, or fails where memory runs out: the line is then of no use.
+impl Line {
+    /// Ends the line, whose bytes then stand in the memory that was lent to it.
+    ///
+    /// # Errors
+    ///
+    /// Where memory runs out.
+    pub fn end(self) -> Result<LineMemory, AllocError>
+        ensures ok { IfOk result (λ memory. memory ≡ print self ++ codes "\n") }
+        ensures reads_back { read_tokens (print self) ≡ self }
+        ensures utf8 { IsUtf8 (print self) }
+    {
+        let Line {
+            mut text,
+            token,
+            ..
+        } = self;
+        text.add(false, b"\n")?;
+        Ok(LineMemory { text, token })
+    }
+
+    /// `{`
+    #[inline]
+    pub fn begin_object(&mut self) -> Result<(), AllocError>
+        ensures { Adds result self.old self.new (tokens.begin_object ∷ []) }
+    {
+        self.text.add(self.after_value, b"{")?;
+        self.after_value = false;
+        Ok(())
+    }
+
+    /// `}`
+    #[inline]
+    pub fn end_object(&mut self) -> Result<(), AllocError>
+        ensures { Adds result self.old self.new (tokens.end_object ∷ []) }
+    {
+        self.text.add(false, b"}")?;
+        self.after_value = true;
+        Ok(())
+    }
+
+    /// `[`
+    #[inline]
+    pub fn begin_array(&mut self) -> Result<(), AllocError>
+        ensures { Adds result self.old self.new (tokens.begin_array ∷ []) }
+    {
+        self.text.add(self.after_value, b"[")?;
+        self.after_value = false;
+        Ok(())
+    }
+
+    /// `]`
+    #[inline]
+    pub fn end_array(&mut self) -> Result<(), AllocError>
+        ensures { Adds result self.old self.new (tokens.end_array ∷ []) }
+    {
+        self.text.add(false, b"]")?;
+        self.after_value = true;
+        Ok(())
+    }
+
+    /// The name of a member, which needs no escape, and the colon behind it.
+    #[inline]
+    pub fn key(&mut self, name: &str) -> Result<(), AllocError>
+        requires { IsPlainText name.now }
+        ensures { Adds result self.old self.new (tokens.key name.now ∷ []) }
+    {
+        self.text.add_name(self.after_value, name.as_bytes())?;
+        self.after_value = false;
+        Ok(())
+    }
+
+    /// `null`
+    #[inline]
+    pub fn null(&mut self) -> Result<(), AllocError>
+        ensures { Adds result self.old self.new (tokens.null ∷ []) }
+    {
+        self.text.add(self.after_value, b"null")?;
+        self.after_value = true;
+        Ok(())
+    }
+
+    /// `true` or `false`
+    #[inline]
+    pub fn boolean(&mut self, value: bool) -> Result<(), AllocError>
+        ensures { Adds result self.old self.new (tokens.boolean value ∷ []) }
+    {
+        self.text.add(self.after_value, boolean_text(value))?;
+        self.after_value = true;
+        Ok(())
+    }
+
+    /// A string that needs no escape.
+    #[inline]
+    pub fn plain_string(&mut self, text: &str) -> Result<(), AllocError>
+        requires { IsPlainText text.now }
+        ensures { Adds result self.old self.new (tokens.string text.now ∷ []) }
+    {
+        self.text.add_quoted(self.after_value, text.as_bytes())?;
+        self.after_value = true;
+        Ok(())
+    }
+
+    /// A string.
+    #[inline]
+    pub fn string(&mut self, text: &str) -> Result<(), AllocError>
+        ensures { Adds result self.old self.new (tokens.string text.now ∷ []) }
+    {
+        if !is_plain(text.as_bytes()) {
+            return self.escaped_string(text);
+        }
+        self.text.add_quoted(self.after_value, text.as_bytes())?;
+        self.after_value = true;
+        Ok(())
+    }
+
+    #[cold]
+    fn escaped_string(&mut self, text: &str) -> Result<(), AllocError>
+        ensures { Adds result self.old self.new (tokens.string text.now ∷ []) }
+    {
+        let mut writer = token_writer(&mut self.token, self.alloc);
+        writer.string(text)?;
+        self.token = writer.into_inner();
+        self.text.add(self.after_value, &self.token)?;
+        self.after_value = true;
+        Ok(())
+    }
+
+    /// A number in full.
+    #[inline]
+    pub fn number(&mut self, number: u64) -> Result<(), AllocError>
+        ensures { Adds result self.old self.new (number_value number) }
+    {
+        self.text.add_number(self.after_value, number)?;
+        self.after_value = true;
+        Ok(())
+    }
+
+    /// A number with its sign where it is negative.
+    pub fn signed_number(&mut self, number: i64) -> Result<(), AllocError>
+        ensures { Adds result self.old self.new (tokens.number (signed_decimal number) ∷ []) }
+    {
+        let mut writer = token_writer(&mut self.token, self.alloc);
+        writer.i64(number)?;
+        self.token = writer.into_inner();
+        self.text.add(self.after_value, &self.token)?;
+        self.after_value = true;
+        Ok(())
+    }
+
+    /// Bytes in hexadecimal digits.
+    #[inline]
+    pub fn bytes(&mut self, bytes: &[u8]) -> Result<(), AllocError>
+        ensures { Adds result self.old self.new (bytes_value bytes.now) }
+    {
+        self.text.add_hexadecimal(self.after_value, bytes)?;
+        self.after_value = true;
+        Ok(())
+    }
+
+    /// A string where the bytes are UTF-8, and else an object that has them in hexadecimal digits.
+    #[inline]
+    pub fn text(&mut self, text: &[u8]) -> Result<(), AllocError>
+        ensures { Adds result self.old self.new (text_value text.now) }
+    {
+        match str::from_utf8(text) {
+            Ok(text) => self.string(text),
+            Err(_) => self.bytes_in_object(text),
+        }
+    }
+
+    #[cold]
+    fn bytes_in_object(&mut self, bytes: &[u8]) -> Result<(), AllocError>
+        ensures { Adds result self.old self.new (tokens.begin_object ∷ tokens.key (codes "hex") ∷ bytes_value bytes.now ++ tokens.end_object ∷ []) }
+    {
+        self.begin_object()?;
+        self.key("hex")?;
+        self.bytes(bytes)?;
+        self.end_object()
+    }
+
+    /// A UUID in lower-case digits with hyphens.
+    pub fn uuid(&mut self, bytes: [u8; 16]) -> Result<(), AllocError>
+        ensures { Adds result self.old self.new (uuid_value bytes) }
+    {
+        let mut buffer = Uuid::encode_buffer();
+        let text = Uuid::from_bytes(bytes)
+            .hyphenated()
+            .encode_lower(&mut buffer);
+        self.string(text)
+    }
+
+    /// Bits as a list of booleans.
+    #[tactic(auto, unfolding(crate::specs::Tokens::bits_value))]
+    pub fn bits(&mut self, bits: BitView<'_>) -> Result<(), AllocError>
+        ensures { Adds result self.old self.new (bits_value (bits.entry.len, bits.entry.bytes.now)) }
+    {
+        self.begin_array()?;
+        'bits: for index in 0..bits.len() {
+            match bits.bit(index) {
+                Some(bit) => self.boolean(bit)?,
+                None => unreachable!(),
+            }
+        }
+        self.end_array()
+    }
+
+    /// A byte as a number, or null.
+    #[inline]
+    pub fn byte_or_null(&mut self, number: Option<u8>) -> Result<(), AllocError>
+        ensures { Adds result self.old self.new (or_null number_value number) }
+    {
+        match number {
+            Some(number) => self.number(u64::from(number)),
+            None => self.null(),
+        }
+    }
+
+    /// Four bytes in hexadecimal digits, or null.
+    #[inline]
+    pub fn checksum_or_null(&mut self, checksum: Option<[u8; 4]>) -> Result<(), AllocError>
+        ensures { Adds result self.old self.new (or_null bytes_value checksum) }
+    {
+        match checksum {
+            Some(checksum) => self.bytes(&checksum),
+            None => self.null(),
+        }
+    }
+
+    /// An object of a key, which needs no escape, and of a value, which is to follow: `{"key":"Flags2","value":`
+    pub fn begin_entry(&mut self, key: &str) -> Result<(), AllocError>
+        requires { IsPlainText key.now }
+        ensures { Adds result self.old self.new (tokens.begin_object ∷ tokens.key (codes "key") ∷ tokens.string key.now ∷ tokens.key (codes "value") ∷ []) }
+    {
+        self.text.add_between(
+            self.after_value,
+            b"{\"key\":\"",
+            key.as_bytes(),
+            b"\",\"value\":",
+        )?;
+        self.after_value = false;
+        Ok(())
+    }
+
+    /// A member of an object that is a number.
+    #[inline(always)]
+    pub fn number_member(&mut self, name: &str, number: u64) -> Result<(), AllocError>
+        requires { IsPlainText name.now }
+        ensures { Adds result self.old self.new (member name.now (number_value number)) }
+    {
+        self.text
+            .add_named_number(self.after_value, name.as_bytes(), number)?;
+        self.after_value = true;
+        Ok(())
+    }
+
+    /// A member of an object that is a text, as [`Line::text`] writes it.
+    #[inline(always)]
+    pub fn text_member(&mut self, name: &str, text: &[u8]) -> Result<(), AllocError>
+        requires { IsPlainText name.now }
+        ensures { Adds result self.old self.new (member name.now (text_value text.now)) }
+    {
+        self.key(name)?;
+        self.text(text)
+    }
+
+    /// A member of an object that is bytes in hexadecimal digits.
+    #[inline(always)]
+    pub fn bytes_member(&mut self, name: &str, bytes: &[u8]) -> Result<(), AllocError>
+        requires { IsPlainText name.now }
+        ensures { Adds result self.old self.new (member name.now (bytes_value bytes.now)) }
+    {
+        self.key(name)?;
+        self.bytes(bytes)
+    }
+
+    /// A member of an object that is bits.
+    #[inline(always)]
+    pub fn bits_member(&mut self, name: &str, bits: BitView<'_>) -> Result<(), AllocError>
+        requires { IsPlainText name.now }
+        ensures { Adds result self.old self.new (member name.now (bits_value (bits.entry.len, bits.entry.bytes.now))) }
+    {
+        self.key(name)?;
+        self.bits(bits)
+    }
+}
