@@ -20,7 +20,9 @@ import make_binlogs
 KINDS = ("statements", "statements_crc32")
 ROUNDS = 5
 HERE = Path(__file__).resolve().parent
-COLUMNS = ["Input", "Events", "ns / event", "mariadb-binlog's", "Times as fast", "Instructions / event", "MB of JSON"]
+COLUMNS = [
+    "Input", "Events", "ns / event", "mariadb-binlog's", "Times as fast", "Instructions / event", "mariadb-binlog's", "MB of JSON"
+]
 
 
 def seconds(command, path=None):
@@ -34,9 +36,9 @@ def seconds(command, path=None):
     return usage.ru_utime + usage.ru_stime
 
 
-def instructions(program, path):
+def instructions(command, path):
     """The instructions of a run, or None where valgrind is missing."""
-    command = ["valgrind", "--tool=callgrind", "--callgrind-out-file=/dev/null", program]
+    command = ["valgrind", "--tool=callgrind", "--callgrind-out-file=/dev/null", *command]
     try:
         with open(path, "rb") as file:
             run = subprocess.run(command, stdin=file, stdout=subprocess.DEVNULL, stderr=subprocess.PIPE, text=True)
@@ -56,14 +58,14 @@ def row(program, folder, kind):
     ours, theirs = zip(*((seconds([program], path), seconds(["mariadb-binlog", path])) for _ in range(ROUNDS)))
     events, size = printed(program, path)
     few, _ = printed(program, small)
-    counted = instructions(program, small)
+    counted = [instructions(command, small) for command in ([program], ["mariadb-binlog", small])]
     return [
         kind,
         str(events),
         f"{min(ours) / events * 1e9:.0f}",
         f"{min(theirs) / events * 1e9:.0f}",
         f"{min(theirs) / min(ours):.1f}",
-        "not counted" if counted is None else f"{counted / few:.0f}",
+        *("not counted" if count is None else f"{count / few:.0f}" for count in counted),
         f"{size / 1e6:.0f}",
     ]
 
