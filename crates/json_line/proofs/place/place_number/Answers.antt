@@ -5,7 +5,7 @@ use Rattle.json_line.proofs.BufferTexts.{ending_at}
 use Rattle.json_line.proofs.place.place_number.Goals as goal
 
 pub overflow_add-end : goal.overflow_add-end
-overflow_add-end c = record { fits = omega (arith, at_most_twenty c.args.number c.ranges.number.fits, c.decimal_len.ensures, c.requires, c.type_inv.memory) }
+overflow_add-end c = record { fits = omega (arith, at_most_twenty c.args.number c.ranges.number.fits, c.decimal_len.ensures, c.requires) }
 
 pub write_digits-requires : goal.write_digits-requires
 write_digits-requires c =
