@@ -1,5 +1,5 @@
 //! A line of JSON as it is written: tokens, and values made of them.
-ghost use Rattle.std.specs.Prelude.{◌≡◌, ◌∷◌, ◌++◌, [], codes, IsUtf8, IfOk};
+ghost use Rattle.std.specs.Prelude.{◌≡◌, ◌∷◌, ◌++◌, [], codes, IsUtf8, IfOk, OnErr};
 ghost use Rattle.std.specs.Fmt.{signed_decimal};
 ghost use Rattle.json.specs.Lex.{tokens as read_tokens};
 ghost use Rattle.json.specs.Print.{print, token_text};
@@ -107,7 +107,8 @@ fn token_writer(token: &mut Vec<u8>, alloc: Global) -> Writer<Global>
     Writer::new(memory)
 }
 
-/// Each call adds its tokens, or fails where memory runs out: the line is then of no use.
+/// Each call adds its tokens, or fails where memory runs out. The line is then as it was, but where a value of several tokens (a
+/// text that isn't UTF-8, bits) or a member of such a value had begun.
 impl Line {
     /// Ends the line, whose bytes then stand in the memory that was lent to it.
     ///
@@ -131,7 +132,8 @@ impl Line {
     /// `{`
     #[inline]
     pub fn begin_object(&mut self) -> Result<(), AllocError>
-        ensures { Adds result self.old self.new (tokens.begin_object ∷ []) }
+        ensures added { Adds result self.old self.new (tokens.begin_object ∷ []) }
+        ensures unchanged { OnErr result (self.new ≡ self.old) }
     {
         self.text.add(self.after_value, b"{")?;
         self.after_value = false;
@@ -141,7 +143,8 @@ impl Line {
     /// `}`
     #[inline]
     pub fn end_object(&mut self) -> Result<(), AllocError>
-        ensures { Adds result self.old self.new (tokens.end_object ∷ []) }
+        ensures added { Adds result self.old self.new (tokens.end_object ∷ []) }
+        ensures unchanged { OnErr result (self.new ≡ self.old) }
     {
         self.text.add(false, b"}")?;
         self.after_value = true;
@@ -151,7 +154,8 @@ impl Line {
     /// `[`
     #[inline]
     pub fn begin_array(&mut self) -> Result<(), AllocError>
-        ensures { Adds result self.old self.new (tokens.begin_array ∷ []) }
+        ensures added { Adds result self.old self.new (tokens.begin_array ∷ []) }
+        ensures unchanged { OnErr result (self.new ≡ self.old) }
     {
         self.text.add(self.after_value, b"[")?;
         self.after_value = false;
@@ -161,7 +165,8 @@ impl Line {
     /// `]`
     #[inline]
     pub fn end_array(&mut self) -> Result<(), AllocError>
-        ensures { Adds result self.old self.new (tokens.end_array ∷ []) }
+        ensures added { Adds result self.old self.new (tokens.end_array ∷ []) }
+        ensures unchanged { OnErr result (self.new ≡ self.old) }
     {
         self.text.add(false, b"]")?;
         self.after_value = true;
@@ -172,7 +177,8 @@ impl Line {
     #[inline]
     pub fn key(&mut self, name: &str) -> Result<(), AllocError>
         requires { IsPlainText name.now }
-        ensures { Adds result self.old self.new (tokens.key name.now ∷ []) }
+        ensures added { Adds result self.old self.new (tokens.key name.now ∷ []) }
+        ensures unchanged { OnErr result (self.new ≡ self.old) }
     {
         self.text.add_name(self.after_value, name.as_bytes())?;
         self.after_value = false;
@@ -182,7 +188,8 @@ impl Line {
     /// `null`
     #[inline]
     pub fn null(&mut self) -> Result<(), AllocError>
-        ensures { Adds result self.old self.new (tokens.null ∷ []) }
+        ensures added { Adds result self.old self.new (tokens.null ∷ []) }
+        ensures unchanged { OnErr result (self.new ≡ self.old) }
     {
         self.text.add(self.after_value, b"null")?;
         self.after_value = true;
@@ -192,7 +199,8 @@ impl Line {
     /// `true` or `false`
     #[inline]
     pub fn boolean(&mut self, value: bool) -> Result<(), AllocError>
-        ensures { Adds result self.old self.new (tokens.boolean value ∷ []) }
+        ensures added { Adds result self.old self.new (tokens.boolean value ∷ []) }
+        ensures unchanged { OnErr result (self.new ≡ self.old) }
     {
         self.text.add(self.after_value, boolean_text(value))?;
         self.after_value = true;
@@ -203,7 +211,8 @@ impl Line {
     #[inline]
     pub fn plain_string(&mut self, text: &str) -> Result<(), AllocError>
         requires { IsPlainText text.now }
-        ensures { Adds result self.old self.new (tokens.string text.now ∷ []) }
+        ensures added { Adds result self.old self.new (tokens.string text.now ∷ []) }
+        ensures unchanged { OnErr result (self.new ≡ self.old) }
     {
         self.text.add_quoted(self.after_value, text.as_bytes())?;
         self.after_value = true;
@@ -213,7 +222,8 @@ impl Line {
     /// A string.
     #[inline]
     pub fn string(&mut self, text: &str) -> Result<(), AllocError>
-        ensures { Adds result self.old self.new (tokens.string text.now ∷ []) }
+        ensures added { Adds result self.old self.new (tokens.string text.now ∷ []) }
+        ensures unchanged { OnErr result (self.new ≡ self.old) }
     {
         if !is_plain(text.as_bytes()) {
             return self.escaped_string(text);
@@ -225,7 +235,8 @@ impl Line {
 
     #[cold]
     fn escaped_string(&mut self, text: &str) -> Result<(), AllocError>
-        ensures { Adds result self.old self.new (tokens.string text.now ∷ []) }
+        ensures added { Adds result self.old self.new (tokens.string text.now ∷ []) }
+        ensures unchanged { OnErr result (self.new ≡ self.old) }
     {
         let mut writer = token_writer(&mut self.token, self.alloc);
         writer.string(text)?;
@@ -238,7 +249,8 @@ impl Line {
     /// A number in full.
     #[inline]
     pub fn number(&mut self, number: u64) -> Result<(), AllocError>
-        ensures { Adds result self.old self.new (number_value number) }
+        ensures added { Adds result self.old self.new (number_value number) }
+        ensures unchanged { OnErr result (self.new ≡ self.old) }
     {
         self.text.add_number(self.after_value, number)?;
         self.after_value = true;
@@ -247,7 +259,8 @@ impl Line {
 
     /// A number with its sign where it is negative.
     pub fn signed_number(&mut self, number: i64) -> Result<(), AllocError>
-        ensures { Adds result self.old self.new (tokens.number (signed_decimal number) ∷ []) }
+        ensures added { Adds result self.old self.new (tokens.number (signed_decimal number) ∷ []) }
+        ensures unchanged { OnErr result (self.new ≡ self.old) }
     {
         let mut writer = token_writer(&mut self.token, self.alloc);
         writer.i64(number)?;
@@ -260,7 +273,8 @@ impl Line {
     /// Bytes in hexadecimal digits.
     #[inline]
     pub fn bytes(&mut self, bytes: &[u8]) -> Result<(), AllocError>
-        ensures { Adds result self.old self.new (bytes_value bytes.now) }
+        ensures added { Adds result self.old self.new (bytes_value bytes.now) }
+        ensures unchanged { OnErr result (self.new ≡ self.old) }
     {
         self.text.add_hexadecimal(self.after_value, bytes)?;
         self.after_value = true;
@@ -290,7 +304,8 @@ impl Line {
 
     /// A UUID in lower-case digits with hyphens.
     pub fn uuid(&mut self, bytes: [u8; 16]) -> Result<(), AllocError>
-        ensures { Adds result self.old self.new (uuid_value bytes) }
+        ensures added { Adds result self.old self.new (uuid_value bytes) }
+        ensures unchanged { OnErr result (self.new ≡ self.old) }
     {
         let mut buffer = Uuid::encode_buffer();
         let text = Uuid::from_bytes(bytes)
@@ -317,7 +332,8 @@ impl Line {
     /// A byte as a number, or null.
     #[inline]
     pub fn byte_or_null(&mut self, number: Option<u8>) -> Result<(), AllocError>
-        ensures { Adds result self.old self.new (or_null number_value number) }
+        ensures added { Adds result self.old self.new (or_null number_value number) }
+        ensures unchanged { OnErr result (self.new ≡ self.old) }
     {
         match number {
             Some(number) => self.number(u64::from(number)),
@@ -328,7 +344,8 @@ impl Line {
     /// Four bytes in hexadecimal digits, or null.
     #[inline]
     pub fn checksum_or_null(&mut self, checksum: Option<[u8; 4]>) -> Result<(), AllocError>
-        ensures { Adds result self.old self.new (or_null bytes_value checksum) }
+        ensures added { Adds result self.old self.new (or_null bytes_value checksum) }
+        ensures unchanged { OnErr result (self.new ≡ self.old) }
     {
         match checksum {
             Some(checksum) => self.bytes(&checksum),
@@ -339,7 +356,8 @@ impl Line {
     /// An object of a key, which needs no escape, and of a value, which is to follow: `{"key":"Flags2","value":`
     pub fn begin_entry(&mut self, key: &str) -> Result<(), AllocError>
         requires { IsPlainText key.now }
-        ensures { Adds result self.old self.new (tokens.begin_object ∷ tokens.key (codes "key") ∷ tokens.string key.now ∷ tokens.key (codes "value") ∷ []) }
+        ensures added { Adds result self.old self.new (tokens.begin_object ∷ tokens.key (codes "key") ∷ tokens.string key.now ∷ tokens.key (codes "value") ∷ []) }
+        ensures unchanged { OnErr result (self.new ≡ self.old) }
     {
         self.text.add_between(
             self.after_value,
@@ -355,7 +373,8 @@ impl Line {
     #[inline(always)]
     pub fn number_member(&mut self, name: &str, number: u64) -> Result<(), AllocError>
         requires { IsPlainText name.now }
-        ensures { Adds result self.old self.new (member name.now (number_value number)) }
+        ensures added { Adds result self.old self.new (member name.now (number_value number)) }
+        ensures unchanged { OnErr result (self.new ≡ self.old) }
     {
         self.text
             .add_named_number(self.after_value, name.as_bytes(), number)?;

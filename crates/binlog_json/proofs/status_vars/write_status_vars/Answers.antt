@@ -9,4 +9,4 @@ variables-preserved c =
     value_added variable_object _ _ _ _ _ (variable_of c.in-Some.variable) c.variables.invariant c.in-Some.ensures.steps c.in_ok-write_variable.ensures
 
 pub returns : goal.returns
-returns c = let all = all_added variable_object _ _ _ c.variables.invariant c.in-None.ensures.steps.0 in rw (c.in_ok-end_array.ensures, all) (simp append_assoc)
+returns c = let all = all_added variable_object _ _ _ c.variables.invariant c.in-None.ensures.steps.0 in rw (c.in_ok-end_array.ensures.added, all) (simp append_assoc)

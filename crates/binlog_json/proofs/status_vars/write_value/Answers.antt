@@ -7,7 +7,7 @@ pub returns-in-ExplicitDefaultsForTimestamp : goal.returns-in-ExplicitDefaultsFo
 returns-in-ExplicitDefaultsForTimestamp c = λ v has.
     let held = subst (Has v) c.in-ExplicitDefaultsForTimestamp.is has in
     let e = set_is _ v.value held.1 in
-    rw (held.0, ← e) c.boolean.ensures
+    rw (held.0, ← e) c.boolean.ensures.added
 
 pub returns-in-UpdatedDbNames : goal.returns-in-UpdatedDbNames
 returns-in-UpdatedDbNames c = λ v has.

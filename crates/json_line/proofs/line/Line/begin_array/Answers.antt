@@ -8,7 +8,7 @@ pub invariant_of-self-2 : goal.invariant_of-self-2
 invariant_of-self-2 c =
     pushed _ _ c.self.invariant begin_array tt (IsUtf8-are_ascii _ refl) _ false refl (text_begun _ _ _ begin_array _ refl refl c.in_ok-add.ensures)
 
-pub returns : goal.returns
-returns c =
+pub returns-clause-added : goal.returns-clause-added
+returns-clause-added c =
     pushed_tokens _ _ c.self.invariant begin_array tt (IsUtf8-are_ascii _ refl) _ false refl (text_begun _ _ _ begin_array _ refl refl c.in_ok-add.ensures)
     ∙ ap (λ l. l ++ begin_array ∷ []) c.self.view_is

@@ -9,8 +9,8 @@ invariant_of-self-2 c =
     entry_begun _ _ c.self.invariant c.args.key.now c.requires c.utf8.key _
     (c.in_ok-add_between.ensures ∙ ap (λ text. c.self.inside.text.text ++ (comma c.self.inside.after_value ++ (codes "{\"key\":\"" ++ (text ++ codes "\",\"value\":")))) c.as_bytes.ensures.value)
 
-pub returns : goal.returns
-returns c =
+pub returns-clause-added : goal.returns-clause-added
+returns-clause-added c =
     entry_tokens _ _ c.self.invariant c.args.key.now c.requires c.utf8.key _
     (c.in_ok-add_between.ensures ∙ ap (λ text. c.self.inside.text.text ++ (comma c.self.inside.after_value ++ (codes "{\"key\":\"" ++ (text ++ codes "\",\"value\":")))) c.as_bytes.ensures.value)
     ∙ ap (λ l. l ++ begin_object ∷ key (codes "key") ∷ string c.args.key.now ∷ key (codes "value") ∷ []) c.self.view_is

@@ -8,7 +8,7 @@ pub invariant_of-self-2 : goal.invariant_of-self-2
 invariant_of-self-2 c =
     pushed _ _ c.self.invariant (boolean c.args.value) tt (IsUtf8-boolean c.args.value) _ true refl (text_begun _ _ _ (boolean c.args.value) _ refl c.boolean_text.ensures c.in_ok-add.ensures)
 
-pub returns : goal.returns
-returns c =
+pub returns-clause-added : goal.returns-clause-added
+returns-clause-added c =
     pushed_tokens _ _ c.self.invariant (boolean c.args.value) tt (IsUtf8-boolean c.args.value) _ true refl (text_begun _ _ _ (boolean c.args.value) _ refl c.boolean_text.ensures c.in_ok-add.ensures)
     ∙ ap (λ l. l ++ boolean c.args.value ∷ []) c.self.view_is

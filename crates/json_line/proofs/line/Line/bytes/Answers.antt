@@ -11,7 +11,7 @@ pub invariant_of-self-2 : goal.invariant_of-self-2
 invariant_of-self-2 c =
     pushed _ _ c.self.invariant (string (encode_lower c.args.bytes.now)) tt (IsUtf8-quoted _ (digits_are_text c.args.bytes.now)) _ true refl (text_begun _ _ _ (string (encode_lower c.args.bytes.now)) _ refl (string_text _ (plain_digits c.args.bytes.now c.type_inv.bytes)) c.in_ok-add_hexadecimal.ensures)
 
-pub returns : goal.returns
-returns c =
+pub returns-clause-added : goal.returns-clause-added
+returns-clause-added c =
     pushed_tokens _ _ c.self.invariant (string (encode_lower c.args.bytes.now)) tt (IsUtf8-quoted _ (digits_are_text c.args.bytes.now)) _ true refl (text_begun _ _ _ (string (encode_lower c.args.bytes.now)) _ refl (string_text _ (plain_digits c.args.bytes.now c.type_inv.bytes)) c.in_ok-add_hexadecimal.ensures)
     ∙ ap (λ l. l ++ string (encode_lower c.args.bytes.now) ∷ []) c.self.view_is

@@ -8,7 +8,7 @@ pub invariant_of-self-2 : goal.invariant_of-self-2
 invariant_of-self-2 c =
     pushed _ _ c.self.invariant end_object tt (IsUtf8-are_ascii _ refl) _ true refl (text_ended _ _ _ end_object _ refl refl c.in_ok-add.ensures)
 
-pub returns : goal.returns
-returns c =
+pub returns-clause-added : goal.returns-clause-added
+returns-clause-added c =
     pushed_tokens _ _ c.self.invariant end_object tt (IsUtf8-are_ascii _ refl) _ true refl (text_ended _ _ _ end_object _ refl refl c.in_ok-add.ensures)
     ∙ ap (λ l. l ++ end_object ∷ []) c.self.view_is

@@ -11,8 +11,8 @@ invariant_of-self-2 c =
     let printed : c.deref.result.now ≡ print c.string.new.self.tokens = c.deref.ensures.value ∙ c.into_inner.ensures.items ∙ ap (λ before. before ++ print c.string.new.self.tokens) (c.string.ensures.room.0 ∙ c.token_writer-writer.ensures.before) in
     pushed _ _ c.self.invariant (string c.args.text.now) tt (IsUtf8-quoted _ c.utf8.text) _ true refl (text_begun _ _ _ (string c.args.text.now) _ refl (printed ∙ ap print one ∙ alone (string c.args.text.now)) c.in_ok-add.ensures)
 
-pub returns : goal.returns
-returns c =
+pub returns-clause-added : goal.returns-clause-added
+returns-clause-added c =
     let one : c.string.new.self.tokens ≡ string c.args.text.now ∷ [] = c.in_ok-string.ensures.ok ∙ ap (λ before. before ++ string c.args.text.now ∷ []) c.token_writer-writer.ensures.tokens in
     let printed : c.deref.result.now ≡ print c.string.new.self.tokens = c.deref.ensures.value ∙ c.into_inner.ensures.items ∙ ap (λ before. before ++ print c.string.new.self.tokens) (c.string.ensures.room.0 ∙ c.token_writer-writer.ensures.before) in
     pushed_tokens _ _ c.self.invariant (string c.args.text.now) tt (IsUtf8-quoted _ c.utf8.text) _ true refl (text_begun _ _ _ (string c.args.text.now) _ refl (printed ∙ ap print one ∙ alone (string c.args.text.now)) c.in_ok-add.ensures)

@@ -10,7 +10,7 @@ pub invariant_of-self-2 : goal.invariant_of-self-2
 invariant_of-self-2 c =
     pushed _ _ c.self.invariant (number (decimal c.args.number)) (IsNumber-decimal c.args.number c.ranges.number.fits) (number_utf8 c.args.number c.ranges.number.fits) _ true refl (text_begun _ _ _ (number (decimal c.args.number)) _ refl refl c.in_ok-add_number.ensures)
 
-pub returns : goal.returns
-returns c =
+pub returns-clause-added : goal.returns-clause-added
+returns-clause-added c =
     pushed_tokens _ _ c.self.invariant (number (decimal c.args.number)) (IsNumber-decimal c.args.number c.ranges.number.fits) (number_utf8 c.args.number c.ranges.number.fits) _ true refl (text_begun _ _ _ (number (decimal c.args.number)) _ refl refl c.in_ok-add_number.ensures)
     ∙ ap (λ l. l ++ number (decimal c.args.number) ∷ []) c.self.view_is

@@ -15,8 +15,8 @@ invariant_of-self-2 c =
     let printed : c.deref.result.now ≡ print c.i64.new.self.tokens = c.deref.ensures.value ∙ c.into_inner.ensures.items ∙ ap (λ before. before ++ print c.i64.new.self.tokens) (c.i64.ensures.room.0 ∙ c.token_writer-writer.ensures.before) in
     pushed _ _ c.self.invariant (number (signed_decimal c.args.number)) (IsNumber-signed_decimal c.args.number (search rules)) (IsUtf8-from_ascii _ (IsAscii-signed_decimal c.args.number c.ranges.number)) _ true refl (text_begun _ _ _ (number (signed_decimal c.args.number)) _ refl (printed ∙ ap print one ∙ alone (number (signed_decimal c.args.number))) c.in_ok-add.ensures)
 
-pub returns : goal.returns
-returns c =
+pub returns-clause-added : goal.returns-clause-added
+returns-clause-added c =
     let one : c.i64.new.self.tokens ≡ number (signed_decimal c.args.number) ∷ [] = c.in_ok-i64.ensures.ok ∙ ap (λ before. before ++ number (signed_decimal (to_z w64 (of_z w64 c.args.number))) ∷ []) c.token_writer-writer.ensures.tokens ∙ ap (λ z. number (signed_decimal z) ∷ []) (to_z-of_z c.ranges.number) in
     let printed : c.deref.result.now ≡ print c.i64.new.self.tokens = c.deref.ensures.value ∙ c.into_inner.ensures.items ∙ ap (λ before. before ++ print c.i64.new.self.tokens) (c.i64.ensures.room.0 ∙ c.token_writer-writer.ensures.before) in
     pushed_tokens _ _ c.self.invariant (number (signed_decimal c.args.number)) (IsNumber-signed_decimal c.args.number (search rules)) (IsUtf8-from_ascii _ (IsAscii-signed_decimal c.args.number c.ranges.number)) _ true refl (text_begun _ _ _ (number (signed_decimal c.args.number)) _ refl (printed ∙ ap print one ∙ alone (number (signed_decimal c.args.number))) c.in_ok-add.ensures)

@@ -4,4 +4,4 @@ use Rattle.json_line.proofs.line.Line.text.Goals as goal
 pub returns-in-Ok : goal.returns-in-Ok
 returns-in-Ok c =
     let cases = rw c.in-Ok.is at c.from_utf8.ensures.cases in
-    rw (text_is_string c.args.text.now cases.1) (rw cases.0 at c.string.ensures)
+    rw (text_is_string c.args.text.now cases.1) (rw cases.0 at c.string.ensures.added)
