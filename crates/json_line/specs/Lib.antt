@@ -1,3 +1,4 @@
 pub mod Buffers
 pub mod Tokens
 pub mod Lines
+pub mod Passed

@@ -1,5 +1,5 @@
 //! Bytes that are written one behind another.
-ghost use Rattle.std.specs.Prelude.{◌≡◌, ◌≤◌, ◌+◌, ◌*◌, [], ◌∷◌, ◌++◌, length, OnOk};
+ghost use Rattle.std.specs.Prelude.{◌≡◌, ◌≤◌, ◌+◌, ◌*◌, [], ◌∷◌, ◌++◌, length, OnOk, IfSome};
 ghost use Rattle.std.specs.Fmt.{decimal};
 ghost use Rattle.hex.specs.Hex.{encode_lower};
 ghost use Rattle.json_line.specs.Buffers.{Puts, comma};
@@ -54,12 +54,25 @@ impl Buffer {
         self.len = 0;
     }
 
-    /// What is written.
+    /// Writes a byte behind what is written, of which it isn't a part.
     #[inline]
-    pub(crate) fn as_bytes(&self) -> &[u8]
-        ensures { result.now ≡ self.now.text }
+    pub(crate) fn put_behind(&mut self, byte: u8) -> Result<(), AllocError>
+        ensures { self.new.text ≡ self.old.text }
     {
-        &self.bytes[..self.len]
+        self.reserve(1)?;
+        self.bytes[self.len] = byte;
+        Ok(())
+    }
+
+    /// What is written, with the byte behind it where that is this one.
+    #[inline]
+    pub(crate) fn up_to(&self, byte: u8) -> Option<&[u8]>
+        ensures { IfSome result (λ bytes. bytes.now ≡ self.now.text ++ byte ∷ []) }
+    {
+        if self.len < self.bytes.len() && self.bytes[self.len] == byte {
+            return Some(&self.bytes[..self.len + 1]);
+        }
+        None
     }
 
     // Room for so many bytes.

@@ -1,8 +1,8 @@
 //! A line of JSON as it is written: tokens, and values made of them.
-ghost use Rattle.std.specs.Prelude.{◌≡◌, ◌∷◌, ◌++◌, [], codes, IsUtf8, IfOk, OnErr};
+ghost use Rattle.std.specs.Prelude.{◌≡◌, ◌∷◌, ◌++◌, [], codes, IsUtf8, IfSome, OnErr};
 ghost use Rattle.std.specs.Fmt.{signed_decimal};
 ghost use Rattle.json.specs.Lex.{tokens as read_tokens};
-ghost use Rattle.json.specs.Print.{print, token_text};
+ghost use Rattle.json.specs.Print.{escape, print, token_text};
 ghost use Rattle.json.specs.Token as tokens;
 ghost use Rattle.json_line.specs.Lines.{IsPlainText};
 ghost use Rattle.json_line.specs.Tokens.{Adds, number_value, bytes_value, text_value, uuid_value, bits_value, or_null, member};
@@ -16,58 +16,7 @@ use std::marker::Model;
 use std::{mem, str};
 use uuid::Uuid;
 
-/// The memory of lines, one after another. Contracts see it as the bytes of the line that was ended last.
-#[derive(Drop)]
-pub struct LineMemory {
-    text: Buffer,
-    token: Vec<u8>,
-}
-
-impl Model for LineMemory {
-    ghost use Rattle.std.specs.Prelude.{ℕ, List};
-    ghost use Rattle.std.specs.Coded.{coded_list, coded_ℕ};
-
-    ghost Value = { List ℕ };
-
-    ghost coded = { coded_list coded_ℕ };
-
-    ghost view = { λ memory. memory.text.text };
-}
-
-impl LineMemory {
-    /// Takes no memory yet.
-    pub fn new(alloc: Global) -> Self
-        ensures { result ≡ [] }
-    {
-        LineMemory {
-            text: Buffer::new(alloc),
-            token: Vec::new(alloc),
-        }
-    }
-
-    /// An empty line in this memory, whose bytes it forgets.
-    pub fn begin(self, alloc: Global) -> Line
-        ensures { result ≡ [] }
-    {
-        let LineMemory { mut text, token } = self;
-        text.clear();
-        Line {
-            alloc,
-            text,
-            after_value: false,
-            token,
-        }
-    }
-
-    /// The bytes of the line that was ended last, with the byte that ends it.
-    pub fn as_bytes(&self) -> &[u8]
-        ensures { result.now ≡ self.now }
-    {
-        self.text.as_bytes()
-    }
-}
-
-/// The text of one line. Contracts see it as the list of its tokens.
+/// The text of a line, in memory that is kept for the next. Contracts see it as the list of its tokens.
 #[derive(Drop)]
 pub struct Line {
     alloc: Global,
@@ -110,23 +59,47 @@ fn token_writer(token: &mut Vec<u8>, alloc: Global) -> Writer<Global>
 /// Each call adds its tokens, or fails where memory runs out. The line is then as it was, but where a value of several tokens (a
 /// text that isn't UTF-8, bits) or a member of such a value had begun.
 impl Line {
-    /// Ends the line, whose bytes then stand in the memory that was lent to it.
+    /// An empty line, which takes no memory yet.
+    pub fn new(alloc: Global) -> Self
+        ensures { result ≡ [] }
+    {
+        Line {
+            alloc,
+            text: Buffer::new(alloc),
+            after_value: false,
+            token: Vec::new(alloc),
+        }
+    }
+
+    /// Begins anew, in the same memory.
+    #[inline]
+    pub fn clear(&mut self)
+        ensures { self.new ≡ [] }
+    {
+        self.text.clear();
+        self.after_value = false;
+    }
+
+    /// Writes the byte that ends the line behind it, for [`Line::ended`].
     ///
     /// # Errors
     ///
     /// Where memory runs out.
-    pub fn end(self) -> Result<LineMemory, AllocError>
-        ensures ok { IfOk result (λ memory. memory ≡ print self ++ codes "\n") }
-        ensures reads_back { read_tokens (print self) ≡ self }
-        ensures utf8 { IsUtf8 (print self) }
+    #[inline]
+    pub fn end(&mut self) -> Result<(), AllocError>
+        ensures unchanged { self.new ≡ self.old }
+        ensures reads_back { read_tokens (print self.old) ≡ self.old }
+        ensures utf8 { IsUtf8 (print self.old) }
     {
-        let Line {
-            mut text,
-            token,
-            ..
-        } = self;
-        text.add(false, b"\n")?;
-        Ok(LineMemory { text, token })
+        self.text.put_behind(b'\n')
+    }
+
+    /// The bytes of the line and the byte that ends it, where [`Line::end`] has written that.
+    #[inline]
+    pub fn ended(&self) -> Option<&[u8]>
+        ensures { IfSome result (λ text. text.now ≡ print self.now ++ codes "\n") }
+    {
+        self.text.up_to(b'\n')
     }
 
     /// `{`
@@ -214,9 +187,7 @@ impl Line {
         ensures added { Adds result self.old self.new (tokens.string text.now ∷ []) }
         ensures unchanged { OnErr result (self.new ≡ self.old) }
     {
-        self.text.add_quoted(self.after_value, text.as_bytes())?;
-        self.after_value = true;
-        Ok(())
+        self.string_as_it_is(text.as_bytes())
     }
 
     /// A string.
@@ -225,15 +196,25 @@ impl Line {
         ensures added { Adds result self.old self.new (tokens.string text.now ∷ []) }
         ensures unchanged { OnErr result (self.new ≡ self.old) }
     {
-        if !is_plain(text.as_bytes()) {
-            return self.escaped_string(text);
+        if is_plain(text.as_bytes()) {
+            return self.string_as_it_is(text.as_bytes());
         }
-        self.text.add_quoted(self.after_value, text.as_bytes())?;
+        self.escaped_string(text)
+    }
+
+    #[inline(always)]
+    fn string_as_it_is(&mut self, text: &[u8]) -> Result<(), AllocError>
+        requires { (escape text.now ≡ text.now) × IsUtf8 text.now }
+        ensures added { Adds result self.old self.new (tokens.string text.now ∷ []) }
+        ensures unchanged { OnErr result (self.new ≡ self.old) }
+    {
+        self.text.add_quoted(self.after_value, text)?;
         self.after_value = true;
         Ok(())
     }
 
-    #[cold]
+    // By the writer of any token.
+    #[inline(never)]
     fn escaped_string(&mut self, text: &str) -> Result<(), AllocError>
         ensures added { Adds result self.old self.new (tokens.string text.now ∷ []) }
         ensures unchanged { OnErr result (self.new ≡ self.old) }
@@ -286,8 +267,19 @@ impl Line {
     pub fn text(&mut self, text: &[u8]) -> Result<(), AllocError>
         ensures { Adds result self.old self.new (text_value text.now) }
     {
+        if is_plain(text) {
+            return self.string_as_it_is(text);
+        }
+        self.other_text(text)
+    }
+
+    // A text that isn't ASCII, or needs an escape.
+    #[inline(never)]
+    fn other_text(&mut self, text: &[u8]) -> Result<(), AllocError>
+        ensures { Adds result self.old self.new (text_value text.now) }
+    {
         match str::from_utf8(text) {
-            Ok(text) => self.string(text),
+            Ok(text) => self.escaped_string(text),
             Err(_) => self.bytes_in_object(text),
         }
     }

@@ -1,5 +1,5 @@
 //! Writing bytes at a place in memory that has room for them. Each call answers where they end.
-ghost use Rattle.std.specs.Prelude.{◌≡◌, ◌+◌, ◌*◌, ◌<◌, ◌≤◌, [], ◌∷◌, length};
+ghost use Rattle.std.specs.Prelude.{◌≡◌, ◌+◌, ◌*◌, ◌<◌, ◌≤◌, [], ◌∷◌, length, take};
 ghost use Rattle.std.specs.Fmt.{decimal};
 ghost use Rattle.hex.specs.Hex.{encode_lower};
 ghost use Rattle.json.specs.Filled.{Placed};
@@ -8,6 +8,7 @@ ghost use Rattle.json_line.specs.Buffers.{comma};
 use crate::decimal::decimal_len;
 use hex::encode_to_slice;
 use itoa::write_digits;
+use std::simd::Simd;
 
 #[inline(always)]
 pub(crate) fn place_byte(memory: &mut [u8], at: usize, byte: u8) -> usize
@@ -28,14 +29,63 @@ pub(crate) fn place_comma(memory: &mut [u8], at: usize, wanted: bool) -> usize
     if wanted { at + 1 } else { at }
 }
 
+// The first N bytes are one load and one store.
+#[inline(always)]
+fn place_front<const N: usize>(memory: &mut [u8], at: usize, bytes: &[u8]) -> usize
+    requires { (N ≤ length bytes.now) × (at + N ≤ length memory.old) }
+    ensures { Placed memory.old memory.new at (take N bytes.now) result }
+{
+    Simd::<u8, N>::from_slice(bytes).copy_to_slice(&mut memory[at..]);
+    at + N
+}
+
+// The first N bytes and the last N may lie over each other.
+#[inline(always)]
+fn place_ends<const N: usize>(memory: &mut [u8], at: usize, bytes: &[u8]) -> usize
+    requires fits { at + length bytes.now ≤ length memory.old }
+    requires covers { (N ≤ length bytes.now) × (length bytes.now ≤ N + N) }
+    ensures { Placed memory.old memory.new at bytes.now result }
+{
+    let last = bytes.len() - N;
+    place_front::<N>(memory, at, bytes);
+    place_front::<N>(memory, at + last, &bytes[last..])
+}
+
+#[inline(always)]
+fn place_long(memory: &mut [u8], at: usize, bytes: &[u8]) -> usize
+    requires { (32 ≤ length bytes.now) × (at + length bytes.now ≤ length memory.old) }
+    ensures { Placed memory.old memory.new at bytes.now result }
+{
+    let mut done = 0;
+    while bytes.len() - done > 64 {
+        place_front::<32>(memory, at + done, &bytes[done..]);
+        done += 32;
+    }
+    place_ends::<32>(memory, at + done, &bytes[done..])
+}
+
+// A text is mostly short, and then two stores cost less than a call.
 #[inline(always)]
 pub(crate) fn place_bytes(memory: &mut [u8], at: usize, bytes: &[u8]) -> usize
     requires { at + length bytes.now ≤ length memory.old }
     ensures { Placed memory.old memory.new at bytes.now result }
 {
-    let end = at + bytes.len();
-    memory[at..end].copy_from_slice(bytes);
-    end
+    let len = bytes.len();
+    if len > 32 {
+        place_long(memory, at, bytes)
+    } else if len >= 16 {
+        place_ends::<16>(memory, at, bytes)
+    } else if len >= 8 {
+        place_ends::<8>(memory, at, bytes)
+    } else if len >= 4 {
+        place_ends::<4>(memory, at, bytes)
+    } else if len >= 2 {
+        place_ends::<2>(memory, at, bytes)
+    } else if len == 1 {
+        place_front::<1>(memory, at, bytes)
+    } else {
+        at
+    }
 }
 
 // No number of 64 bits has more than 20 digits.

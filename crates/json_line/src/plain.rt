@@ -1,32 +1,32 @@
-//! Whether a text stands in quotation marks as it is.
-ghost use Rattle.std.specs.Prelude.{◌≡◌, ◌+◌, ◌≤◌, length};
+//! Whether a text is ASCII and stands in quotation marks as it is.
+ghost use Rattle.std.specs.Prelude.{◌≡◌, ◌+◌, ◌≤◌, length, IsUtf8};
 ghost use Rattle.std.specs.Bool.{OnTrue};
 ghost use Rattle.json.specs.Print.{escape};
-ghost use Rattle.json.specs.Written.{PlainBetween};
+ghost use Rattle.json_line.specs.Passed.{PassedBetween};
 
+use std::simd::Simd;
 use std::simd::prelude::*;
 
-// How many bytes are looked at together.
-const BLOCK: usize = 16;
-
 #[inline(always)]
-fn is_plain_block(text: &[u8], at: usize) -> bool
-    requires { at + 16 ≤ length text.now }
-    ensures { OnTrue result (PlainBetween text.now at (at + 16)) }
+fn is_plain_block<const N: usize>(text: &[u8], at: usize) -> bool
+    requires { (N ≤ 64) × (at + N ≤ length text.now) }
+    ensures { OnTrue result (PassedBetween text.now at (at + N)) }
 {
-    let block = u8x16::from_slice(&text[at..]);
-    (block.simd_eq(u8x16::splat(b'"'))
-        | block.simd_eq(u8x16::splat(b'\\'))
-        | block.simd_lt(u8x16::splat(0x20))).to_bitmask()
+    let block = Simd::<u8, N>::from_slice(&text[at..]);
+    (block.simd_eq(Simd::splat(b'"'))
+        | block.simd_eq(Simd::splat(b'\\'))
+        | block.simd_lt(Simd::splat(0x20))
+        | block.simd_ge(Simd::splat(0x80))).to_bitmask()
         == 0
 }
 
+// Of a text of fewer bytes than the smallest block.
 #[inline(always)]
 fn is_plain_by_bytes(text: &[u8]) -> bool
-    ensures { OnTrue result (PlainBetween text.now 0 (length text.now)) }
+    ensures { OnTrue result (PassedBetween text.now 0 (length text.now)) }
 {
     'bytes: for &byte in text {
-        if byte == b'"' || byte == b'\\' || byte < 0x20 {
+        if byte == b'"' || byte == b'\\' || byte < 0x20 || byte >= 0x80 {
             return false;
         }
     }
@@ -35,29 +35,34 @@ fn is_plain_by_bytes(text: &[u8]) -> bool
 
 // The last block may lie over the one before it.
 #[inline(always)]
-fn is_plain_by_blocks(text: &[u8]) -> bool
-    requires { 16 ≤ length text.now }
-    ensures { OnTrue result (PlainBetween text.now 0 (length text.now)) }
+fn is_plain_by_blocks<const N: usize>(text: &[u8]) -> bool
+    requires { (1 ≤ N) × (N ≤ 64) × (N ≤ length text.now) }
+    ensures { OnTrue result (PassedBetween text.now 0 (length text.now)) }
 {
     let mut at = 0;
-    'blocks: while text.len() - at > BLOCK {
-        if !is_plain_block(text, at) {
+    'blocks: while text.len() - at > N {
+        if !is_plain_block::<N>(text, at) {
             return false;
         }
-        at += BLOCK;
+        at += N;
     }
-    is_plain_block(text, text.len() - BLOCK)
+    is_plain_block::<N>(text, text.len() - N)
 }
 
-/// Whether none of the bytes is a quotation mark, a backslash or a control character. It may answer no of a text that
-/// stands as it is.
-#[inline]
+/// Whether all bytes are ASCII, and none is a quotation mark, a backslash or a control character. It may answer no of a text
+/// that stands as it is.
+#[inline(always)]
 pub(crate) fn is_plain(text: &[u8]) -> bool
-    ensures { OnTrue result (escape text.now ≡ text.now) }
+    ensures as_it_is { OnTrue result (escape text.now ≡ text.now) }
+    ensures utf8 { OnTrue result (IsUtf8 text.now) }
 {
-    if text.len() < BLOCK {
-        is_plain_by_bytes(text)
+    if text.len() >= 16 {
+        is_plain_by_blocks::<16>(text)
+    } else if text.len() >= 8 {
+        is_plain_by_blocks::<8>(text)
+    } else if text.len() >= 4 {
+        is_plain_by_blocks::<4>(text)
     } else {
-        is_plain_by_blocks(text)
+        is_plain_by_bytes(text)
     }
 }

@@ -1,15 +1,10 @@
-use Rattle.std.proofs.Common.{◌++◌, ◌∷◌, [], true, refl, ap, ◌∙◌}
-use Rattle.json.specs.Token.{string}
-use Rattle.json.proofs.Printed.Utf8.{IsUtf8-quoted}
-use Rattle.json_line.proofs.PlainTexts.{plain_text, string_text}
-use Rattle.json_line.proofs.OneMore.{text_begun, pushed, pushed_tokens}
+use Rattle.std.proofs.Common.{◌≡◌, IsUtf8, subst, sym}
+use Rattle.json.specs.Print.{escape}
+use Rattle.json_line.proofs.PlainTexts.{plain_text}
 use Rattle.json_line.proofs.line.Line.plain_string.Goals as goal
 
-pub invariant_of-self-2 : goal.invariant_of-self-2
-invariant_of-self-2 c =
-    pushed _ _ c.self.invariant (string c.args.text.now) tt (IsUtf8-quoted _ c.utf8.text) _ true refl (text_begun _ _ _ (string c.args.text.now) _ refl (ap (λ s. 34 ∷ (s ++ 34 ∷ [])) c.as_bytes.ensures.value ∙ string_text _ (plain_text _ c.requires)) c.in_ok-add_quoted.ensures)
+pub string_as_it_is-requires : goal.string_as_it_is-requires
+string_as_it_is-requires c = (subst (λ s. escape s ≡ s) (sym c.as_bytes.ensures.value) (plain_text _ c.requires), subst IsUtf8 (sym c.as_bytes.ensures.value) c.utf8.text)
 
 pub returns-clause-added : goal.returns-clause-added
-returns-clause-added c =
-    pushed_tokens _ _ c.self.invariant (string c.args.text.now) tt (IsUtf8-quoted _ c.utf8.text) _ true refl (text_begun _ _ _ (string c.args.text.now) _ refl (ap (λ s. 34 ∷ (s ++ 34 ∷ [])) c.as_bytes.ensures.value ∙ string_text _ (plain_text _ c.requires)) c.in_ok-add_quoted.ensures)
-    ∙ ap (λ l. l ++ string c.args.text.now ∷ []) c.self.view_is
+returns-clause-added c = rw c.as_bytes.ensures.value at c.string_as_it_is.ensures.added

@@ -1,7 +1,5 @@
 use Rattle.json_line.proofs.Texts.{text_is_string}
 use Rattle.json_line.proofs.line.Line.text.Goals as goal
 
-pub returns-in-Ok : goal.returns-in-Ok
-returns-in-Ok c =
-    let cases = rw c.in-Ok.is at c.from_utf8.ensures.cases in
-    rw (text_is_string c.args.text.now cases.1) (rw cases.0 at c.string.ensures.added)
+pub returns-then-is_plain : goal.returns-then-is_plain
+returns-then-is_plain c = rw (text_is_string c.args.text.now c.if-is_plain.ensures.utf8) c.string_as_it_is.ensures.added
