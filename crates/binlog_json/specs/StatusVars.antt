@@ -91,9 +91,13 @@ value_of_key DefaultCollationForUtf8mb4 v = number_in 2 0 v
 value_of_key SqlRequirePrimaryKey v = number_value (slice_index v 0)
 value_of_key DefaultTableEncryption v = number_value (slice_index v 0)
 
+-- a key of this name, and a value
+abbrev pub entry : List ℕ → List Token → List Token
+entry name value = object (member (codes "key") (string name ∷ []) ++ member (codes "value") value)
+
 -- a variable: its key and its value
 abbrev pub variable_object : Variable → List Token
-variable_object v = object (member (codes "key") (string (key_name v.key) ∷ []) ++ member (codes "value") (value_of_key v.key v.value))
+variable_object v = entry (key_name v.key) (value_of_key v.key v.value)
 
 -- the variables of a text, in order
 abbrev pub status_vars_value : List ℕ → List Token

@@ -1,7 +1,9 @@
 //! The data of an event, by its type.
 #![tactic(auto, using(std::proofs::Common::append_assoc))]
 
-ghost use Rattle.binlog_wire.specs.Errors.{error_number};
+ghost use Rattle.std.specs.Prelude.{◌≡◌, false, Ok, OnOk};
+ghost use Rattle.binlog_wire.specs.Errors.{error_number, is_outside};
+ghost use Rattle.binlog_consts.specs.declared.event_type.EventType.TheVariants.{QUERY_EVENT};
 ghost use Rattle.binlog_consts.specs.EventTypes.{event_type_of};
 ghost use Rattle.binlog_description.specs.Headers.{header_of};
 ghost use Rattle.binlog_events.specs.EventRefs.{view_of};
@@ -17,7 +19,7 @@ use crate::gtids::{write_gtid, write_previous_gtids};
 use crate::names::name_of;
 use crate::rows::{write_rows, write_table_map};
 use crate::statements::{write_execute_load_query, write_query, write_user_var};
-use binlog_file::{Error, EventData, EventRef, EventType, UnknownEventType};
+use binlog_file::{Error, EventData, EventRef, EventType, QueryEvent, UnknownEventType};
 use json_line::Line;
 use std::alloc::{AllocError, Global};
 
@@ -44,6 +46,9 @@ pub(crate) fn write_data(
     ensures { Adds result line.old line.new (data_value (view_of event.now).fde
         (data_of (view_of event.now).fde.footer (view_of event.now).frame) (event_type_of (header_of (view_of event.now).frame).event_type)) }
 {
+    if matches!(event.header().event_type(), Ok(EventType::QUERY_EVENT)) {
+        return write_statement(line, alloc, event);
+    }
     match event.read_data(alloc) {
         Ok(Some(body)) => {
             let written = write_object(line, alloc, &body);
@@ -51,19 +56,29 @@ pub(crate) fn write_data(
             written
         }
         Ok(None) => line.null(),
-        Err(error) => {
-            if error.is_outside() {
-                return Err(AllocError);
-            }
-            write_refusal(line, &error)
-        }
+        Err(error) => write_refusal(line, &error),
     }
 }
 
-// Writes the number of an error in an object.
-fn write_refusal(line: &mut Line, error: &Error) -> Result<(), AllocError>
-    ensures { Adds result line.old line.new (error_object (error_number error.now)) }
+// Writes the data of a statement. Most events are statements, and a value of every type of event costs more to fill.
+fn write_statement(line: &mut Line, alloc: Global, event: &EventRef<'_>) -> Result<(), AllocError>
+    ensures { Adds result line.old line.new (data_value (view_of event.now).fde
+        (data_of (view_of event.now).fde.footer (view_of event.now).frame) (Ok QUERY_EVENT)) }
 {
+    match event.read_event::<QueryEvent<'_>>(alloc) {
+        Ok(statement) => write_query(line, alloc, &statement),
+        Err(refusal) => write_refusal(line, &refusal),
+    }
+}
+
+// Writes the number of an error in an object, unless it says that memory ran out.
+fn write_refusal(line: &mut Line, error: &Error) -> Result<(), AllocError>
+    ensures number { Adds result line.old line.new (error_object (error_number error.now)) }
+    ensures inside { OnOk result (is_outside error.now ≡ false) }
+{
+    if error.is_outside() {
+        return Err(AllocError);
+    }
     line.begin_object()?;
     line.number_member("error", u64::from(error.number()))?;
     line.end_object()?;

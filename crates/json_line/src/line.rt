@@ -346,6 +346,7 @@ impl Line {
     }
 
     /// An object of a key, which needs no escape, and of a value, which is to follow: `{"key":"Flags2","value":`
+    #[inline(always)]
     pub fn begin_entry(&mut self, key: &str) -> Result<(), AllocError>
         requires { IsPlainText key.now }
         ensures added { Adds result self.old self.new (tokens.begin_object ∷ tokens.key (codes "key") ∷ tokens.string key.now ∷ tokens.key (codes "value") ∷ []) }
