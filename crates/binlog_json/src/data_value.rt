@@ -49,6 +49,15 @@ pub(crate) fn write_data(
     if matches!(event.header().event_type(), Ok(EventType::QUERY_EVENT)) {
         return write_statement(line, alloc, event);
     }
+    write_other_data(line, alloc, event)
+}
+
+// Writes the data of an event of any type.
+#[inline(never)]
+fn write_other_data(line: &mut Line, alloc: Global, event: &EventRef<'_>) -> Result<(), AllocError>
+    ensures { Adds result line.old line.new (data_value (view_of event.now).fde
+        (data_of (view_of event.now).fde.footer (view_of event.now).frame) (event_type_of (header_of (view_of event.now).frame).event_type)) }
+{
     match event.read_data(alloc) {
         Ok(Some(body)) => {
             let written = write_object(line, alloc, &body);

@@ -14,6 +14,7 @@ use binlog_file::{
 use json_line::Line;
 use std::alloc::{AllocError, Global};
 
+#[inline(always)]
 pub(crate) fn write_query(
     line: &mut Line,
     alloc: Global,
@@ -28,6 +29,7 @@ pub(crate) fn write_query(
     Ok(())
 }
 
+#[inline(always)]
 fn write_query_head(line: &mut Line, event: &QueryEvent<'_>) -> Result<(), AllocError>
     ensures { Adds result line.old line.new (statement_head event.now.statement) }
 {
@@ -37,6 +39,7 @@ fn write_query_head(line: &mut Line, event: &QueryEvent<'_>) -> Result<(), Alloc
     Ok(())
 }
 
+#[inline(always)]
 fn write_query_texts(
     line: &mut Line,
     alloc: Global,

@@ -263,7 +263,7 @@ impl Line {
     }
 
     /// A string where the bytes are UTF-8, and else an object that has them in hexadecimal digits.
-    #[inline]
+    #[inline(always)]
     pub fn text(&mut self, text: &[u8]) -> Result<(), AllocError>
         ensures { Adds result self.old self.new (text_value text.now) }
     {

@@ -88,13 +88,16 @@ pub(crate) fn place_bytes(memory: &mut [u8], at: usize, bytes: &[u8]) -> usize
     }
 }
 
-// No number of 64 bits has more than 20 digits.
+// No number of 64 bits has more than 20 digits, and many have one.
 #[inline(always)]
 pub(crate) fn place_number(memory: &mut [u8], at: usize, number: u64) -> usize
     requires { at + 20 ≤ length memory.old }
     ensures placed { Placed memory.old memory.new at (decimal number) result }
     ensures short { result ≤ at + 20 }
 {
+    if number < 10 {
+        return place_byte(memory, at, b'0' + number as u8);
+    }
     let end = at + decimal_len(number);
     write_digits(number, memory, end);
     end

@@ -1,5 +1,6 @@
 use Rattle.std.proofs.Common.{◌≡◌, ◌+◌, arith}
 use Rattle.std.specs.Fmt.{decimal}
+use Rattle.std.proofs.lemmas.Fmt.{decimal_digit}
 use Rattle.json_line.proofs.Digits.{at_most_twenty}
 use Rattle.json_line.proofs.BufferTexts.{ending_at}
 use Rattle.json_line.proofs.place.place_number.Goals as goal
@@ -21,3 +22,6 @@ returns-clause-placed c =
 
 pub returns-clause-short : goal.returns-clause-short
 returns-clause-short c = omega (arith, at_most_twenty c.args.number c.ranges.number.fits, c.decimal_len.ensures)
+
+pub returns-then-number-lt10-clause-placed : goal.returns-then-number-lt10-clause-placed
+returns-then-number-lt10-clause-placed c = rw (decimal_digit c.args.number c.if-number-lt10.true) c.place_byte.ensures
