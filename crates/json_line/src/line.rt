@@ -147,7 +147,7 @@ impl Line {
     }
 
     /// The name of a member, which needs no escape, and the colon behind it.
-    #[inline]
+    #[inline(always)]
     pub fn key(&mut self, name: &str) -> Result<(), AllocError>
         requires { IsPlainText name.now }
         ensures added { Adds result self.old self.new (tokens.key name.now ∷ []) }
@@ -228,7 +228,7 @@ impl Line {
     }
 
     /// A number in full.
-    #[inline]
+    #[inline(always)]
     pub fn number(&mut self, number: u64) -> Result<(), AllocError>
         ensures added { Adds result self.old self.new (number_value number) }
         ensures unchanged { OnErr result (self.new ≡ self.old) }
