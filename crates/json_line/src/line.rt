@@ -56,8 +56,8 @@ fn token_writer(token: &mut Vec<u8>, alloc: Global) -> Writer<Global>
     Writer::new(memory)
 }
 
-/// Each call adds its tokens, or fails where memory runs out. The line is then as it was, but where a value of several tokens (a
-/// text that isn't UTF-8, bits) or a member of such a value had begun.
+/// Each call that writes adds its tokens, or fails where memory runs out. The line is then as it was, but where a value of several
+/// tokens (a text that isn't UTF-8, bits) or a member of such a value had begun.
 impl Line {
     /// An empty line, which takes no memory yet.
     pub fn new(alloc: Global) -> Self
