@@ -13,6 +13,7 @@ use crate::anonymous_gtid_event::AnonymousGtidEvent;
 use crate::field_id;
 use crate::gtid_event::GtidEvent;
 use crate::previous_gtids_event::PreviousGtidsEvent;
+use binlog_consts::EventType;
 use binlog_description::BinlogEvent;
 
 /// A GTID whose fields are in the ranges of their types, and that isn't refused, fits the form of its own type: so what is
@@ -32,11 +33,17 @@ pub fn writable_sids_fit()
     ensures { (sids : List PreviousGtidsSid) → EachFits FitsSid sids → unwritable_sids sids ≡ None → sids_format.Fits sids }
 {}
 
-/// The numbers of the types of events.
+/// The types of events.
 pub fn event_types() {
-    prove!(GtidEvent::EVENT_TYPE as u8 == 33);
-    prove!(AnonymousGtidEvent::EVENT_TYPE as u8 == 34);
-    prove!(PreviousGtidsEvent::EVENT_TYPE as u8 == 35);
+    prove!(matches!(GtidEvent::EVENT_TYPE, EventType::GTID_EVENT));
+    prove!(matches!(
+        AnonymousGtidEvent::EVENT_TYPE,
+        EventType::ANONYMOUS_GTID_EVENT
+    ));
+    prove!(matches!(
+        PreviousGtidsEvent::EVENT_TYPE,
+        EventType::PREVIOUS_GTIDS_EVENT
+    ));
 }
 
 /// The constants of GTIDs.

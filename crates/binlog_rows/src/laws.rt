@@ -16,6 +16,7 @@ use crate::rows_kind::{
     WriteRowsV1,
 };
 use crate::table_map_event::TableMapEvent;
+use binlog_consts::EventType;
 use binlog_description::BinlogEvent;
 use binlog_wire::MyDeserialize;
 
@@ -43,16 +44,19 @@ pub fn read_row_events_fit()
         → (rows form (default_length form)).Fits event }
 {}
 
-/// The numbers of the types of events.
+/// The types of events.
 pub fn event_types() {
-    prove!(TableMapEvent::EVENT_TYPE as u8 == 19);
-    prove!(WriteRowsV1::EVENT_TYPE as u8 == 23);
-    prove!(UpdateRowsV1::EVENT_TYPE as u8 == 24);
-    prove!(DeleteRowsV1::EVENT_TYPE as u8 == 25);
-    prove!(WriteRows::EVENT_TYPE as u8 == 30);
-    prove!(UpdateRows::EVENT_TYPE as u8 == 31);
-    prove!(DeleteRows::EVENT_TYPE as u8 == 32);
-    prove!(PartialUpdateRows::EVENT_TYPE as u8 == 39);
+    prove!(matches!(TableMapEvent::EVENT_TYPE, EventType::TABLE_MAP_EVENT));
+    prove!(matches!(WriteRowsV1::EVENT_TYPE, EventType::WRITE_ROWS_EVENT_V1));
+    prove!(matches!(UpdateRowsV1::EVENT_TYPE, EventType::UPDATE_ROWS_EVENT_V1));
+    prove!(matches!(DeleteRowsV1::EVENT_TYPE, EventType::DELETE_ROWS_EVENT_V1));
+    prove!(matches!(WriteRows::EVENT_TYPE, EventType::WRITE_ROWS_EVENT));
+    prove!(matches!(UpdateRows::EVENT_TYPE, EventType::UPDATE_ROWS_EVENT));
+    prove!(matches!(DeleteRows::EVENT_TYPE, EventType::DELETE_ROWS_EVENT));
+    prove!(matches!(
+        PartialUpdateRows::EVENT_TYPE,
+        EventType::PARTIAL_UPDATE_ROWS_EVENT
+    ));
 }
 
 /// The sizes of what always takes as many bytes.
