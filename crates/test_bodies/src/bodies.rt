@@ -52,34 +52,22 @@ fn rotate_of_the_sample(rt: HostRuntime) -> Result<(), Fail> {
     let fde = FormatDescriptionEvent::new(BinlogVersion::Version4);
     let body = b"\x04\0\0\0\0\0\0\0master-bin.000002";
     let event: RotateEvent = read(alloc, &fde, body)?;
-    assert_eq!(rt; event.position(), 4);
-    assert_eq!(rt; event.name_raw(), b"master-bin.000002".as_slice());
-    assert_eq!(rt; event.name(alloc)?.as_str(), "master-bin.000002");
+    assert!(rt; event.position() == 4);
+    assert!(rt; event.name_raw() == b"master-bin.000002".as_slice());
+    assert!(rt; event.name(alloc)?.as_str() == "master-bin.000002");
     assert!(rt; !event.is_fake());
-    assert_eq!(rt; event.len(BinlogVersion::Version4), 25);
-    assert_eq!(rt;
-        written(alloc, &event)?.as_slice(),
-        b"x\x04\0\0\0\0\0\0\0master-bin.000002".as_slice()
-    );
-    assert_eq!(rt;
-        event,
-        RotateEvent::new(4, CowSlice::Borrowed(b"master-bin.000002"))
-    );
+    assert!(rt; event.len(BinlogVersion::Version4) == 25);
+    assert!(rt; written(alloc, &event)?.as_slice() == b"x\x04\0\0\0\0\0\0\0master-bin.000002".as_slice());
+    assert!(rt; event == RotateEvent::new(4, CowSlice::Borrowed(b"master-bin.000002")));
     let copy = event.clone(alloc)?.into_owned(alloc)?;
-    assert_eq!(rt; copy, event);
+    assert!(rt; copy == event);
     let other = copy
         .with_position(0)
         .with_name(CowSlice::Borrowed(b"a\xff"));
     assert!(rt; other.is_fake());
-    assert_eq!(rt; other.name(alloc)?.as_str(), "a\u{fffd}");
-    assert_eq!(rt;
-        read::<RotateEvent>(alloc, &fde, b"\x04\0\0\0\0\0\0").err(),
-        Some(Error::EndOfBody)
-    );
-    assert_eq!(rt;
-        format!(in alloc; "{event:?}")?.as_str(),
-        "RotateEvent { position: 4, name: [109, 97, 115, 116, 101, 114, 45, 98, 105, 110, 46, 48, 48, 48, 48, 48, 50] }"
-    );
+    assert!(rt; other.name(alloc)?.as_str() == "a\u{fffd}");
+    assert!(rt; read::<RotateEvent>(alloc, &fde, b"\x04\0\0\0\0\0\0").err() == Some(Error::EndOfBody));
+    assert!(rt; format!(in alloc; "{event:?}")?.as_str() == "RotateEvent { position: 4, name: [109, 97, 115, 116, 101, 114, 45, 98, 105, 110, 46, 48, 48, 48, 48, 48, 50] }");
     Ok(())
 }
 
@@ -92,26 +80,14 @@ fn xid_behind_its_post_header(rt: HostRuntime) -> Result<(), Fail> {
         BinlogVersion::Version4,
     ).with_event_type_header_lengths(CowSlice::Borrowed(&lengths));
     let event: XidEvent = read(alloc, &fde, ELEVEN)?;
-    assert_eq!(rt; event, XidEvent { xid: 11 });
+    assert!(rt; event == XidEvent { xid: 11 });
     let event: XidEvent = read(alloc, &stated, b"\xff\xff\x0b\0\0\0\0\0\0\0")?;
-    assert_eq!(rt; event, XidEvent { xid: 11 });
-    assert_eq!(rt;
-        written(alloc, &event)?.as_slice(),
-        b"x\x0b\0\0\0\0\0\0\0".as_slice()
-    );
-    assert_eq!(rt; event.len(BinlogVersion::Version4), 8);
-    assert_eq!(rt;
-        read::<XidEvent>(alloc, &stated, b"\xff").err(),
-        Some(Error::EndOfBody)
-    );
-    assert_eq!(rt;
-        read::<XidEvent>(alloc, &stated, ELEVEN).err(),
-        Some(Error::EndOfBody)
-    );
-    assert_eq!(rt;
-        read::<XidEvent>(alloc, &fde, b"\xff\xff\x0b\0\0\0\0\0\0\0").err(),
-        Some(Error::RemainingBytes(2))
-    );
+    assert!(rt; event == XidEvent { xid: 11 });
+    assert!(rt; written(alloc, &event)?.as_slice() == b"x\x0b\0\0\0\0\0\0\0".as_slice());
+    assert!(rt; event.len(BinlogVersion::Version4) == 8);
+    assert!(rt; read::<XidEvent>(alloc, &stated, b"\xff").err() == Some(Error::EndOfBody));
+    assert!(rt; read::<XidEvent>(alloc, &stated, ELEVEN).err() == Some(Error::EndOfBody));
+    assert!(rt; read::<XidEvent>(alloc, &fde, b"\xff\xff\x0b\0\0\0\0\0\0\0").err() == Some(Error::RemainingBytes(2)));
     Ok(())
 }
 
@@ -145,13 +121,10 @@ fn integer_variables(rt: HostRuntime) -> Result<(), Fail> {
     let event = IntvarEvent::new(IntvarEventType::INVALID_INT_EVENT, 0)
         .with_subtype(IntvarEventType::LAST_INSERT_ID_EVENT)
         .with_value(258);
-    assert_eq!(rt; event.subtype(), IntvarEventType::LAST_INSERT_ID_EVENT);
-    assert_eq!(rt; event.value(), 258);
-    assert_eq!(rt; event.len(BinlogVersion::Version4), 9);
-    assert_eq!(rt;
-        written(alloc, &event)?.as_slice(),
-        b"x\x01\x02\x01\0\0\0\0\0\0".as_slice()
-    );
+    assert!(rt; event.subtype() == IntvarEventType::LAST_INSERT_ID_EVENT);
+    assert!(rt; event.value() == 258);
+    assert!(rt; event.len(BinlogVersion::Version4) == 9);
+    assert!(rt; written(alloc, &event)?.as_slice() == b"x\x01\x02\x01\0\0\0\0\0\0".as_slice());
     Ok(())
 }
 
@@ -160,23 +133,14 @@ fn random_seeds(rt: HostRuntime) -> Result<(), Fail> {
     let alloc = rt.alloc();
     let fde = FormatDescriptionEvent::new(BinlogVersion::Version4);
     let event: RandEvent = read(alloc, &fde, b"\x0b\0\0\0\0\0\0\0\0\0\0\0\0\0\0\x80")?;
-    assert_eq!(rt;
-        event,
-        RandEvent {
+    assert!(rt; event == RandEvent {
             seed1: RawInt::new(11),
             seed2: RawInt::new(1 << 63)
-        }
-    );
-    assert_eq!(rt; event.clone()?, event);
-    assert_eq!(rt; event.len(BinlogVersion::Version4), 16);
-    assert_eq!(rt;
-        written(alloc, &event)?.as_slice(),
-        b"x\x0b\0\0\0\0\0\0\0\0\0\0\0\0\0\0\x80".as_slice()
-    );
-    assert_eq!(rt;
-        read::<RandEvent>(alloc, &fde, b"\x0b\0\0\0\0\0\0\0\0\0\0\0\0\0\0").err(),
-        Some(Error::EndOfBody)
-    );
+        });
+    assert!(rt; event.clone()? == event);
+    assert!(rt; event.len(BinlogVersion::Version4) == 16);
+    assert!(rt; written(alloc, &event)?.as_slice() == b"x\x0b\0\0\0\0\0\0\0\0\0\0\0\0\0\0\x80".as_slice());
+    assert!(rt; read::<RandEvent>(alloc, &fde, b"\x0b\0\0\0\0\0\0\0\0\0\0\0\0\0\0").err() == Some(Error::EndOfBody));
     Ok(())
 }
 
@@ -186,35 +150,26 @@ fn incident_with_a_long_message(rt: HostRuntime) -> Result<(), Fail> {
     let fde = FormatDescriptionEvent::new(BinlogVersion::Version4);
     let message = [b'm'; 300];
     let event = IncidentEvent::new(IncidentType::LOST_EVENTS, CowSlice::Borrowed(&message));
-    assert_eq!(rt; event.message_raw(), [b'm'; 255].as_slice());
-    assert_eq!(rt; event.message(alloc)?.as_str().len(), 255);
-    assert_eq!(rt; event.len(BinlogVersion::Version4), 258);
+    assert!(rt; event.message_raw() == [b'm'; 255].as_slice());
+    assert!(rt; event.message(alloc)?.as_str().len() == 255);
+    assert!(rt; event.len(BinlogVersion::Version4) == 258);
     let bytes = written(alloc, &event)?;
-    assert_eq!(rt; bytes.len(), 259);
-    assert_eq!(rt; &bytes[..4], b"x\x01\0\xff".as_slice());
-    assert_eq!(rt; &bytes[4..], [b'm'; 255].as_slice());
+    assert!(rt; bytes.len() == 259);
+    assert!(rt; &bytes[..4] == b"x\x01\0\xff".as_slice());
+    assert!(rt; &bytes[4..] == [b'm'; 255].as_slice());
     let cut: IncidentEvent = read(alloc, &fde, &bytes[1..])?;
-    assert_eq!(rt;
-        cut,
-        IncidentEvent::new(IncidentType::LOST_EVENTS, CowSlice::Borrowed(&[b'm'; 255]))
-    );
+    assert!(rt; cut == IncidentEvent::new(IncidentType::LOST_EVENTS, CowSlice::Borrowed(&[b'm'; 255])));
     assert!(rt; cut != event);
     let copy = event.clone(alloc)?.into_owned(alloc)?;
-    assert_eq!(rt; copy, event);
+    assert!(rt; copy == event);
     let other = copy
         .with_incident_type(IncidentType::NONE)
         .with_message(CowSlice::Borrowed(b""));
-    assert_eq!(rt; other.incident_type(), Ok(IncidentType::NONE));
+    assert!(rt; other.incident_type() == Ok(IncidentType::NONE));
     let unknown: IncidentEvent = read(alloc, &fde, b"\x02\x01\x01m")?;
-    assert_eq!(rt; unknown.incident_type(), Err(UnknownIncidentType(258)));
-    assert_eq!(rt;
-        read::<IncidentEvent>(alloc, &fde, b"\x01\0\x02m").err(),
-        Some(Error::EndOfBody)
-    );
-    assert_eq!(rt;
-        read::<IncidentEvent>(alloc, &fde, b"\x01\0\x01mm").err(),
-        Some(Error::RemainingBytes(1))
-    );
+    assert!(rt; unknown.incident_type() == Err(UnknownIncidentType(258)));
+    assert!(rt; read::<IncidentEvent>(alloc, &fde, b"\x01\0\x02m").err() == Some(Error::EndOfBody));
+    assert!(rt; read::<IncidentEvent>(alloc, &fde, b"\x01\0\x01mm").err() == Some(Error::RemainingBytes(1)));
     Ok(())
 }
 
@@ -223,22 +178,13 @@ fn statement_of_rows(rt: HostRuntime) -> Result<(), Fail> {
     let alloc = rt.alloc();
     let fde = FormatDescriptionEvent::new(BinlogVersion::Version4);
     let event: RowsQueryEvent = read(alloc, &fde, b"\xffinsert into t1 values (1)")?;
-    assert_eq!(rt; event.query_raw(), b"insert into t1 values (1)".as_slice());
-    assert_eq!(rt; event.query(alloc)?.as_str(), "insert into t1 values (1)");
-    assert_eq!(rt; event.len(BinlogVersion::Version4), 26);
-    assert_eq!(rt;
-        written(alloc, &event)?.as_slice(),
-        b"x\0insert into t1 values (1)".as_slice()
-    );
+    assert!(rt; event.query_raw() == b"insert into t1 values (1)".as_slice());
+    assert!(rt; event.query(alloc)?.as_str() == "insert into t1 values (1)");
+    assert!(rt; event.len(BinlogVersion::Version4) == 26);
+    assert!(rt; written(alloc, &event)?.as_slice() == b"x\0insert into t1 values (1)".as_slice());
     let copy = event.clone(alloc)?.into_owned(alloc)?;
-    assert_eq!(rt;
-        copy,
-        RowsQueryEvent::new(CowSlice::Borrowed(b"insert into t1 values (1)"))
-    );
-    assert_eq!(rt;
-        read::<RowsQueryEvent>(alloc, &fde, b"").err(),
-        Some(Error::EndOfBody)
-    );
+    assert!(rt; copy == RowsQueryEvent::new(CowSlice::Borrowed(b"insert into t1 values (1)")));
+    assert!(rt; read::<RowsQueryEvent>(alloc, &fde, b"").err() == Some(Error::EndOfBody));
     Ok(())
 }
 
@@ -247,22 +193,16 @@ fn first_block_of_a_file(rt: HostRuntime) -> Result<(), Fail> {
     let alloc = rt.alloc();
     let fde = FormatDescriptionEvent::new(BinlogVersion::Version4);
     let event: BeginLoadQueryEvent = read(alloc, &fde, b"\x01\x02\0\0block")?;
-    assert_eq!(rt; event.file_id(), 513);
-    assert_eq!(rt; event.block_data(), b"block".as_slice());
-    assert_eq!(rt; event.len(BinlogVersion::Version4), 9);
-    assert_eq!(rt;
-        written(alloc, &event)?.as_slice(),
-        b"x\x01\x02\0\0block".as_slice()
-    );
+    assert!(rt; event.file_id() == 513);
+    assert!(rt; event.block_data() == b"block".as_slice());
+    assert!(rt; event.len(BinlogVersion::Version4) == 9);
+    assert!(rt; written(alloc, &event)?.as_slice() == b"x\x01\x02\0\0block".as_slice());
     let copy = event.clone(alloc)?.into_owned(alloc)?;
     let made = BeginLoadQueryEvent::new(0)
         .with_file_id(513)
         .with_block_data(CowSlice::Borrowed(b"block"));
-    assert_eq!(rt; copy, made);
-    assert_eq!(rt;
-        read::<BeginLoadQueryEvent>(alloc, &fde, b"\x01\x02\0").err(),
-        Some(Error::EndOfBody)
-    );
+    assert!(rt; copy == made);
+    assert!(rt; read::<BeginLoadQueryEvent>(alloc, &fde, b"\x01\x02\0").err() == Some(Error::EndOfBody));
     Ok(())
 }
 
@@ -274,22 +214,22 @@ fn refused_memory_changes_nothing(rt: HostRuntime) -> Result<(), Fail> {
     let mut bytes = Vec::new(alloc);
     let event = RotateEvent::new(4, CowSlice::Borrowed(b"a\xff"));
     match event.serialize(alloc, &mut bytes) {
-        Ok(()) => assert_eq!(rt; bytes.as_slice(), b"\x04\0\0\0\0\0\0\0a\xff".as_slice()),
+        Ok(()) => assert!(rt; bytes.as_slice() == b"\x04\0\0\0\0\0\0\0a\xff".as_slice()),
         Err(error) => {
-            assert_eq!(rt; error, Error::Memory);
+            assert!(rt; error == Error::Memory);
             assert!(rt; bytes.is_empty());
         }
     }
     match event.name(alloc) {
-        Ok(name) => assert_eq!(rt; name.as_str(), "a\u{fffd}"),
-        Err(error) => assert_eq!(rt; error, Error::Memory),
+        Ok(name) => assert!(rt; name.as_str() == "a\u{fffd}"),
+        Err(error) => assert!(rt; error == Error::Memory),
     }
     match event.clone(alloc)?.into_owned(alloc) {
         Ok(owned) => match owned.clone(alloc) {
-            Ok(copy) => assert_eq!(rt; copy, owned),
-            Err(error) => assert_eq!(rt; error, Error::Memory),
+            Ok(copy) => assert!(rt; copy == owned),
+            Err(error) => assert!(rt; error == Error::Memory),
         },
-        Err(error) => assert_eq!(rt; error, Error::Memory),
+        Err(error) => assert!(rt; error == Error::Memory),
     }
     Ok(())
 }
@@ -299,15 +239,9 @@ fn refused_memory_changes_nothing(rt: HostRuntime) -> Result<(), Fail> {
 fn reading_takes_no_memory(rt: HostRuntime) -> Result<(), Fail> {
     let alloc = rt.alloc();
     let fde = lent(DESCRIPTION)?.to_event();
-    assert_eq!(rt;
-        read::<RotateEvent>(alloc, &fde, b"\x04\0\0\0\0\0\0\0a")?.position(),
-        4
-    );
-    assert_eq!(rt; read::<XidEvent>(alloc, &fde, ELEVEN)?.xid, 11);
-    assert_eq!(rt;
-        read::<IntvarEvent>(alloc, &fde, b"\x02\x0b\0\0\0\0\0\0\0")?.value(),
-        11
-    );
+    assert!(rt; read::<RotateEvent>(alloc, &fde, b"\x04\0\0\0\0\0\0\0a")?.position() == 4);
+    assert!(rt; read::<XidEvent>(alloc, &fde, ELEVEN)?.xid == 11);
+    assert!(rt; read::<IntvarEvent>(alloc, &fde, b"\x02\x0b\0\0\0\0\0\0\0")?.value() == 11);
     Ok(())
 }
 
@@ -316,13 +250,13 @@ fn reading_further_bodies_takes_no_memory(rt: HostRuntime) -> Result<(), Fail> {
     let alloc = rt.alloc();
     let fde = FormatDescriptionEvent::new(BinlogVersion::Version4);
     let rand: RandEvent = read(alloc, &fde, b"\x0b\0\0\0\0\0\0\0\x0c\0\0\0\0\0\0\0")?;
-    assert_eq!(rt; rand.seed2.0, 12);
+    assert!(rt; rand.seed2.0 == 12);
     let incident: IncidentEvent = read(alloc, &fde, b"\x01\0\x01m")?;
-    assert_eq!(rt; incident.message_raw(), b"m".as_slice());
+    assert!(rt; incident.message_raw() == b"m".as_slice());
     let query: RowsQueryEvent = read(alloc, &fde, b"\0q")?;
-    assert_eq!(rt; query.query_raw(), b"q".as_slice());
+    assert!(rt; query.query_raw() == b"q".as_slice());
     let block: BeginLoadQueryEvent = read(alloc, &fde, b"\x01\0\0\0b")?;
-    assert_eq!(rt; block.block_data(), b"b".as_slice());
+    assert!(rt; block.block_data() == b"b".as_slice());
     Ok(())
 }
 

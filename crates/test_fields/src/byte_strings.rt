@@ -12,13 +12,13 @@ fn writes_what_fits(rt: HostRuntime) -> Result<(), Fail> {
     let long = [b'x'; 300];
     let text: RawBytes<'_, U8Bytes> = RawBytes::new(CowSlice::Borrowed(&long));
     text.serialize(rt.alloc(), &mut buf)?;
-    assert_eq!(rt; buf.len(), 256);
-    assert_eq!(rt; buf.first().copied(), Some(255));
-    assert_eq!(rt; text.len(), 255);
+    assert!(rt; buf.len() == 256);
+    assert!(rt; buf.first().copied() == Some(255));
+    assert!(rt; text.len() == 255);
     let version: RawBytes<'_, FixedLengthText> = RawBytes::new(CowSlice::Borrowed(b"8.0"));
     version.serialize(rt.alloc(), &mut buf)?;
-    assert_eq!(rt; buf.len(), 306);
-    assert_eq!(rt; version.as_bytes(), b"8.0".as_slice());
+    assert!(rt; buf.len() == 306);
+    assert!(rt; version.as_bytes() == b"8.0".as_slice());
     let owned = version.clone(rt.alloc())?.into_owned(rt.alloc())?;
     assert!(rt; owned == version);
     Ok(())
@@ -28,11 +28,11 @@ fn writes_what_fits(rt: HostRuntime) -> Result<(), Fail> {
 fn reads_and_shows_text(rt: HostRuntime) -> Result<(), Fail> {
     let mut buf = ParseBuf(b"\x04\0\0\0a\xffbc\x01d!");
     let first: RawBytes<'_, U32Bytes> = buf.parse(rt.alloc(), ())?;
-    assert_eq!(rt; first.as_str(rt.alloc())?.as_str(), "a\u{fffd}bc");
+    assert!(rt; first.as_str(rt.alloc())?.as_str() == "a\u{fffd}bc");
     let second: RawBytes<'_, U8Bytes> = buf.parse(rt.alloc(), ())?;
-    assert_eq!(rt; second.as_bytes(), b"d".as_slice());
+    assert!(rt; second.as_bytes() == b"d".as_slice());
     let rest: RawBytes<'_, EofBytes> = buf.parse(rt.alloc(), ())?;
-    assert_eq!(rt; rest.as_bytes(), b"!".as_slice());
+    assert!(rt; rest.as_bytes() == b"!".as_slice());
     assert!(rt; buf.is_empty());
     Ok(())
 }
@@ -41,11 +41,11 @@ fn reads_and_shows_text(rt: HostRuntime) -> Result<(), Fail> {
 fn reads_up_to_a_zero_byte(rt: HostRuntime) -> Result<(), Fail> {
     let mut buf = ParseBuf(b"ab\0\0c");
     let first: RawBytes<'_, NullBytes> = buf.parse(rt.alloc(), ())?;
-    assert_eq!(rt; first.as_bytes(), b"ab".as_slice());
+    assert!(rt; first.as_bytes() == b"ab".as_slice());
     let second: RawBytes<'_, NullBytes> = buf.parse(rt.alloc(), ())?;
     assert!(rt; second.is_empty());
     let third = buf.parse::<RawBytes<'_, NullBytes>>(rt.alloc(), ());
-    assert_eq!(rt; third.err(), Some(Error::EndOfBody));
+    assert!(rt; third.err() == Some(Error::EndOfBody));
     Ok(())
 }
 
@@ -53,11 +53,11 @@ fn reads_up_to_a_zero_byte(rt: HostRuntime) -> Result<(), Fail> {
 fn reads_as_many_as_stated(rt: HostRuntime) -> Result<(), Fail> {
     let mut buf = ParseBuf(b"abc");
     let two: RawBytes<'_, BareU8Bytes> = buf.parse(rt.alloc(), 2)?;
-    assert_eq!(rt; two.as_bytes(), b"ab".as_slice());
+    assert!(rt; two.as_bytes() == b"ab".as_slice());
     let short = buf.parse::<RawBytes<'_, BareU16Bytes>>(rt.alloc(), 2);
-    assert_eq!(rt; short.err(), Some(Error::EndOfBody));
+    assert!(rt; short.err() == Some(Error::EndOfBody));
     let mut bytes = Vec::new(rt.alloc());
     two.serialize(rt.alloc(), &mut bytes)?;
-    assert_eq!(rt; bytes.as_slice(), b"ab".as_slice());
+    assert!(rt; bytes.as_slice() == b"ab".as_slice());
     Ok(())
 }

@@ -12,29 +12,26 @@ fn reads_what_it_writes(rt: HostRuntime) -> Result<(), Fail> {
     RawInt::<i8>::new(-2).serialize(rt.alloc(), &mut buf)?;
     RawInt::<LeU56>::new(0x07_0605_0403_0201).serialize(rt.alloc(), &mut buf)?;
     let want = [2u8, 1, 0xfe, 1, 2, 3, 4, 5, 6, 7];
-    assert_eq!(rt; buf.as_slice(), want.as_slice());
+    assert!(rt; buf.as_slice() == want.as_slice());
     let mut input = ParseBuf(&want);
-    assert_eq!(rt; input.parse::<RawInt<LeU16>>(rt.alloc(), ())?.0, 0x0102);
-    assert_eq!(rt; input.parse::<RawInt<i8>>(rt.alloc(), ())?.0, -2);
-    assert_eq!(rt;
-        input.parse::<RawInt<LeU56>>(rt.alloc(), ())?.0,
-        0x07_0605_0403_0201
-    );
+    assert!(rt; input.parse::<RawInt<LeU16>>(rt.alloc(), ())?.0 == 0x0102);
+    assert!(rt; input.parse::<RawInt<i8>>(rt.alloc(), ())?.0 == -2);
+    assert!(rt; input.parse::<RawInt<LeU56>>(rt.alloc(), ())?.0 == 0x07_0605_0403_0201);
     assert!(rt; input.parse::<RawInt<u8>>(rt.alloc(), ()).is_err());
-    assert_eq!(rt; RawInt::<LeU64>::default().0, 0);
+    assert!(rt; RawInt::<LeU64>::default().0 == 0);
     Ok(())
 }
 
 #[test]
 fn states_its_size(rt: HostRuntime) {
-    assert_eq!(rt; RawInt::<u8>::SIZE, Some(1));
-    assert_eq!(rt; RawInt::<i8>::SIZE, Some(1));
-    assert_eq!(rt; RawInt::<LeU16>::SIZE, Some(2));
-    assert_eq!(rt; RawInt::<LeU32>::SIZE, Some(4));
-    assert_eq!(rt; RawInt::<LeU48>::SIZE, Some(6));
-    assert_eq!(rt; RawInt::<LeU56>::SIZE, Some(7));
-    assert_eq!(rt; RawInt::<LeU64>::SIZE, Some(8));
-    assert_eq!(rt; Skip::<3>::SIZE, Some(3));
-    assert_eq!(rt; RawBytes::<'static, EofBytes>::SIZE, None);
-    assert_eq!(rt; ParseBuf::<'static>::SIZE, None);
+    assert!(rt; RawInt::<u8>::SIZE == Some(1));
+    assert!(rt; RawInt::<i8>::SIZE == Some(1));
+    assert!(rt; RawInt::<LeU16>::SIZE == Some(2));
+    assert!(rt; RawInt::<LeU32>::SIZE == Some(4));
+    assert!(rt; RawInt::<LeU48>::SIZE == Some(6));
+    assert!(rt; RawInt::<LeU56>::SIZE == Some(7));
+    assert!(rt; RawInt::<LeU64>::SIZE == Some(8));
+    assert!(rt; Skip::<3>::SIZE == Some(3));
+    assert!(rt; RawBytes::<'static, EofBytes>::SIZE == None);
+    assert!(rt; ParseBuf::<'static>::SIZE == None);
 }

@@ -37,14 +37,11 @@ fn variable_length_integers_are_spelled(rt: HostRuntime) -> Result<(), Fail> {
 
 #[test]
 fn longer_spellings_are_read(rt: HostRuntime) -> Result<(), Fail> {
-    assert_eq!(rt; read_varlen_uint(&mut ParseBuf(&[1, 0]))?, 0);
-    assert_eq!(rt;
-        read_varlen_uint(&mut ParseBuf(b"\xff\x05\0\0\0\0\0\0\0"))?,
-        5
-    );
+    assert!(rt; read_varlen_uint(&mut ParseBuf(&[1, 0]))? == 0);
+    assert!(rt; read_varlen_uint(&mut ParseBuf(b"\xff\x05\0\0\0\0\0\0\0"))? == 5);
     let mut input = ParseBuf(b"\xfc\x05\0\xfa");
-    assert_eq!(rt; input.parse::<RawInt<LenEnc>>(rt.alloc(), ())?.0, 5);
-    assert_eq!(rt; input.parse::<RawInt<LenEnc>>(rt.alloc(), ())?.0, 250);
+    assert!(rt; input.parse::<RawInt<LenEnc>>(rt.alloc(), ())?.0 == 5);
+    assert!(rt; input.parse::<RawInt<LenEnc>>(rt.alloc(), ())?.0 == 250);
     assert!(rt; input.is_empty());
     Ok(())
 }
@@ -80,14 +77,11 @@ fn signed_integers_are_spelled(rt: HostRuntime) -> Result<(), Fail> {
     write_varlen_int(&mut buf, -1)?;
     write_varlen_int(&mut buf, 1)?;
     write_varlen_int(&mut buf, i64::MIN)?;
-    assert_eq!(rt;
-        buf.as_slice(),
-        b"\x02\x04\xff\xff\xff\xff\xff\xff\xff\xff\xff".as_slice()
-    );
+    assert!(rt; buf.as_slice() == b"\x02\x04\xff\xff\xff\xff\xff\xff\xff\xff\xff".as_slice());
     let mut input = ParseBuf(buf.as_slice());
-    assert_eq!(rt; read_varlen_int(&mut input)?, -1);
-    assert_eq!(rt; read_varlen_int(&mut input)?, 1);
-    assert_eq!(rt; read_varlen_int(&mut input)?, i64::MIN);
+    assert!(rt; read_varlen_int(&mut input)? == -1);
+    assert!(rt; read_varlen_int(&mut input)? == 1);
+    assert!(rt; read_varlen_int(&mut input)? == i64::MIN);
     assert!(rt; input.is_empty());
     Ok(())
 }
@@ -99,16 +93,16 @@ fn length_encoded_integers_are_spelled(rt: HostRuntime) -> Result<(), Fail> {
         RawInt::<LenEnc>::new(number).serialize(rt.alloc(), &mut buf)?;
     }
     let want = b"\xfa\xfc\xfb\0\xfd\0\0\x01\xfe\0\0\0\x01\0\0\0\0";
-    assert_eq!(rt; buf.as_slice(), want.as_slice());
-    assert_eq!(rt; lenenc_int_len(65535), 3);
-    assert_eq!(rt; lenenc_int_len(65536), 4);
+    assert!(rt; buf.as_slice() == want.as_slice());
+    assert!(rt; lenenc_int_len(65535) == 3);
+    assert!(rt; lenenc_int_len(65536) == 4);
     Ok(())
 }
 
 #[test]
 fn tags_are_checked(rt: HostRuntime) -> Result<(), Fail> {
     let tag = Tag::new(CowStr::Borrowed("_a"))?;
-    assert_eq!(rt; tag.as_str(), "_a");
+    assert!(rt; tag.as_str() == "_a");
     let owned = tag.clone(rt.alloc())?.into_owned(rt.alloc())?;
     assert!(rt; owned.clone(rt.alloc())? == tag);
     let long = "abcdefghijklmnopqrstuvwxyz012345";
@@ -126,14 +120,11 @@ fn intervals_are_spelled(rt: HostRuntime) -> Result<(), Fail> {
     let interval = GnoInterval::new(1, 6);
     let mut buf = Vec::new(rt.alloc());
     interval.serialize(rt.alloc(), &mut buf)?;
-    assert_eq!(rt;
-        buf.as_slice(),
-        b"\x01\0\0\0\0\0\0\0\x06\0\0\0\0\0\0\0".as_slice()
-    );
+    assert!(rt; buf.as_slice() == b"\x01\0\0\0\0\0\0\0\x06\0\0\0\0\0\0\0".as_slice());
     let mut input = ParseBuf(buf.as_slice());
     let read = GnoInterval::deserialize(rt.alloc(), (), &mut input)?;
     assert!(rt; read == interval);
-    assert_eq!(rt; (read.start(), read.end()), (1, 6));
+    assert!(rt; (read.start(), read.end()) == (1, 6));
     assert!(rt; GnoInterval::deserialize(rt.alloc(), (), &mut ParseBuf(&[0; 15])).is_err());
     Ok(())
 }
@@ -144,26 +135,26 @@ fn intervals_are_spelled(rt: HostRuntime) -> Result<(), Fail> {
 fn refused_memory_changes_nothing(rt: HostRuntime) -> Result<(), Fail> {
     let mut buf = Vec::new(rt.alloc());
     match write_varlen_uint(&mut buf, 128) {
-        Ok(()) => assert_eq!(rt; buf.as_slice(), [1u8, 2].as_slice()),
+        Ok(()) => assert!(rt; buf.as_slice() == [1u8, 2].as_slice()),
         Err(error) => {
-            assert_eq!(rt; error, Error::Memory);
+            assert!(rt; error == Error::Memory);
             assert!(rt; buf.is_empty());
         }
     }
     let mut buf = Vec::new(rt.alloc());
     match write_varlen_int(&mut buf, -1) {
-        Ok(()) => assert_eq!(rt; buf.as_slice(), [2u8].as_slice()),
+        Ok(()) => assert!(rt; buf.as_slice() == [2u8].as_slice()),
         Err(error) => {
-            assert_eq!(rt; error, Error::Memory);
+            assert!(rt; error == Error::Memory);
             assert!(rt; buf.is_empty());
         }
     }
     match Tag::new(CowStr::Borrowed("a"))?.into_owned(rt.alloc()) {
         Ok(owned) => match owned.clone(rt.alloc()) {
             Ok(copy) => assert!(rt; copy == owned),
-            Err(error) => assert_eq!(rt; error, Error::Memory),
+            Err(error) => assert!(rt; error == Error::Memory),
         },
-        Err(error) => assert_eq!(rt; error, Error::Memory),
+        Err(error) => assert!(rt; error == Error::Memory),
     }
     Ok(())
 }

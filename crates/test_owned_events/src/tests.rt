@@ -49,9 +49,6 @@ fn a_boundless_event_ends_a_file(rt: HostRuntime) -> io::Result<()> {
     let mut file = Vec::new(rt.alloc());
     file.extend_from_slice(b"\xfebin")?;
     file.extend_from_slice(&boundless())?;
-    assert_eq!(rt;
-        read_events(rt.alloc(), pieces(&rt, file.as_slice())?),
-        Ok(())
-    );
+    assert!(rt; read_events(rt.alloc(), pieces(&rt, file.as_slice())?) == Ok(()));
     Ok(())
 }

@@ -122,85 +122,52 @@ fn refusal(alloc: Global, body: &[u8]) -> Option<Error> {
 #[test]
 fn written_rows(rt: HostRuntime) {
     let (alloc, fde) = (rt.alloc(), by_default());
-    assert_eq!(rt; numbers::<WriteRows>(alloc, fde, WRITE), Ok((5, 1, 1)));
-    assert_eq!(rt;
-        numbers_of_any_type::<WriteRows>(alloc, fde, WRITE),
-        Ok((5, 1, 1))
-    );
-    assert_eq!(rt; ends_statement::<WriteRows>(alloc, WRITE), Ok(true));
-    assert_eq!(rt;
-        has_rows::<WriteRows>(alloc, fde, WRITE, b"\xfe\x07"),
-        Ok(true)
-    );
+    assert!(rt; numbers::<WriteRows>(alloc, fde, WRITE) == Ok((5, 1, 1)));
+    assert!(rt; numbers_of_any_type::<WriteRows>(alloc, fde, WRITE) == Ok((5, 1, 1)));
+    assert!(rt; ends_statement::<WriteRows>(alloc, WRITE) == Ok(true));
+    assert!(rt; has_rows::<WriteRows>(alloc, fde, WRITE, b"\xfe\x07") == Ok(true));
 }
 
 #[test]
 fn written_rows_have_an_image_after(rt: HostRuntime) {
     let (alloc, fde) = (rt.alloc(), by_default());
-    assert_eq!(rt; has_after::<WriteRows>(alloc, fde, WRITE, b"1-"), Ok(true));
-    assert_eq!(rt; images::<WriteRows>(alloc, WRITE), Ok((false, true)));
-    assert_eq!(rt;
-        has_extra::<WriteRows>(alloc, fde, WRITE, Some(b"")),
-        Ok(true)
-    );
+    assert!(rt; has_after::<WriteRows>(alloc, fde, WRITE, b"1-") == Ok(true));
+    assert!(rt; images::<WriteRows>(alloc, WRITE) == Ok((false, true)));
+    assert!(rt; has_extra::<WriteRows>(alloc, fde, WRITE, Some(b"")) == Ok(true));
 }
 
 #[test]
 fn updated_rows(rt: HostRuntime) {
     let (alloc, fde) = (rt.alloc(), by_default());
-    assert_eq!(rt; numbers::<UpdateRows>(alloc, fde, UPDATE), Ok((5, 1, 2)));
-    assert_eq!(rt;
-        has_rows::<UpdateRows>(alloc, fde, UPDATE, b"\xff"),
-        Ok(true)
-    );
+    assert!(rt; numbers::<UpdateRows>(alloc, fde, UPDATE) == Ok((5, 1, 2)));
+    assert!(rt; has_rows::<UpdateRows>(alloc, fde, UPDATE, b"\xff") == Ok(true));
     let extra = Some(b"\xaa\xbb".as_slice());
-    assert_eq!(rt;
-        has_extra::<UpdateRows>(alloc, fde, UPDATE, extra),
-        Ok(true)
-    );
+    assert!(rt; has_extra::<UpdateRows>(alloc, fde, UPDATE, extra) == Ok(true));
 }
 
 #[test]
 fn updated_rows_have_both_images(rt: HostRuntime) {
     let (alloc, fde) = (rt.alloc(), by_default());
-    assert_eq!(rt;
-        has_before::<UpdateRows>(alloc, fde, UPDATE, b"11-"),
-        Ok(true)
-    );
-    assert_eq!(rt;
-        has_after::<UpdateRows>(alloc, fde, UPDATE, b"10-"),
-        Ok(true)
-    );
-    assert_eq!(rt; images::<UpdateRows>(alloc, UPDATE), Ok((true, true)));
+    assert!(rt; has_before::<UpdateRows>(alloc, fde, UPDATE, b"11-") == Ok(true));
+    assert!(rt; has_after::<UpdateRows>(alloc, fde, UPDATE, b"10-") == Ok(true));
+    assert!(rt; images::<UpdateRows>(alloc, UPDATE) == Ok((true, true)));
 }
 
 #[test]
 fn older_types_keep_no_extra_bytes(rt: HostRuntime) {
     let (alloc, stated) = (rt.alloc(), stating(OF_TEN));
     let fde = stated.as_ref();
-    assert_eq!(rt; numbers::<UpdateRowsV1>(alloc, fde, UPDATE), Ok((5, 1, 2)));
-    assert_eq!(rt;
-        has_rows::<UpdateRowsV1>(alloc, fde, UPDATE, b"\xff"),
-        Ok(true)
-    );
-    assert_eq!(rt;
-        has_extra::<UpdateRowsV1>(alloc, fde, UPDATE, None),
-        Ok(true)
-    );
+    assert!(rt; numbers::<UpdateRowsV1>(alloc, fde, UPDATE) == Ok((5, 1, 2)));
+    assert!(rt; has_rows::<UpdateRowsV1>(alloc, fde, UPDATE, b"\xff") == Ok(true));
+    assert!(rt; has_extra::<UpdateRowsV1>(alloc, fde, UPDATE, None) == Ok(true));
 }
 
 #[test]
 fn older_types_have_the_same_images(rt: HostRuntime) {
     let (alloc, stated) = (rt.alloc(), stating(OF_TEN));
     let fde = stated.as_ref();
-    assert_eq!(rt;
-        has_before::<UpdateRowsV1>(alloc, fde, UPDATE, b"11-"),
-        Ok(true)
-    );
-    assert_eq!(rt;
-        has_after::<UpdateRowsV1>(alloc, fde, UPDATE, b"10-"),
-        Ok(true)
-    );
+    assert!(rt; has_before::<UpdateRowsV1>(alloc, fde, UPDATE, b"11-") == Ok(true));
+    assert!(rt; has_after::<UpdateRowsV1>(alloc, fde, UPDATE, b"10-") == Ok(true));
 }
 
 #[test]
@@ -212,43 +179,28 @@ fn older_types_are_written_without_extra_bytes(rt: HostRuntime) {
         UPDATE,
         UPDATE_V1,
     );
-    assert_eq!(rt; is_written, Ok(true));
+    assert!(rt; is_written == Ok(true));
 }
 
 #[test]
 fn deleted_rows_have_an_image_before(rt: HostRuntime) {
     let (alloc, fde) = (rt.alloc(), by_default());
-    assert_eq!(rt;
-        has_before::<DeleteRows>(alloc, fde, WRITE, b"1-"),
-        Ok(true)
-    );
-    assert_eq!(rt; images::<DeleteRows>(alloc, WRITE), Ok((true, false)));
+    assert!(rt; has_before::<DeleteRows>(alloc, fde, WRITE, b"1-") == Ok(true));
+    assert!(rt; images::<DeleteRows>(alloc, WRITE) == Ok((true, false)));
 }
 
 #[test]
 fn partially_updated_rows_have_both_images(rt: HostRuntime) {
     let (alloc, fde) = (rt.alloc(), by_default());
-    assert_eq!(rt;
-        has_before::<PartialUpdateRows>(alloc, fde, UPDATE, b"11-"),
-        Ok(true)
-    );
-    assert_eq!(rt;
-        has_after::<PartialUpdateRows>(alloc, fde, UPDATE, b"10-"),
-        Ok(true)
-    );
+    assert!(rt; has_before::<PartialUpdateRows>(alloc, fde, UPDATE, b"11-") == Ok(true));
+    assert!(rt; has_after::<PartialUpdateRows>(alloc, fde, UPDATE, b"10-") == Ok(true));
 }
 
 #[test]
 fn older_types_of_one_image(rt: HostRuntime) {
     let (alloc, fde) = (rt.alloc(), by_default());
-    assert_eq!(rt;
-        has_after::<WriteRowsV1>(alloc, fde, OF_ONE_IMAGE, b"1-"),
-        Ok(true)
-    );
-    assert_eq!(rt;
-        has_before::<DeleteRowsV1>(alloc, fde, OF_ONE_IMAGE, b"1-"),
-        Ok(true)
-    );
+    assert!(rt; has_after::<WriteRowsV1>(alloc, fde, OF_ONE_IMAGE, b"1-") == Ok(true));
+    assert!(rt; has_before::<DeleteRowsV1>(alloc, fde, OF_ONE_IMAGE, b"1-") == Ok(true));
 }
 
 #[test]
@@ -259,7 +211,7 @@ fn what_is_written_of_row_events(rt: HostRuntime) {
         is_rewritten::<DeleteRowsEvent>(rt.alloc(), WRITE, WRITTEN),
         is_rewritten::<PartialUpdateRowsEvent>(rt.alloc(), UPDATE, UPDATE),
     ] {
-        assert_eq!(rt; is_written, Ok(true));
+        assert!(rt; is_written == Ok(true));
     }
 }
 
@@ -270,7 +222,7 @@ fn what_is_written_of_older_types(rt: HostRuntime) {
         is_rewritten::<UpdateRowsEventV1>(rt.alloc(), UPDATE_V1, UPDATE_V1),
         is_rewritten::<DeleteRowsEventV1>(rt.alloc(), OF_ONE_IMAGE, OF_ONE_IMAGE),
     ] {
-        assert_eq!(rt; is_written, Ok(true));
+        assert!(rt; is_written == Ok(true));
     }
 }
 
@@ -295,7 +247,7 @@ fn what_is_written_of_other_spellings(rt: HostRuntime) {
         (NINE, NINE),
     ] {
         let is_written = is_rewritten::<WriteRowsEvent>(rt.alloc(), body, wanted);
-        assert_eq!(rt; is_written, Ok(true));
+        assert!(rt; is_written == Ok(true));
     }
 }
 
@@ -312,7 +264,7 @@ fn older_types_of_events(rt: HostRuntime) {
     assert!(rt; WriteRowsEventV1::EVENT_TYPE == EventType::WRITE_ROWS_EVENT_V1);
     assert!(rt; UpdateRowsEventV1::EVENT_TYPE == EventType::UPDATE_ROWS_EVENT_V1);
     assert!(rt; DeleteRowsEventV1::EVENT_TYPE == EventType::DELETE_ROWS_EVENT_V1);
-    assert_eq!(rt; WriteRowsEvent::SIZE, None);
+    assert!(rt; WriteRowsEvent::SIZE == None);
 }
 
 // Where a post-header of 6 bytes is stated, ids take 4 bytes and no extra bytes stand.
@@ -324,7 +276,7 @@ fn ids_in_four_bytes_are_written_in_six(rt: HostRuntime) {
         is_rewritten_under::<WriteRowsEvent>(rt.alloc(), fde, SHORT_ID, WRITTEN),
         is_rewritten_under::<DeleteRowsEventV1>(rt.alloc(), fde, SHORT_ID, OF_ONE_IMAGE),
     ] {
-        assert_eq!(rt; is_written, Ok(true));
+        assert!(rt; is_written == Ok(true));
     }
 }
 
@@ -332,31 +284,22 @@ fn ids_in_four_bytes_are_written_in_six(rt: HostRuntime) {
 fn an_id_in_four_bytes(rt: HostRuntime) {
     let (alloc, stated) = (rt.alloc(), stating(OF_SIX));
     let fde = stated.as_ref();
-    assert_eq!(rt; numbers::<WriteRows>(alloc, fde, SHORT_ID), Ok((5, 1, 1)));
-    assert_eq!(rt;
-        has_extra::<WriteRows>(alloc, fde, SHORT_ID, Some(b"")),
-        Ok(true)
-    );
+    assert!(rt; numbers::<WriteRows>(alloc, fde, SHORT_ID) == Ok((5, 1, 1)));
+    assert!(rt; has_extra::<WriteRows>(alloc, fde, SHORT_ID, Some(b"")) == Ok(true));
 }
 
 #[test]
 fn bits_of_eight_columns_take_a_byte(rt: HostRuntime) {
     let (alloc, fde) = (rt.alloc(), by_default());
-    assert_eq!(rt;
-        has_after::<WriteRows>(alloc, fde, EIGHT, b"00000001-"),
-        Ok(true)
-    );
-    assert_eq!(rt; has_rows::<WriteRows>(alloc, fde, EIGHT, b"\x07"), Ok(true));
+    assert!(rt; has_after::<WriteRows>(alloc, fde, EIGHT, b"00000001-") == Ok(true));
+    assert!(rt; has_rows::<WriteRows>(alloc, fde, EIGHT, b"\x07") == Ok(true));
 }
 
 #[test]
 fn bits_of_nine_columns_take_two_bytes(rt: HostRuntime) {
     let (alloc, fde) = (rt.alloc(), by_default());
-    assert_eq!(rt;
-        has_after::<WriteRows>(alloc, fde, NINE, b"000000011-"),
-        Ok(true)
-    );
-    assert_eq!(rt; has_rows::<WriteRows>(alloc, fde, NINE, b"\x07"), Ok(true));
+    assert!(rt; has_after::<WriteRows>(alloc, fde, NINE, b"000000011-") == Ok(true));
+    assert!(rt; has_rows::<WriteRows>(alloc, fde, NINE, b"\x07") == Ok(true));
 }
 
 #[test]
@@ -383,7 +326,7 @@ fn longer_fronts_have_fewer_rows(rt: HostRuntime) {
 #[test]
 fn rows_go_to_the_end(rt: HostRuntime) {
     let has_rows = has_rows::<WriteRows>(rt.alloc(), by_default(), LONGER, b"\xfe\x07\0");
-    assert_eq!(rt; has_rows, Ok(true));
+    assert!(rt; has_rows == Ok(true));
 }
 
 #[test]
@@ -393,16 +336,16 @@ fn counts_that_begin_no_number_are_invalid(rt: HostRuntime) {
         (b"\x05\0\0\0\0\0\x01\0\0\0\xff\x01\xfe\x07".as_slice(), 0xff),
     ] {
         let refused = Some(Error::InvalidData(Invalid::LenEnc(first)));
-        assert_eq!(rt; refusal(rt.alloc(), body), refused);
+        assert!(rt; refusal(rt.alloc(), body) == refused);
     }
 }
 
 // It asks for no memory at all.
 #[test]
 fn reading_a_count_of_too_many_columns_takes_no_memory(rt: HostRuntime) {
-    assert_eq!(rt; refusal(rt.alloc(), MANY), Some(Error::EndOfBody));
+    assert!(rt; refusal(rt.alloc(), MANY) == Some(Error::EndOfBody));
     let refused = numbers::<UpdateRows>(rt.alloc(), by_default(), MANY);
-    assert_eq!(rt; refused, Err(Error::EndOfBody));
+    assert!(rt; refused == Err(Error::EndOfBody));
 }
 
 // It asks for no memory at all.
