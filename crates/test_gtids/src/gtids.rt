@@ -48,96 +48,129 @@ fn joined(alloc: Global, parts: &[&[u8]]) -> Result<Vec<u8>, Error> {
     Ok(bytes)
 }
 
+// Whether a value is written as these parts, one after the other.
+fn is_written<T: MySerialize>(alloc: Global, value: &T, parts: &[&[u8]]) -> Result<bool, Error> {
+    Ok(written(alloc, value)?.as_slice() == joined(alloc, parts)?.as_slice())
+}
+
+// Reads these parts, one after the other, as a GTID of this raw type.
+fn read_gtid(alloc: Global, raw_type: u8, parts: &[&[u8]]) -> Result<GtidEvent, Error> {
+    let fde = FormatDescriptionEvent::new(BinlogVersion::Version4);
+    let body = joined(alloc, parts)?;
+    read(alloc, &fde, raw_type, body.as_slice())
+}
+
+// Whether these parts, one after the other, are refused so as a GTID without a tag.
+fn is_refused(alloc: Global, parts: &[&[u8]], why: Error) -> bool {
+    read_gtid(alloc, 33, parts).err() == Some(why)
+}
+
+// Whether what is written of an event is read as that event.
+fn is_read_back(alloc: Global, event: &GtidEvent) -> Result<bool, Error> {
+    let bytes = written(alloc, event)?;
+    Ok(read_gtid(alloc, 33, &[bytes.as_slice()])? == *event)
+}
+
+/// The zeros of a new GTID behind its head, which say that it has a clock.
+const NO_TIMES: &[u8] = b"\x02\0\0\0\0\0\0\0\0\0\0\0\0\0\0\0\0\0\0\0\0\0\0\0\0\0\0\0\0";
+
 #[test]
 fn new_gtid_is_written_whole(rt: HostRuntime) -> Result<(), Fail> {
     let alloc = rt.alloc();
     let event = GtidEvent::new([0; 16], 1);
     assert!(rt; event.len(BinlogVersion::Version4) == 54);
-    let tail = [
-        2u8, 0, 0, 0, 0, 0, 0, 0, 0, 0, 0, 0, 0, 0, 0, 0, 0, 0, 0, 0, 0, 0, 0, 0, 0, 0, 0, 0, 0,
-    ];
-    let want = joined(alloc, &[HEAD, tail.as_slice()])?;
-    assert!(rt; written(alloc, &event)?.as_slice() == want.as_slice());
     assert!(rt; event.event_type() == EventType::GTID_EVENT);
-    let fde = FormatDescriptionEvent::new(BinlogVersion::Version4);
-    let again: GtidEvent = read(alloc, &fde, 33, want.as_slice())?;
-    assert!(rt; again == event);
+    assert!(rt; is_written(alloc, &event, &[HEAD, NO_TIMES])?);
+    assert!(rt; is_read_back(alloc, &event)?);
     Ok(())
 }
 
 #[test]
-fn gtid_without_a_clock(rt: HostRuntime) -> Result<(), Fail> {
-    let alloc = rt.alloc();
-    let fde = FormatDescriptionEvent::new(BinlogVersion::Version4);
+fn gtid_without_a_clock_is_read(rt: HostRuntime) -> Result<(), Fail> {
     for raw_type in [33, 34] {
-        let event: GtidEvent = read(alloc, &fde, raw_type, HEAD)?;
+        let event = read_gtid(rt.alloc(), raw_type, &[HEAD])?;
         assert!(rt; event.lc_typecode() == None);
         assert!(rt; event.gno() == 1);
         assert!(rt; event.immediate_server_version() == 999_999);
         assert!(rt; event.original_server_version() == 999_999);
-        assert!(rt; event.len(BinlogVersion::Version4) == 25);
-        let want = joined(alloc, &[HEAD])?;
-        assert!(rt; written(alloc, &event)?.as_slice() == want.as_slice());
     }
-    let longer = joined(alloc, &[HEAD, b"\x01"])?;
-    let refused: Result<GtidEvent, Error> = read(alloc, &fde, 33, longer.as_slice());
-    assert!(rt; refused.err() == Some(Error::RemainingBytes(1)));
-    let refused: Result<GtidEvent, Error> = read(alloc, &fde, 33, SHORT_HEAD);
-    assert!(rt; refused.err() == Some(Error::EndOfBody));
     Ok(())
 }
 
 #[test]
-fn parts_are_there_by_the_bytes_left(rt: HostRuntime) -> Result<(), Fail> {
-    let alloc = rt.alloc();
-    let fde = FormatDescriptionEvent::new(BinlogVersion::Version4);
-    let clock = b"\x02\0\0\0\0\0\0\0\0\0\0\0\0\0\0\0\0";
-    let body = joined(alloc, &[HEAD, clock, b"\x05\x40\x5f\x01\0"])?;
-    let event: GtidEvent = read(alloc, &fde, 33, body.as_slice())?;
+fn gtid_without_a_clock_is_written(rt: HostRuntime) -> Result<(), Fail> {
+    for raw_type in [33, 34] {
+        let event = read_gtid(rt.alloc(), raw_type, &[HEAD])?;
+        assert!(rt; event.len(BinlogVersion::Version4) == 25);
+        assert!(rt; is_written(rt.alloc(), &event, &[HEAD])?);
+    }
+    Ok(())
+}
+
+#[test]
+fn other_lengths_are_no_gtid_without_a_clock(rt: HostRuntime) {
+    assert!(rt; is_refused(rt.alloc(), &[HEAD, b"\x01"], Error::RemainingBytes(1)));
+    assert!(rt; is_refused(rt.alloc(), &[SHORT_HEAD], Error::EndOfBody));
+}
+
+/// A clock of zeros: its typecode, and two numbers.
+const CLOCK: &[u8] = b"\x02\0\0\0\0\0\0\0\0\0\0\0\0\0\0\0\0";
+
+#[test]
+fn length_and_versions_stand_behind_no_times(rt: HostRuntime) -> Result<(), Fail> {
+    let event = read_gtid(rt.alloc(), 33, &[HEAD, CLOCK, b"\x05\x40\x5f\x01\0"])?;
     assert!(rt; event.immediate_commit_timestamp() == 0);
     assert!(rt; event.tx_length() == 5);
     assert!(rt; event.immediate_server_version() == 89_920);
     assert!(rt; event.original_server_version() == 89_920);
-    let body = joined(alloc, &[HEAD, clock, b"\0\0"])?;
-    let refused: Result<GtidEvent, Error> = read(alloc, &fde, 33, body.as_slice());
-    assert!(rt; refused.err() == Some(Error::RemainingBytes(1)));
-    let body = joined(alloc, &[HEAD, clock])?;
-    let event: GtidEvent = read(alloc, &fde, 33, body.as_slice())?;
-    assert!(rt; event.tx_length() == 0);
-    assert!(rt; event.immediate_server_version() == 999_999);
-    let body = joined(alloc, &[HEAD, clock, b"\xfb"])?;
-    let refused: Result<GtidEvent, Error> = read(alloc, &fde, 33, body.as_slice());
-    assert!(rt; refused.err() == Some(Error::InvalidData(Invalid::LenEnc(0xfb))));
-    let body = joined(alloc, &[HEAD, b"\x02\0\0\0\0\0\0\0\0\0\0\0\0\0\0\0"])?;
-    let refused: Result<GtidEvent, Error> = read(alloc, &fde, 33, body.as_slice());
-    assert!(rt; refused.err() == Some(Error::EndOfBody));
     Ok(())
 }
 
 #[test]
-fn times_that_do_not_fit(rt: HostRuntime) -> Result<(), Fail> {
+fn clock_may_stand_alone(rt: HostRuntime) -> Result<(), Fail> {
+    let event = read_gtid(rt.alloc(), 33, &[HEAD, CLOCK])?;
+    assert!(rt; event.tx_length() == 0);
+    assert!(rt; event.immediate_server_version() == 999_999);
+    Ok(())
+}
+
+#[test]
+fn cut_parts_are_refused(rt: HostRuntime) {
+    let alloc = rt.alloc();
+    let cut_clock = b"\x02\0\0\0\0\0\0\0\0\0\0\0\0\0\0\0";
+    let no_length = Error::InvalidData(Invalid::LenEnc(0xfb));
+    assert!(rt; is_refused(alloc, &[HEAD, CLOCK, b"\0\0"], Error::RemainingBytes(1)));
+    assert!(rt; is_refused(alloc, &[HEAD, CLOCK, b"\xfb"], no_length));
+    assert!(rt; is_refused(alloc, &[HEAD, cut_clock], Error::EndOfBody));
+}
+
+// Whether an event is refused for this field where it is to be written, and nothing is written of it.
+fn is_unwritable(alloc: Global, event: &GtidEvent, field: Field) -> Result<bool, Error> {
+    let mut buf = Vec::from_slice(alloc, b"x")?;
+    let refusal = Err(Error::Unwritable(field));
+    Ok(event.serialize(alloc, &mut buf) == refusal && buf.as_slice() == b"x".as_slice())
+}
+
+#[test]
+fn times_that_do_not_fit_are_unwritable(rt: HostRuntime) -> Result<(), Fail> {
     let alloc = rt.alloc();
     let late = GtidEvent::new([0; 16], 1).with_immediate_commit_timestamp(1 << 55);
-    let mut buf = Vec::from_slice(alloc, b"x")?;
-    let refusal = Err(Error::Unwritable(Field::ImmediateCommitTimestamp));
-    assert!(rt; late.serialize(alloc, &mut buf) == refusal);
-    assert!(rt; buf.as_slice() == b"x".as_slice());
+    assert!(rt; is_unwritable(alloc, &late, Field::ImmediateCommitTimestamp)?);
     let later = GtidEvent::new([0; 16], 1)
         .with_original_commit_timestamp(1 << 56)
         .with_immediate_server_version(1 << 31);
-    let refusal = Err(Error::Unwritable(Field::OriginalCommitTimestamp));
-    assert!(rt; later.serialize(alloc, &mut buf) == refusal);
-    assert!(rt; buf.as_slice() == b"x".as_slice());
+    assert!(rt; is_unwritable(alloc, &later, Field::OriginalCommitTimestamp)?);
+    Ok(())
+}
+
+#[test]
+fn latest_times_are_written(rt: HostRuntime) -> Result<(), Fail> {
+    let alloc = rt.alloc();
     let event = GtidEvent::new([0; 16], 1)
         .with_immediate_commit_timestamp((1 << 55) - 1)
         .with_original_commit_timestamp((1 << 56) - 1);
-    let bytes = written(alloc, &event)?;
-    let clock = b"\x02\0\0\0\0\0\0\0\0\0\0\0\0\0\0\0\0";
-    let want = joined(alloc, &[HEAD, clock, &[0xff; 14], &[0; 5]])?;
-    assert!(rt; bytes.as_slice() == want.as_slice());
-    let fde = FormatDescriptionEvent::new(BinlogVersion::Version4);
-    let again: GtidEvent = read(alloc, &fde, 33, bytes.as_slice())?;
-    assert!(rt; again == event);
+    assert!(rt; is_written(alloc, &event, &[HEAD, CLOCK, &[0xff; 14], &[0; 5]])?);
+    assert!(rt; is_read_back(alloc, &event)?);
     Ok(())
 }
 
@@ -154,10 +187,9 @@ fn other_types_hold_no_gtid(rt: HostRuntime) -> Result<(), Fail> {
     Ok(())
 }
 
-#[test]
-fn each_call_once(rt: HostRuntime) -> Result<(), Fail> {
-    let alloc = rt.alloc();
-    let event = GtidEvent::new([0; 16], 1)
+// A GTID whose parts all differ from those of a new one.
+fn other_gtid() -> GtidEvent {
+    GtidEvent::new([0; 16], 1)
         .with_flags(GtidFlags::MAY_HAVE_SBR)
         .with_sid([7; 16])
         .with_gno(2)
@@ -168,17 +200,32 @@ fn each_call_once(rt: HostRuntime) -> Result<(), Fail> {
         .with_tx_length(300)
         .with_original_server_version(80_035)
         .with_immediate_server_version(80_036)
-        .with_lc_typecode();
+        .with_lc_typecode()
+}
+
+#[test]
+fn gtid_has_the_parts_that_it_was_given(rt: HostRuntime) {
+    let event = other_gtid();
     assert!(rt; event.flags_raw() == 1);
     assert!(rt; event.flags() == GtidFlags::MAY_HAVE_SBR);
     assert!(rt; event.sid() == [7; 16]);
     assert!(rt; (event.last_committed(), event.sequence_number()) == (3, 4));
     assert!(rt; event.original_commit_timestamp() == 6);
     assert!(rt; event.lc_typecode() == Some(2));
-    let owned = event.clone(alloc)?.into_owned(alloc)?;
-    assert!(rt; owned == event);
+}
+
+#[test]
+fn gtid_is_copied(rt: HostRuntime) -> Result<(), Fail> {
+    let copy = other_gtid().clone(rt.alloc())?.into_owned(rt.alloc())?;
+    assert!(rt; copy == other_gtid());
+    Ok(())
+}
+
+#[test]
+fn anonymous_gtid_is_written_and_read(rt: HostRuntime) -> Result<(), Fail> {
+    let alloc = rt.alloc();
     let fde = FormatDescriptionEvent::new(BinlogVersion::Version4);
-    let anonymous = AnonymousGtidEvent(owned);
+    let anonymous = AnonymousGtidEvent(other_gtid());
     let bytes = written(alloc, &anonymous)?;
     assert!(rt; anonymous.len(BinlogVersion::Version4) == bytes.len());
     let again: AnonymousGtidEvent = read(alloc, &fde, 34, bytes.as_slice())?;
@@ -218,12 +265,19 @@ fn refused_memory_changes_nothing(rt: HostRuntime) -> Result<(), Fail> {
 // It asks for no memory at all.
 #[test]
 fn reading_takes_no_memory(rt: HostRuntime) -> Result<(), Fail> {
-    let alloc = rt.alloc();
     let fde = FormatDescriptionEvent::new(BinlogVersion::Version4);
-    let event: GtidEvent = read(alloc, &fde, 33, HEAD)?;
-    let copy = event.clone(alloc)?.into_owned(alloc)?;
+    let event: GtidEvent = read(rt.alloc(), &fde, 33, HEAD)?;
+    let copy = event.clone(rt.alloc())?.into_owned(rt.alloc())?;
     assert!(rt; copy == event);
-    let anonymous: AnonymousGtidEvent = read(alloc, &fde, 34, HEAD)?;
+    Ok(())
+}
+
+// It asks for none either.
+#[test]
+fn reading_an_anonymous_gtid_takes_no_memory(rt: HostRuntime) -> Result<(), Fail> {
+    let fde = FormatDescriptionEvent::new(BinlogVersion::Version4);
+    let event: GtidEvent = read(rt.alloc(), &fde, 33, HEAD)?;
+    let anonymous: AnonymousGtidEvent = read(rt.alloc(), &fde, 34, HEAD)?;
     assert!(rt; anonymous.0 == event);
     Ok(())
 }
@@ -276,8 +330,15 @@ fn previous_gtids_with_a_tag(rt: HostRuntime) -> Result<(), Fail> {
     let alloc = rt.alloc();
     let event = one_sid(alloc, Some(Tag::from_bytes(b"test")?))?;
     assert!(rt; event.len(BinlogVersion::Version4) == 53);
-    assert!(rt; written(alloc, &event)?.as_slice() == TAGGED_SID);
+    assert!(rt; is_written(alloc, &event, &[TAGGED_SID])?);
     assert!(rt; written_again(alloc, TAGGED_SID)?.as_slice() == TAGGED_SID);
+    Ok(())
+}
+
+#[test]
+fn previous_gtids_are_copied(rt: HostRuntime) -> Result<(), Fail> {
+    let alloc = rt.alloc();
+    let event = one_sid(alloc, Some(Tag::from_bytes(b"test")?))?;
     let copy = event.clone(alloc)?;
     assert!(rt; copy == event);
     assert!(rt; copy.into_owned(alloc)? == event);
@@ -296,13 +357,14 @@ fn previous_gtids_without_a_tag(rt: HostRuntime) -> Result<(), Fail> {
     Ok(())
 }
 
-// Any top byte but 0 is the form with tags, which is written only for a tag.
+/// One entry in the form with tags, without a tag and without intervals: any top byte but 0 is that form.
+const NO_TAG: &[u8] =
+    b"\x05\x01\0\0\0\0\0\x07\xab\xab\xab\xab\xab\xab\xab\xab\xab\xab\xab\xab\xab\xab\xab\xab\0\0\0\0\0\0\0\0\0";
+
 #[test]
-fn tagged_form_without_a_tag(rt: HostRuntime) -> Result<(), Fail> {
-    let alloc = rt.alloc();
+fn tagged_form_without_a_tag_is_read(rt: HostRuntime) -> Result<(), Fail> {
     let fde = FormatDescriptionEvent::new(BinlogVersion::Version4);
-    let body = joined(alloc, &[b"\x05\x01\0\0\0\0\0\x07", &UUID, &[0; 9]])?;
-    let event: PreviousGtidsEvent = read(alloc, &fde, 35, body.as_slice())?;
+    let event: PreviousGtidsEvent = read(rt.alloc(), &fde, 35, NO_TAG)?;
     match event.sids() {
         [sid] => {
             assert!(rt; sid.uuid() == UUID);
@@ -311,8 +373,13 @@ fn tagged_form_without_a_tag(rt: HostRuntime) -> Result<(), Fail> {
         }
         _ => assert!(rt; false),
     }
-    let want = joined(alloc, &[b"\x01\0\0\0\0\0\0\0", &UUID, &[0; 8]])?;
-    assert!(rt; written(alloc, &event)?.as_slice() == want.as_slice());
+    Ok(())
+}
+
+#[test]
+fn tagged_form_is_written_for_a_tag_alone(rt: HostRuntime) -> Result<(), Fail> {
+    let want = joined(rt.alloc(), &[b"\x01\0\0\0\0\0\0\0", &UUID, &[0; 8]])?;
+    assert!(rt; written_again(rt.alloc(), NO_TAG)?.as_slice() == want.as_slice());
     Ok(())
 }
 
@@ -377,18 +444,31 @@ fn tagged(alloc: Global, tag: &'static [u8]) -> Result<GtidEvent, Error> {
 const BACKUP: &[u8] =
     b"\x02\x88\0\0\0\x02\xad\x02\xad\x02\xad\x02\xad\x02\xad\x02\xad\x02\xad\x02\xad\x02\xad\x02\xad\x02\xad\x02\xad\x02\xad\x02\xad\x02\xad\x02\xad\x02\x04\x04\x06\x0cbackup\x08\0\x0a\0\x0c\x41\x1f\x0e\xa1\x0f\x10\0\x12\xc3\x02\x0b\x14\xa3\xff\x0a";
 
+// A GTID with a tag whose body this is.
+fn backup(alloc: Global) -> Result<GtidEvent, Error> {
+    Ok(
+        tagged(alloc, b"backup")?
+            .with_immediate_commit_timestamp(2000)
+            .with_original_commit_timestamp(1000)
+            .with_immediate_server_version(90200)
+            .with_original_server_version(90100),
+    )
+}
+
 #[test]
 fn tagged_gtid_is_written(rt: HostRuntime) -> Result<(), Fail> {
-    let alloc = rt.alloc();
-    let event = tagged(alloc, b"backup")?
-        .with_immediate_commit_timestamp(2000)
-        .with_original_commit_timestamp(1000)
-        .with_immediate_server_version(90200)
-        .with_original_server_version(90100);
+    let event = backup(rt.alloc())?;
     assert!(rt; event.len(BinlogVersion::Version4) == 68);
     assert!(rt; event.event_type() == EventType::GTID_TAGGED_LOG_EVENT);
-    assert!(rt; written(alloc, &event)?.as_slice() == BACKUP);
-    assert!(rt; read_tagged(alloc, BACKUP)? == event);
+    assert!(rt; is_written(rt.alloc(), &event, &[BACKUP])?);
+    Ok(())
+}
+
+#[test]
+fn tagged_gtid_is_read_and_copied(rt: HostRuntime) -> Result<(), Fail> {
+    let alloc = rt.alloc();
+    let event = read_tagged(alloc, BACKUP)?;
+    assert!(rt; event == backup(alloc)?);
     assert!(rt; event.clone(alloc)?.into_owned(alloc)? == event);
     Ok(())
 }
@@ -413,15 +493,21 @@ const LONG_FIELDS: &[u8] =
 fn payload_size_counts_itself(rt: HostRuntime) -> Result<(), Fail> {
     let alloc = rt.alloc();
     let event = long_event(alloc, 1 << 34)?;
-    let bytes = written(alloc, &event)?;
-    let want = joined(alloc, &[b"\x02\xfe", LONG_FIELDS])?;
-    assert!(rt; want.len() == 127);
-    assert!(rt; bytes.as_slice() == want.as_slice());
-    assert!(rt; read_tagged(alloc, bytes.as_slice())? == event);
-    let longer = long_event(alloc, 1 << 41)?;
-    let bytes = written(alloc, &longer)?;
-    assert!(rt; longer.len(BinlogVersion::Version4) == 129);
-    assert!(rt; bytes.as_slice().starts_with(b"\x02\x05\x02\0"));
+    assert!(rt; event.len(BinlogVersion::Version4) == 127);
+    assert!(rt; is_written(alloc, &event, &[b"\x02\xfe", LONG_FIELDS])?);
+    assert!(rt; read_gtid(alloc, 42, &[b"\x02\xfe", LONG_FIELDS])? == event);
+    Ok(())
+}
+
+#[test]
+fn payload_size_may_take_two_bytes(rt: HostRuntime) -> Result<(), Fail> {
+    let event = long_event(rt.alloc(), 1 << 41)?;
+    assert!(rt; event.len(BinlogVersion::Version4) == 129);
+    assert!(rt;
+        written(rt.alloc(), &event)?
+            .as_slice()
+            .starts_with(b"\x02\x05\x02\0")
+    );
     Ok(())
 }
 
@@ -462,37 +548,44 @@ const TEST: &[u8] =
     b"\x02\x54\0\0\0\x02\0\0\0\0\0\0\0\0\0\0\0\0\0\0\0\0\x04\0\x06\x08test\x08\0\x0a\0\x0c\0\x10\0\x12\xfb\x11\x7a";
 
 #[test]
-fn tagged_spellings_are_read(rt: HostRuntime) -> Result<(), Fail> {
+fn tagged_fields_end_at_an_unknown_one(rt: HostRuntime) -> Result<(), Fail> {
     let alloc = rt.alloc();
-    let later = read_tagged(alloc, b"\x02\x1a\0\x06\x08test\x04\x04\x04\x08")?;
-    assert!(rt; later.gno() == 2);
     let ended = read_tagged(alloc, b"\x02\x18\x12\x06\x08test\xc6\xff\xff")?;
     assert!(rt; ended.len(BinlogVersion::Version4) == 42);
-    assert!(rt; written(alloc, &ended)?.as_slice() == TEST);
-    let long = read_tagged(alloc, b"\x02\x29\0\0\x06\x08test")?;
-    assert!(rt; written(alloc, &long)?.as_slice() == TEST);
+    assert!(rt; is_written(alloc, &ended, &[TEST])?);
     let over = b"\x02\x18\x12\x06\x08test\xc6\xff\xff\0";
     assert!(rt; tagged_refusal(alloc, over) == Some(Error::RemainingBytes(1)));
     Ok(())
 }
 
-// What is in the buffer that an event with this body is written into, where a byte stands there before.
-fn written_behind(alloc: Global, body: &[u8]) -> Result<Vec<u8>, Error> {
+#[test]
+fn tagged_numbers_may_be_spelled_long(rt: HostRuntime) -> Result<(), Fail> {
+    let long = read_tagged(rt.alloc(), b"\x02\x29\0\0\x06\x08test")?;
+    assert!(rt; is_written(rt.alloc(), &long, &[TEST])?);
+    Ok(())
+}
+
+#[test]
+fn last_of_repeated_fields_counts(rt: HostRuntime) -> Result<(), Fail> {
+    let later = read_tagged(rt.alloc(), b"\x02\x1a\0\x06\x08test\x04\x04\x04\x08")?;
+    assert!(rt; later.gno() == 2);
+    Ok(())
+}
+
+// Whether what is written of the event with this body follows what is there.
+fn follows(alloc: Global, body: &[u8]) -> Result<bool, Error> {
     let mut buf = Vec::from_slice(alloc, b"\xaa")?;
     read_tagged(alloc, body)?.serialize(alloc, &mut buf)?;
-    Ok(buf)
+    Ok(buf.as_slice() == joined(alloc, &[b"\xaa", body])?.as_slice())
 }
 
 #[test]
 fn tagged_bodies_follow_what_is_there(rt: HostRuntime) -> Result<(), Fail> {
     let alloc = rt.alloc();
-    let want = joined(alloc, &[b"\xaa", BACKUP])?;
-    assert!(rt; written_behind(alloc, BACKUP)?.as_slice() == want.as_slice());
-    let want = joined(alloc, &[b"\xaa", TEST])?;
-    assert!(rt; written_behind(alloc, TEST)?.as_slice() == want.as_slice());
+    assert!(rt; follows(alloc, BACKUP)?);
+    assert!(rt; follows(alloc, TEST)?);
     let long = joined(alloc, &[b"\x02\xfe", LONG_FIELDS])?;
-    let want = joined(alloc, &[b"\xaa", long.as_slice()])?;
-    assert!(rt; written_behind(alloc, long.as_slice())?.as_slice() == want.as_slice());
+    assert!(rt; follows(alloc, long.as_slice())?);
     Ok(())
 }
 
