@@ -1,100 +1,117 @@
 //! What the bodies of events are read as and written as, by rows from outside.
+use crate::reading::{DESCRIPTION, is_written, read, read_under, refusal};
 use binlog_bodies::{
-    BeginLoadQueryEvent, BinlogCtx, BinlogEvent, BinlogStruct, BinlogVersion, Error, IncidentEvent,
-    IntvarEvent, Invalid, RandEvent, RotateEvent, RowsQueryEvent, XidEvent, laws, read_body,
+    BeginLoadQueryEvent, BinlogStruct, BinlogVersion, Error, IncidentEvent, IntvarEvent, Invalid,
+    RandEvent, RotateEvent, RowsQueryEvent, XidEvent, laws,
 };
-use binlog_consts::{EventType, IncidentType, IntvarEventType, UnknownIncidentType};
-use binlog_description::{
-    BinlogEventHeader, DescriptionRef, FormatDescriptionEvent, laws as description_laws,
-};
-use binlog_wire::{MyDeserialize, MySerialize, ParseBuf, RawInt};
-use std::alloc::Global;
+use binlog_consts::{IncidentType, IntvarEventType, UnknownIncidentType};
+use binlog_description::{DescriptionRef, FormatDescriptionEvent, laws as description_laws};
+use binlog_wire::{MySerialize, RawInt};
 use std::borrow::CowSlice;
 use std::test::Fail;
-
-/// The body of the description at the front of a file of MySQL 5.0.86.
-const DESCRIPTION: &[u8] =
-    b"\x04\05.0.86-debug-log\0\0\0\0\0\0\0\0\0\0\0\0\0\0\0\0\0\0\0\0\0\0\0\0\0\0\0\0\0\0\0\0\0\0\
-    \xfc\x35\xbb\x4a\x13\x38\x0d\0\x08\0\x12\0\x04\x04\x04\x04\x12\0\0\x4b\0\x04\x1a";
 
 /// Eight bytes of 11.
 const ELEVEN: &[u8] = b"\x0b\0\0\0\0\0\0\0";
 
-// Reads a whole body as an event of its own type.
-fn read<'a, T: BinlogEvent<'a> + Drop>(
-    alloc: Global,
-    fde: &'a FormatDescriptionEvent<'a>,
-    body: &'a [u8],
-) -> Result<T, Error> {
-    let ctx = BinlogCtx::new(
-        BinlogEventHeader::LEN + body.len(),
-        fde.as_ref(),
-        u8::from(T::EVENT_TYPE),
-    );
-    read_body(alloc, ctx, body)
-}
+/// A rotate to the start of a second file.
+const ROTATE: &[u8] = b"\x04\0\0\0\0\0\0\0master-bin.000002";
 
-// Lends a description from its body.
-fn lent(body: &[u8]) -> Result<DescriptionRef<'_>, Error> {
-    DescriptionRef::read(body)
-}
-
-// Writes a value behind one byte, and gives all bytes.
-fn written<T: MySerialize>(alloc: Global, value: &T) -> Result<Vec<u8>, Error> {
-    let mut bytes = Vec::from_slice(alloc, b"x")?;
-    value.serialize(alloc, &mut bytes)?;
-    Ok(bytes)
+// The event of that body.
+fn rotate() -> RotateEvent<'static> {
+    RotateEvent::new(4, CowSlice::Borrowed(b"master-bin.000002"))
 }
 
 #[test]
-fn rotate_of_the_sample(rt: HostRuntime) -> Result<(), Fail> {
-    let alloc = rt.alloc();
-    let fde = FormatDescriptionEvent::new(BinlogVersion::Version4);
-    let body = b"\x04\0\0\0\0\0\0\0master-bin.000002";
-    let event: RotateEvent = read(alloc, &fde, body)?;
+fn rotate_of_the_sample_is_read(rt: HostRuntime) -> Result<(), Fail> {
+    let event: RotateEvent = read(rt.alloc(), ROTATE)?;
     assert!(rt; event.position() == 4);
     assert!(rt; event.name_raw() == b"master-bin.000002".as_slice());
-    assert!(rt; event.name(alloc)?.as_str() == "master-bin.000002");
+    assert!(rt; event.name(rt.alloc())?.as_str() == "master-bin.000002");
     assert!(rt; !event.is_fake());
-    assert!(rt; event.len(BinlogVersion::Version4) == 25);
-    assert!(rt; written(alloc, &event)?.as_slice() == b"x\x04\0\0\0\0\0\0\0master-bin.000002".as_slice());
-    assert!(rt; event == RotateEvent::new(4, CowSlice::Borrowed(b"master-bin.000002")));
-    let copy = event.clone(alloc)?.into_owned(alloc)?;
-    assert!(rt; copy == event);
-    let other = copy
-        .with_position(0)
-        .with_name(CowSlice::Borrowed(b"a\xff"));
-    assert!(rt; other.is_fake());
-    assert!(rt; other.name(alloc)?.as_str() == "a\u{fffd}");
-    assert!(rt; read::<RotateEvent>(alloc, &fde, b"\x04\0\0\0\0\0\0").err() == Some(Error::EndOfBody));
-    assert!(rt; format!(in alloc; "{event:?}")?.as_str() == "RotateEvent { position: 4, name: [109, 97, 115, 116, 101, 114, 45, 98, 105, 110, 46, 48, 48, 48, 48, 48, 50] }");
+    assert!(rt; event == rotate());
     Ok(())
 }
 
 #[test]
-fn xid_behind_its_post_header(rt: HostRuntime) -> Result<(), Fail> {
+fn rotate_is_written(rt: HostRuntime) -> Result<(), Fail> {
+    assert!(rt; rotate().len(BinlogVersion::Version4) == 25);
+    assert!(rt; is_written(rt.alloc(), &rotate(), ROTATE)?);
+    Ok(())
+}
+
+#[test]
+fn rotate_is_copied(rt: HostRuntime) -> Result<(), Fail> {
+    let copy = rotate().clone(rt.alloc())?.into_owned(rt.alloc())?;
+    assert!(rt; copy == rotate());
+    Ok(())
+}
+
+#[test]
+fn rotate_to_position_0_is_fake(rt: HostRuntime) -> Result<(), Fail> {
+    let fake = rotate()
+        .with_position(0)
+        .with_name(CowSlice::Borrowed(b"a\xff"));
+    assert!(rt; fake.is_fake());
+    assert!(rt; fake.name(rt.alloc())?.as_str() == "a\u{fffd}");
+    Ok(())
+}
+
+#[test]
+fn rotate_is_shown_by_its_parts(rt: HostRuntime) -> Result<(), Fail> {
+    let event = rotate();
+    let text = format!(in rt.alloc(); "{event:?}")?;
+    assert!(rt;
+        text.as_str()
+            == "RotateEvent { position: 4, name: [109, 97, 115, 116, 101, 114, 45, 98, 105, 110, 46, 48, 48, 48, 48, 48, 50] }"
+    );
+    Ok(())
+}
+
+#[test]
+fn short_bodies_are_refused(rt: HostRuntime) {
     let alloc = rt.alloc();
-    let fde = FormatDescriptionEvent::new(BinlogVersion::Version4);
+    let ends = Some(Error::EndOfBody);
+    assert!(rt; refusal::<RotateEvent>(alloc, b"\x04\0\0\0\0\0\0") == ends);
+    assert!(rt; refusal::<RandEvent>(alloc, b"\x0b\0\0\0\0\0\0\0\0\0\0\0\0\0\0") == ends);
+    assert!(rt; refusal::<IncidentEvent>(alloc, b"\x01\0\x02m") == ends);
+    assert!(rt; refusal::<RowsQueryEvent>(alloc, b"") == ends);
+    assert!(rt; refusal::<BeginLoadQueryEvent>(alloc, b"\x01\x02\0") == ends);
+}
+
+#[test]
+fn bytes_left_over_are_refused(rt: HostRuntime) {
+    let alloc = rt.alloc();
+    let long = b"\xff\xff\x0b\0\0\0\0\0\0\0";
+    assert!(rt; refusal::<XidEvent>(alloc, long) == Some(Error::RemainingBytes(2)));
+    assert!(rt; refusal::<IncidentEvent>(alloc, b"\x01\0\x01mm") == Some(Error::RemainingBytes(1)));
+}
+
+#[test]
+fn xid_is_read_and_written(rt: HostRuntime) -> Result<(), Fail> {
+    let event: XidEvent = read(rt.alloc(), ELEVEN)?;
+    assert!(rt; event == XidEvent { xid: 11 });
+    assert!(rt; event.len(BinlogVersion::Version4) == 8);
+    assert!(rt; is_written(rt.alloc(), &event, ELEVEN)?);
+    Ok(())
+}
+
+#[test]
+fn xid_stands_behind_its_post_header(rt: HostRuntime) -> Result<(), Fail> {
+    let alloc = rt.alloc();
     let lengths = [0, 0, 0, 0, 0, 0, 0, 0, 0, 0, 0, 0, 0, 0, 0, 2];
     let stated = FormatDescriptionEvent::new(
         BinlogVersion::Version4,
     ).with_event_type_header_lengths(CowSlice::Borrowed(&lengths));
-    let event: XidEvent = read(alloc, &fde, ELEVEN)?;
+    let fde = stated.as_ref();
+    let event: XidEvent = read_under(alloc, fde, b"\xff\xff\x0b\0\0\0\0\0\0\0")?;
     assert!(rt; event == XidEvent { xid: 11 });
-    let event: XidEvent = read(alloc, &stated, b"\xff\xff\x0b\0\0\0\0\0\0\0")?;
-    assert!(rt; event == XidEvent { xid: 11 });
-    assert!(rt; written(alloc, &event)?.as_slice() == b"x\x0b\0\0\0\0\0\0\0".as_slice());
-    assert!(rt; event.len(BinlogVersion::Version4) == 8);
-    assert!(rt; read::<XidEvent>(alloc, &stated, b"\xff").err() == Some(Error::EndOfBody));
-    assert!(rt; read::<XidEvent>(alloc, &stated, ELEVEN).err() == Some(Error::EndOfBody));
-    assert!(rt; read::<XidEvent>(alloc, &fde, b"\xff\xff\x0b\0\0\0\0\0\0\0").err() == Some(Error::RemainingBytes(2)));
+    assert!(rt; read_under::<XidEvent>(alloc, fde, b"\xff").err() == Some(Error::EndOfBody));
+    assert!(rt; read_under::<XidEvent>(alloc, fde, ELEVEN).err() == Some(Error::EndOfBody));
     Ok(())
 }
 
 #[test]
-fn integer_variables(rt: HostRuntime) -> Result<(), Fail> {
-    let alloc = rt.alloc();
-    let fde = FormatDescriptionEvent::new(BinlogVersion::Version4);
+fn integer_variables_are_read(rt: HostRuntime) {
     let rows: [(&[u8], Result<IntvarEvent, Error>); 5] = [
         (
             b"\x02\x0b\0\0\0\0\0\0\0",
@@ -112,97 +129,125 @@ fn integer_variables(rt: HostRuntime) -> Result<(), Fail> {
         (b"\x03\x0b\0\0\0\0\0\0", Err(Error::EndOfBody)),
     ];
     for (body, wanted) in rows {
-        assert_eq!(rt;
-            read::<IntvarEvent>(alloc, &fde, body),
-            wanted,
+        assert!(rt;
+            read::<IntvarEvent>(rt.alloc(), body) == wanted,
             "of {body:?}"
         );
     }
+}
+
+#[test]
+fn integer_variable_is_written(rt: HostRuntime) -> Result<(), Fail> {
     let event = IntvarEvent::new(IntvarEventType::INVALID_INT_EVENT, 0)
         .with_subtype(IntvarEventType::LAST_INSERT_ID_EVENT)
         .with_value(258);
     assert!(rt; event.subtype() == IntvarEventType::LAST_INSERT_ID_EVENT);
     assert!(rt; event.value() == 258);
     assert!(rt; event.len(BinlogVersion::Version4) == 9);
-    assert!(rt; written(alloc, &event)?.as_slice() == b"x\x01\x02\x01\0\0\0\0\0\0".as_slice());
+    assert!(rt; is_written(rt.alloc(), &event, b"\x01\x02\x01\0\0\0\0\0\0")?);
     Ok(())
 }
+
+/// Seeds of 11 and 2^63.
+const SEEDS: &[u8] = b"\x0b\0\0\0\0\0\0\0\0\0\0\0\0\0\0\x80";
 
 #[test]
 fn random_seeds(rt: HostRuntime) -> Result<(), Fail> {
-    let alloc = rt.alloc();
-    let fde = FormatDescriptionEvent::new(BinlogVersion::Version4);
-    let event: RandEvent = read(alloc, &fde, b"\x0b\0\0\0\0\0\0\0\0\0\0\0\0\0\0\x80")?;
-    assert!(rt; event == RandEvent {
-            seed1: RawInt::new(11),
-            seed2: RawInt::new(1 << 63)
-        });
+    let event: RandEvent = read(rt.alloc(), SEEDS)?;
+    let wanted = RandEvent {
+        seed1: RawInt::new(11),
+        seed2: RawInt::new(1 << 63),
+    };
+    assert!(rt; event == wanted);
     assert!(rt; event.clone()? == event);
     assert!(rt; event.len(BinlogVersion::Version4) == 16);
-    assert!(rt; written(alloc, &event)?.as_slice() == b"x\x0b\0\0\0\0\0\0\0\0\0\0\0\0\0\0\x80".as_slice());
-    assert!(rt; read::<RandEvent>(alloc, &fde, b"\x0b\0\0\0\0\0\0\0\0\0\0\0\0\0\0").err() == Some(Error::EndOfBody));
+    assert!(rt; is_written(rt.alloc(), &event, SEEDS)?);
     Ok(())
 }
 
 #[test]
-fn incident_with_a_long_message(rt: HostRuntime) -> Result<(), Fail> {
-    let alloc = rt.alloc();
-    let fde = FormatDescriptionEvent::new(BinlogVersion::Version4);
+fn message_of_an_incident_is_cut_at_255_bytes(rt: HostRuntime) -> Result<(), Fail> {
     let message = [b'm'; 300];
     let event = IncidentEvent::new(IncidentType::LOST_EVENTS, CowSlice::Borrowed(&message));
     assert!(rt; event.message_raw() == [b'm'; 255].as_slice());
-    assert!(rt; event.message(alloc)?.as_str().len() == 255);
+    assert!(rt; event.message(rt.alloc())?.as_str().len() == 255);
     assert!(rt; event.len(BinlogVersion::Version4) == 258);
-    let bytes = written(alloc, &event)?;
-    assert!(rt; bytes.len() == 259);
-    assert!(rt; &bytes[..4] == b"x\x01\0\xff".as_slice());
-    assert!(rt; &bytes[4..] == [b'm'; 255].as_slice());
-    let cut: IncidentEvent = read(alloc, &fde, &bytes[1..])?;
-    assert!(rt; cut == IncidentEvent::new(IncidentType::LOST_EVENTS, CowSlice::Borrowed(&[b'm'; 255])));
+    Ok(())
+}
+
+#[test]
+fn cut_message_of_an_incident_is_written(rt: HostRuntime) -> Result<(), Fail> {
+    let message = [b'm'; 300];
+    let event = IncidentEvent::new(IncidentType::LOST_EVENTS, CowSlice::Borrowed(&message));
+    let mut wanted = Vec::from_slice(rt.alloc(), b"\x01\0\xff")?;
+    wanted.extend_from_slice(&[b'm'; 255])?;
+    assert!(rt; is_written(rt.alloc(), &event, &wanted)?);
+    let cut: IncidentEvent = read(rt.alloc(), &wanted)?;
+    assert!(rt; cut.message_raw() == [b'm'; 255].as_slice());
     assert!(rt; cut != event);
-    let copy = event.clone(alloc)?.into_owned(alloc)?;
+    Ok(())
+}
+
+#[test]
+fn incident_is_copied(rt: HostRuntime) -> Result<(), Fail> {
+    let message = [b'm'; 300];
+    let event = IncidentEvent::new(IncidentType::LOST_EVENTS, CowSlice::Borrowed(&message));
+    let copy = event.clone(rt.alloc())?.into_owned(rt.alloc())?;
     assert!(rt; copy == event);
-    let other = copy
+    Ok(())
+}
+
+#[test]
+fn incident_has_a_type_that_may_be_unknown(rt: HostRuntime) -> Result<(), Fail> {
+    let event = IncidentEvent::new(IncidentType::LOST_EVENTS, CowSlice::Borrowed(b"m"))
         .with_incident_type(IncidentType::NONE)
         .with_message(CowSlice::Borrowed(b""));
-    assert!(rt; other.incident_type() == Ok(IncidentType::NONE));
-    let unknown: IncidentEvent = read(alloc, &fde, b"\x02\x01\x01m")?;
+    assert!(rt; event.incident_type() == Ok(IncidentType::NONE));
+    let unknown: IncidentEvent = read(rt.alloc(), b"\x02\x01\x01m")?;
     assert!(rt; unknown.incident_type() == Err(UnknownIncidentType(258)));
-    assert!(rt; read::<IncidentEvent>(alloc, &fde, b"\x01\0\x02m").err() == Some(Error::EndOfBody));
-    assert!(rt; read::<IncidentEvent>(alloc, &fde, b"\x01\0\x01mm").err() == Some(Error::RemainingBytes(1)));
     Ok(())
 }
 
 #[test]
-fn statement_of_rows(rt: HostRuntime) -> Result<(), Fail> {
-    let alloc = rt.alloc();
-    let fde = FormatDescriptionEvent::new(BinlogVersion::Version4);
-    let event: RowsQueryEvent = read(alloc, &fde, b"\xffinsert into t1 values (1)")?;
+fn statement_of_rows_is_read(rt: HostRuntime) -> Result<(), Fail> {
+    let event: RowsQueryEvent = read(rt.alloc(), b"\xffinsert into t1 values (1)")?;
     assert!(rt; event.query_raw() == b"insert into t1 values (1)".as_slice());
-    assert!(rt; event.query(alloc)?.as_str() == "insert into t1 values (1)");
+    assert!(rt; event.query(rt.alloc())?.as_str() == "insert into t1 values (1)");
     assert!(rt; event.len(BinlogVersion::Version4) == 26);
-    assert!(rt; written(alloc, &event)?.as_slice() == b"x\0insert into t1 values (1)".as_slice());
-    let copy = event.clone(alloc)?.into_owned(alloc)?;
-    assert!(rt; copy == RowsQueryEvent::new(CowSlice::Borrowed(b"insert into t1 values (1)")));
-    assert!(rt; read::<RowsQueryEvent>(alloc, &fde, b"").err() == Some(Error::EndOfBody));
     Ok(())
 }
 
 #[test]
-fn first_block_of_a_file(rt: HostRuntime) -> Result<(), Fail> {
-    let alloc = rt.alloc();
-    let fde = FormatDescriptionEvent::new(BinlogVersion::Version4);
-    let event: BeginLoadQueryEvent = read(alloc, &fde, b"\x01\x02\0\0block")?;
+fn statement_of_rows_is_written(rt: HostRuntime) -> Result<(), Fail> {
+    let event = RowsQueryEvent::new(CowSlice::Borrowed(b"insert into t1 values (1)"));
+    assert!(rt; is_written(rt.alloc(), &event, b"\0insert into t1 values (1)")?);
+    let copy = event.clone(rt.alloc())?.into_owned(rt.alloc())?;
+    assert!(rt; copy == event);
+    Ok(())
+}
+
+// The first five bytes of a file.
+fn block() -> BeginLoadQueryEvent<'static> {
+    BeginLoadQueryEvent::new(0)
+        .with_file_id(513)
+        .with_block_data(CowSlice::Borrowed(b"block"))
+}
+
+#[test]
+fn first_block_of_a_file_is_read(rt: HostRuntime) -> Result<(), Fail> {
+    let event: BeginLoadQueryEvent = read(rt.alloc(), b"\x01\x02\0\0block")?;
     assert!(rt; event.file_id() == 513);
     assert!(rt; event.block_data() == b"block".as_slice());
-    assert!(rt; event.len(BinlogVersion::Version4) == 9);
-    assert!(rt; written(alloc, &event)?.as_slice() == b"x\x01\x02\0\0block".as_slice());
-    let copy = event.clone(alloc)?.into_owned(alloc)?;
-    let made = BeginLoadQueryEvent::new(0)
-        .with_file_id(513)
-        .with_block_data(CowSlice::Borrowed(b"block"));
-    assert!(rt; copy == made);
-    assert!(rt; read::<BeginLoadQueryEvent>(alloc, &fde, b"\x01\x02\0").err() == Some(Error::EndOfBody));
+    assert!(rt; event == block());
+    Ok(())
+}
+
+#[test]
+fn first_block_of_a_file_is_written(rt: HostRuntime) -> Result<(), Fail> {
+    assert!(rt; block().len(BinlogVersion::Version4) == 9);
+    assert!(rt; is_written(rt.alloc(), &block(), b"\x01\x02\0\0block")?);
+    let copy = block().clone(rt.alloc())?.into_owned(rt.alloc())?;
+    assert!(rt; copy == block());
     Ok(())
 }
 
@@ -210,22 +255,27 @@ fn first_block_of_a_file(rt: HostRuntime) -> Result<(), Fail> {
 // what stood there before stays; every other answer is as ever.
 #[test]
 fn refused_memory_changes_nothing(rt: HostRuntime) -> Result<(), Fail> {
-    let alloc = rt.alloc();
-    let mut bytes = Vec::new(alloc);
+    let mut bytes = Vec::new(rt.alloc());
     let event = RotateEvent::new(4, CowSlice::Borrowed(b"a\xff"));
-    match event.serialize(alloc, &mut bytes) {
+    match event.serialize(rt.alloc(), &mut bytes) {
         Ok(()) => assert!(rt; bytes.as_slice() == b"\x04\0\0\0\0\0\0\0a\xff".as_slice()),
         Err(error) => {
             assert!(rt; error == Error::Memory);
             assert!(rt; bytes.is_empty());
         }
     }
-    match event.name(alloc) {
+    match event.name(rt.alloc()) {
         Ok(name) => assert!(rt; name.as_str() == "a\u{fffd}"),
         Err(error) => assert!(rt; error == Error::Memory),
     }
-    match event.clone(alloc)?.into_owned(alloc) {
-        Ok(owned) => match owned.clone(alloc) {
+    Ok(())
+}
+
+#[test]
+fn refused_memory_makes_no_copy(rt: HostRuntime) -> Result<(), Fail> {
+    let event = RotateEvent::new(4, CowSlice::Borrowed(b"a\xff"));
+    match event.clone(rt.alloc())?.into_owned(rt.alloc()) {
+        Ok(owned) => match owned.clone(rt.alloc()) {
             Ok(copy) => assert!(rt; copy == owned),
             Err(error) => assert!(rt; error == Error::Memory),
         },
@@ -234,28 +284,33 @@ fn refused_memory_changes_nothing(rt: HostRuntime) -> Result<(), Fail> {
     Ok(())
 }
 
-// It asks for no memory at all.
+// Under a lent description: it asks for no memory at all.
 #[test]
 fn reading_takes_no_memory(rt: HostRuntime) -> Result<(), Fail> {
     let alloc = rt.alloc();
-    let fde = lent(DESCRIPTION)?.to_event();
-    assert!(rt; read::<RotateEvent>(alloc, &fde, b"\x04\0\0\0\0\0\0\0a")?.position() == 4);
-    assert!(rt; read::<XidEvent>(alloc, &fde, ELEVEN)?.xid == 11);
-    assert!(rt; read::<IntvarEvent>(alloc, &fde, b"\x02\x0b\0\0\0\0\0\0\0")?.value() == 11);
+    let fde = DescriptionRef::read(DESCRIPTION)?;
+    let rotate: RotateEvent = read_under(alloc, fde, b"\x04\0\0\0\0\0\0\0a")?;
+    assert!(rt; rotate.position() == 4);
+    assert!(rt; read_under::<XidEvent>(alloc, fde, ELEVEN)?.xid == 11);
+    let intvar: IntvarEvent = read_under(alloc, fde, b"\x02\x0b\0\0\0\0\0\0\0")?;
+    assert!(rt; intvar.value() == 11);
     Ok(())
 }
 
 #[test]
 fn reading_further_bodies_takes_no_memory(rt: HostRuntime) -> Result<(), Fail> {
-    let alloc = rt.alloc();
-    let fde = FormatDescriptionEvent::new(BinlogVersion::Version4);
-    let rand: RandEvent = read(alloc, &fde, b"\x0b\0\0\0\0\0\0\0\x0c\0\0\0\0\0\0\0")?;
+    let rand: RandEvent = read(rt.alloc(), b"\x0b\0\0\0\0\0\0\0\x0c\0\0\0\0\0\0\0")?;
     assert!(rt; rand.seed2.0 == 12);
-    let incident: IncidentEvent = read(alloc, &fde, b"\x01\0\x01m")?;
+    let incident: IncidentEvent = read(rt.alloc(), b"\x01\0\x01m")?;
     assert!(rt; incident.message_raw() == b"m".as_slice());
-    let query: RowsQueryEvent = read(alloc, &fde, b"\0q")?;
+    Ok(())
+}
+
+#[test]
+fn reading_texts_and_blocks_takes_no_memory(rt: HostRuntime) -> Result<(), Fail> {
+    let query: RowsQueryEvent = read(rt.alloc(), b"\0q")?;
     assert!(rt; query.query_raw() == b"q".as_slice());
-    let block: BeginLoadQueryEvent = read(alloc, &fde, b"\x01\0\0\0b")?;
+    let block: BeginLoadQueryEvent = read(rt.alloc(), b"\x01\0\0\0b")?;
     assert!(rt; block.block_data() == b"b".as_slice());
     Ok(())
 }
