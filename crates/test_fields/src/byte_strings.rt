@@ -7,7 +7,7 @@ use std::borrow::CowSlice;
 use std::test::Fail;
 
 #[test]
-fn writes_what_fits(rt: HostRuntime) -> Result<(), Fail> {
+fn counted_bytes_are_cut_where_the_count_ends(rt: HostRuntime) -> Result<(), Fail> {
     let mut buf = Vec::new(rt.alloc());
     let long = [b'x'; 300];
     let text: RawBytes<'_, U8Bytes> = RawBytes::new(CowSlice::Borrowed(&long));
@@ -15,22 +15,41 @@ fn writes_what_fits(rt: HostRuntime) -> Result<(), Fail> {
     assert!(rt; buf.len() == 256);
     assert!(rt; buf.first().copied() == Some(255));
     assert!(rt; text.len() == 255);
+    Ok(())
+}
+
+#[test]
+fn text_of_fixed_length_is_filled_up(rt: HostRuntime) -> Result<(), Fail> {
+    let mut buf = Vec::new(rt.alloc());
     let version: RawBytes<'_, FixedLengthText> = RawBytes::new(CowSlice::Borrowed(b"8.0"));
     version.serialize(rt.alloc(), &mut buf)?;
-    assert!(rt; buf.len() == 306);
+    assert!(rt; buf.len() == 50);
     assert!(rt; version.as_bytes() == b"8.0".as_slice());
+    Ok(())
+}
+
+#[test]
+fn bytes_are_copied(rt: HostRuntime) -> Result<(), Fail> {
+    let version: RawBytes<'_, FixedLengthText> = RawBytes::new(CowSlice::Borrowed(b"8.0"));
     let owned = version.clone(rt.alloc())?.into_owned(rt.alloc())?;
     assert!(rt; owned == version);
     Ok(())
 }
 
 #[test]
-fn reads_and_shows_text(rt: HostRuntime) -> Result<(), Fail> {
-    let mut buf = ParseBuf(b"\x04\0\0\0a\xffbc\x01d!");
-    let first: RawBytes<'_, U32Bytes> = buf.parse(rt.alloc(), ())?;
-    assert!(rt; first.as_str(rt.alloc())?.as_str() == "a\u{fffd}bc");
-    let second: RawBytes<'_, U8Bytes> = buf.parse(rt.alloc(), ())?;
-    assert!(rt; second.as_bytes() == b"d".as_slice());
+fn text_is_shown(rt: HostRuntime) -> Result<(), Fail> {
+    let mut buf = ParseBuf(b"\x04\0\0\0a\xffbc");
+    let text: RawBytes<'_, U32Bytes> = buf.parse(rt.alloc(), ())?;
+    assert!(rt; text.as_str(rt.alloc())?.as_str() == "a\u{fffd}bc");
+    assert!(rt; buf.is_empty());
+    Ok(())
+}
+
+#[test]
+fn bytes_are_read_up_to_the_end(rt: HostRuntime) -> Result<(), Fail> {
+    let mut buf = ParseBuf(b"\x01d!");
+    let counted: RawBytes<'_, U8Bytes> = buf.parse(rt.alloc(), ())?;
+    assert!(rt; counted.as_bytes() == b"d".as_slice());
     let rest: RawBytes<'_, EofBytes> = buf.parse(rt.alloc(), ())?;
     assert!(rt; rest.as_bytes() == b"!".as_slice());
     assert!(rt; buf.is_empty());

@@ -5,15 +5,22 @@ use binlog_wire::{
 };
 use std::test::Fail;
 
+/// Three numbers, of 2, of 1 and of 7 bytes.
+const NUMBERS: &[u8] = &[2, 1, 0xfe, 1, 2, 3, 4, 5, 6, 7];
+
 #[test]
-fn reads_what_it_writes(rt: HostRuntime) -> Result<(), Fail> {
+fn numbers_are_written(rt: HostRuntime) -> Result<(), Fail> {
     let mut buf = Vec::new(rt.alloc());
     RawInt::<LeU16>::new(0x0102).serialize(rt.alloc(), &mut buf)?;
     RawInt::<i8>::new(-2).serialize(rt.alloc(), &mut buf)?;
     RawInt::<LeU56>::new(0x07_0605_0403_0201).serialize(rt.alloc(), &mut buf)?;
-    let want = [2u8, 1, 0xfe, 1, 2, 3, 4, 5, 6, 7];
-    assert!(rt; buf.as_slice() == want.as_slice());
-    let mut input = ParseBuf(&want);
+    assert!(rt; buf.as_slice() == NUMBERS);
+    Ok(())
+}
+
+#[test]
+fn numbers_are_read(rt: HostRuntime) -> Result<(), Fail> {
+    let mut input = ParseBuf(NUMBERS);
     assert!(rt; input.parse::<RawInt<LeU16>>(rt.alloc(), ())?.0 == 0x0102);
     assert!(rt; input.parse::<RawInt<i8>>(rt.alloc(), ())?.0 == -2);
     assert!(rt; input.parse::<RawInt<LeU56>>(rt.alloc(), ())?.0 == 0x07_0605_0403_0201);
