@@ -59,8 +59,8 @@ fn is_written_with<T: MySerialize>(
     front: &[u8],
 ) {
     let mut bytes = Vec::new(rt.alloc());
-    assert!(rt; value.serialize(rt.alloc(), &mut bytes) == Ok(()));
-    assert!(rt; bytes.len() == len);
+    assert_eq!(rt; value.serialize(rt.alloc(), &mut bytes), Ok(()));
+    assert_eq!(rt; bytes.len(), len);
     assert!(rt; bytes.starts_with(front));
 }
 

@@ -29,8 +29,8 @@ fn made<'a>() -> ExecuteLoadQueryEvent<'a> {
 
 #[test]
 fn a_load_query(rt: HostRuntime) {
-    assert!(rt; read(rt.alloc(), LOAD) == Ok(made()));
-    assert!(rt; made().len(BinlogVersion::Version4) == 35);
+    assert_eq!(rt; read(rt.alloc(), LOAD), Ok(made()));
+    assert_eq!(rt; made().len(BinlogVersion::Version4), 35);
 }
 
 #[test]
@@ -38,7 +38,7 @@ fn duplicates_are_handled_in_three_ways(rt: HostRuntime) {
     let body = b"\x01\0\0\0\0\0\0\0\0\0\0\0\0\x02\0\0\0\x03\0\0\0\x04\0\0\0\x03\0".as_slice();
     let refused = read::<ExecuteLoadQueryEvent>(rt.alloc(), body);
     let wanted = Error::InvalidData(Invalid::DupHandling(3));
-    assert!(rt; refused == Err(wanted));
+    assert_eq!(rt; refused, Err(wanted));
 }
 
 #[test]
@@ -46,8 +46,8 @@ fn variables_count_65_535_bytes(rt: HostRuntime) {
     let mut status = Vec::new(rt.alloc());
     assert!(rt; status.resize(65_536, 14).is_ok());
     let event = made().with_status_vars(CowSlice::Owned(status));
-    assert!(rt; event.status_vars_raw().len() == 65_535);
-    assert!(rt; event.len(BinlogVersion::Version4) == 65_567);
+    assert_eq!(rt; event.status_vars_raw().len(), 65_535);
+    assert_eq!(rt; event.len(BinlogVersion::Version4), 65_567);
     is_written_with(&rt, &event, 65_567, b"\x01\0\0\0\0\0\0\0\x01\0\0\xff\xff");
 }
 

@@ -15,7 +15,7 @@ fn granted<T: Drop>(rt: &impl Abort, answer: Result<T, Error>) -> Option<T> {
     match answer {
         Ok(value) => Some(value),
         Err(error) => {
-            assert!(rt; error == Error::Memory);
+            assert_eq!(rt; error, Error::Memory);
             None
         }
     }
@@ -30,13 +30,13 @@ fn is_written<'a, T: BinlogEvent<'a> + Drop>(
     let Some(event) = granted(rt, read::<T>(rt.alloc(), body)) else {
         return;
     };
-    assert!(rt; event.len(BinlogVersion::Version4) == wanted.len());
+    assert_eq!(rt; event.len(BinlogVersion::Version4), wanted.len());
     let Ok(mut bytes) = Vec::from_slice(rt.alloc(), b"x") else {
         return;
     };
     match granted(rt, event.serialize(rt.alloc(), &mut bytes)) {
-        Some(()) => assert!(rt; bytes.get(1..) == Some(wanted)),
-        None => assert!(rt; bytes.as_slice() == b"x".as_slice()),
+        Some(()) => assert_eq!(rt; bytes.get(1..), Some(wanted)),
+        None => assert_eq!(rt; bytes.as_slice(), b"x".as_slice()),
     }
 }
 
@@ -87,10 +87,10 @@ fn refused_texts_are_errors(rt: HostRuntime) {
         return;
     };
     if let Some(schema) = granted(&rt, event.schema(rt.alloc())) {
-        assert!(rt; schema.as_str() == "\u{fffd}");
+        assert_eq!(rt; schema.as_str(), "\u{fffd}");
     }
     if let Some(query) = granted(&rt, event.query(rt.alloc())) {
-        assert!(rt; query.as_str() == "\u{fffd}");
+        assert_eq!(rt; query.as_str(), "\u{fffd}");
     }
 }
 
@@ -101,9 +101,9 @@ fn refused_names_are_answered_by_their_bytes(rt: HostRuntime) {
         return;
     };
     match names.get_value(rt.alloc()) {
-        Ok(StatusVarVal::UpdatedDbNames(names)) => assert!(rt; names.len() == 1),
+        Ok(StatusVarVal::UpdatedDbNames(names)) => assert_eq!(rt; names.len(), 1),
         Ok(_) => assert!(rt; false, "no names"),
-        Err(raw) => assert!(rt; raw == b"\x01a\0".as_slice()),
+        Err(raw) => assert_eq!(rt; raw, b"\x01a\0".as_slice()),
     }
 }
 

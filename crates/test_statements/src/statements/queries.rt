@@ -29,43 +29,43 @@ fn first_statement_of_the_sample(rt: HostRuntime) {
     let wanted = QueryEvent::new(CowSlice::Borrowed(STATUS), CowSlice::Borrowed(b"test"))
         .with_thread_id(1)
         .with_query(CowSlice::Borrowed(query));
-    assert!(rt; wanted.len(BinlogVersion::Version4) == 81);
-    assert!(rt; read(rt.alloc(), CREATE_TABLE) == Ok(wanted));
+    assert_eq!(rt; wanted.len(BinlogVersion::Version4), 81);
+    assert_eq!(rt; read(rt.alloc(), CREATE_TABLE), Ok(wanted));
 }
 
 #[test]
 fn stated_bytes_of_the_post_header_are_skipped(rt: HostRuntime) {
     let longer = stating(b"\0\x0f");
     let event = read_under(rt.alloc(), longer.as_ref(), LONGER_HEAD);
-    assert!(rt; event == Ok(made()));
+    assert_eq!(rt; event, Ok(made()));
     let front = b"\x01\0\0\0\x02\0\0\0\0\x03\0\0\0\xff".as_slice();
     let refused = read_under::<QueryEvent>(rt.alloc(), longer.as_ref(), front);
-    assert!(rt; refused == Err(Error::EndOfBody));
+    assert_eq!(rt; refused, Err(Error::EndOfBody));
 }
 
 #[test]
 fn a_shorter_post_header_skips_nothing(rt: HostRuntime) {
     let shorter = stating(b"\0\x0b");
     let event = read_under(rt.alloc(), shorter.as_ref(), SHORT);
-    assert!(rt; event == Ok(made()));
+    assert_eq!(rt; event, Ok(made()));
 }
 
 #[test]
 fn a_statement_goes_to_the_end(rt: HostRuntime) {
     let body = b"\x01\0\0\0\x02\0\0\0\x01\x03\0\0\0d\xff".as_slice();
     let wanted = made().with_query(CowSlice::Borrowed(b""));
-    assert!(rt; read(rt.alloc(), body) == Ok(wanted));
+    assert_eq!(rt; read(rt.alloc(), body), Ok(wanted));
     let longer = b"\x01\0\0\0\x02\0\0\0\x01\x03\0\0\0d\0q\0".as_slice();
     let wanted = made().with_query(CowSlice::Borrowed(b"q\0"));
-    assert!(rt; read(rt.alloc(), longer) == Ok(wanted));
+    assert_eq!(rt; read(rt.alloc(), longer), Ok(wanted));
 }
 
 #[test]
 fn a_schema_counts_255_bytes(rt: HostRuntime) {
     let schema = [b's'; 256];
     let event = QueryEvent::new(CowSlice::Borrowed(b""), CowSlice::Borrowed(&schema));
-    assert!(rt; event.schema_raw() == [b's'; 255].as_slice());
-    assert!(rt; event.len(BinlogVersion::Version4) == 269);
+    assert_eq!(rt; event.schema_raw(), [b's'; 255].as_slice());
+    assert_eq!(rt; event.len(BinlogVersion::Version4), 269);
     is_written_with(&rt, &event, 269, b"\0\0\0\0\0\0\0\0\xff\0\0\0\0s");
 }
 

@@ -21,7 +21,7 @@ type Parts<'a> = (
 fn has_parts(rt: &(impl Abort + AllocGlobal), body: &[u8], name: &[u8], wanted: Parts<'_>) {
     match read::<UserVarEvent>(rt.alloc(), body) {
         Ok(event) => {
-            assert!(rt; event.name_raw() == name);
+            assert_eq!(rt; event.name_raw(), name);
             let (value_type, charset) = (event.value_type(), event.charset());
             let parts = (
                 event.is_null(),
@@ -30,7 +30,7 @@ fn has_parts(rt: &(impl Abort + AllocGlobal), body: &[u8], name: &[u8], wanted: 
                 event.value(),
                 event.flags_raw(),
             );
-            assert!(rt; parts == wanted);
+            assert_eq!(rt; parts, wanted);
         }
         Err(error) => assert!(rt; false, "{error} of {body:?}"),
     }
@@ -68,7 +68,7 @@ fn one_byte_more_is_left_over(rt: HostRuntime) {
     ];
     for body in rows {
         let refused = read::<UserVarEvent>(rt.alloc(), body);
-        assert!(rt; refused == Err(Error::RemainingBytes(1)));
+        assert_eq!(rt; refused, Err(Error::RemainingBytes(1)));
     }
 }
 

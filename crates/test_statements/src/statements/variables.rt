@@ -82,7 +82,7 @@ fn the_first_variable_of_a_key(rt: HostRuntime) {
     let text = b"\x06\x01a\x05\0\x06\x01b".as_slice();
     let vars = StatusVars(RawBytes::new(CowSlice::Borrowed(text)));
     match vars.get_status_var(StatusVarKey::CatalogNz) {
-        Some(first) => assert!(rt; first.raw() == b"\x01a".as_slice()),
+        Some(first) => assert_eq!(rt; first.raw(), b"\x01a".as_slice()),
         None => assert!(rt; false, "no catalog"),
     }
     assert!(rt; vars.get_status_var(StatusVarKey::Invoker).is_none());
