@@ -1,12 +1,13 @@
 //! What the bodies of statements and the texts of status variables are read as and written as, by rows from outside.
+//! What holds values is asked in functions without a runtime, and tests are small: their proofs are short.
 use binlog_consts::BinlogVersion;
 use binlog_description::{
-    BinlogCtx, BinlogEvent, BinlogEventHeader, DescriptionRef, FormatDescriptionEvent, read_body,
+    BinlogCtx, BinlogEvent, BinlogEventHeader, BinlogStruct, DescriptionRef,
+    FormatDescriptionEvent, read_body,
 };
 use binlog_wire::{Error, MySerialize};
 use std::alloc::Global;
 use std::borrow::CowSlice;
-use std::process::Abort;
 
 mod load_queries;
 mod memory;
@@ -35,6 +36,11 @@ fn stating<'a>(lengths: &'a [u8]) -> FormatDescriptionEvent<'a> {
     FormatDescriptionEvent::new(BinlogVersion::Version4).with_event_type_header_lengths(lengths)
 }
 
+// The description that is in force where none was read.
+fn by_default() -> DescriptionRef<'static> {
+    DescriptionRef::new(BinlogVersion::Version4)
+}
+
 // Reads a whole body as an event of its own type under this description.
 fn read_under<'a, T: BinlogEvent<'a> + Drop>(
     alloc: Global,
@@ -48,31 +54,68 @@ fn read_under<'a, T: BinlogEvent<'a> + Drop>(
 
 // Reads a whole body as an event of its own type under the default description.
 fn read<'a, T: BinlogEvent<'a> + Drop>(alloc: Global, body: &'a [u8]) -> Result<T, Error> {
-    read_under(alloc, DescriptionRef::new(BinlogVersion::Version4), body)
+    read_under(alloc, by_default(), body)
+}
+
+// Why a body is refused under this description.
+fn refusal_under<'a, T: BinlogEvent<'a> + Drop>(
+    alloc: Global,
+    fde: DescriptionRef<'a>,
+    body: &'a [u8],
+) -> Option<Error> {
+    read_under::<T>(alloc, fde, body).err()
+}
+
+// Why a body is refused under the default description.
+fn refusal<'a, T: BinlogEvent<'a> + Drop>(alloc: Global, body: &'a [u8]) -> Option<Error> {
+    refusal_under::<T>(alloc, by_default(), body)
+}
+
+// Whether a body is read as this event.
+fn is_read_as<'a, T: BinlogEvent<'a> + PartialEq + Drop>(
+    alloc: Global,
+    fde: DescriptionRef<'a>,
+    body: &'a [u8],
+    wanted: T,
+) -> Result<bool, Error> {
+    let event: T = read_under(alloc, fde, body)?;
+    Ok(event == wanted)
+}
+
+// How many bytes a value tells beforehand that are written for it.
+fn told_len<'a, T: BinlogStruct<'a> + Drop>(value: T) -> usize {
+    value.len(BinlogVersion::Version4)
+}
+
+// What is written for a value.
+fn written<T: MySerialize>(alloc: Global, value: &T) -> Result<Vec<u8>, Error> {
+    let mut bytes = Vec::new(alloc);
+    value.serialize(alloc, &mut bytes)?;
+    Ok(bytes)
 }
 
 // Whether a value is written with so many bytes, which begin with these.
-fn is_written_with<T: MySerialize>(
-    rt: &(impl Abort + AllocGlobal),
-    value: &T,
+fn is_written_with<T: MySerialize + Drop>(
+    alloc: Global,
+    value: T,
     len: usize,
     front: &[u8],
-) {
-    let mut bytes = Vec::new(rt.alloc());
-    assert_eq!(rt; value.serialize(rt.alloc(), &mut bytes), Ok(()));
-    assert_eq!(rt; bytes.len(), len);
-    assert!(rt; bytes.starts_with(front));
+) -> Result<bool, Error> {
+    let bytes = written(alloc, &value)?;
+    Ok(bytes.len() == len && bytes.starts_with(front))
 }
 
 // Whether each front of a body of fewer bytes than these is refused for its end.
-fn fronts_are_refused<'a, T: BinlogEvent<'a> + Drop>(
-    rt: &(impl Abort + AllocGlobal),
+fn are_fronts_refused<'a, T: BinlogEvent<'a> + Drop>(
+    alloc: Global,
     body: &'a [u8],
     len: usize,
-) {
+) -> bool {
     for end in 0..len {
         let front = body.get(..end).unwrap_or(body);
-        let refused = read::<T>(rt.alloc(), front).err();
-        assert_eq!(rt; refused, Some(Error::EndOfBody), "of {end} bytes");
+        if refusal::<T>(alloc, front) != Some(Error::EndOfBody) {
+            return false;
+        }
     }
+    true
 }

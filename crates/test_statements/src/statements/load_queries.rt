@@ -1,11 +1,10 @@
 //! The events of statements that load a file.
-use super::{LOAD, fronts_are_refused, is_written_with, read};
-use binlog_consts::{BinlogVersion, LoadDuplicateHandling};
-use binlog_description::BinlogStruct;
+use super::{LOAD, are_fronts_refused, by_default, is_read_as, is_written_with, refusal, told_len};
+use binlog_consts::LoadDuplicateHandling;
 use binlog_statements::ExecuteLoadQueryEvent;
 use binlog_wire::{Error, Invalid};
+use std::alloc::Global;
 use std::borrow::CowSlice;
-use std::process::Abort;
 
 // The event of `LOAD`, a field at a time.
 fn made<'a>() -> ExecuteLoadQueryEvent<'a> {
@@ -27,32 +26,54 @@ fn made<'a>() -> ExecuteLoadQueryEvent<'a> {
     .with_query(CowSlice::Borrowed(b"LOAD"))
 }
 
+// The same with 65,536 bytes of status variables.
+fn with_many_variables<'a>(alloc: Global) -> Result<ExecuteLoadQueryEvent<'a>, Error> {
+    let mut status = Vec::new(alloc);
+    status.resize(65_536, 14)?;
+    Ok(made().with_status_vars(CowSlice::Owned(status)))
+}
+
+// How many bytes of variables that event keeps, and how many bytes it has.
+fn lengths_with_many_variables(alloc: Global) -> Result<(usize, usize), Error> {
+    with_many_variables(alloc).map(|event| (event.status_vars_raw().len(), told_len(event)))
+}
+
+// Whether that event is written with so many bytes, which begin with these.
+fn are_many_variables_written(alloc: Global, len: usize, front: &[u8]) -> Result<bool, Error> {
+    with_many_variables(alloc).and_then(|event| is_written_with(alloc, event, len, front))
+}
+
 #[test]
-fn a_load_query(rt: HostRuntime) {
-    assert_eq!(rt; read(rt.alloc(), LOAD), Ok(made()));
-    assert_eq!(rt; made().len(BinlogVersion::Version4), 35);
+fn a_load_query_is_read(rt: HostRuntime) {
+    assert!(rt; is_read_as(rt.alloc(), by_default(), LOAD, made()) == Ok(true));
+}
+
+#[test]
+fn a_load_query_tells_its_length(rt: HostRuntime) {
+    assert!(rt; told_len(made()) == 35);
 }
 
 #[test]
 fn duplicates_are_handled_in_three_ways(rt: HostRuntime) {
     let body = b"\x01\0\0\0\0\0\0\0\0\0\0\0\0\x02\0\0\0\x03\0\0\0\x04\0\0\0\x03\0".as_slice();
-    let refused = read::<ExecuteLoadQueryEvent>(rt.alloc(), body);
+    let refused = refusal::<ExecuteLoadQueryEvent>(rt.alloc(), body);
     let wanted = Error::InvalidData(Invalid::DupHandling(3));
-    assert_eq!(rt; refused, Err(wanted));
+    assert!(rt; refused == Some(wanted));
 }
 
 #[test]
 fn variables_count_65_535_bytes(rt: HostRuntime) {
-    let mut status = Vec::new(rt.alloc());
-    assert!(rt; status.resize(65_536, 14).is_ok());
-    let event = made().with_status_vars(CowSlice::Owned(status));
-    assert_eq!(rt; event.status_vars_raw().len(), 65_535);
-    assert_eq!(rt; event.len(BinlogVersion::Version4), 65_567);
-    is_written_with(&rt, &event, 65_567, b"\x01\0\0\0\0\0\0\0\x01\0\0\xff\xff");
+    assert!(rt; lengths_with_many_variables(rt.alloc()) == Ok((65_535, 65_567)));
 }
 
 #[test]
-fn fronts_of_a_load_query(rt: HostRuntime) {
-    // Behind these bytes the statement begins, which goes to the end.
-    fronts_are_refused::<ExecuteLoadQueryEvent>(&rt, LOAD, 31);
+fn variables_are_written_in_65_535_bytes(rt: HostRuntime) {
+    let front = b"\x01\0\0\0\0\0\0\0\x01\0\0\xff\xff".as_slice();
+    assert!(rt; are_many_variables_written(rt.alloc(), 65_567, front) == Ok(true));
+}
+
+// Behind 31 bytes the statement begins, which goes to the end.
+#[test]
+fn fronts_of_a_load_query_are_refused(rt: HostRuntime) {
+    assert!(rt; are_fronts_refused::<ExecuteLoadQueryEvent>(rt.alloc(), LOAD, 31));
 }

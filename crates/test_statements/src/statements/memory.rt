@@ -1,6 +1,6 @@
 //! What takes memory, and what refused memory leaves. These tests pass wherever an allocation is refused: a refusal is
 //! the call's error, and no answer changes.
-use super::{CREATE_TABLE, INTEGER, LOAD, STATUS, read};
+use super::{CREATE_TABLE, INTEGER, LOAD, STATUS, read, refusal};
 use binlog_consts::BinlogVersion;
 use binlog_description::{BinlogEvent, BinlogStruct};
 use binlog_statements::{
@@ -8,124 +8,203 @@ use binlog_statements::{
 };
 use binlog_wire::{Error, MySerialize};
 use std::alloc::Global;
-use std::process::Abort;
+use std::borrow::CowStr;
 
-// The answer of a call, or none where memory was refused for it.
-fn granted<T: Drop>(rt: &impl Abort, answer: Result<T, Error>) -> Option<T> {
-    match answer {
-        Ok(value) => Some(value),
-        Err(error) => {
-            assert_eq!(rt; error, Error::Memory);
-            None
-        }
-    }
+/// A body whose schema and statement are no text.
+const NO_TEXT: &[u8] = b"\x01\0\0\0\x02\0\0\0\x01\x03\0\0\0\xff\0\xfe";
+
+// Whether the answer is yes, or memory was refused for it.
+fn is_granted(answer: Result<bool, Error>) -> bool {
+    matches!(answer, Ok(true) | Err(Error::Memory))
 }
 
-// Whether a body is read, and what is written of it behind one byte is as wanted, or that byte alone.
+// Whether a value is written as wanted behind one byte; where memory is refused, that byte has to be all that is left.
+fn is_written_behind<T: MySerialize>(
+    alloc: Global,
+    value: &T,
+    wanted: &[u8],
+) -> Result<bool, Error> {
+    let mut bytes = Vec::from_slice(alloc, b"x")?;
+    let left = match value.serialize(alloc, &mut bytes) {
+        Ok(()) => wanted,
+        Err(Error::Memory) => b"",
+        Err(error) => return Err(error),
+    };
+    Ok(bytes.get(1..) == Some(left))
+}
+
+// The same of what a body is read as, which tells its length beforehand.
 fn is_written<'a, T: BinlogEvent<'a> + Drop>(
-    rt: &(impl Abort + AllocGlobal),
+    alloc: Global,
     body: &'a [u8],
     wanted: &[u8],
-) {
-    let Some(event) = granted(rt, read::<T>(rt.alloc(), body)) else {
-        return;
-    };
-    assert_eq!(rt; event.len(BinlogVersion::Version4), wanted.len());
-    let Ok(mut bytes) = Vec::from_slice(rt.alloc(), b"x") else {
-        return;
-    };
-    match granted(rt, event.serialize(rt.alloc(), &mut bytes)) {
-        Some(()) => assert_eq!(rt; bytes.get(1..), Some(wanted)),
-        None => assert_eq!(rt; bytes.as_slice(), b"x".as_slice()),
+) -> Result<bool, Error> {
+    let event: T = read(alloc, body)?;
+    if event.len(BinlogVersion::Version4) != wanted.len() {
+        return Ok(false);
     }
+    is_written_behind(alloc, &event, wanted)
 }
 
 #[test]
-fn a_refused_write_leaves_what_was_there(rt: HostRuntime) {
-    is_written::<QueryEvent>(&rt, CREATE_TABLE, CREATE_TABLE);
-    is_written::<ExecuteLoadQueryEvent>(&rt, LOAD, LOAD);
-    is_written::<UserVarEvent>(&rt, b"\x01\0\0\0a\x02", b"\x01\0\0\0a\x01");
-    let with_flags = b"\x01\0\0\0a\0\x02\x3f\0\0\0\x01\0\0\0\x07\0";
-    is_written::<UserVarEvent>(&rt, INTEGER, with_flags);
+fn a_refused_write_of_a_statement_leaves_what_was_there(rt: HostRuntime) {
+    let query = is_written::<QueryEvent>(rt.alloc(), CREATE_TABLE, CREATE_TABLE);
+    assert!(rt; is_granted(query));
+    let load_query = is_written::<ExecuteLoadQueryEvent>(rt.alloc(), LOAD, LOAD);
+    assert!(rt; is_granted(load_query));
+}
+
+#[test]
+fn a_refused_write_of_a_variable_leaves_what_was_there(rt: HostRuntime) {
+    let null = is_written::<UserVarEvent>(rt.alloc(), b"\x01\0\0\0a\x02", b"\x01\0\0\0a\x01");
+    assert!(rt; is_granted(null));
+    let with_flags = b"\x01\0\0\0a\0\x02\x3f\0\0\0\x01\0\0\0\x07\0".as_slice();
+    let integer = is_written::<UserVarEvent>(rt.alloc(), INTEGER, with_flags);
+    assert!(rt; is_granted(integer));
+}
+
+// Whether the copy of an event was made, and is equal to it.
+fn is_same<T: PartialEq + Drop>(copy: Result<T, Error>, event: &T) -> Result<bool, Error> {
+    Ok(copy? == *event)
+}
+
+// A copy of a copy that owns its bytes.
+fn query_copied(alloc: Global, event: &QueryEvent<'_>) -> Result<QueryEvent<'static>, Error> {
+    event.clone(alloc)?.into_owned(alloc)?.clone(alloc)
+}
+
+fn load_query_copied(
+    alloc: Global,
+    event: &ExecuteLoadQueryEvent<'_>,
+) -> Result<ExecuteLoadQueryEvent<'static>, Error> {
+    event.clone(alloc)?.into_owned(alloc)?.clone(alloc)
+}
+
+fn variable_copied(
+    alloc: Global,
+    event: &UserVarEvent<'_>,
+) -> Result<UserVarEvent<'static>, Error> {
+    event.clone(alloc)?.into_owned(alloc)?.clone(alloc)
 }
 
 // Whether a body's event is equal to its copy, owned and copied again.
-fn copied_query(alloc: Global, body: &[u8]) -> Result<bool, Error> {
+fn is_query_copied(alloc: Global, body: &[u8]) -> Result<bool, Error> {
     let event: QueryEvent = read(alloc, body)?;
-    let owned = event.clone(alloc)?.into_owned(alloc)?;
-    Ok(owned.clone(alloc)? == event)
+    is_same(query_copied(alloc, &event), &event)
 }
 
-fn copied_load_query(alloc: Global, body: &[u8]) -> Result<bool, Error> {
+fn is_load_query_copied(alloc: Global, body: &[u8]) -> Result<bool, Error> {
     let event: ExecuteLoadQueryEvent = read(alloc, body)?;
-    let owned = event.clone(alloc)?.into_owned(alloc)?;
-    Ok(owned.clone(alloc)? == event)
+    is_same(load_query_copied(alloc, &event), &event)
 }
 
-fn copied_variable(alloc: Global, body: &[u8]) -> Result<bool, Error> {
+fn is_variable_copied(alloc: Global, body: &[u8]) -> Result<bool, Error> {
     let event: UserVarEvent = read(alloc, body)?;
-    let owned = event.clone(alloc)?.into_owned(alloc)?;
-    Ok(owned.clone(alloc)? == event)
+    is_same(variable_copied(alloc, &event), &event)
 }
 
 #[test]
-fn a_copy_is_equal_or_refused_for_memory(rt: HostRuntime) {
-    for copied in [
-        copied_query(rt.alloc(), CREATE_TABLE),
-        copied_load_query(rt.alloc(), LOAD),
-        copied_variable(rt.alloc(), INTEGER),
-        copied_variable(rt.alloc(), b"\0\0\0\0\x01"),
-    ] {
-        assert!(rt; matches!(copied, Ok(true) | Err(Error::Memory)));
-    }
+fn a_copy_of_a_statement_is_equal_or_refused_for_memory(rt: HostRuntime) {
+    assert!(rt; is_granted(is_query_copied(rt.alloc(), CREATE_TABLE)));
+    assert!(rt; is_granted(is_load_query_copied(rt.alloc(), LOAD)));
+}
+
+#[test]
+fn a_copy_of_a_variable_is_equal_or_refused_for_memory(rt: HostRuntime) {
+    assert!(rt; is_granted(is_variable_copied(rt.alloc(), INTEGER)));
+    assert!(rt; is_granted(is_variable_copied(rt.alloc(), b"\0\0\0\0\x01")));
+}
+
+// Whether a text was made, and is this one.
+fn is_text(text: Result<CowStr<'_, Global>, Error>, wanted: &str) -> Result<bool, Error> {
+    Ok(text?.as_str() == wanted)
+}
+
+// Whether the schema of a body is this text.
+fn is_schema(alloc: Global, body: &[u8], wanted: &str) -> Result<bool, Error> {
+    let event: QueryEvent = read(alloc, body)?;
+    is_text(event.schema(alloc), wanted)
+}
+
+// Whether the statement of a body is this text.
+fn is_query(alloc: Global, body: &[u8], wanted: &str) -> Result<bool, Error> {
+    let event: QueryEvent = read(alloc, body)?;
+    is_text(event.query(alloc), wanted)
 }
 
 #[test]
 fn refused_texts_are_errors(rt: HostRuntime) {
-    let body = b"\x01\0\0\0\x02\0\0\0\x01\x03\0\0\0\xff\0\xfe".as_slice();
-    let Some(event) = granted(&rt, read::<QueryEvent>(rt.alloc(), body)) else {
-        return;
-    };
-    if let Some(schema) = granted(&rt, event.schema(rt.alloc())) {
-        assert_eq!(rt; schema.as_str(), "\u{fffd}");
+    assert!(rt; is_granted(is_schema(rt.alloc(), NO_TEXT, "\u{fffd}")));
+    assert!(rt; is_granted(is_query(rt.alloc(), NO_TEXT, "\u{fffd}")));
+}
+
+// How many names of databases a value has.
+fn count(value: StatusVarVal<'_>) -> Option<usize> {
+    match value {
+        StatusVarVal::UpdatedDbNames(names) => Some(names.len()),
+        _ => None,
     }
-    if let Some(query) = granted(&rt, event.query(rt.alloc())) {
-        assert_eq!(rt; query.as_str(), "\u{fffd}");
+}
+
+// How many names of databases the first variable of a text has, or its bytes where it gives no value.
+fn count_of_names<'a>(alloc: Global, text: &'a [u8]) -> Result<Option<usize>, &'a [u8]> {
+    match StatusVarsIterator::new(text).next() {
+        Some(var) => Ok(count(var.get_value(alloc)?)),
+        None => Ok(None),
     }
 }
 
 #[test]
 fn refused_names_are_answered_by_their_bytes(rt: HostRuntime) {
-    let mut vars = StatusVarsIterator::new(b"\x0c\x01a\0");
-    let Some(names) = vars.next() else {
-        return;
-    };
-    match names.get_value(rt.alloc()) {
-        Ok(StatusVarVal::UpdatedDbNames(names)) => assert_eq!(rt; names.len(), 1),
-        Ok(_) => assert!(rt; false, "no names"),
-        Err(raw) => assert_eq!(rt; raw, b"\x01a\0".as_slice()),
+    match count_of_names(rt.alloc(), b"\x0c\x01a\0") {
+        Ok(count) => assert!(rt; count == Some(1)),
+        Err(raw) => assert!(rt; raw == b"\x01a\0".as_slice()),
     }
 }
 
 // It asks for no memory at all.
 #[test]
 fn reading_statements_takes_no_memory(rt: HostRuntime) {
-    assert!(rt; read::<QueryEvent>(rt.alloc(), CREATE_TABLE).is_ok());
-    assert!(rt; read::<ExecuteLoadQueryEvent>(rt.alloc(), LOAD).is_ok());
-    assert!(rt; read::<UserVarEvent>(rt.alloc(), INTEGER).is_ok());
-    for var in StatusVarsIterator::new(STATUS) {
-        assert!(rt; var.get_value(rt.alloc()).is_ok());
+    assert!(rt; refusal::<QueryEvent>(rt.alloc(), CREATE_TABLE) == None);
+    assert!(rt; refusal::<ExecuteLoadQueryEvent>(rt.alloc(), LOAD) == None);
+    assert!(rt; refusal::<UserVarEvent>(rt.alloc(), INTEGER) == None);
+}
+
+// Whether each variable of a text gives a value.
+fn are_values_read(alloc: Global, text: &[u8]) -> bool {
+    for var in StatusVarsIterator::new(text) {
+        if var.get_value(alloc).is_err() {
+            return false;
+        }
+    }
+    true
+}
+
+// It asks for no memory at all.
+#[test]
+fn reading_status_variables_takes_no_memory(rt: HostRuntime) {
+    assert!(rt; are_values_read(rt.alloc(), STATUS));
+}
+
+// Whether the first variable of a text has this value.
+fn is_first_value(alloc: Global, text: &[u8], wanted: StatusVarVal<'_>) -> bool {
+    match StatusVarsIterator::new(text).next() {
+        Some(var) => is_value(var.get_value(alloc), wanted),
+        None => false,
+    }
+}
+
+// Whether a value was given, and is this one.
+fn is_value(answer: Result<StatusVarVal<'_>, &[u8]>, wanted: StatusVarVal<'_>) -> bool {
+    match answer {
+        Ok(value) => value == wanted,
+        Err(_) => false,
     }
 }
 
 // It asks for no memory at all, since its list stays empty.
 #[test]
 fn reading_a_count_of_too_many_names_takes_no_memory(rt: HostRuntime) {
-    let mut vars = StatusVarsIterator::new(b"\x0c\xfe");
-    let Some(names) = vars.next() else {
-        return;
-    };
-    let value = names.get_value(rt.alloc());
     let wanted = StatusVarVal::UpdatedDbNames(Vec::new(rt.alloc()));
-    assert!(rt; value == Ok(wanted));
+    assert!(rt; is_first_value(rt.alloc(), b"\x0c\xfe", wanted));
 }

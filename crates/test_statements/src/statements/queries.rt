@@ -1,9 +1,11 @@
 //! The events of statements.
-use super::{CREATE_TABLE, STATUS, fronts_are_refused, is_written_with, read, read_under, stating};
-use binlog_consts::BinlogVersion;
-use binlog_description::BinlogStruct;
+use super::{
+    CREATE_TABLE, STATUS, are_fronts_refused, by_default, is_read_as, is_written_with,
+    refusal_under, stating, told_len,
+};
 use binlog_statements::QueryEvent;
 use binlog_wire::Error;
+use std::alloc::Global;
 use std::borrow::CowSlice;
 
 /// Thread 1, time 2, error 3, schema `d`, no variables, the statement `q`.
@@ -11,6 +13,12 @@ const SHORT: &[u8] = b"\x01\0\0\0\x02\0\0\0\x01\x03\0\0\0d\0q";
 
 /// The same with two bytes more in its post-header.
 const LONGER_HEAD: &[u8] = b"\x01\0\0\0\x02\0\0\0\x01\x03\0\0\0\xff\xffd\0q";
+
+/// A front of such a body that ends within its post-header.
+const FRONT_OF_HEAD: &[u8] = b"\x01\0\0\0\x02\0\0\0\0\x03\0\0\0\xff";
+
+/// A schema that is one byte too long.
+const LONG_SCHEMA: &[u8] = &[b's'; 256];
 
 // The statement of both, a field at a time.
 fn made<'a>() -> QueryEvent<'a> {
@@ -23,54 +31,92 @@ fn made<'a>() -> QueryEvent<'a> {
         .with_query(CowSlice::Borrowed(b"q"))
 }
 
-#[test]
-fn first_statement_of_the_sample(rt: HostRuntime) {
+// The first statement of the sample.
+fn create_table<'a>() -> QueryEvent<'a> {
     let query = b"create table t1(a int) engine= innodb";
-    let wanted = QueryEvent::new(CowSlice::Borrowed(STATUS), CowSlice::Borrowed(b"test"))
+    QueryEvent::new(CowSlice::Borrowed(STATUS), CowSlice::Borrowed(b"test"))
         .with_thread_id(1)
-        .with_query(CowSlice::Borrowed(query));
-    assert_eq!(rt; wanted.len(BinlogVersion::Version4), 81);
-    assert_eq!(rt; read(rt.alloc(), CREATE_TABLE), Ok(wanted));
+        .with_query(CowSlice::Borrowed(query))
+}
+
+// An empty statement with the long schema.
+fn with_long_schema<'a>() -> QueryEvent<'a> {
+    QueryEvent::new(CowSlice::Borrowed(b""), CowSlice::Borrowed(LONG_SCHEMA))
+}
+
+// Whether that event keeps this schema and tells this length.
+fn keeps_schema(schema: &[u8], len: usize) -> bool {
+    let event = with_long_schema();
+    event.schema_raw() == schema && told_len(event) == len
+}
+
+// Whether a body is read as the statement where these post-header lengths are stated.
+fn is_made_of(alloc: Global, lengths: &[u8], body: &[u8]) -> Result<bool, Error> {
+    let fde = stating(lengths);
+    is_read_as(alloc, fde.as_ref(), body, made())
+}
+
+// Why a body is refused there.
+fn refusal_of(alloc: Global, lengths: &[u8], body: &[u8]) -> Option<Error> {
+    let fde = stating(lengths);
+    refusal_under::<QueryEvent>(alloc, fde.as_ref(), body)
+}
+
+// Whether a body is read as the same with another statement.
+fn is_made_with(alloc: Global, body: &[u8], query: &[u8]) -> Result<bool, Error> {
+    let wanted = made().with_query(CowSlice::Borrowed(query));
+    is_read_as(alloc, by_default(), body, wanted)
+}
+
+#[test]
+fn first_statement_of_the_sample_is_read(rt: HostRuntime) {
+    let is_read = is_read_as(rt.alloc(), by_default(), CREATE_TABLE, create_table());
+    assert!(rt; is_read == Ok(true));
+}
+
+#[test]
+fn first_statement_of_the_sample_tells_its_length(rt: HostRuntime) {
+    assert!(rt; told_len(create_table()) == 81);
 }
 
 #[test]
 fn stated_bytes_of_the_post_header_are_skipped(rt: HostRuntime) {
-    let longer = stating(b"\0\x0f");
-    let event = read_under(rt.alloc(), longer.as_ref(), LONGER_HEAD);
-    assert_eq!(rt; event, Ok(made()));
-    let front = b"\x01\0\0\0\x02\0\0\0\0\x03\0\0\0\xff".as_slice();
-    let refused = read_under::<QueryEvent>(rt.alloc(), longer.as_ref(), front);
-    assert_eq!(rt; refused, Err(Error::EndOfBody));
+    assert!(rt; is_made_of(rt.alloc(), b"\0\x0f", LONGER_HEAD) == Ok(true));
+}
+
+#[test]
+fn stated_bytes_of_the_post_header_have_to_be_there(rt: HostRuntime) {
+    let refused = refusal_of(rt.alloc(), b"\0\x0f", FRONT_OF_HEAD);
+    assert!(rt; refused == Some(Error::EndOfBody));
 }
 
 #[test]
 fn a_shorter_post_header_skips_nothing(rt: HostRuntime) {
-    let shorter = stating(b"\0\x0b");
-    let event = read_under(rt.alloc(), shorter.as_ref(), SHORT);
-    assert_eq!(rt; event, Ok(made()));
+    assert!(rt; is_made_of(rt.alloc(), b"\0\x0b", SHORT) == Ok(true));
 }
 
 #[test]
 fn a_statement_goes_to_the_end(rt: HostRuntime) {
-    let body = b"\x01\0\0\0\x02\0\0\0\x01\x03\0\0\0d\xff".as_slice();
-    let wanted = made().with_query(CowSlice::Borrowed(b""));
-    assert_eq!(rt; read(rt.alloc(), body), Ok(wanted));
+    let empty = b"\x01\0\0\0\x02\0\0\0\x01\x03\0\0\0d\xff".as_slice();
+    assert!(rt; is_made_with(rt.alloc(), empty, b"") == Ok(true));
     let longer = b"\x01\0\0\0\x02\0\0\0\x01\x03\0\0\0d\0q\0".as_slice();
-    let wanted = made().with_query(CowSlice::Borrowed(b"q\0"));
-    assert_eq!(rt; read(rt.alloc(), longer), Ok(wanted));
+    assert!(rt; is_made_with(rt.alloc(), longer, b"q\0") == Ok(true));
 }
 
 #[test]
 fn a_schema_counts_255_bytes(rt: HostRuntime) {
-    let schema = [b's'; 256];
-    let event = QueryEvent::new(CowSlice::Borrowed(b""), CowSlice::Borrowed(&schema));
-    assert_eq!(rt; event.schema_raw(), [b's'; 255].as_slice());
-    assert_eq!(rt; event.len(BinlogVersion::Version4), 269);
-    is_written_with(&rt, &event, 269, b"\0\0\0\0\0\0\0\0\xff\0\0\0\0s");
+    assert!(rt; keeps_schema(&[b's'; 255], 269));
 }
 
 #[test]
-fn fronts_of_a_statement(rt: HostRuntime) {
-    // Behind these bytes the statement begins, which goes to the end.
-    fronts_are_refused::<QueryEvent>(&rt, CREATE_TABLE, 44);
+fn a_schema_is_written_in_255_bytes(rt: HostRuntime) {
+    let front = b"\0\0\0\0\0\0\0\0\xff\0\0\0\0s".as_slice();
+    let is_written = is_written_with(rt.alloc(), with_long_schema(), 269, front);
+    assert!(rt; is_written == Ok(true));
+}
+
+// Behind 44 bytes the statement begins, which goes to the end.
+#[test]
+fn fronts_of_a_statement_are_refused(rt: HostRuntime) {
+    assert!(rt; are_fronts_refused::<QueryEvent>(rt.alloc(), CREATE_TABLE, 44));
 }

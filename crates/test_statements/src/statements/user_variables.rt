@@ -1,12 +1,15 @@
 //! The events of user variables.
-use super::{INTEGER, fronts_are_refused, read};
+use super::{INTEGER, are_fronts_refused, read, refusal};
 use binlog_consts::{ItemResult, UnknownItemResultType, UserVarFlags};
 use binlog_statements::UserVarEvent;
 use binlog_wire::Error;
-use std::process::Abort;
+use std::alloc::Global;
 
 /// A null `a`.
 const NULL: &[u8] = b"\x01\0\0\0a\x02";
+
+/// A variable without a name, of a type that isn't known, with all known flags and one more.
+const UNKNOWN: &[u8] = b"\0\0\0\0\0\xff\x3f\0\0\0\0\0\0\0\x03";
 
 /// Whether a variable is null, its type, its charset, its value and its flags.
 type Parts<'a> = (
@@ -17,47 +20,50 @@ type Parts<'a> = (
     u8,
 );
 
+// The parts of a variable.
+fn parts<'a>(event: &'a UserVarEvent<'_>) -> Parts<'a> {
+    (
+        event.is_null(),
+        event.value_type(),
+        event.charset(),
+        event.value(),
+        event.flags_raw(),
+    )
+}
+
 // Whether a body is read as a variable of this name and these parts.
-fn has_parts(rt: &(impl Abort + AllocGlobal), body: &[u8], name: &[u8], wanted: Parts<'_>) {
-    match read::<UserVarEvent>(rt.alloc(), body) {
-        Ok(event) => {
-            assert_eq!(rt; event.name_raw(), name);
-            let (value_type, charset) = (event.value_type(), event.charset());
-            let parts = (
-                event.is_null(),
-                value_type,
-                charset,
-                event.value(),
-                event.flags_raw(),
-            );
-            assert_eq!(rt; parts, wanted);
-        }
-        Err(error) => assert!(rt; false, "{error} of {body:?}"),
-    }
+fn has_parts(alloc: Global, body: &[u8], name: &[u8], wanted: Parts<'_>) -> Result<bool, Error> {
+    let event: UserVarEvent = read(alloc, body)?;
+    Ok(event.name_raw() == name && parts(&event) == wanted)
+}
+
+// The known flags of a variable.
+fn flags(alloc: Global, body: &[u8]) -> Result<UserVarFlags, Error> {
+    let event: UserVarEvent = read(alloc, body)?;
+    Ok(event.flags())
 }
 
 #[test]
 fn a_null(rt: HostRuntime) {
     let wanted = (true, Ok(ItemResult::STRING_RESULT), 63, b"".as_slice(), 0);
-    has_parts(&rt, NULL, b"a", wanted);
+    assert!(rt; has_parts(rt.alloc(), NULL, b"a", wanted) == Ok(true));
 }
 
 #[test]
-fn values_with_and_without_flags(rt: HostRuntime) {
+fn a_value_without_flags(rt: HostRuntime) {
     let wanted = (false, Ok(ItemResult::INT_RESULT), 63, b"\x07".as_slice(), 0);
-    has_parts(&rt, INTEGER, b"a", wanted);
-    let body = b"\0\0\0\0\0\xff\x3f\0\0\0\0\0\0\0\x03".as_slice();
+    assert!(rt; has_parts(rt.alloc(), INTEGER, b"a", wanted) == Ok(true));
+}
+
+#[test]
+fn a_value_with_flags(rt: HostRuntime) {
     let wanted = (false, Err(UnknownItemResultType(-1)), 63, b"".as_slice(), 3);
-    has_parts(&rt, body, b"", wanted);
+    assert!(rt; has_parts(rt.alloc(), UNKNOWN, b"", wanted) == Ok(true));
 }
 
 #[test]
 fn flags_that_are_known(rt: HostRuntime) {
-    let body = b"\0\0\0\0\0\xff\x3f\0\0\0\0\0\0\0\x03".as_slice();
-    match read::<UserVarEvent>(rt.alloc(), body) {
-        Ok(event) => assert!(rt; event.flags() == UserVarFlags::UNSIGNED),
-        Err(error) => assert!(rt; false, "{error}"),
-    }
+    assert!(rt; flags(rt.alloc(), UNKNOWN) == Ok(UserVarFlags::UNSIGNED));
 }
 
 #[test]
@@ -67,13 +73,13 @@ fn one_byte_more_is_left_over(rt: HostRuntime) {
         b"\x01\0\0\0a\0\x02\x3f\0\0\0\x01\0\0\0\x07\0\0".as_slice(),
     ];
     for body in rows {
-        let refused = read::<UserVarEvent>(rt.alloc(), body);
-        assert_eq!(rt; refused, Err(Error::RemainingBytes(1)));
+        let refused = refusal::<UserVarEvent>(rt.alloc(), body);
+        assert!(rt; refused == Some(Error::RemainingBytes(1)));
     }
 }
 
 #[test]
-fn fronts_of_a_user_variable(rt: HostRuntime) {
-    fronts_are_refused::<UserVarEvent>(&rt, NULL, 6);
-    fronts_are_refused::<UserVarEvent>(&rt, INTEGER, 16);
+fn fronts_of_a_user_variable_are_refused(rt: HostRuntime) {
+    assert!(rt; are_fronts_refused::<UserVarEvent>(rt.alloc(), NULL, 6));
+    assert!(rt; are_fronts_refused::<UserVarEvent>(rt.alloc(), INTEGER, 16));
 }

@@ -4,19 +4,30 @@ use binlog_consts::StatusVarKey;
 use binlog_statements::{StatusVars, StatusVarsIterator};
 use binlog_wire::RawBytes;
 use std::borrow::CowSlice;
-use std::process::Abort;
 
 // Whether a text has variables of these keys, and then none for good.
-fn has_keys(rt: &impl Abort, text: &[u8], keys: &[StatusVarKey]) {
+fn has_keys(text: &[u8], keys: &[StatusVarKey]) -> bool {
     let mut vars = StatusVarsIterator::new(text);
     for key in keys.iter() {
         match vars.next() {
-            Some(var) => assert_eq!(rt; var.key(), *key, "of {text:?}"),
-            None => assert!(rt; false, "no {key:?} of {text:?}"),
+            Some(var) => {
+                if var.key() != *key {
+                    return false;
+                }
+            }
+            None => return false,
         }
     }
-    assert!(rt; vars.next().is_none(), "of {text:?}");
-    assert!(rt; vars.next().is_none(), "of {text:?}");
+    vars.next().is_none() && vars.next().is_none()
+}
+
+// Whether the first variable of this key in a text has this value, or there is none.
+fn has_value(text: &[u8], key: StatusVarKey, wanted: Option<&[u8]>) -> bool {
+    let vars = StatusVars(RawBytes::new(CowSlice::Borrowed(text)));
+    match vars.get_status_var(key) {
+        Some(var) => wanted == Some(var.raw()),
+        None => wanted.is_none(),
+    }
 }
 
 #[test]
@@ -27,34 +38,31 @@ fn four_variables_of_the_sample(rt: HostRuntime) {
         StatusVarKey::CatalogNz,
         StatusVarKey::Charset,
     ];
-    has_keys(&rt, STATUS, &keys);
+    assert!(rt; has_keys(STATUS, &keys));
 }
 
 #[test]
 fn whole_variables_alone(rt: HostRuntime) {
     use StatusVarKey::{Catalog, CatalogNz, LcTimeNames, TimeZone};
-    has_keys(&rt, b"\x07\x01\0\x15\0", &[LcTimeNames]);
-    has_keys(&rt, b"\x05\0\x06\x01a", &[TimeZone, CatalogNz]);
-    has_keys(&rt, b"\x02\x01a\0", &[Catalog]);
+    assert!(rt; has_keys(b"\x07\x01\0\x15\0", &[LcTimeNames]));
+    assert!(rt; has_keys(b"\x05\0\x06\x01a", &[TimeZone, CatalogNz]));
+    assert!(rt; has_keys(b"\x02\x01a\0", &[Catalog]));
 }
 
 #[test]
-fn names_and_texts(rt: HostRuntime) {
-    use StatusVarKey::{
-        CommitTs, CommitTs2, ExplicitDefaultsForTimestamp, Invoker, UpdatedDbNames,
-    };
-    has_keys(
-        &rt,
-        b"\x0b\x01a\x01b\x0e\x0f",
-        &[Invoker, CommitTs, CommitTs2],
-    );
-    has_keys(&rt, b"\x0c\x02a\0b\0", &[UpdatedDbNames]);
-    has_keys(
-        &rt,
-        b"\x0c\xfe\x10\x01",
-        &[UpdatedDbNames, ExplicitDefaultsForTimestamp],
-    );
-    has_keys(&rt, b"\x0c\0\x0e", &[UpdatedDbNames, CommitTs]);
+fn two_texts_and_none(rt: HostRuntime) {
+    use StatusVarKey::{CommitTs, CommitTs2, Invoker};
+    let text = b"\x0b\x01a\x01b\x0e\x0f".as_slice();
+    assert!(rt; has_keys(text, &[Invoker, CommitTs, CommitTs2]));
+}
+
+#[test]
+fn names_of_databases(rt: HostRuntime) {
+    use StatusVarKey::{CommitTs, ExplicitDefaultsForTimestamp, UpdatedDbNames};
+    assert!(rt; has_keys(b"\x0c\x02a\0b\0", &[UpdatedDbNames]));
+    let too_many = [UpdatedDbNames, ExplicitDefaultsForTimestamp];
+    assert!(rt; has_keys(b"\x0c\xfe\x10\x01", &too_many));
+    assert!(rt; has_keys(b"\x0c\0\x0e", &[UpdatedDbNames, CommitTs]));
 }
 
 #[test]
@@ -73,17 +81,13 @@ fn texts_without_a_whole_variable(rt: HostRuntime) {
         b"\x0c\xff\0",
     ];
     for text in texts {
-        has_keys(&rt, text, &[]);
+        assert!(rt; has_keys(text, &[]));
     }
 }
 
 #[test]
 fn the_first_variable_of_a_key(rt: HostRuntime) {
     let text = b"\x06\x01a\x05\0\x06\x01b".as_slice();
-    let vars = StatusVars(RawBytes::new(CowSlice::Borrowed(text)));
-    match vars.get_status_var(StatusVarKey::CatalogNz) {
-        Some(first) => assert_eq!(rt; first.raw(), b"\x01a".as_slice()),
-        None => assert!(rt; false, "no catalog"),
-    }
-    assert!(rt; vars.get_status_var(StatusVarKey::Invoker).is_none());
+    assert!(rt; has_value(text, StatusVarKey::CatalogNz, Some(b"\x01a")));
+    assert!(rt; has_value(text, StatusVarKey::Invoker, None));
 }
