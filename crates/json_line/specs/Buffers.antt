@@ -2,14 +2,18 @@
 use Rattle.std.specs.Prelude.{◌≡◌, ℕ, Bool, cond, List, [], ◌∷◌, ◌++◌, refl, Result, MatchResult}
 use Rattle.std.specs.Coded.{Coded, code_by, coded×, coded_list, coded_ℕ}
 
--- the bytes that are written, and how many more may be written before it has to grow
+-- the bytes that are written, how many more may be written before it has to grow, and the byte that stands behind them, where
+-- there is room for one
 pub record Buffered : Type 0 where
   pub text : List ℕ
   pub room : ℕ
+  pub next : List ℕ
 
--- it is stored as the pair of its fields
+-- it is stored as its fields
 abbrev pub buffered_code : Coded Buffered
-buffered_code = code_by (List ℕ × ℕ) (coded× (coded_list coded_ℕ) coded_ℕ) (λ b. (b.text, b.room)) (λ p. record { text = p.0; room = p.1 }) (λ _. refl)
+buffered_code =
+    code_by (List ℕ × (ℕ × List ℕ)) (coded× (coded_list coded_ℕ) (coded× coded_ℕ (coded_list coded_ℕ)))
+    (λ b. (b.text, (b.room, b.next))) (λ p. record { text = p.0; room = p.1.0; next = p.1.1 }) (λ _. refl)
 
 -- a comma, where it is wanted
 abbrev pub comma : Bool → List ℕ

@@ -1,5 +1,5 @@
 //! Bytes that are written one behind another.
-ghost use Rattle.std.specs.Prelude.{◌≡◌, ◌≤◌, ◌+◌, ◌*◌, [], ◌∷◌, ◌++◌, length, OnOk, IfSome};
+ghost use Rattle.std.specs.Prelude.{◌≡◌, ◌≤◌, ◌+◌, ◌*◌, [], ◌∷◌, ◌++◌, length, OnOk};
 ghost use Rattle.std.specs.Fmt.{decimal};
 ghost use Rattle.hex.specs.Hex.{encode_lower};
 ghost use Rattle.json_line.specs.Buffers.{Puts, comma};
@@ -23,14 +23,14 @@ pub(crate) struct Buffer {
 }
 
 impl Model for Buffer {
-    ghost use Rattle.std.specs.Prelude.{◌-◌, ◌≤◌, length, take};
+    ghost use Rattle.std.specs.Prelude.{◌-◌, ◌≤◌, length, take, drop};
     ghost use Rattle.json_line.specs.Buffers.{Buffered, buffered_code};
 
     ghost Value = { Buffered };
 
     ghost coded = { buffered_code };
 
-    ghost view = { λ buffer. record { text = take buffer.len buffer.bytes.items; room = length buffer.bytes.items - buffer.len } };
+    ghost view = { λ buffer. record { text = take buffer.len buffer.bytes.items; room = length buffer.bytes.items - buffer.len; next = take 1 (drop buffer.len buffer.bytes.items) } };
 
     ghost invariant = { λ buffer. buffer.len ≤ length buffer.bytes.items };
 }
@@ -57,22 +57,21 @@ impl Buffer {
     /// Writes a byte behind what is written, of which it isn't a part.
     #[inline]
     pub(crate) fn put_behind(&mut self, byte: u8) -> Result<(), AllocError>
-        ensures { self.new.text ≡ self.old.text }
+        ensures text { self.new.text ≡ self.old.text }
+        ensures next { OnOk result (self.new.next ≡ byte ∷ []) }
     {
         self.reserve(1)?;
         self.bytes[self.len] = byte;
         Ok(())
     }
 
-    /// What is written, with the byte behind it where that is this one.
+    /// What is written, and the byte behind it.
     #[inline]
-    pub(crate) fn up_to(&self, byte: u8) -> Option<&[u8]>
-        ensures { IfSome result (λ bytes. bytes.now ≡ self.now.text ++ byte ∷ []) }
+    pub(crate) fn with_next(&self) -> &[u8]
+        requires { length self.now.next ≡ 1 }
+        ensures { result.now ≡ self.now.text ++ self.now.next }
     {
-        if self.len < self.bytes.len() && self.bytes[self.len] == byte {
-            return Some(&self.bytes[..self.len + 1]);
-        }
-        None
+        &self.bytes[..self.len + 1]
     }
 
     // Room for so many bytes.

@@ -1,5 +1,5 @@
 //! A line of JSON as it is written: tokens, and values made of them.
-ghost use Rattle.std.specs.Prelude.{◌≡◌, ◌∷◌, ◌++◌, [], codes, IsUtf8, IfSome, OnErr};
+ghost use Rattle.std.specs.Prelude.{◌≡◌, ◌∷◌, ◌++◌, [], codes, IsUtf8, IfOk, OnErr};
 ghost use Rattle.std.specs.Fmt.{signed_decimal};
 ghost use Rattle.json.specs.Lex.{tokens as read_tokens};
 ghost use Rattle.json.specs.Print.{escape, print, token_text};
@@ -80,26 +80,19 @@ impl Line {
         self.after_value = false;
     }
 
-    /// Writes the byte that ends the line behind it, for [`Line::ended`].
+    /// The bytes of the line, and the one that ends it.
     ///
     /// # Errors
     ///
     /// Where memory runs out.
     #[inline]
-    pub fn end(&mut self) -> Result<(), AllocError>
-        ensures unchanged { self.new ≡ self.old }
+    pub fn end(&mut self) -> Result<&[u8], AllocError>
+        ensures ok { IfOk result (λ text. text.now ≡ print self.old ++ codes "\n") }
         ensures reads_back { read_tokens (print self.old) ≡ self.old }
         ensures utf8 { IsUtf8 (print self.old) }
     {
-        self.text.put_behind(b'\n')
-    }
-
-    /// The bytes of the line and the byte that ends it, where [`Line::end`] has written that.
-    #[inline]
-    pub fn ended(&self) -> Option<&[u8]>
-        ensures { IfSome result (λ text. text.now ≡ print self.now ++ codes "\n") }
-    {
-        self.text.up_to(b'\n')
+        self.text.put_behind(b'\n')?;
+        Ok(self.text.with_next())
     }
 
     /// `{`
