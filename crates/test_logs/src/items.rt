@@ -32,6 +32,16 @@ pub fn next_item<R: BufRead + Drop>(file: &mut BinlogFile<R>) -> Option<Item> {
     }
 }
 
+/// Whether a file gives these items, and then none for good.
+pub fn gives<R: BufRead + Drop>(file: &mut BinlogFile<R>, items: &[Item]) -> bool {
+    for item in items.iter() {
+        if next_item(file) != Some(*item) {
+            return false;
+        }
+    }
+    next_item(file) == None && next_item(file) == None
+}
+
 /// The next item, whose event is lent.
 pub fn lent_item<R: BufRead + Drop>(file: &mut BinlogFile<R>) -> Option<Item> {
     match file.next_ref() {

@@ -13,7 +13,7 @@ pub use bytes::{
     REFUSED_DESCRIPTION, SHORT, XID_BODY,
 };
 pub use checksums::{count, low_flags};
-pub use events::{default_description, description_with, first_event, joined};
+pub use events::{default_description, description_with, file_of, first_event, joined};
 pub use failing_writer::FailingWriter;
-pub use items::{Item, algorithm, lent_item, next_item, seen, slice_item};
+pub use items::{Item, algorithm, gives, lent_item, next_item, seen, slice_item};
 pub use stored_log::SAMPLE;

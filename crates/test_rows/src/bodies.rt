@@ -1,4 +1,5 @@
-//! What the bodies of table maps and of row events are read as and written as, by rows from outside.
+//! What the bodies of table maps and of row events are read as and written as, by rows from outside. What an event shows
+//! is compared in functions without a runtime, one reader for all its getters: their proofs are short.
 use binlog_consts::BinlogVersion;
 use binlog_description::{
     BinlogCtx, BinlogEvent, BinlogEventHeader, DescriptionRef, FormatDescriptionEvent, read_body,
@@ -67,6 +68,14 @@ fn read<'a, T: BinlogEvent<'a> + Drop>(alloc: Global, body: &'a [u8]) -> Result<
     read_under(alloc, by_default(), body)
 }
 
+// Whether an event was made, and is equal to this one.
+fn is_same<T: PartialEq + Drop>(made: Result<T, Error>, event: &T) -> Result<bool, Error> {
+    let made = made?;
+    let is_same = made == *event;
+    drop(made);
+    Ok(is_same)
+}
+
 // What is written for a value.
 fn written<T: MySerialize>(alloc: Global, value: &T) -> Result<Vec<u8>, Error> {
     let mut bytes = Vec::new(alloc);
@@ -74,27 +83,15 @@ fn written<T: MySerialize>(alloc: Global, value: &T) -> Result<Vec<u8>, Error> {
     Ok(bytes)
 }
 
-// What is written for what a body is read as; its length is told beforehand.
-fn rewritten<'a, T: BinlogEvent<'a> + Drop>(
-    alloc: Global,
-    body: &'a [u8],
-) -> Result<(Vec<u8>, usize), Error> {
-    let event: T = read(alloc, body)?;
-    let len = event.len(BinlogVersion::Version4);
-    Ok((written(alloc, &event)?, len))
+// Whether a value is written as wanted.
+fn is_written<T: MySerialize>(alloc: Global, value: &T, wanted: &[u8]) -> Result<bool, Error> {
+    let bytes = written(alloc, value)?;
+    let is_written = bytes.as_slice() == wanted;
+    drop(bytes);
+    Ok(is_written)
 }
 
-// Whether what a body is read as is written as wanted.
-fn is_rewritten<'a, T: BinlogEvent<'a> + Drop>(
-    alloc: Global,
-    body: &'a [u8],
-    wanted: &[u8],
-) -> Result<bool, Error> {
-    let (bytes, len) = rewritten::<T>(alloc, body)?;
-    Ok(len == wanted.len() && bytes.as_slice() == wanted)
-}
-
-// The same under a description that states these post-header lengths.
+// Whether what a body is read as under this description is written as wanted; its length is told beforehand.
 fn is_rewritten_under<'a, T: BinlogEvent<'a> + Drop>(
     alloc: Global,
     fde: DescriptionRef<'a>,
@@ -102,7 +99,39 @@ fn is_rewritten_under<'a, T: BinlogEvent<'a> + Drop>(
     wanted: &[u8],
 ) -> Result<bool, Error> {
     let event: T = read_under(alloc, fde, body)?;
-    Ok(written(alloc, &event)?.as_slice() == wanted)
+    let is_told = event.len(BinlogVersion::Version4) == wanted.len();
+    let is_written = is_written(alloc, &event, wanted);
+    drop(event);
+    Ok(is_written? && is_told)
+}
+
+// The same under the default description.
+fn is_rewritten<'a, T: BinlogEvent<'a> + Drop>(
+    alloc: Global,
+    body: &'a [u8],
+    wanted: &[u8],
+) -> Result<bool, Error> {
+    is_rewritten_under::<T>(alloc, by_default(), body, wanted)
+}
+
+// Why a body is refused under the default description.
+fn refusal<'a, T: BinlogEvent<'a> + Drop>(alloc: Global, body: &'a [u8]) -> Option<Error> {
+    read::<T>(alloc, body).err()
+}
+
+// Whether each front of a body of fewer bytes than these is refused for its end.
+fn are_fronts_refused<'a, T: BinlogEvent<'a> + Drop>(
+    alloc: Global,
+    body: &'a [u8],
+    len: usize,
+) -> bool {
+    for end in 0..len {
+        let front = body.get(..end).unwrap_or(body);
+        if refusal::<T>(alloc, front) != Some(Error::EndOfBody) {
+            return false;
+        }
+    }
+    true
 }
 
 // Whether each bit is as wanted: `1`, `0`, or `-` where there is none.

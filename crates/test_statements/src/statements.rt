@@ -77,9 +77,16 @@ fn is_read_as<'a, T: BinlogEvent<'a> + PartialEq + Drop>(
     fde: DescriptionRef<'a>,
     body: &'a [u8],
     wanted: T,
-) -> Result<bool, Error> {
-    let event: T = read_under(alloc, fde, body)?;
-    Ok(event == wanted)
+) -> bool {
+    match read_under::<T>(alloc, fde, body) {
+        Ok(event) => {
+            let is_read = event == wanted;
+            drop(event);
+            drop(wanted);
+            is_read
+        }
+        Err(_) => false,
+    }
 }
 
 // How many bytes a value tells beforehand that are written for it.
@@ -100,9 +107,20 @@ fn is_written_with<T: MySerialize + Drop>(
     value: T,
     len: usize,
     front: &[u8],
-) -> Result<bool, Error> {
-    let bytes = written(alloc, &value)?;
-    Ok(bytes.len() == len && bytes.starts_with(front))
+) -> bool {
+    match written(alloc, &value) {
+        Ok(bytes) => {
+            let is_written = bytes.len() == len && bytes.starts_with(front);
+            drop(bytes);
+            is_written
+        }
+        Err(_) => false,
+    }
+}
+
+// Whether a body is read.
+fn is_read<'a, T: BinlogEvent<'a> + Drop>(alloc: Global, body: &'a [u8]) -> bool {
+    refusal::<T>(alloc, body).is_none()
 }
 
 // Whether each front of a body of fewer bytes than these is refused for its end.

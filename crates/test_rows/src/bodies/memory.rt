@@ -1,12 +1,18 @@
 //! What refused memory leaves. These tests pass wherever an allocation is refused: a refusal is the call's error, and no
 //! answer changes.
-use super::{NINE_COLUMNS, ONE_COLUMN, UPDATE, WRITE, WRITTEN, read};
+use super::{NINE_COLUMNS, ONE_COLUMN, UPDATE, WRITE, WRITTEN, is_same, read};
 use binlog_description::BinlogEvent;
 use binlog_rows::{
     RowsEvent, RowsEventData, RowsEventOf, RowsKind, TableMapEvent, UpdateRowsEvent, WriteRowsEvent,
 };
 use binlog_wire::{Error, MySerialize};
 use std::alloc::Global;
+use std::borrow::CowStr;
+
+// Whether the answer is yes, or memory was refused for it.
+fn is_granted(answer: Result<bool, Error>) -> bool {
+    matches!(answer, Ok(true) | Err(Error::Memory))
+}
 
 // Whether a value is written as wanted behind one byte; where memory is refused, that byte has to be all that is left.
 fn is_written_behind<T: MySerialize>(
@@ -20,7 +26,9 @@ fn is_written_behind<T: MySerialize>(
         Err(Error::Memory) => b"",
         Err(error) => return Err(error),
     };
-    Ok(bytes.get(1..) == Some(left))
+    let is_left = bytes.get(1..) == Some(left);
+    drop(bytes);
+    Ok(is_left)
 }
 
 // The same of what a body is read as.
@@ -30,97 +38,143 @@ fn is_written<'a, T: BinlogEvent<'a> + Drop>(
     wanted: &[u8],
 ) -> Result<bool, Error> {
     let event: T = read(alloc, body)?;
-    is_written_behind(alloc, &event, wanted)
+    let is_written = is_written_behind(alloc, &event, wanted);
+    drop(event);
+    is_written
 }
 
 #[test]
-fn a_write_refused_for_memory_leaves_what_was_there(rt: HostRuntime) {
-    for answer in [
-        is_written::<TableMapEvent>(rt.alloc(), ONE_COLUMN, ONE_COLUMN),
-        is_written::<WriteRowsEvent>(rt.alloc(), WRITE, WRITTEN),
-        is_written::<UpdateRowsEvent>(rt.alloc(), UPDATE, UPDATE),
-    ] {
-        assert!(rt; matches!(answer, Ok(true) | Err(Error::Memory)));
-    }
+fn a_write_of_a_table_map_refused_for_memory_leaves_what_was_there(rt: HostRuntime) {
+    let answer = is_written::<TableMapEvent>(rt.alloc(), ONE_COLUMN, ONE_COLUMN);
+    assert!(rt; is_granted(answer));
+}
+
+#[test]
+fn a_write_of_rows_refused_for_memory_leaves_what_was_there(rt: HostRuntime) {
+    let answer = is_written::<WriteRowsEvent>(rt.alloc(), WRITE, WRITTEN);
+    assert!(rt; is_granted(answer));
+    let answer = is_written::<UpdateRowsEvent>(rt.alloc(), UPDATE, UPDATE);
+    assert!(rt; is_granted(answer));
 }
 
 fn is_written_of_any_type(alloc: Global) -> Result<bool, Error> {
     let event: UpdateRowsEvent = read(alloc, UPDATE)?;
-    is_written_behind(alloc, event.event(), UPDATE)
+    let is_written = is_written_behind(alloc, event.event(), UPDATE);
+    drop(event);
+    is_written
+}
+
+fn is_data_written(alloc: Global, event: UpdateRowsEvent<'_>) -> Result<bool, Error> {
+    let data = RowsEventData::UpdateRowsEvent(event);
+    let is_written = is_written_behind(alloc, &data, UPDATE);
+    drop(data);
+    is_written
 }
 
 fn is_written_with_its_type(alloc: Global) -> Result<bool, Error> {
-    let data = RowsEventData::UpdateRowsEvent(read(alloc, UPDATE)?);
-    is_written_behind(alloc, &data, UPDATE)
+    let event: UpdateRowsEvent = read(alloc, UPDATE)?;
+    is_data_written(alloc, event)
 }
 
 #[test]
 fn a_write_of_any_type_refused_for_memory_leaves_what_was_there(rt: HostRuntime) {
-    for answer in [
-        is_written_of_any_type(rt.alloc()),
-        is_written_with_its_type(rt.alloc()),
-    ] {
-        assert!(rt; matches!(answer, Ok(true) | Err(Error::Memory)));
-    }
+    assert!(rt; is_granted(is_written_of_any_type(rt.alloc())));
+    assert!(rt; is_granted(is_written_with_its_type(rt.alloc())));
 }
 
-// Whether a body's event is equal to its copy, made owned and copied again.
-fn is_copied_map(alloc: Global, body: &[u8]) -> Result<bool, Error> {
-    let map: TableMapEvent = read(alloc, body)?;
+// A copy of a copy that owns its bytes.
+fn map_copied(alloc: Global, map: &TableMapEvent<'_>) -> Result<TableMapEvent<'static>, Error> {
     let owned = map.clone(alloc)?.into_owned(alloc)?;
-    Ok(owned.clone(alloc)? == map)
+    let copy = owned.clone(alloc);
+    drop(owned);
+    copy
 }
 
-fn is_copied<K: RowsKind>(alloc: Global, event: &RowsEventOf<'_, K>) -> Result<bool, Error> {
+fn copied<K: RowsKind>(
+    alloc: Global,
+    event: &RowsEventOf<'_, K>,
+) -> Result<RowsEventOf<'static, K>, Error> {
     let owned = event.clone(alloc)?.into_owned(alloc)?;
-    Ok(owned.clone(alloc)? == *event)
+    let copy = owned.clone(alloc);
+    drop(owned);
+    copy
 }
 
-fn is_copied_of_any_type(alloc: Global, event: &RowsEvent<'_>) -> Result<bool, Error> {
+fn copied_of_any_type(alloc: Global, event: &RowsEvent<'_>) -> Result<RowsEvent<'static>, Error> {
     let owned = event.clone(alloc)?.into_owned(alloc)?;
-    Ok(owned.clone(alloc)? == *event)
+    let copy = owned.clone(alloc);
+    drop(owned);
+    copy
+}
+
+// Whether an event is equal to such a copy.
+fn is_map_copied(alloc: Global) -> Result<bool, Error> {
+    let map: TableMapEvent = read(alloc, ONE_COLUMN)?;
+    let is_copied = is_same(map_copied(alloc, &map), &map);
+    drop(map);
+    is_copied
 }
 
 fn are_updated_rows_copied(alloc: Global) -> Result<bool, Error> {
     let event: UpdateRowsEvent = read(alloc, UPDATE)?;
-    is_copied(alloc, &event)
+    let is_copied = is_same(copied(alloc, &event), &event);
+    drop(event);
+    is_copied
+}
+
+fn is_copied_of_any_type(alloc: Global, event: &RowsEvent<'_>) -> Result<bool, Error> {
+    is_same(copied_of_any_type(alloc, event), event)
 }
 
 fn are_written_rows_copied(alloc: Global) -> Result<bool, Error> {
     let event: WriteRowsEvent = read(alloc, WRITE)?;
-    is_copied_of_any_type(alloc, event.event())
+    let is_copied = is_copied_of_any_type(alloc, event.event());
+    drop(event);
+    is_copied
 }
 
 #[test]
-fn a_copy_is_equal_or_refused_for_memory(rt: HostRuntime) {
-    for answer in [
-        is_copied_map(rt.alloc(), ONE_COLUMN),
-        are_updated_rows_copied(rt.alloc()),
-        are_written_rows_copied(rt.alloc()),
-    ] {
-        assert!(rt; matches!(answer, Ok(true) | Err(Error::Memory)));
-    }
+fn a_copy_of_a_table_map_is_equal_or_refused_for_memory(rt: HostRuntime) {
+    assert!(rt; is_granted(is_map_copied(rt.alloc())));
+}
+
+#[test]
+fn a_copy_of_rows_is_equal_or_refused_for_memory(rt: HostRuntime) {
+    assert!(rt; is_granted(are_updated_rows_copied(rt.alloc())));
+    assert!(rt; is_granted(are_written_rows_copied(rt.alloc())));
+}
+
+// Whether a text was made, and is this one.
+fn is_text(text: Result<CowStr<'_, Global>, Error>, wanted: &str) -> Result<bool, Error> {
+    let text = text?;
+    let is_text = text.as_str() == wanted;
+    drop(text);
+    Ok(is_text)
 }
 
 // Whether the names of a table are these as text.
 fn is_database(alloc: Global, body: &[u8], name: &str) -> Result<bool, Error> {
     let map: TableMapEvent = read(alloc, body)?;
-    Ok(map.database_name(alloc)?.as_str() == name)
+    let is_text = is_text(map.database_name(alloc), name);
+    drop(map);
+    is_text
 }
 
 fn is_table(alloc: Global, body: &[u8], name: &str) -> Result<bool, Error> {
     let map: TableMapEvent = read(alloc, body)?;
-    Ok(map.table_name(alloc)?.as_str() == name)
+    let is_text = is_text(map.table_name(alloc), name);
+    drop(map);
+    is_text
 }
 
 #[test]
-fn names_are_text_or_refused_for_memory(rt: HostRuntime) {
-    for answer in [
-        is_database(rt.alloc(), ONE_COLUMN, "d"),
-        is_table(rt.alloc(), ONE_COLUMN, "t"),
-        is_database(rt.alloc(), NINE_COLUMNS, "ä"),
-        is_table(rt.alloc(), NINE_COLUMNS, "\u{fffd}"),
-    ] {
-        assert!(rt; matches!(answer, Ok(true) | Err(Error::Memory)));
-    }
+fn names_of_databases_are_text_or_refused_for_memory(rt: HostRuntime) {
+    assert!(rt; is_granted(is_database(rt.alloc(), ONE_COLUMN, "d")));
+    assert!(rt; is_granted(is_database(rt.alloc(), NINE_COLUMNS, "ä")));
+}
+
+#[test]
+fn names_of_tables_are_text_or_refused_for_memory(rt: HostRuntime) {
+    assert!(rt; is_granted(is_table(rt.alloc(), ONE_COLUMN, "t")));
+    assert!(rt; is_granted(is_table(rt.alloc(), NINE_COLUMNS, "\u{fffd}")));
 }

@@ -1,17 +1,17 @@
-//! Row events of one type. What an event shows is compared in functions without a runtime: their proofs are short.
+//! Row events of one type.
 use super::{
-    OF_ONE_IMAGE, OF_SIX, OF_TEN, UPDATE, UPDATE_V1, WRITE, WRITTEN, by_default, has_bits,
-    is_rewritten, is_rewritten_under, read, read_under, stating,
+    OF_ONE_IMAGE, OF_SIX, OF_TEN, UPDATE, UPDATE_V1, WRITE, WRITTEN, are_fronts_refused,
+    by_default, has_bits, is_rewritten, is_rewritten_under, read_under, refusal, stating,
 };
 use binlog_consts::EventType;
 use binlog_description::{BinlogEvent, DescriptionRef};
 use binlog_rows::{
     DeleteRows, DeleteRowsEvent, DeleteRowsEventV1, DeleteRowsV1, HasAfterImage, HasBeforeImage,
-    PartialUpdateRows, PartialUpdateRowsEvent, RowsEventFlags, RowsEventOf, RowsKind, UpdateRows,
-    UpdateRowsEvent, UpdateRowsEventV1, UpdateRowsV1, WriteRows, WriteRowsEvent, WriteRowsEventV1,
-    WriteRowsV1,
+    PartialUpdateRows, PartialUpdateRowsEvent, RowsEvent, RowsEventFlags, RowsEventOf, RowsKind,
+    UpdateRows, UpdateRowsEvent, UpdateRowsEventV1, UpdateRowsV1, WriteRows, WriteRowsEvent,
+    WriteRowsEventV1, WriteRowsV1,
 };
-use binlog_wire::{Error, Invalid, MyDeserialize};
+use binlog_wire::{BitView, Error, Invalid, MyDeserialize};
 use std::alloc::Global;
 
 /// [`WRITE`] with its id in four bytes and without a count of extra bytes.
@@ -31,58 +31,194 @@ const NINE: &[u8] = b"\x05\0\0\0\0\0\x01\0\x02\0\x09\x80\xff\x07";
 /// A count of columns, 2^64 - 1, that the bytes don't carry.
 const MANY: &[u8] = b"\x05\0\0\0\0\0\x01\0\x02\0\xfe\xff\xff\xff\xff\xff\xff\xff\xff\x01\xfe\x07";
 
-// The table of an event, its flags and its number of columns, as it says them, and as the event of any type in it does.
-fn numbers<'a, K: RowsKind>(
+/// What the getters of an event of table 5 that ends its statement answer: the number of columns, the bits of the two images,
+/// the rows and the extra bytes.
+#[derive(Clone, Copy)]
+struct Says {
+    columns: u64,
+    before: Option<&'static [u8]>,
+    after: Option<&'static [u8]>,
+    rows: &'static [u8],
+    extra: Option<&'static [u8]>,
+}
+
+/// What [`WRITE`] says of written rows.
+const WRITE_SAYS: Says = Says {
+    columns: 1,
+    before: None,
+    after: Some(b"1-"),
+    rows: b"\xfe\x07",
+    extra: Some(b""),
+};
+
+/// The same of deleted rows.
+const DELETE_SAYS: Says = Says {
+    columns: 1,
+    before: Some(b"1-"),
+    after: None,
+    rows: b"\xfe\x07",
+    extra: Some(b""),
+};
+
+/// What [`UPDATE`] says.
+const UPDATE_SAYS: Says = Says {
+    columns: 2,
+    before: Some(b"11-"),
+    after: Some(b"10-"),
+    rows: b"\xff",
+    extra: Some(b"\xaa\xbb"),
+};
+
+/// The same of an older type.
+const UPDATE_V1_SAYS: Says = Says {
+    columns: 2,
+    before: Some(b"11-"),
+    after: Some(b"10-"),
+    rows: b"\xff",
+    extra: None,
+};
+
+/// What [`OF_ONE_IMAGE`] says of written rows.
+const WRITE_V1_SAYS: Says = Says {
+    columns: 1,
+    before: None,
+    after: Some(b"1-"),
+    rows: b"\xfe\x07",
+    extra: None,
+};
+
+/// The same of deleted rows.
+const DELETE_V1_SAYS: Says = Says {
+    columns: 1,
+    before: Some(b"1-"),
+    after: None,
+    rows: b"\xfe\x07",
+    extra: None,
+};
+
+/// What [`EIGHT`] says.
+const EIGHT_SAYS: Says = Says {
+    columns: 8,
+    before: None,
+    after: Some(b"00000001-"),
+    rows: b"\x07",
+    extra: Some(b""),
+};
+
+/// What [`NINE`] says.
+const NINE_SAYS: Says = Says {
+    columns: 9,
+    before: None,
+    after: Some(b"000000011-"),
+    rows: b"\x07",
+    extra: Some(b""),
+};
+
+// What [`WRITE`] says with other rows.
+fn with_rows(rows: &'static [u8]) -> Says {
+    Says {
+        columns: 1,
+        before: None,
+        after: Some(b"1-"),
+        rows,
+        extra: Some(b""),
+    }
+}
+
+// Whether an image has these columns, or there is none.
+fn is_image(image: Option<BitView<'_>>, wanted: Option<&[u8]>) -> bool {
+    match (image, wanted) {
+        (Some(image), Some(wanted)) => has_bits(image, wanted),
+        (image, wanted) => image.is_none() && wanted.is_none(),
+    }
+}
+
+// Whether an event says this.
+fn event_says<K: RowsKind>(event: &RowsEventOf<'_, K>, wanted: &Says) -> bool {
+    event.table_id() == 5
+        && event.flags_raw() == 1
+        && event.flags() == RowsEventFlags::STMT_END
+        && event.num_columns() == wanted.columns
+        && event.rows_data() == wanted.rows
+}
+
+// Whether the event of any type in it says the same.
+fn says_of_any_type(event: &RowsEvent<'_>, wanted: &Says) -> bool {
+    event.table_id() == 5
+        && event.flags_raw() == 1
+        && event.flags() == RowsEventFlags::STMT_END
+        && event.num_columns() == wanted.columns
+        && event.rows_data() == wanted.rows
+}
+
+// Whether that event has these extra bytes and these images.
+fn has_parts(event: &RowsEvent<'_>, wanted: &Says) -> bool {
+    event.extra_data() == wanted.extra
+        && is_image(event.columns_before_image(), wanted.before)
+        && is_image(event.columns_after_image(), wanted.after)
+}
+
+// Whether an event and the one in it say this.
+fn both_say<K: RowsKind>(event: RowsEventOf<'_, K>, wanted: &Says) -> bool {
+    let both_say = event_says(&event, wanted)
+        && says_of_any_type(event.event(), wanted)
+        && has_parts(event.event(), wanted);
+    drop(event);
+    both_say
+}
+
+// Whether a body is read as an event that says this.
+fn is_read_as<'a, K: RowsKind>(
     alloc: Global,
     fde: DescriptionRef<'a>,
     body: &'a [u8],
-) -> Result<(u64, u16, u64), Error> {
-    let event: RowsEventOf<'_, K> = read_under(alloc, fde, body)?;
-    Ok((event.table_id(), event.flags_raw(), event.num_columns()))
-}
-
-fn numbers_of_any_type<'a, K: RowsKind>(
-    alloc: Global,
-    fde: DescriptionRef<'a>,
-    body: &'a [u8],
-) -> Result<(u64, u16, u64), Error> {
-    let event: RowsEventOf<'_, K> = read_under(alloc, fde, body)?;
-    let event = event.event();
-    Ok((event.table_id(), event.flags_raw(), event.num_columns()))
-}
-
-// Whether an event ends its statement.
-fn ends_statement<K: RowsKind>(alloc: Global, body: &[u8]) -> Result<bool, Error> {
-    let event: RowsEventOf<'_, K> = read(alloc, body)?;
-    Ok(
-        event.flags() == RowsEventFlags::STMT_END
-            && event.event().flags() == RowsEventFlags::STMT_END,
-    )
-}
-
-// Whether an event has these rows.
-fn has_rows<'a, K: RowsKind>(
-    alloc: Global,
-    fde: DescriptionRef<'a>,
-    body: &'a [u8],
-    rows: &[u8],
+    wanted: &Says,
 ) -> Result<bool, Error> {
     let event: RowsEventOf<'_, K> = read_under(alloc, fde, body)?;
-    Ok(event.rows_data() == rows && event.event().rows_data() == rows)
+    Ok(both_say(event, wanted))
 }
 
-// Whether an event has these extra bytes.
-fn has_extra<'a, K: RowsKind>(
+// The same where these post-header lengths are stated.
+fn is_read_where<K: RowsKind>(
     alloc: Global,
-    fde: DescriptionRef<'a>,
-    body: &'a [u8],
-    extra: Option<&[u8]>,
+    lengths: &[u8],
+    body: &[u8],
+    wanted: &Says,
 ) -> Result<bool, Error> {
-    let event: RowsEventOf<'_, K> = read_under(alloc, fde, body)?;
-    Ok(event.event().extra_data() == extra)
+    let fde = stating(lengths);
+    let is_read = is_read_as::<K>(alloc, fde.as_ref(), body, wanted);
+    drop(fde);
+    is_read
+}
+
+// Whether what a body is read as there is written as wanted.
+fn is_rewritten_where<K: RowsKind>(
+    alloc: Global,
+    lengths: &[u8],
+    body: &[u8],
+    wanted: &[u8],
+) -> Result<bool, Error> {
+    let fde = stating(lengths);
+    let is_written = is_rewritten_under::<RowsEventOf<'_, K>>(alloc, fde.as_ref(), body, wanted);
+    drop(fde);
+    is_written
 }
 
 // Whether the image before an event has these columns.
+fn is_before<K: HasBeforeImage>(event: RowsEventOf<'_, K>, columns: &[u8]) -> bool {
+    let is_before = has_bits(event.columns_before_image(), columns);
+    drop(event);
+    is_before
+}
+
+// Whether the image after an event has these columns.
+fn is_after<K: HasAfterImage>(event: RowsEventOf<'_, K>, columns: &[u8]) -> bool {
+    let is_after = has_bits(event.columns_after_image(), columns);
+    drop(event);
+    is_after
+}
+
+// Whether a body is read as an event with these columns before it.
 fn has_before<'a, K: HasBeforeImage>(
     alloc: Global,
     fde: DescriptionRef<'a>,
@@ -90,10 +226,10 @@ fn has_before<'a, K: HasBeforeImage>(
     columns: &[u8],
 ) -> Result<bool, Error> {
     let event: RowsEventOf<'_, K> = read_under(alloc, fde, body)?;
-    Ok(has_bits(event.columns_before_image(), columns))
+    Ok(is_before(event, columns))
 }
 
-// Whether the image after an event has these columns.
+// Whether a body is read as an event with these columns after it.
 fn has_after<'a, K: HasAfterImage>(
     alloc: Global,
     fde: DescriptionRef<'a>,
@@ -101,48 +237,33 @@ fn has_after<'a, K: HasAfterImage>(
     columns: &[u8],
 ) -> Result<bool, Error> {
     let event: RowsEventOf<'_, K> = read_under(alloc, fde, body)?;
-    Ok(has_bits(event.columns_after_image(), columns))
+    Ok(is_after(event, columns))
 }
 
-// Whether an event of any type has an image before it and one after it.
-fn images<K: RowsKind>(alloc: Global, body: &[u8]) -> Result<(bool, bool), Error> {
-    let event: RowsEventOf<'_, K> = read(alloc, body)?;
-    let event = event.event();
-    Ok((
-        event.columns_before_image().is_some(),
-        event.columns_after_image().is_some(),
-    ))
-}
-
-// Why a body of written rows is refused.
-fn refusal(alloc: Global, body: &[u8]) -> Option<Error> {
-    read::<WriteRowsEvent>(alloc, body).err()
+// Whether an older update has these images where each post-header has 10 bytes.
+fn has_older_images(alloc: Global, before: &[u8], after: &[u8]) -> Result<bool, Error> {
+    let stated = stating(OF_TEN);
+    let has_before = has_before::<UpdateRowsV1>(alloc, stated.as_ref(), UPDATE, before);
+    let has_after = has_after::<UpdateRowsV1>(alloc, stated.as_ref(), UPDATE, after);
+    drop(stated);
+    Ok(has_before? && has_after?)
 }
 
 #[test]
 fn written_rows(rt: HostRuntime) {
-    let (alloc, fde) = (rt.alloc(), by_default());
-    assert!(rt; numbers::<WriteRows>(alloc, fde, WRITE) == Ok((5, 1, 1)));
-    assert!(rt; numbers_of_any_type::<WriteRows>(alloc, fde, WRITE) == Ok((5, 1, 1)));
-    assert!(rt; ends_statement::<WriteRows>(alloc, WRITE) == Ok(true));
-    assert!(rt; has_rows::<WriteRows>(alloc, fde, WRITE, b"\xfe\x07") == Ok(true));
+    let is_read = is_read_as::<WriteRows>(rt.alloc(), by_default(), WRITE, &WRITE_SAYS);
+    assert!(rt; is_read == Ok(true));
 }
 
 #[test]
 fn written_rows_have_an_image_after(rt: HostRuntime) {
-    let (alloc, fde) = (rt.alloc(), by_default());
-    assert!(rt; has_after::<WriteRows>(alloc, fde, WRITE, b"1-") == Ok(true));
-    assert!(rt; images::<WriteRows>(alloc, WRITE) == Ok((false, true)));
-    assert!(rt; has_extra::<WriteRows>(alloc, fde, WRITE, Some(b"")) == Ok(true));
+    assert!(rt; has_after::<WriteRows>(rt.alloc(), by_default(), WRITE, b"1-") == Ok(true));
 }
 
 #[test]
 fn updated_rows(rt: HostRuntime) {
-    let (alloc, fde) = (rt.alloc(), by_default());
-    assert!(rt; numbers::<UpdateRows>(alloc, fde, UPDATE) == Ok((5, 1, 2)));
-    assert!(rt; has_rows::<UpdateRows>(alloc, fde, UPDATE, b"\xff") == Ok(true));
-    let extra = Some(b"\xaa\xbb".as_slice());
-    assert!(rt; has_extra::<UpdateRows>(alloc, fde, UPDATE, extra) == Ok(true));
+    let is_read = is_read_as::<UpdateRows>(rt.alloc(), by_default(), UPDATE, &UPDATE_SAYS);
+    assert!(rt; is_read == Ok(true));
 }
 
 #[test]
@@ -150,43 +271,34 @@ fn updated_rows_have_both_images(rt: HostRuntime) {
     let (alloc, fde) = (rt.alloc(), by_default());
     assert!(rt; has_before::<UpdateRows>(alloc, fde, UPDATE, b"11-") == Ok(true));
     assert!(rt; has_after::<UpdateRows>(alloc, fde, UPDATE, b"10-") == Ok(true));
-    assert!(rt; images::<UpdateRows>(alloc, UPDATE) == Ok((true, true)));
 }
 
 #[test]
 fn older_types_keep_no_extra_bytes(rt: HostRuntime) {
-    let (alloc, stated) = (rt.alloc(), stating(OF_TEN));
-    let fde = stated.as_ref();
-    assert!(rt; numbers::<UpdateRowsV1>(alloc, fde, UPDATE) == Ok((5, 1, 2)));
-    assert!(rt; has_rows::<UpdateRowsV1>(alloc, fde, UPDATE, b"\xff") == Ok(true));
-    assert!(rt; has_extra::<UpdateRowsV1>(alloc, fde, UPDATE, None) == Ok(true));
+    let is_read = is_read_where::<UpdateRowsV1>(rt.alloc(), OF_TEN, UPDATE, &UPDATE_V1_SAYS);
+    assert!(rt; is_read == Ok(true));
 }
 
 #[test]
 fn older_types_have_the_same_images(rt: HostRuntime) {
-    let (alloc, stated) = (rt.alloc(), stating(OF_TEN));
-    let fde = stated.as_ref();
-    assert!(rt; has_before::<UpdateRowsV1>(alloc, fde, UPDATE, b"11-") == Ok(true));
-    assert!(rt; has_after::<UpdateRowsV1>(alloc, fde, UPDATE, b"10-") == Ok(true));
+    assert!(rt; has_older_images(rt.alloc(), b"11-", b"10-") == Ok(true));
 }
 
 #[test]
 fn older_types_are_written_without_extra_bytes(rt: HostRuntime) {
-    let stated = stating(OF_TEN);
-    let is_written = is_rewritten_under::<UpdateRowsEventV1>(
-        rt.alloc(),
-        stated.as_ref(),
-        UPDATE,
-        UPDATE_V1,
-    );
+    let is_written = is_rewritten_where::<UpdateRowsV1>(rt.alloc(), OF_TEN, UPDATE, UPDATE_V1);
     assert!(rt; is_written == Ok(true));
 }
 
 #[test]
+fn deleted_rows(rt: HostRuntime) {
+    let is_read = is_read_as::<DeleteRows>(rt.alloc(), by_default(), WRITE, &DELETE_SAYS);
+    assert!(rt; is_read == Ok(true));
+}
+
+#[test]
 fn deleted_rows_have_an_image_before(rt: HostRuntime) {
-    let (alloc, fde) = (rt.alloc(), by_default());
-    assert!(rt; has_before::<DeleteRows>(alloc, fde, WRITE, b"1-") == Ok(true));
-    assert!(rt; images::<DeleteRows>(alloc, WRITE) == Ok((true, false)));
+    assert!(rt; has_before::<DeleteRows>(rt.alloc(), by_default(), WRITE, b"1-") == Ok(true));
 }
 
 #[test]
@@ -270,63 +382,50 @@ fn older_types_of_events(rt: HostRuntime) {
 // Where a post-header of 6 bytes is stated, ids take 4 bytes and no extra bytes stand.
 #[test]
 fn ids_in_four_bytes_are_written_in_six(rt: HostRuntime) {
-    let stated = stating(OF_SIX);
-    let fde = stated.as_ref();
-    for is_written in [
-        is_rewritten_under::<WriteRowsEvent>(rt.alloc(), fde, SHORT_ID, WRITTEN),
-        is_rewritten_under::<DeleteRowsEventV1>(rt.alloc(), fde, SHORT_ID, OF_ONE_IMAGE),
-    ] {
-        assert!(rt; is_written == Ok(true));
-    }
+    let written = is_rewritten_where::<WriteRows>(rt.alloc(), OF_SIX, SHORT_ID, WRITTEN);
+    assert!(rt; written == Ok(true));
+    let deleted = is_rewritten_where::<DeleteRowsV1>(rt.alloc(), OF_SIX, SHORT_ID, OF_ONE_IMAGE);
+    assert!(rt; deleted == Ok(true));
 }
 
 #[test]
 fn an_id_in_four_bytes(rt: HostRuntime) {
-    let (alloc, stated) = (rt.alloc(), stating(OF_SIX));
-    let fde = stated.as_ref();
-    assert!(rt; numbers::<WriteRows>(alloc, fde, SHORT_ID) == Ok((5, 1, 1)));
-    assert!(rt; has_extra::<WriteRows>(alloc, fde, SHORT_ID, Some(b"")) == Ok(true));
+    let is_read = is_read_where::<WriteRows>(rt.alloc(), OF_SIX, SHORT_ID, &WRITE_SAYS);
+    assert!(rt; is_read == Ok(true));
 }
 
 #[test]
 fn bits_of_eight_columns_take_a_byte(rt: HostRuntime) {
     let (alloc, fde) = (rt.alloc(), by_default());
     assert!(rt; has_after::<WriteRows>(alloc, fde, EIGHT, b"00000001-") == Ok(true));
-    assert!(rt; has_rows::<WriteRows>(alloc, fde, EIGHT, b"\x07") == Ok(true));
+    assert!(rt; is_read_as::<WriteRows>(alloc, fde, EIGHT, &EIGHT_SAYS) == Ok(true));
 }
 
 #[test]
 fn bits_of_nine_columns_take_two_bytes(rt: HostRuntime) {
     let (alloc, fde) = (rt.alloc(), by_default());
     assert!(rt; has_after::<WriteRows>(alloc, fde, NINE, b"000000011-") == Ok(true));
-    assert!(rt; has_rows::<WriteRows>(alloc, fde, NINE, b"\x07") == Ok(true));
+    assert!(rt; is_read_as::<WriteRows>(alloc, fde, NINE, &NINE_SAYS) == Ok(true));
 }
 
 #[test]
 fn fronts_without_all_columns_are_refused(rt: HostRuntime) {
-    for end in 0..12 {
-        let front = WRITE.get(..end).unwrap_or(WRITE);
-        assert_eq!(rt;
-            refusal(rt.alloc(), front),
-            Some(Error::EndOfBody),
-            "of {end} bytes"
-        );
-    }
+    assert!(rt; are_fronts_refused::<WriteRowsEvent>(rt.alloc(), WRITE, 12));
 }
 
 #[test]
 fn longer_fronts_have_fewer_rows(rt: HostRuntime) {
     for (end, rows) in [(12, b"".as_slice()), (13, b"\xfe"), (14, b"\xfe\x07")] {
         let front = WRITE.get(..end).unwrap_or(b"");
-        let has_rows = has_rows::<WriteRows>(rt.alloc(), by_default(), front, rows);
-        assert_eq!(rt; has_rows, Ok(true), "of {end} bytes");
+        let wanted = with_rows(rows);
+        assert!(rt; is_read_as::<WriteRows>(rt.alloc(), by_default(), front, &wanted) == Ok(true));
     }
 }
 
 #[test]
 fn rows_go_to_the_end(rt: HostRuntime) {
-    let has_rows = has_rows::<WriteRows>(rt.alloc(), by_default(), LONGER, b"\xfe\x07\0");
-    assert!(rt; has_rows == Ok(true));
+    let wanted = with_rows(b"\xfe\x07\0");
+    assert!(rt; is_read_as::<WriteRows>(rt.alloc(), by_default(), LONGER, &wanted) == Ok(true));
 }
 
 #[test]
@@ -336,33 +435,44 @@ fn counts_that_begin_no_number_are_invalid(rt: HostRuntime) {
         (b"\x05\0\0\0\0\0\x01\0\0\0\xff\x01\xfe\x07".as_slice(), 0xff),
     ] {
         let refused = Some(Error::InvalidData(Invalid::LenEnc(first)));
-        assert!(rt; refusal(rt.alloc(), body) == refused);
+        assert!(rt; refusal::<WriteRowsEvent>(rt.alloc(), body) == refused);
     }
 }
 
 // It asks for no memory at all.
 #[test]
 fn reading_a_count_of_too_many_columns_takes_no_memory(rt: HostRuntime) {
-    assert!(rt; refusal(rt.alloc(), MANY) == Some(Error::EndOfBody));
-    let refused = numbers::<UpdateRows>(rt.alloc(), by_default(), MANY);
-    assert!(rt; refused == Err(Error::EndOfBody));
+    assert!(rt; refusal::<WriteRowsEvent>(rt.alloc(), MANY) == Some(Error::EndOfBody));
+    assert!(rt; refusal::<UpdateRowsEvent>(rt.alloc(), MANY) == Some(Error::EndOfBody));
 }
 
 // It asks for no memory at all.
 #[test]
 fn reading_rows_takes_no_memory(rt: HostRuntime) {
     let (alloc, fde) = (rt.alloc(), by_default());
-    assert!(rt; numbers::<WriteRows>(alloc, fde, WRITE).is_ok());
-    assert!(rt; numbers::<UpdateRows>(alloc, fde, UPDATE).is_ok());
-    assert!(rt; numbers::<DeleteRows>(alloc, fde, WRITE).is_ok());
-    assert!(rt; numbers::<PartialUpdateRows>(alloc, fde, UPDATE).is_ok());
+    assert!(rt; is_read_as::<WriteRows>(alloc, fde, WRITE, &WRITE_SAYS) == Ok(true));
+    assert!(rt; is_read_as::<DeleteRows>(alloc, fde, WRITE, &DELETE_SAYS) == Ok(true));
+}
+
+// It asks for no memory at all.
+#[test]
+fn reading_updated_rows_takes_no_memory(rt: HostRuntime) {
+    let (alloc, fde) = (rt.alloc(), by_default());
+    assert!(rt; is_read_as::<UpdateRows>(alloc, fde, UPDATE, &UPDATE_SAYS) == Ok(true));
+    assert!(rt; is_read_as::<PartialUpdateRows>(alloc, fde, UPDATE, &UPDATE_SAYS) == Ok(true));
 }
 
 // It asks for no memory at all.
 #[test]
 fn reading_older_rows_takes_no_memory(rt: HostRuntime) {
     let (alloc, fde) = (rt.alloc(), by_default());
-    assert!(rt; numbers::<WriteRowsV1>(alloc, fde, OF_ONE_IMAGE).is_ok());
-    assert!(rt; numbers::<UpdateRowsV1>(alloc, fde, UPDATE_V1).is_ok());
-    assert!(rt; numbers::<DeleteRowsV1>(alloc, fde, OF_ONE_IMAGE).is_ok());
+    assert!(rt; is_read_as::<WriteRowsV1>(alloc, fde, OF_ONE_IMAGE, &WRITE_V1_SAYS) == Ok(true));
+    assert!(rt; is_read_as::<DeleteRowsV1>(alloc, fde, OF_ONE_IMAGE, &DELETE_V1_SAYS) == Ok(true));
+}
+
+// It asks for no memory at all.
+#[test]
+fn reading_older_updated_rows_takes_no_memory(rt: HostRuntime) {
+    let is_read = is_read_as::<UpdateRowsV1>(rt.alloc(), by_default(), UPDATE_V1, &UPDATE_V1_SAYS);
+    assert!(rt; is_read == Ok(true));
 }

@@ -1,7 +1,7 @@
 //! Table maps.
 use super::{
-    NINE_COLUMNS, OF_SIX, ONE_COLUMN, by_default, has_bits, is_rewritten, is_rewritten_under, read,
-    read_under, stating,
+    NINE_COLUMNS, OF_SIX, ONE_COLUMN, are_fronts_refused, by_default, has_bits, is_rewritten,
+    is_rewritten_under, is_same, read, read_under, refusal, stating,
 };
 use binlog_description::DescriptionRef;
 use binlog_rows::TableMapEvent;
@@ -21,80 +21,123 @@ const ONE_MORE: &[u8] = b"\x05\0\0\0\0\0\x01\0\x01d\0\x01t\0\x01\x03\0\x01\0";
 const NINE_WRITTEN: &[u8] = b"\xff\xff\xff\xff\xff\xff\0\0\x02\xc3\xa4\0\x01\xff\0\x09\
     \x01\x02\x03\x0f\x05\x06\x07\x08\x09\x02\x40\0\x81\xff\x01\x01\x80";
 
-// The id of an event, its flags and how many columns it has.
-fn numbers<'a>(
+/// What the getters of a table map answer: the id of the table, its flags and its names, of the columns the number, the types,
+/// the metadata and which may hold nulls, and what follows.
+struct Says {
+    table: (u64, u16),
+    names: (&'static [u8], &'static [u8]),
+    columns: u64,
+    types: &'static [u8],
+    metadata: &'static [u8],
+    nulls: &'static [u8],
+    optional: &'static [u8],
+}
+
+/// What [`ONE_COLUMN`] says.
+const ONE_SAYS: Says = Says {
+    table: (5, 1),
+    names: (b"d", b"t"),
+    columns: 1,
+    types: b"\x03",
+    metadata: b"",
+    nulls: b"1-",
+    optional: b"",
+};
+
+/// What [`ONE_MORE`] says.
+const ONE_MORE_SAYS: Says = Says {
+    table: (5, 1),
+    names: (b"d", b"t"),
+    columns: 1,
+    types: b"\x03",
+    metadata: b"",
+    nulls: b"1-",
+    optional: b"\0",
+};
+
+/// What [`NINE_COLUMNS`] says.
+const NINE_SAYS: Says = Says {
+    table: (0xffff_ffff_ffff, 0),
+    names: (b"\xc3\xa4", b"\xff"),
+    columns: 9,
+    types: b"\x01\x02\x03\x0f\x05\x06\x07\x08\x09",
+    metadata: b"\x40\0",
+    nulls: b"100000011-",
+    optional: b"\x01\x01\x80",
+};
+
+// Whether a table has this id, these flags and these names.
+fn is_named(map: &TableMapEvent<'_>, wanted: &Says) -> bool {
+    map.table_id() == wanted.table.0
+        && map.flags_raw() == wanted.table.1
+        && map.database_name_raw() == wanted.names.0
+        && map.table_name_raw() == wanted.names.1
+}
+
+// Whether it has these columns, and this follows.
+fn has_columns(map: &TableMapEvent<'_>, wanted: &Says) -> bool {
+    map.columns_count() == wanted.columns
+        && map.columns_type_raw() == wanted.types
+        && map.columns_metadata_raw() == wanted.metadata
+        && has_bits(map.null_bitmask(), wanted.nulls)
+        && map.optional_metadata_raw() == wanted.optional
+}
+
+// Whether a table map says this.
+fn map_says(map: TableMapEvent<'_>, wanted: &Says) -> bool {
+    let map_says = is_named(&map, wanted) && has_columns(&map, wanted);
+    drop(map);
+    map_says
+}
+
+// Whether a body is read as a table map that says this.
+fn is_read_as<'a>(
     alloc: Global,
     fde: DescriptionRef<'a>,
     body: &'a [u8],
-) -> Result<(u64, u16, u64), Error> {
+    wanted: &Says,
+) -> Result<bool, Error> {
     let map: TableMapEvent = read_under(alloc, fde, body)?;
-    Ok((map.table_id(), map.flags_raw(), map.columns_count()))
+    Ok(map_says(map, wanted))
 }
 
-// Whether an event names this table.
-fn is_named(alloc: Global, body: &[u8], database: &[u8], table: &[u8]) -> Result<bool, Error> {
-    let map: TableMapEvent = read(alloc, body)?;
-    Ok(map.database_name_raw() == database && map.table_name_raw() == table)
+// The same where a post-header of 6 bytes is stated.
+fn is_read_where_six(alloc: Global, body: &[u8], wanted: &Says) -> Result<bool, Error> {
+    let fde = stating(OF_SIX);
+    let is_read = is_read_as(alloc, fde.as_ref(), body, wanted);
+    drop(fde);
+    is_read
 }
 
-// Whether an event's columns have these types and this metadata.
-fn has_columns(alloc: Global, body: &[u8], types: &[u8], metadata: &[u8]) -> Result<bool, Error> {
-    let map: TableMapEvent = read(alloc, body)?;
-    Ok(map.columns_type_raw() == types && map.columns_metadata_raw() == metadata)
+// Whether what a body is read as there is written as wanted.
+fn is_rewritten_where_six(alloc: Global, body: &[u8], wanted: &[u8]) -> Result<bool, Error> {
+    let fde = stating(OF_SIX);
+    let is_written = is_rewritten_under::<TableMapEvent>(alloc, fde.as_ref(), body, wanted);
+    drop(fde);
+    is_written
 }
 
-// Whether these columns of an event may hold nulls.
-fn has_nulls(alloc: Global, body: &[u8], columns: &[u8]) -> Result<bool, Error> {
-    let map: TableMapEvent = read(alloc, body)?;
-    Ok(has_bits(map.null_bitmask(), columns))
-}
-
-// Whether an event has this optional metadata.
-fn has_optional_metadata(alloc: Global, body: &[u8], wanted: &[u8]) -> Result<bool, Error> {
-    let map: TableMapEvent = read(alloc, body)?;
-    Ok(map.optional_metadata_raw() == wanted)
-}
-
-// Whether two bodies are read as the same event.
+// Whether two bodies are read as the same table map.
 fn are_equal(alloc: Global, left: &[u8], right: &[u8]) -> Result<bool, Error> {
     let left: TableMapEvent = read(alloc, left)?;
-    let right: TableMapEvent = read(alloc, right)?;
-    Ok(left == right)
-}
-
-// Why a body is refused.
-fn refusal(alloc: Global, body: &[u8]) -> Option<Error> {
-    read::<TableMapEvent>(alloc, body).err()
+    let is_same = is_same(read(alloc, right), &left);
+    drop(left);
+    is_same
 }
 
 #[test]
 fn a_table_of_one_column(rt: HostRuntime) {
-    let alloc = rt.alloc();
-    assert!(rt; numbers(alloc, by_default(), ONE_COLUMN) == Ok((5, 1, 1)));
-    assert!(rt; is_named(alloc, ONE_COLUMN, b"d", b"t") == Ok(true));
-    assert!(rt; has_columns(alloc, ONE_COLUMN, b"\x03", b"") == Ok(true));
-    assert!(rt; has_nulls(alloc, ONE_COLUMN, b"1-") == Ok(true));
+    assert!(rt; is_read_as(rt.alloc(), by_default(), ONE_COLUMN, &ONE_SAYS) == Ok(true));
 }
 
 #[test]
 fn a_table_of_nine_columns(rt: HostRuntime) {
-    let alloc = rt.alloc();
-    let types = b"\x01\x02\x03\x0f\x05\x06\x07\x08\x09";
-    assert!(rt; numbers(alloc, by_default(), NINE_COLUMNS) == Ok((0xffff_ffff_ffff, 0, 9)));
-    assert!(rt; is_named(alloc, NINE_COLUMNS, b"\xc3\xa4", b"\xff") == Ok(true));
-    assert!(rt; has_columns(alloc, NINE_COLUMNS, types, b"\x40\0") == Ok(true));
-    assert!(rt; has_nulls(alloc, NINE_COLUMNS, b"100000011-") == Ok(true));
+    assert!(rt; is_read_as(rt.alloc(), by_default(), NINE_COLUMNS, &NINE_SAYS) == Ok(true));
 }
 
 #[test]
 fn what_follows_is_optional_metadata(rt: HostRuntime) {
-    for (body, wanted) in [
-        (ONE_COLUMN, b"".as_slice()),
-        (ONE_MORE, b"\0"),
-        (NINE_COLUMNS, b"\x01\x01\x80"),
-    ] {
-        assert!(rt; has_optional_metadata(rt.alloc(), body, wanted) == Ok(true));
-    }
+    assert!(rt; is_read_as(rt.alloc(), by_default(), ONE_MORE, &ONE_MORE_SAYS) == Ok(true));
 }
 
 // The shortest count is written, and zeros where a byte says nothing.
@@ -119,32 +162,17 @@ fn a_count_in_three_bytes_is_the_same(rt: HostRuntime) {
 // Where a post-header of 6 bytes is stated.
 #[test]
 fn an_id_in_four_bytes(rt: HostRuntime) {
-    let fde = stating(OF_SIX);
-    assert!(rt; numbers(rt.alloc(), fde.as_ref(), SHORT_ID) == Ok((5, 1, 1)));
+    assert!(rt; is_read_where_six(rt.alloc(), SHORT_ID, &ONE_SAYS) == Ok(true));
 }
 
 #[test]
 fn an_id_in_four_bytes_is_written_in_six(rt: HostRuntime) {
-    let fde = stating(OF_SIX);
-    let is_written = is_rewritten_under::<TableMapEvent>(
-        rt.alloc(),
-        fde.as_ref(),
-        SHORT_ID,
-        ONE_COLUMN,
-    );
-    assert!(rt; is_written == Ok(true));
+    assert!(rt; is_rewritten_where_six(rt.alloc(), SHORT_ID, ONE_COLUMN) == Ok(true));
 }
 
 #[test]
-fn fronts_of_a_table_map(rt: HostRuntime) {
-    for end in 0..ONE_COLUMN.len() {
-        let front = ONE_COLUMN.get(..end).unwrap_or(ONE_COLUMN);
-        assert_eq!(rt;
-            refusal(rt.alloc(), front),
-            Some(Error::EndOfBody),
-            "of {end} bytes"
-        );
-    }
+fn fronts_of_a_table_map_are_refused(rt: HostRuntime) {
+    assert!(rt; are_fronts_refused::<TableMapEvent>(rt.alloc(), ONE_COLUMN, ONE_COLUMN.len()));
 }
 
 #[test]
@@ -160,7 +188,7 @@ fn bytes_that_begin_no_number(rt: HostRuntime) {
         ),
     ] {
         let refused = Some(Error::InvalidData(Invalid::LenEnc(first)));
-        assert!(rt; refusal(rt.alloc(), body) == refused);
+        assert!(rt; refusal::<TableMapEvent>(rt.alloc(), body) == refused);
     }
 }
 
@@ -168,7 +196,7 @@ fn bytes_that_begin_no_number(rt: HostRuntime) {
 #[test]
 fn reading_table_maps_takes_no_memory(rt: HostRuntime) {
     for body in [ONE_COLUMN, NINE_COLUMNS] {
-        assert!(rt; refusal(rt.alloc(), body) == None);
+        assert!(rt; refusal::<TableMapEvent>(rt.alloc(), body) == None);
     }
 }
 
@@ -179,7 +207,7 @@ fn reading_counts_that_lie_takes_no_memory(rt: HostRuntime) {
         b"\x05\0\0\0\0\0\x01\0\x01d\0\x01t\0\xfe\xff\xff\xff\xff\xff\xff\xff\xff".as_slice(),
         b"\x05\0\0\0\0\0\x01\0\x01d\0\x01t\0\x01\x03\xfe\xff\xff\xff\xff\xff\xff\xff\xff".as_slice(),
     ] {
-        assert!(rt; refusal(rt.alloc(), body) == Some(Error::EndOfBody));
+        assert!(rt; refusal::<TableMapEvent>(rt.alloc(), body) == Some(Error::EndOfBody));
     }
 }
 

@@ -1,6 +1,6 @@
 //! What takes memory, and what refused memory leaves. These tests pass wherever an allocation is refused: a refusal is
 //! the call's error, and no answer changes.
-use super::{CREATE_TABLE, INTEGER, LOAD, STATUS, read, refusal};
+use super::{CREATE_TABLE, INTEGER, LOAD, STATUS, is_read, read};
 use binlog_consts::BinlogVersion;
 use binlog_description::{BinlogEvent, BinlogStruct};
 use binlog_statements::{
@@ -30,7 +30,9 @@ fn is_written_behind<T: MySerialize>(
         Err(Error::Memory) => b"",
         Err(error) => return Err(error),
     };
-    Ok(bytes.get(1..) == Some(left))
+    let is_left = bytes.get(1..) == Some(left);
+    drop(bytes);
+    Ok(is_left)
 }
 
 // The same of what a body is read as, which tells its length beforehand.
@@ -40,10 +42,10 @@ fn is_written<'a, T: BinlogEvent<'a> + Drop>(
     wanted: &[u8],
 ) -> Result<bool, Error> {
     let event: T = read(alloc, body)?;
-    if event.len(BinlogVersion::Version4) != wanted.len() {
-        return Ok(false);
-    }
-    is_written_behind(alloc, &event, wanted)
+    let is_told = event.len(BinlogVersion::Version4) == wanted.len();
+    let is_written = is_written_behind(alloc, &event, wanted);
+    drop(event);
+    Ok(is_told && is_written?)
 }
 
 #[test]
@@ -65,42 +67,60 @@ fn a_refused_write_of_a_variable_leaves_what_was_there(rt: HostRuntime) {
 
 // Whether the copy of an event was made, and is equal to it.
 fn is_same<T: PartialEq + Drop>(copy: Result<T, Error>, event: &T) -> Result<bool, Error> {
-    Ok(copy? == *event)
+    let copy = copy?;
+    let is_same = copy == *event;
+    drop(copy);
+    Ok(is_same)
 }
 
 // A copy of a copy that owns its bytes.
 fn query_copied(alloc: Global, event: &QueryEvent<'_>) -> Result<QueryEvent<'static>, Error> {
-    event.clone(alloc)?.into_owned(alloc)?.clone(alloc)
+    let owned = event.clone(alloc)?.into_owned(alloc)?;
+    let copy = owned.clone(alloc);
+    drop(owned);
+    copy
 }
 
 fn load_query_copied(
     alloc: Global,
     event: &ExecuteLoadQueryEvent<'_>,
 ) -> Result<ExecuteLoadQueryEvent<'static>, Error> {
-    event.clone(alloc)?.into_owned(alloc)?.clone(alloc)
+    let owned = event.clone(alloc)?.into_owned(alloc)?;
+    let copy = owned.clone(alloc);
+    drop(owned);
+    copy
 }
 
 fn variable_copied(
     alloc: Global,
     event: &UserVarEvent<'_>,
 ) -> Result<UserVarEvent<'static>, Error> {
-    event.clone(alloc)?.into_owned(alloc)?.clone(alloc)
+    let owned = event.clone(alloc)?.into_owned(alloc)?;
+    let copy = owned.clone(alloc);
+    drop(owned);
+    copy
 }
 
 // Whether a body's event is equal to its copy, owned and copied again.
 fn is_query_copied(alloc: Global, body: &[u8]) -> Result<bool, Error> {
     let event: QueryEvent = read(alloc, body)?;
-    is_same(query_copied(alloc, &event), &event)
+    let is_copied = is_same(query_copied(alloc, &event), &event);
+    drop(event);
+    is_copied
 }
 
 fn is_load_query_copied(alloc: Global, body: &[u8]) -> Result<bool, Error> {
     let event: ExecuteLoadQueryEvent = read(alloc, body)?;
-    is_same(load_query_copied(alloc, &event), &event)
+    let is_copied = is_same(load_query_copied(alloc, &event), &event);
+    drop(event);
+    is_copied
 }
 
 fn is_variable_copied(alloc: Global, body: &[u8]) -> Result<bool, Error> {
     let event: UserVarEvent = read(alloc, body)?;
-    is_same(variable_copied(alloc, &event), &event)
+    let is_copied = is_same(variable_copied(alloc, &event), &event);
+    drop(event);
+    is_copied
 }
 
 #[test]
@@ -117,19 +137,26 @@ fn a_copy_of_a_variable_is_equal_or_refused_for_memory(rt: HostRuntime) {
 
 // Whether a text was made, and is this one.
 fn is_text(text: Result<CowStr<'_, Global>, Error>, wanted: &str) -> Result<bool, Error> {
-    Ok(text?.as_str() == wanted)
+    let text = text?;
+    let is_text = text.as_str() == wanted;
+    drop(text);
+    Ok(is_text)
 }
 
 // Whether the schema of a body is this text.
 fn is_schema(alloc: Global, body: &[u8], wanted: &str) -> Result<bool, Error> {
     let event: QueryEvent = read(alloc, body)?;
-    is_text(event.schema(alloc), wanted)
+    let is_text = is_text(event.schema(alloc), wanted);
+    drop(event);
+    is_text
 }
 
 // Whether the statement of a body is this text.
 fn is_query(alloc: Global, body: &[u8], wanted: &str) -> Result<bool, Error> {
     let event: QueryEvent = read(alloc, body)?;
-    is_text(event.query(alloc), wanted)
+    let is_text = is_text(event.query(alloc), wanted);
+    drop(event);
+    is_text
 }
 
 #[test]
@@ -165,9 +192,9 @@ fn refused_names_are_answered_by_their_bytes(rt: HostRuntime) {
 // It asks for no memory at all.
 #[test]
 fn reading_statements_takes_no_memory(rt: HostRuntime) {
-    assert!(rt; refusal::<QueryEvent>(rt.alloc(), CREATE_TABLE) == None);
-    assert!(rt; refusal::<ExecuteLoadQueryEvent>(rt.alloc(), LOAD) == None);
-    assert!(rt; refusal::<UserVarEvent>(rt.alloc(), INTEGER) == None);
+    assert!(rt; is_read::<QueryEvent>(rt.alloc(), CREATE_TABLE));
+    assert!(rt; is_read::<ExecuteLoadQueryEvent>(rt.alloc(), LOAD));
+    assert!(rt; is_read::<UserVarEvent>(rt.alloc(), INTEGER));
 }
 
 // Whether each variable of a text gives a value.
@@ -187,7 +214,7 @@ fn reading_status_variables_takes_no_memory(rt: HostRuntime) {
 }
 
 // Whether the first variable of a text has this value.
-fn is_first_value(alloc: Global, text: &[u8], wanted: StatusVarVal<'_>) -> bool {
+fn is_first_value(alloc: Global, text: &[u8], wanted: &StatusVarVal<'_>) -> bool {
     match StatusVarsIterator::new(text).next() {
         Some(var) => is_value(var.get_value(alloc), wanted),
         None => false,
@@ -195,16 +222,27 @@ fn is_first_value(alloc: Global, text: &[u8], wanted: StatusVarVal<'_>) -> bool 
 }
 
 // Whether a value was given, and is this one.
-fn is_value(answer: Result<StatusVarVal<'_>, &[u8]>, wanted: StatusVarVal<'_>) -> bool {
+fn is_value(answer: Result<StatusVarVal<'_>, &[u8]>, wanted: &StatusVarVal<'_>) -> bool {
     match answer {
-        Ok(value) => value == wanted,
+        Ok(value) => {
+            let is_value = value == *wanted;
+            drop(value);
+            is_value
+        }
         Err(_) => false,
     }
+}
+
+// Whether the first variable of a text has a list of names that is empty.
+fn are_too_many_names(alloc: Global, text: &[u8]) -> bool {
+    let wanted = StatusVarVal::UpdatedDbNames(Vec::new(alloc));
+    let are_too_many = is_first_value(alloc, text, &wanted);
+    drop(wanted);
+    are_too_many
 }
 
 // It asks for no memory at all, since its list stays empty.
 #[test]
 fn reading_a_count_of_too_many_names_takes_no_memory(rt: HostRuntime) {
-    let wanted = StatusVarVal::UpdatedDbNames(Vec::new(rt.alloc()));
-    assert!(rt; is_first_value(rt.alloc(), b"\x0c\xfe", wanted));
+    assert!(rt; are_too_many_names(rt.alloc(), b"\x0c\xfe"));
 }

@@ -32,38 +32,50 @@ fn parts<'a>(event: &'a UserVarEvent<'_>) -> Parts<'a> {
 }
 
 // Whether a body is read as a variable of this name and these parts.
-fn has_parts(alloc: Global, body: &[u8], name: &[u8], wanted: Parts<'_>) -> Result<bool, Error> {
-    let event: UserVarEvent = read(alloc, body)?;
-    Ok(event.name_raw() == name && parts(&event) == wanted)
+fn has_parts(alloc: Global, body: &[u8], name: &[u8], wanted: Parts<'_>) -> bool {
+    match read::<UserVarEvent>(alloc, body) {
+        Ok(event) => {
+            let has_parts = event.name_raw() == name && parts(&event) == wanted;
+            drop(event);
+            has_parts
+        }
+        Err(_) => false,
+    }
 }
 
-// The known flags of a variable.
-fn flags(alloc: Global, body: &[u8]) -> Result<UserVarFlags, Error> {
-    let event: UserVarEvent = read(alloc, body)?;
-    Ok(event.flags())
+// Whether a body is read as a variable of these known flags.
+fn has_flags(alloc: Global, body: &[u8], wanted: UserVarFlags) -> bool {
+    match read::<UserVarEvent>(alloc, body) {
+        Ok(event) => {
+            let has_flags = event.flags() == wanted;
+            drop(event);
+            has_flags
+        }
+        Err(_) => false,
+    }
 }
 
 #[test]
 fn a_null(rt: HostRuntime) {
     let wanted = (true, Ok(ItemResult::STRING_RESULT), 63, b"".as_slice(), 0);
-    assert!(rt; has_parts(rt.alloc(), NULL, b"a", wanted) == Ok(true));
+    assert!(rt; has_parts(rt.alloc(), NULL, b"a", wanted));
 }
 
 #[test]
 fn a_value_without_flags(rt: HostRuntime) {
     let wanted = (false, Ok(ItemResult::INT_RESULT), 63, b"\x07".as_slice(), 0);
-    assert!(rt; has_parts(rt.alloc(), INTEGER, b"a", wanted) == Ok(true));
+    assert!(rt; has_parts(rt.alloc(), INTEGER, b"a", wanted));
 }
 
 #[test]
 fn a_value_with_flags(rt: HostRuntime) {
     let wanted = (false, Err(UnknownItemResultType(-1)), 63, b"".as_slice(), 3);
-    assert!(rt; has_parts(rt.alloc(), UNKNOWN, b"", wanted) == Ok(true));
+    assert!(rt; has_parts(rt.alloc(), UNKNOWN, b"", wanted));
 }
 
 #[test]
 fn flags_that_are_known(rt: HostRuntime) {
-    assert!(rt; flags(rt.alloc(), UNKNOWN) == Ok(UserVarFlags::UNSIGNED));
+    assert!(rt; has_flags(rt.alloc(), UNKNOWN, UserVarFlags::UNSIGNED));
 }
 
 #[test]

@@ -24,10 +24,12 @@ fn has_keys(text: &[u8], keys: &[StatusVarKey]) -> bool {
 // Whether the first variable of this key in a text has this value, or there is none.
 fn has_value(text: &[u8], key: StatusVarKey, wanted: Option<&[u8]>) -> bool {
     let vars = StatusVars(RawBytes::new(CowSlice::Borrowed(text)));
-    match vars.get_status_var(key) {
+    let has_value = match vars.get_status_var(key) {
         Some(var) => wanted == Some(var.raw()),
         None => wanted.is_none(),
-    }
+    };
+    drop(vars);
+    has_value
 }
 
 #[test]
