@@ -14,8 +14,8 @@ const LEAST_ROOM: usize = 1_024;
 // No number of 64 bits has more digits.
 const MAX_DIGITS: usize = 20;
 
-/// Bytes, and room for more of them behind. Contracts see it as [`Buffered`](../specs/Buffers.antt): what is written, and
-/// how much room there is.
+/// Bytes, and room for more of them behind. Contracts see it as [`Buffered`](../specs/Buffers.antt): what is written, how
+/// much room there is, and the byte that stands behind what is written.
 #[derive(Drop)]
 pub(crate) struct Buffer {
     bytes: Vec<u8>,

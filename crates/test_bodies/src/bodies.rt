@@ -1,14 +1,15 @@
 //! What the bodies of events are read as and written as, by rows from outside.
-use crate::reading::{DESCRIPTION, is_written, read, read_under, refusal};
+use crate::descriptions::DESCRIPTION;
 use binlog_bodies::{
     BeginLoadQueryEvent, BinlogStruct, BinlogVersion, Error, IncidentEvent, IntvarEvent, Invalid,
     RandEvent, RotateEvent, RowsQueryEvent, XidEvent, laws,
 };
 use binlog_consts::{IncidentType, IntvarEventType, UnknownIncidentType};
-use binlog_description::{DescriptionRef, FormatDescriptionEvent, laws as description_laws};
+use binlog_description::{DescriptionRef, laws as description_laws};
 use binlog_wire::{MySerialize, RawInt};
 use std::borrow::CowSlice;
 use std::test::Fail;
+use test_reading::{is_written, read, read_under, refusal, stating};
 
 /// Eight bytes of 11.
 const ELEVEN: &[u8] = b"\x0b\0\0\0\0\0\0\0";
@@ -99,9 +100,7 @@ fn xid_is_read_and_written(rt: HostRuntime) -> Result<(), Fail> {
 fn xid_stands_behind_its_post_header(rt: HostRuntime) -> Result<(), Fail> {
     let alloc = rt.alloc();
     let lengths = [0, 0, 0, 0, 0, 0, 0, 0, 0, 0, 0, 0, 0, 0, 0, 2];
-    let stated = FormatDescriptionEvent::new(
-        BinlogVersion::Version4,
-    ).with_event_type_header_lengths(CowSlice::Borrowed(&lengths));
+    let stated = stating(&lengths);
     let fde = stated.as_ref();
     let event: XidEvent = read_under(alloc, fde, b"\xff\xff\x0b\0\0\0\0\0\0\0")?;
     assert!(rt; event == XidEvent { xid: 11 });

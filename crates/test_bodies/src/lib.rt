@@ -6,5 +6,3 @@
 mod bodies;
 #[cfg(test)]
 mod descriptions;
-#[cfg(test)]
-mod reading;

@@ -3,3 +3,11 @@
 
 #[cfg(test)]
 mod gtids;
+#[cfg(test)]
+mod memory;
+#[cfg(test)]
+mod previous_gtids;
+#[cfg(test)]
+mod tagged;
+#[cfg(test)]
+mod untagged;

@@ -1,12 +1,6 @@
 //! What the bodies of table maps and of row events are read as and written as, by rows from outside. What an event shows
 //! is compared in functions without a runtime, one reader for all its getters: their proofs are short.
-use binlog_consts::BinlogVersion;
-use binlog_description::{
-    BinlogCtx, BinlogEvent, BinlogEventHeader, DescriptionRef, FormatDescriptionEvent, read_body,
-};
-use binlog_wire::{BitView, Error, MySerialize};
-use std::alloc::Global;
-use std::borrow::CowSlice;
+use binlog_wire::BitView;
 
 mod memory;
 mod rows;
@@ -40,99 +34,6 @@ const OF_SIX: &[u8] = &[6; 39];
 
 /// The same, each of which is 10.
 const OF_TEN: &[u8] = &[10; 39];
-
-// A description that states these post-header lengths.
-fn stating<'a>(lengths: &'a [u8]) -> FormatDescriptionEvent<'a> {
-    let lengths = CowSlice::Borrowed(lengths);
-    FormatDescriptionEvent::new(BinlogVersion::Version4).with_event_type_header_lengths(lengths)
-}
-
-// Reads a whole body as an event of its own type under this description.
-fn read_under<'a, T: BinlogEvent<'a> + Drop>(
-    alloc: Global,
-    fde: DescriptionRef<'a>,
-    body: &'a [u8],
-) -> Result<T, Error> {
-    let event_size = BinlogEventHeader::LEN + body.len();
-    let ctx = BinlogCtx::new(event_size, fde, u8::from(T::EVENT_TYPE));
-    read_body(alloc, ctx, body)
-}
-
-// The description that is in force where none was read.
-fn by_default() -> DescriptionRef<'static> {
-    DescriptionRef::new(BinlogVersion::Version4)
-}
-
-// Reads a whole body as an event of its own type under the default description.
-fn read<'a, T: BinlogEvent<'a> + Drop>(alloc: Global, body: &'a [u8]) -> Result<T, Error> {
-    read_under(alloc, by_default(), body)
-}
-
-// Whether an event was made, and is equal to this one.
-fn is_same<T: PartialEq + Drop>(made: Result<T, Error>, event: &T) -> Result<bool, Error> {
-    let made = made?;
-    let is_same = made == *event;
-    drop(made);
-    Ok(is_same)
-}
-
-// What is written for a value.
-fn written<T: MySerialize>(alloc: Global, value: &T) -> Result<Vec<u8>, Error> {
-    let mut bytes = Vec::new(alloc);
-    value.serialize(alloc, &mut bytes)?;
-    Ok(bytes)
-}
-
-// Whether a value is written as wanted.
-fn is_written<T: MySerialize>(alloc: Global, value: &T, wanted: &[u8]) -> Result<bool, Error> {
-    let bytes = written(alloc, value)?;
-    let is_written = bytes.as_slice() == wanted;
-    drop(bytes);
-    Ok(is_written)
-}
-
-// Whether what a body is read as under this description is written as wanted; its length is told beforehand.
-fn is_rewritten_under<'a, T: BinlogEvent<'a> + Drop>(
-    alloc: Global,
-    fde: DescriptionRef<'a>,
-    body: &'a [u8],
-    wanted: &[u8],
-) -> Result<bool, Error> {
-    let event: T = read_under(alloc, fde, body)?;
-    let is_told = event.len(BinlogVersion::Version4) == wanted.len();
-    let is_written = is_written(alloc, &event, wanted);
-    drop(event);
-    Ok(is_written? && is_told)
-}
-
-// The same under the default description.
-fn is_rewritten<'a, T: BinlogEvent<'a> + Drop>(
-    alloc: Global,
-    body: &'a [u8],
-    wanted: &[u8],
-) -> Result<bool, Error> {
-    is_rewritten_under::<T>(alloc, by_default(), body, wanted)
-}
-
-// Why a body is refused under the default description.
-fn refusal<'a, T: BinlogEvent<'a> + Drop>(alloc: Global, body: &'a [u8]) -> Option<Error> {
-    read::<T>(alloc, body).err()
-}
-
-// Whether each front of a body of fewer bytes than these is refused for its end.
-fn are_fronts_refused<'a, T: BinlogEvent<'a> + Drop>(
-    alloc: Global,
-    body: &'a [u8],
-    len: usize,
-) -> bool {
-    for end in 0..len {
-        let front = body.get(..end).unwrap_or(body);
-        if refusal::<T>(alloc, front) != Some(Error::EndOfBody) {
-            return false;
-        }
-    }
-    true
-}
 
 // Whether each bit is as wanted: `1`, `0`, or `-` where there is none.
 fn has_bits(view: BitView<'_>, wanted: &[u8]) -> bool {

@@ -1,59 +1,24 @@
 //! What refused memory leaves. These tests pass wherever an allocation is refused: a refusal is the call's error, and no
 //! answer changes.
-use super::{NINE_COLUMNS, ONE_COLUMN, UPDATE, WRITE, WRITTEN, is_same, read};
-use binlog_description::BinlogEvent;
+use super::{NINE_COLUMNS, ONE_COLUMN, UPDATE, WRITE, WRITTEN};
 use binlog_rows::{
     RowsEvent, RowsEventData, RowsEventOf, RowsKind, TableMapEvent, UpdateRowsEvent, WriteRowsEvent,
 };
-use binlog_wire::{Error, MySerialize};
+use binlog_wire::Error;
 use std::alloc::Global;
-use std::borrow::CowStr;
-
-// Whether the answer is yes, or memory was refused for it.
-fn is_granted(answer: Result<bool, Error>) -> bool {
-    matches!(answer, Ok(true) | Err(Error::Memory))
-}
-
-// Whether a value is written as wanted behind one byte; where memory is refused, that byte has to be all that is left.
-fn is_written_behind<T: MySerialize>(
-    alloc: Global,
-    value: &T,
-    wanted: &[u8],
-) -> Result<bool, Error> {
-    let mut bytes = Vec::from_slice(alloc, b"x")?;
-    let left = match value.serialize(alloc, &mut bytes) {
-        Ok(()) => wanted,
-        Err(Error::Memory) => b"",
-        Err(error) => return Err(error),
-    };
-    let is_left = bytes.get(1..) == Some(left);
-    drop(bytes);
-    Ok(is_left)
-}
-
-// The same of what a body is read as.
-fn is_written<'a, T: BinlogEvent<'a> + Drop>(
-    alloc: Global,
-    body: &'a [u8],
-    wanted: &[u8],
-) -> Result<bool, Error> {
-    let event: T = read(alloc, body)?;
-    let is_written = is_written_behind(alloc, &event, wanted);
-    drop(event);
-    is_written
-}
+use test_reading::{is_granted, is_rewritten_behind, is_same, is_text, is_written_behind, read};
 
 #[test]
 fn a_write_of_a_table_map_refused_for_memory_leaves_what_was_there(rt: HostRuntime) {
-    let answer = is_written::<TableMapEvent>(rt.alloc(), ONE_COLUMN, ONE_COLUMN);
+    let answer = is_rewritten_behind::<TableMapEvent>(rt.alloc(), ONE_COLUMN, ONE_COLUMN);
     assert!(rt; is_granted(answer));
 }
 
 #[test]
 fn a_write_of_rows_refused_for_memory_leaves_what_was_there(rt: HostRuntime) {
-    let answer = is_written::<WriteRowsEvent>(rt.alloc(), WRITE, WRITTEN);
+    let answer = is_rewritten_behind::<WriteRowsEvent>(rt.alloc(), WRITE, WRITTEN);
     assert!(rt; is_granted(answer));
-    let answer = is_written::<UpdateRowsEvent>(rt.alloc(), UPDATE, UPDATE);
+    let answer = is_rewritten_behind::<UpdateRowsEvent>(rt.alloc(), UPDATE, UPDATE);
     assert!(rt; is_granted(answer));
 }
 
@@ -142,14 +107,6 @@ fn a_copy_of_a_table_map_is_equal_or_refused_for_memory(rt: HostRuntime) {
 fn a_copy_of_rows_is_equal_or_refused_for_memory(rt: HostRuntime) {
     assert!(rt; is_granted(are_updated_rows_copied(rt.alloc())));
     assert!(rt; is_granted(are_written_rows_copied(rt.alloc())));
-}
-
-// Whether a text was made, and is this one.
-fn is_text(text: Result<CowStr<'_, Global>, Error>, wanted: &str) -> Result<bool, Error> {
-    let text = text?;
-    let is_text = text.as_str() == wanted;
-    drop(text);
-    Ok(is_text)
 }
 
 // Whether the names of a table are these as text.

@@ -1,8 +1,5 @@
 //! Row events of one type.
-use super::{
-    OF_ONE_IMAGE, OF_SIX, OF_TEN, UPDATE, UPDATE_V1, WRITE, WRITTEN, are_fronts_refused,
-    by_default, has_bits, is_rewritten, is_rewritten_under, read_under, refusal, stating,
-};
+use super::{OF_ONE_IMAGE, OF_SIX, OF_TEN, UPDATE, UPDATE_V1, WRITE, WRITTEN, has_bits};
 use binlog_consts::EventType;
 use binlog_description::{BinlogEvent, DescriptionRef};
 use binlog_rows::{
@@ -13,6 +10,9 @@ use binlog_rows::{
 };
 use binlog_wire::{BitView, Error, Invalid, MyDeserialize};
 use std::alloc::Global;
+use test_reading::{
+    are_fronts_refused, by_default, is_rewritten, is_rewritten_under, read_under, refusal, stating,
+};
 
 /// [`WRITE`] with its id in four bytes and without a count of extra bytes.
 const SHORT_ID: &[u8] = b"\x05\0\0\0\x01\0\x01\x01\xfe\x07";

@@ -1,12 +1,13 @@
 //! Table maps.
-use super::{
-    NINE_COLUMNS, OF_SIX, ONE_COLUMN, are_fronts_refused, by_default, has_bits, is_rewritten,
-    is_rewritten_under, is_same, read, read_under, refusal, stating,
-};
+use super::{NINE_COLUMNS, OF_SIX, ONE_COLUMN, has_bits};
 use binlog_description::DescriptionRef;
 use binlog_rows::TableMapEvent;
 use binlog_wire::{Error, Invalid};
 use std::alloc::Global;
+use test_reading::{
+    are_fronts_refused, by_default, is_rewritten, is_rewritten_under, is_same, read, read_under,
+    refusal, stating,
+};
 
 /// [`ONE_COLUMN`] with its id in four bytes.
 const SHORT_ID: &[u8] = b"\x05\0\0\0\x01\0\x01d\0\x01t\0\x01\x03\0\x01";

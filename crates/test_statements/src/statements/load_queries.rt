@@ -1,10 +1,13 @@
 //! The events of statements that load a file.
-use super::{LOAD, are_fronts_refused, by_default, is_read_as, is_written_with, refusal, told_len};
+use super::LOAD;
 use binlog_consts::LoadDuplicateHandling;
 use binlog_statements::ExecuteLoadQueryEvent;
 use binlog_wire::{Error, Invalid};
 use std::alloc::Global;
 use std::borrow::CowSlice;
+use test_reading::{
+    are_fronts_refused, by_default, is_read_as, is_written_with, refusal, told_len,
+};
 
 // The event of `LOAD`, a field at a time.
 fn made<'a>() -> ExecuteLoadQueryEvent<'a> {

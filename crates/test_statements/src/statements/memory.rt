@@ -1,76 +1,35 @@
 //! What takes memory, and what refused memory leaves. These tests pass wherever an allocation is refused: a refusal is
 //! the call's error, and no answer changes.
-use super::{CREATE_TABLE, INTEGER, LOAD, STATUS, is_read, read};
-use binlog_consts::BinlogVersion;
-use binlog_description::{BinlogEvent, BinlogStruct};
+use super::{CREATE_TABLE, INTEGER, LOAD, STATUS};
 use binlog_statements::{
     ExecuteLoadQueryEvent, QueryEvent, StatusVarVal, StatusVarsIterator, UserVarEvent,
 };
-use binlog_wire::{Error, MySerialize};
+use binlog_wire::Error;
 use std::alloc::Global;
-use std::borrow::CowStr;
+use test_reading::{is_granted, is_read, is_rewritten_behind, is_same, is_text, read};
 
 /// A body whose schema and statement are no text.
 const NO_TEXT: &[u8] = b"\x01\0\0\0\x02\0\0\0\x01\x03\0\0\0\xff\0\xfe";
 
-// Whether the answer is yes, or memory was refused for it.
-fn is_granted(answer: Result<bool, Error>) -> bool {
-    matches!(answer, Ok(true) | Err(Error::Memory))
-}
-
-// Whether a value is written as wanted behind one byte; where memory is refused, that byte has to be all that is left.
-fn is_written_behind<T: MySerialize>(
-    alloc: Global,
-    value: &T,
-    wanted: &[u8],
-) -> Result<bool, Error> {
-    let mut bytes = Vec::from_slice(alloc, b"x")?;
-    let left = match value.serialize(alloc, &mut bytes) {
-        Ok(()) => wanted,
-        Err(Error::Memory) => b"",
-        Err(error) => return Err(error),
-    };
-    let is_left = bytes.get(1..) == Some(left);
-    drop(bytes);
-    Ok(is_left)
-}
-
-// The same of what a body is read as, which tells its length beforehand.
-fn is_written<'a, T: BinlogEvent<'a> + Drop>(
-    alloc: Global,
-    body: &'a [u8],
-    wanted: &[u8],
-) -> Result<bool, Error> {
-    let event: T = read(alloc, body)?;
-    let is_told = event.len(BinlogVersion::Version4) == wanted.len();
-    let is_written = is_written_behind(alloc, &event, wanted);
-    drop(event);
-    Ok(is_told && is_written?)
-}
-
 #[test]
 fn a_refused_write_of_a_statement_leaves_what_was_there(rt: HostRuntime) {
-    let query = is_written::<QueryEvent>(rt.alloc(), CREATE_TABLE, CREATE_TABLE);
+    let query = is_rewritten_behind::<QueryEvent>(rt.alloc(), CREATE_TABLE, CREATE_TABLE);
     assert!(rt; is_granted(query));
-    let load_query = is_written::<ExecuteLoadQueryEvent>(rt.alloc(), LOAD, LOAD);
+    let load_query = is_rewritten_behind::<ExecuteLoadQueryEvent>(rt.alloc(), LOAD, LOAD);
     assert!(rt; is_granted(load_query));
 }
 
 #[test]
 fn a_refused_write_of_a_variable_leaves_what_was_there(rt: HostRuntime) {
-    let null = is_written::<UserVarEvent>(rt.alloc(), b"\x01\0\0\0a\x02", b"\x01\0\0\0a\x01");
+    let null = is_rewritten_behind::<UserVarEvent>(
+        rt.alloc(),
+        b"\x01\0\0\0a\x02",
+        b"\x01\0\0\0a\x01",
+    );
     assert!(rt; is_granted(null));
     let with_flags = b"\x01\0\0\0a\0\x02\x3f\0\0\0\x01\0\0\0\x07\0".as_slice();
-    let integer = is_written::<UserVarEvent>(rt.alloc(), INTEGER, with_flags);
+    let integer = is_rewritten_behind::<UserVarEvent>(rt.alloc(), INTEGER, with_flags);
     assert!(rt; is_granted(integer));
-}
-
-// Whether the copy of an event was made, and is equal to it.
-fn is_same<T: PartialEq + Drop>(copy: Result<T, Error>, event: &T) -> Result<bool, Error> {
-    let copy = copy?;
-    let is_same = copy == *event;
-    drop(copy);
-    Ok(is_same)
 }
 
 // A copy of a copy that owns its bytes.
@@ -133,14 +92,6 @@ fn a_copy_of_a_statement_is_equal_or_refused_for_memory(rt: HostRuntime) {
 fn a_copy_of_a_variable_is_equal_or_refused_for_memory(rt: HostRuntime) {
     assert!(rt; is_granted(is_variable_copied(rt.alloc(), INTEGER)));
     assert!(rt; is_granted(is_variable_copied(rt.alloc(), b"\0\0\0\0\x01")));
-}
-
-// Whether a text was made, and is this one.
-fn is_text(text: Result<CowStr<'_, Global>, Error>, wanted: &str) -> Result<bool, Error> {
-    let text = text?;
-    let is_text = text.as_str() == wanted;
-    drop(text);
-    Ok(is_text)
 }
 
 // Whether the schema of a body is this text.

@@ -1,12 +1,12 @@
 //! The events of statements.
-use super::{
-    CREATE_TABLE, STATUS, are_fronts_refused, by_default, is_read_as, is_written_with,
-    refusal_under, stating, told_len,
-};
+use super::{CREATE_TABLE, STATUS};
 use binlog_statements::QueryEvent;
 use binlog_wire::Error;
 use std::alloc::Global;
 use std::borrow::CowSlice;
+use test_reading::{
+    are_fronts_refused, by_default, is_read_as, is_written_with, refusal_under, stating, told_len,
+};
 
 /// Thread 1, time 2, error 3, schema `d`, no variables, the statement `q`.
 const SHORT: &[u8] = b"\x01\0\0\0\x02\0\0\0\x01\x03\0\0\0d\0q";

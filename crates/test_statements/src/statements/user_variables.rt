@@ -1,9 +1,10 @@
 //! The events of user variables.
-use super::{INTEGER, are_fronts_refused, read, refusal};
+use super::INTEGER;
 use binlog_consts::{ItemResult, UnknownItemResultType, UserVarFlags};
 use binlog_statements::UserVarEvent;
 use binlog_wire::Error;
 use std::alloc::Global;
+use test_reading::{are_fronts_refused, read, refusal};
 
 /// A null `a`.
 const NULL: &[u8] = b"\x01\0\0\0a\x02";

@@ -1,0 +1,113 @@
+//! What takes memory, and what refused memory leaves. These tests pass wherever an allocation is refused: a refusal is
+//! the call's error, and no answer changes.
+use crate::gtids::{BACKUP, HEAD, TAGGED_SID, read_tagged};
+use binlog_gtids::{AnonymousGtidEvent, GtidEvent, PreviousGtidsEvent};
+use binlog_wire::Error;
+use std::alloc::Global;
+use test_reading::{is_granted, is_rewritten_behind, is_same, is_written_behind, read, refusal};
+
+/// A new GTID: no tag, the number 1, and a clock of zeros.
+const NEW: &[u8] =
+    b"\0\0\0\0\0\0\0\0\0\0\0\0\0\0\0\0\0\x01\0\0\0\0\0\0\0\x02\0\0\0\0\0\0\0\0\0\0\0\0\0\0\0\0\0\0\0\0\0\0\0\0\0\0\0\0";
+
+/// One entry without a tag whose count of intervals is the greatest.
+const COUNTED_INTERVALS: &[u8] =
+    b"\x01\0\0\0\0\0\0\0\xab\xab\xab\xab\xab\xab\xab\xab\xab\xab\xab\xab\xab\xab\xab\xab\xff\xff\xff\xff\xff\xff\xff\xff";
+
+// Whether a tagged body is written again behind what is there.
+fn is_tagged_written(alloc: Global, body: &[u8]) -> Result<bool, Error> {
+    let event = read_tagged(alloc, body)?;
+    let is_written = is_written_behind(alloc, &event, body);
+    drop(event);
+    is_written
+}
+
+#[test]
+fn a_refused_write_of_a_gtid_leaves_what_was_there(rt: HostRuntime) {
+    let event = GtidEvent::new([0; 16], 1);
+    assert!(rt; is_granted(is_written_behind(rt.alloc(), &event, NEW)));
+}
+
+#[test]
+fn a_refused_write_of_a_tag_leaves_what_was_there(rt: HostRuntime) {
+    assert!(rt; is_granted(is_tagged_written(rt.alloc(), BACKUP)));
+}
+
+#[test]
+fn a_refused_write_of_previous_gtids_leaves_what_was_there(rt: HostRuntime) {
+    let tagged = is_rewritten_behind::<PreviousGtidsEvent>(rt.alloc(), TAGGED_SID, TAGGED_SID);
+    assert!(rt; is_granted(tagged));
+    let none = is_rewritten_behind::<PreviousGtidsEvent>(rt.alloc(), &[0; 8], &[0; 8]);
+    assert!(rt; is_granted(none));
+}
+
+// A copy of a copy that owns its bytes.
+fn tagged_copied(alloc: Global, event: &GtidEvent) -> Result<GtidEvent, Error> {
+    let owned = event.clone(alloc)?.into_owned(alloc)?;
+    let copy = owned.clone(alloc);
+    drop(owned);
+    copy
+}
+
+fn previous_copied(
+    alloc: Global,
+    event: &PreviousGtidsEvent<'_>,
+) -> Result<PreviousGtidsEvent<'static>, Error> {
+    let owned = event.clone(alloc)?.into_owned(alloc)?;
+    let copy = owned.clone(alloc);
+    drop(owned);
+    copy
+}
+
+// Whether a body's event is equal to its copy, owned and copied again.
+fn is_tagged_copied(alloc: Global) -> Result<bool, Error> {
+    let event = read_tagged(alloc, BACKUP)?;
+    let is_copied = is_same(tagged_copied(alloc, &event), &event);
+    drop(event);
+    is_copied
+}
+
+fn are_previous_copied(alloc: Global) -> Result<bool, Error> {
+    let event: PreviousGtidsEvent = read(alloc, TAGGED_SID)?;
+    let is_copied = is_same(previous_copied(alloc, &event), &event);
+    drop(event);
+    is_copied
+}
+
+#[test]
+fn a_copy_is_equal_or_refused_for_memory(rt: HostRuntime) {
+    assert!(rt; is_granted(is_tagged_copied(rt.alloc())));
+    assert!(rt; is_granted(are_previous_copied(rt.alloc())));
+}
+
+// Whether a GTID without a tag is read, and equal to its copy.
+fn is_untagged_copied(alloc: Global) -> Result<bool, Error> {
+    let event: GtidEvent = read(alloc, HEAD)?;
+    let is_copied = is_same(tagged_copied(alloc, &event), &event);
+    drop(event);
+    is_copied
+}
+
+// It asks for no memory at all.
+#[test]
+fn reading_takes_no_memory(rt: HostRuntime) {
+    assert!(rt; is_untagged_copied(rt.alloc()) == Ok(true));
+}
+
+// It asks for none either.
+#[test]
+fn reading_an_anonymous_gtid_takes_no_memory(rt: HostRuntime) {
+    assert!(rt; refusal::<AnonymousGtidEvent>(rt.alloc(), HEAD) == None);
+}
+
+// They say more than the bytes carry; no memory is asked for them.
+#[test]
+fn reading_counts_alone_takes_no_memory(rt: HostRuntime) {
+    let ends = Some(Error::EndOfBody);
+    let tagged = refusal::<PreviousGtidsEvent>(rt.alloc(), b"\x01\xff\xff\xff\xff\xff\xff\x01");
+    assert!(rt; tagged == ends);
+    let untagged = refusal::<PreviousGtidsEvent>(rt.alloc(), b"\xff\xff\xff\xff\xff\xff\xff\0");
+    assert!(rt; untagged == ends);
+    let intervals = refusal::<PreviousGtidsEvent>(rt.alloc(), COUNTED_INTERVALS);
+    assert!(rt; intervals == ends);
+}

@@ -1,0 +1,130 @@
+//! The GTIDs of earlier files.
+use crate::gtids::{TAGGED_SID, UUID};
+use binlog_gtids::{PreviousGtidsEvent, PreviousGtidsSid};
+use binlog_numbers::{GnoInterval, Tag};
+use binlog_wire::{Error, Invalid};
+use std::alloc::{AllocError, Global};
+use test_reading::{
+    are_fronts_refused, is_rewritten, is_same, is_written, joined, read, refusal, told_len,
+};
+
+/// An entry without a tag, behind its source: the numbers 1 to 5.
+const ONE_TO_FIVE: &[u8] = b"\x01\0\0\0\0\0\0\0\x01\0\0\0\0\0\0\0\x06\0\0\0\0\0\0\0";
+
+/// One entry in the form with tags, without a tag and without intervals: any top byte but 0 is that form.
+const NO_TAG: &[u8] =
+    b"\x05\x01\0\0\0\0\0\x07\xab\xab\xab\xab\xab\xab\xab\xab\xab\xab\xab\xab\xab\xab\xab\xab\0\0\0\0\0\0\0\0\0";
+
+// One entry of this tag and the numbers 1 to 5.
+fn one_sid(alloc: Global, tag: Option<Tag<'static>>) -> Result<PreviousGtidsEvent<'static>, Error> {
+    let mut intervals = Vec::new(alloc);
+    intervals
+        .push(GnoInterval::new(1, 6))
+        .map_err(AllocError::from)?;
+    let mut sids = Vec::new(alloc);
+    sids.push(PreviousGtidsSid::new(UUID, tag, intervals))
+        .map_err(AllocError::from)?;
+    Ok(PreviousGtidsEvent::new(sids))
+}
+
+// The entry of the tag `test`.
+fn tagged_sid(alloc: Global) -> Result<PreviousGtidsEvent<'static>, Error> {
+    one_sid(alloc, Some(Tag::from_bytes(b"test")?))
+}
+
+// Whether an event is written as this body, which is read as it.
+fn goes_round(
+    alloc: Global,
+    event: Result<PreviousGtidsEvent<'static>, Error>,
+    body: &[u8],
+) -> Result<bool, Error> {
+    let event = event?;
+    let is_written = is_written(alloc, &event, body);
+    let is_read = is_same(read(alloc, body), &event);
+    drop(event);
+    Ok(is_written? && is_read?)
+}
+
+// Whether a body of these parts is refused so.
+fn are_refused(alloc: Global, parts: &[&[u8]], why: Error) -> Result<bool, Error> {
+    let body = joined(alloc, parts)?;
+    let refusal = refusal::<PreviousGtidsEvent>(alloc, body.as_slice());
+    drop(body);
+    Ok(refusal == Some(why))
+}
+
+// Whether what a body is read as is written as these parts.
+fn is_rewritten_as(alloc: Global, body: &[u8], parts: &[&[u8]]) -> Result<bool, Error> {
+    let wanted = joined(alloc, parts)?;
+    let is_rewritten = is_rewritten::<PreviousGtidsEvent>(alloc, body, wanted.as_slice());
+    drop(wanted);
+    is_rewritten
+}
+
+#[test]
+fn no_previous_gtids_are_eight_zeros(rt: HostRuntime) {
+    let none = PreviousGtidsEvent::new(Vec::new(rt.alloc()));
+    assert!(rt; goes_round(rt.alloc(), Ok(none), &[0; 8]) == Ok(true));
+    let none = PreviousGtidsEvent::new(Vec::new(rt.alloc()));
+    assert!(rt; told_len(none) == 8);
+}
+
+#[test]
+fn previous_gtids_with_a_tag(rt: HostRuntime) {
+    assert!(rt; goes_round(rt.alloc(), tagged_sid(rt.alloc()), TAGGED_SID) == Ok(true));
+    let rewritten = is_rewritten::<PreviousGtidsEvent>(rt.alloc(), TAGGED_SID, TAGGED_SID);
+    assert!(rt; rewritten == Ok(true));
+}
+
+// Whether an entry without a tag is written, and read, as it stands in the format.
+fn untagged_goes_round(alloc: Global) -> Result<bool, Error> {
+    let body = joined(alloc, &[b"\x01\0\0\0\0\0\0\0", &UUID, ONE_TO_FIVE])?;
+    let goes_round = goes_round(alloc, one_sid(alloc, None), body.as_slice());
+    drop(body);
+    goes_round
+}
+
+#[test]
+fn previous_gtids_without_a_tag(rt: HostRuntime) {
+    assert!(rt; untagged_goes_round(rt.alloc()) == Ok(true));
+}
+
+// Whether an event has one entry, of that source alone.
+fn is_source_alone(event: PreviousGtidsEvent<'_>) -> bool {
+    let is_source_alone = match event.sids() {
+        [sid] => sid.uuid() == UUID && sid.tag().is_none() && sid.intervals().is_empty(),
+        _ => false,
+    };
+    drop(event);
+    is_source_alone
+}
+
+fn is_read_as_source_alone(alloc: Global, body: &[u8]) -> Result<bool, Error> {
+    Ok(is_source_alone(read(alloc, body)?))
+}
+
+#[test]
+fn tagged_form_without_a_tag_is_read(rt: HostRuntime) {
+    assert!(rt; is_read_as_source_alone(rt.alloc(), NO_TAG) == Ok(true));
+}
+
+#[test]
+fn tagged_form_is_written_for_a_tag_alone(rt: HostRuntime) {
+    let parts: &[&[u8]] = &[b"\x01\0\0\0\0\0\0\0", &UUID, &[0; 8]];
+    assert!(rt; is_rewritten_as(rt.alloc(), NO_TAG, parts) == Ok(true));
+}
+
+#[test]
+fn cut_previous_gtids_are_refused(rt: HostRuntime) {
+    let len = TAGGED_SID.len();
+    assert!(rt; are_fronts_refused::<PreviousGtidsEvent>(rt.alloc(), TAGGED_SID, len));
+    let longer = are_refused(rt.alloc(), &[TAGGED_SID, &[0]], Error::RemainingBytes(1));
+    assert!(rt; longer == Ok(true));
+}
+
+#[test]
+fn tag_that_is_none_is_refused(rt: HostRuntime) {
+    let parts: &[&[u8]] = &[b"\x01\x01\0\0\0\0\0\x01", &UUID, b"\x049a", &[0; 8]];
+    let refused = are_refused(rt.alloc(), parts, Error::InvalidData(Invalid::Tag));
+    assert!(rt; refused == Ok(true));
+}

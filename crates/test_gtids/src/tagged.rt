@@ -1,0 +1,304 @@
+//! GTIDs with a tag.
+use crate::gtids::{BACKUP, UUID, read_gtid, read_tagged};
+use binlog_consts::{BinlogVersion, EventType};
+use binlog_description::BinlogStruct;
+use binlog_gtids::{AnonymousGtidEvent, GtidEvent};
+use binlog_numbers::Tag;
+use binlog_wire::{Error, Field, Invalid, MySerialize};
+use std::alloc::Global;
+use test_reading::{
+    is_same, is_unwritable, is_written, is_written_as, is_written_with, joined, told_len, written,
+};
+
+/// What stands behind the payload size of this body.
+const LONG_FIELDS: &[u8] =
+    b"\0\0\0\x02\xad\x02\xad\x02\xad\x02\xad\x02\xad\x02\xad\x02\xad\x02\xad\x02\xad\x02\xad\x02\xad\x02\xad\x02\xad\x02\xad\x02\xad\x02\xad\x02\x04\x04\x06\x40abcdefghijklmnopqrstuvwxyz012345\x08\xff\xfe\xff\xff\xff\xff\xff\xff\xff\x0a\x1f\0\0\0\0\x02\x0c\xff\xff\xff\xff\xff\xff\xff\xff\xff\x0e\0\x10\xff\xff\xff\xff\xff\xff\xff\xff\xff\x12\xfb\x11\x7a\x16\xff\xff\xff\xff\xff\xff\xff\xff\xff";
+
+/// A tagged body of 42 bytes: the tag `test`, and zeros else.
+const TEST: &[u8] =
+    b"\x02\x54\0\0\0\x02\0\0\0\0\0\0\0\0\0\0\0\0\0\0\0\0\x04\0\x06\x08test\x08\0\x0a\0\x0c\0\x10\0\x12\xfb\x11\x7a";
+
+// The GTID of this tag, the source of all `ab`, and the number 1.
+fn tagged(alloc: Global, tag: &'static [u8]) -> Result<GtidEvent, Error> {
+    Ok(GtidEvent::new_tagged(UUID, Tag::from_bytes(tag)?.into_owned(alloc)?, 1))
+}
+
+// The GTID of `BACKUP`.
+fn backup(alloc: Global) -> Result<GtidEvent, Error> {
+    Ok(
+        tagged(alloc, b"backup")?
+            .with_immediate_commit_timestamp(2000)
+            .with_original_commit_timestamp(1000)
+            .with_immediate_server_version(90200)
+            .with_original_server_version(90100),
+    )
+}
+
+// A body of 127 bytes with this sequence number in the second row of a size of one byte.
+fn long_event(alloc: Global, sequence_number: u64) -> Result<GtidEvent, Error> {
+    Ok(
+        tagged(alloc, b"abcdefghijklmnopqrstuvwxyz012345")?
+            .with_last_committed((1 << 63) - 1)
+            .with_sequence_number(sequence_number)
+            .with_immediate_commit_timestamp(u64::MAX)
+            .with_original_commit_timestamp(0)
+            .with_tx_length(u64::MAX)
+            .with_commit_group_ticket(u64::MAX),
+    )
+}
+
+// Why a body is refused.
+fn why(alloc: Global, body: &[u8]) -> Option<Error> {
+    match read_tagged(alloc, body) {
+        Ok(event) => {
+            drop(event);
+            None
+        }
+        Err(error) => Some(error),
+    }
+}
+
+// Whether what a body is read as is written as wanted.
+fn is_rewritten(alloc: Global, body: &[u8], wanted: &[u8]) -> Result<bool, Error> {
+    let event = read_tagged(alloc, body)?;
+    let is_written = is_written(alloc, &event, wanted);
+    drop(event);
+    is_written
+}
+
+// Whether an event is written as these parts.
+fn is_made_of(
+    alloc: Global,
+    event: Result<GtidEvent, Error>,
+    parts: &[&[u8]],
+) -> Result<bool, Error> {
+    let event = event?;
+    let is_made_of = is_written_as(alloc, &event, parts);
+    drop(event);
+    is_made_of
+}
+
+// Whether parts are read as this event.
+fn are_read_as(
+    alloc: Global,
+    parts: &[&[u8]],
+    event: Result<GtidEvent, Error>,
+) -> Result<bool, Error> {
+    let event = event?;
+    let is_same = is_same(read_gtid(alloc, 42, parts), &event);
+    drop(event);
+    is_same
+}
+
+#[test]
+fn tagged_gtid_is_written(rt: HostRuntime) {
+    assert!(rt; is_made_of(rt.alloc(), backup(rt.alloc()), &[BACKUP]) == Ok(true));
+}
+
+#[test]
+fn tagged_gtid_is_read(rt: HostRuntime) {
+    assert!(rt; are_read_as(rt.alloc(), &[BACKUP], backup(rt.alloc())) == Ok(true));
+}
+
+// The type that a GTID is written as, and the length that it tells.
+fn told(event: Result<GtidEvent, Error>) -> Result<(EventType, usize), Error> {
+    let event = event?;
+    let event_type = event.event_type();
+    Ok((event_type, told_len(event)))
+}
+
+#[test]
+fn tagged_gtid_tells_its_length_and_its_type(rt: HostRuntime) {
+    let told = told(backup(rt.alloc()));
+    assert!(rt; told == Ok((EventType::GTID_TAGGED_LOG_EVENT, 68)));
+}
+
+// Whether a GTID is equal to a copy of it that owns its bytes.
+fn is_copied(alloc: Global, event: Result<GtidEvent, Error>) -> Result<bool, Error> {
+    let event = event?;
+    let is_copied = is_same(event.clone(alloc)?.into_owned(alloc), &event);
+    drop(event);
+    is_copied
+}
+
+#[test]
+fn tagged_gtid_is_copied(rt: HostRuntime) {
+    assert!(rt; is_copied(rt.alloc(), backup(rt.alloc())) == Ok(true));
+}
+
+#[test]
+fn payload_size_counts_itself(rt: HostRuntime) {
+    let parts: &[&[u8]] = &[b"\x02\xfe", LONG_FIELDS];
+    assert!(rt; is_made_of(rt.alloc(), long_event(rt.alloc(), 1 << 34), parts) == Ok(true));
+    assert!(rt; are_read_as(rt.alloc(), parts, long_event(rt.alloc(), 1 << 34)) == Ok(true));
+}
+
+// Whether an event is written with so many bytes, which begin with these, and tells so many beforehand.
+fn begins_with(
+    alloc: Global,
+    event: Result<GtidEvent, Error>,
+    len: usize,
+    front: &[u8],
+) -> Result<bool, Error> {
+    let event = event?;
+    let is_told = event.len(BinlogVersion::Version4) == len;
+    Ok(is_written_with(alloc, event, len, front) && is_told)
+}
+
+#[test]
+fn payload_size_may_take_two_bytes(rt: HostRuntime) {
+    let shorter = begins_with(
+        rt.alloc(),
+        long_event(rt.alloc(), 1 << 34),
+        127,
+        b"\x02\xfe\0",
+    );
+    assert!(rt; shorter == Ok(true));
+    let longer = begins_with(
+        rt.alloc(),
+        long_event(rt.alloc(), 1 << 41),
+        129,
+        b"\x02\x05\x02\0",
+    );
+    assert!(rt; longer == Ok(true));
+}
+
+// A body of 128 bytes says so in two, though 127 in one would do.
+#[test]
+fn payload_size_is_not_the_least(rt: HostRuntime) {
+    let parts: &[&[u8]] = &[b"\x02\x01\x02", LONG_FIELDS];
+    assert!(rt; LONG_FIELDS.len() == 125);
+    assert!(rt; are_read_as(rt.alloc(), parts, long_event(rt.alloc(), 1 << 34)) == Ok(true));
+}
+
+#[test]
+fn tagged_bodies_that_end_are_refused(rt: HostRuntime) {
+    for body in [b"".as_slice(), b"\x02\xff\x01\x02", b"\x02\x08\0"] {
+        assert!(rt; why(rt.alloc(), body) == Some(Error::EndOfBody));
+    }
+}
+
+#[test]
+fn tagged_bodies_are_refused(rt: HostRuntime) {
+    let rows: [(&[u8], Invalid); 5] = [
+        (b"\0\x14\0", Invalid::SerializationVersion(0)),
+        (b"\x02\x02\0", Invalid::PayloadSize(1)),
+        (b"\x02\x06\0", Invalid::MissingTag),
+        (b"\x02\x16\0\x06\x08test\x04\x02", Invalid::Negative(2)),
+        (b"\x02\x0e\xc8\0\0\xc6\0", Invalid::UnknownField(99)),
+    ];
+    for (body, invalid) in rows {
+        assert!(rt; why(rt.alloc(), body) == Some(Error::InvalidData(invalid)));
+    }
+}
+
+#[test]
+fn tagged_fields_end_at_an_unknown_one(rt: HostRuntime) {
+    let ended = b"\x02\x18\x12\x06\x08test\xc6\xff\xff";
+    assert!(rt; is_rewritten(rt.alloc(), ended, TEST) == Ok(true));
+    let over = b"\x02\x18\x12\x06\x08test\xc6\xff\xff\0";
+    assert!(rt; why(rt.alloc(), over) == Some(Error::RemainingBytes(1)));
+}
+
+#[test]
+fn tagged_numbers_may_be_spelled_long(rt: HostRuntime) {
+    assert!(rt; is_rewritten(rt.alloc(), b"\x02\x29\0\0\x06\x08test", TEST) == Ok(true));
+}
+
+// The number of a GTID with a tag.
+fn gno_of(alloc: Global, body: &[u8]) -> Result<u64, Error> {
+    let event = read_tagged(alloc, body)?;
+    let gno = event.gno();
+    drop(event);
+    Ok(gno)
+}
+
+#[test]
+fn last_of_repeated_fields_counts(rt: HostRuntime) {
+    let body = b"\x02\x1a\0\x06\x08test\x04\x04\x04\x08";
+    assert!(rt; gno_of(rt.alloc(), body) == Ok(2));
+}
+
+#[test]
+fn tagged_bodies_are_written_as_they_were(rt: HostRuntime) {
+    assert!(rt; is_rewritten(rt.alloc(), BACKUP, BACKUP) == Ok(true));
+    assert!(rt; is_rewritten(rt.alloc(), TEST, TEST) == Ok(true));
+}
+
+// Whether each front of a body is refused for its end.
+fn are_fronts_refused(alloc: Global, body: &[u8]) -> bool {
+    for len in 0..body.len() {
+        let front = body.get(..len).unwrap_or(body);
+        if why(alloc, front) != Some(Error::EndOfBody) {
+            return false;
+        }
+    }
+    true
+}
+
+// Why a body with one byte more is refused.
+fn why_longer(alloc: Global, body: &[u8]) -> Result<Option<Error>, Error> {
+    let longer = joined(alloc, &[body, &[0]])?;
+    let why = why(alloc, longer.as_slice());
+    drop(longer);
+    Ok(why)
+}
+
+#[test]
+fn cut_tagged_bodies_are_refused(rt: HostRuntime) {
+    assert!(rt; are_fronts_refused(rt.alloc(), BACKUP));
+    assert!(rt; why_longer(rt.alloc(), BACKUP) == Ok(Some(Error::RemainingBytes(1))));
+}
+
+// A GTID with a tag whose number and last commit don't fit.
+fn late(alloc: Global) -> Result<GtidEvent, Error> {
+    Ok(
+        tagged(alloc, b"test")?
+            .with_gno(1 << 63)
+            .with_last_committed(1 << 63),
+    )
+}
+
+// Whether a value is refused for this field.
+fn is_refused<T: MySerialize + Drop>(alloc: Global, value: T, field: Field) -> Result<bool, Error> {
+    let is_refused = is_unwritable(alloc, &value, field);
+    drop(value);
+    is_refused
+}
+
+fn is_late(alloc: Global) -> Result<bool, Error> {
+    is_refused(alloc, late(alloc)?, Field::Gno)
+}
+
+fn is_tagged(alloc: Global) -> Result<bool, Error> {
+    is_refused(alloc, AnonymousGtidEvent(late(alloc)?), Field::Tag)
+}
+
+#[test]
+fn tagged_numbers_that_do_not_fit(rt: HostRuntime) {
+    assert!(rt; is_late(rt.alloc()) == Ok(true));
+    assert!(rt; is_tagged(rt.alloc()) == Ok(true));
+}
+
+// The allocation is that of the tag.
+#[test]
+fn reading_a_tag_makes_one_allocation(rt: HostRuntime) {
+    assert!(rt; gno_of(rt.alloc(), BACKUP) == Ok(1));
+}
+
+// How many bytes are written for a GTID of the tag `test`, which is lent.
+fn written_len(alloc: Global) -> Result<usize, Error> {
+    let event = GtidEvent::new_tagged(UUID, Tag::from_bytes(b"test")?, 1);
+    let bytes = written(alloc, &event);
+    drop(event);
+    let bytes = bytes?;
+    let len = bytes.len();
+    drop(bytes);
+    Ok(len)
+}
+
+// The buffer grows once.
+#[test]
+fn writing_a_tag_makes_one_allocation(rt: HostRuntime) {
+    assert!(rt; written_len(rt.alloc()) == Ok(58));
+}

@@ -1,0 +1,248 @@
+//! GTIDs without a tag.
+use crate::gtids::{HEAD, read_gtid};
+use binlog_consts::{BinlogVersion, EventType};
+use binlog_description::BinlogStruct;
+use binlog_gtids::{AnonymousGtidEvent, GtidEvent, GtidFlags};
+use binlog_wire::{Error, Field, Invalid};
+use std::alloc::Global;
+use test_reading::{
+    by_default, is_rewritten, is_same, is_unwritable, is_written_as, read, read_typed, told_len,
+    written,
+};
+
+/// [`HEAD`] without its last byte.
+const SHORT_HEAD: &[u8] = b"\0\0\0\0\0\0\0\0\0\0\0\0\0\0\0\0\0\x01\0\0\0\0\0\0";
+
+/// The zeros of a new GTID behind its head, which say that it has a clock.
+const NO_TIMES: &[u8] = b"\x02\0\0\0\0\0\0\0\0\0\0\0\0\0\0\0\0\0\0\0\0\0\0\0\0\0\0\0\0";
+
+/// A clock of zeros: its typecode, and two numbers.
+const CLOCK: &[u8] = b"\x02\0\0\0\0\0\0\0\0\0\0\0\0\0\0\0\0";
+
+// A GTID whose parts are those of a new one.
+fn new_gtid() -> GtidEvent {
+    GtidEvent::new([0; 16], 1)
+}
+
+// A GTID whose parts all differ from those of a new one.
+fn other_gtid() -> GtidEvent {
+    new_gtid()
+        .with_flags(GtidFlags::MAY_HAVE_SBR)
+        .with_sid([7; 16])
+        .with_gno(2)
+        .with_last_committed(3)
+        .with_sequence_number(4)
+        .with_immediate_commit_timestamp(5)
+        .with_original_commit_timestamp(6)
+        .with_tx_length(300)
+        .with_original_server_version(80_035)
+        .with_immediate_server_version(80_036)
+        .with_lc_typecode()
+}
+
+// Whether these parts, one behind the other, are refused so.
+fn is_refused(alloc: Global, parts: &[&[u8]], why: Error) -> bool {
+    match read_gtid(alloc, 33, parts) {
+        Ok(event) => {
+            drop(event);
+            false
+        }
+        Err(error) => error == why,
+    }
+}
+
+// Whether an event is written as these parts, which are read as it.
+fn goes_round(alloc: Global, event: GtidEvent, parts: &[&[u8]]) -> Result<bool, Error> {
+    let is_written = is_written_as(alloc, &event, parts);
+    let is_read = is_same(read_gtid(alloc, 33, parts), &event);
+    drop(event);
+    Ok(is_written? && is_read?)
+}
+
+#[test]
+fn new_gtid_is_written_whole(rt: HostRuntime) {
+    assert!(rt; goes_round(rt.alloc(), new_gtid(), &[HEAD, NO_TIMES]) == Ok(true));
+}
+
+#[test]
+fn new_gtid_tells_its_length_and_its_type(rt: HostRuntime) {
+    assert!(rt; told_len(new_gtid()) == 54);
+    assert!(rt; new_gtid().event_type() == EventType::GTID_EVENT);
+}
+
+/// What the getters answer: the typecode, the number, the immediate time, the length, and both versions.
+type Says = (Option<u8>, u64, u64, u64, u32, u32);
+
+// What a body of this raw type says.
+fn says(alloc: Global, raw_type: u8, parts: &[&[u8]]) -> Result<Says, Error> {
+    let event = read_gtid(alloc, raw_type, parts)?;
+    let says = (
+        event.lc_typecode(),
+        event.gno(),
+        event.immediate_commit_timestamp(),
+        event.tx_length(),
+        event.immediate_server_version(),
+        event.original_server_version(),
+    );
+    drop(event);
+    Ok(says)
+}
+
+#[test]
+fn gtid_without_a_clock_is_read(rt: HostRuntime) {
+    for raw_type in [33, 34] {
+        let says = says(rt.alloc(), raw_type, &[HEAD]);
+        assert!(rt; says == Ok((None, 1, 0, 0, 999_999, 999_999)));
+    }
+}
+
+#[test]
+fn gtid_without_a_clock_is_written(rt: HostRuntime) {
+    assert!(rt; is_rewritten::<GtidEvent>(rt.alloc(), HEAD, HEAD) == Ok(true));
+    assert!(rt; is_rewritten::<AnonymousGtidEvent>(rt.alloc(), HEAD, HEAD) == Ok(true));
+}
+
+#[test]
+fn other_lengths_are_no_gtid_without_a_clock(rt: HostRuntime) {
+    assert!(rt; is_refused(rt.alloc(), &[HEAD, b"\x01"], Error::RemainingBytes(1)));
+    assert!(rt; is_refused(rt.alloc(), &[SHORT_HEAD], Error::EndOfBody));
+}
+
+#[test]
+fn length_and_versions_stand_behind_no_times(rt: HostRuntime) {
+    let says = says(rt.alloc(), 33, &[HEAD, CLOCK, b"\x05\x40\x5f\x01\0"]);
+    assert!(rt; says == Ok((Some(2), 1, 0, 5, 89_920, 89_920)));
+}
+
+#[test]
+fn clock_may_stand_alone(rt: HostRuntime) {
+    let says = says(rt.alloc(), 33, &[HEAD, CLOCK]);
+    assert!(rt; says == Ok((Some(2), 1, 0, 0, 999_999, 999_999)));
+}
+
+#[test]
+fn cut_parts_are_refused(rt: HostRuntime) {
+    let cut_clock = b"\x02\0\0\0\0\0\0\0\0\0\0\0\0\0\0\0";
+    let no_length = Error::InvalidData(Invalid::LenEnc(0xfb));
+    assert!(rt;
+        is_refused(
+            rt.alloc(),
+            &[HEAD, CLOCK, b"\0\0"],
+            Error::RemainingBytes(1)
+        )
+    );
+    assert!(rt; is_refused(rt.alloc(), &[HEAD, CLOCK, b"\xfb"], no_length));
+    assert!(rt; is_refused(rt.alloc(), &[HEAD, cut_clock], Error::EndOfBody));
+}
+
+// Whether a GTID that is late in this way is refused for this field.
+fn is_late(alloc: Global, event: GtidEvent, field: Field) -> bool {
+    let is_late = is_unwritable(alloc, &event, field) == Ok(true);
+    drop(event);
+    is_late
+}
+
+#[test]
+fn times_that_do_not_fit_are_unwritable(rt: HostRuntime) {
+    let late = new_gtid().with_immediate_commit_timestamp(1 << 55);
+    assert!(rt; is_late(rt.alloc(), late, Field::ImmediateCommitTimestamp));
+    let later = new_gtid()
+        .with_original_commit_timestamp(1 << 56)
+        .with_immediate_server_version(1 << 31);
+    assert!(rt; is_late(rt.alloc(), later, Field::OriginalCommitTimestamp));
+}
+
+#[test]
+fn latest_times_are_written(rt: HostRuntime) {
+    let event = new_gtid()
+        .with_immediate_commit_timestamp((1 << 55) - 1)
+        .with_original_commit_timestamp((1 << 56) - 1);
+    let parts: &[&[u8]] = &[HEAD, CLOCK, &[0xff; 14], &[0; 5]];
+    assert!(rt; goes_round(rt.alloc(), event, parts) == Ok(true));
+}
+
+// Whether a body of this raw type is refused as neither of the two events without a tag.
+fn is_other(alloc: Global, raw_type: u8) -> bool {
+    let refusal = Some(Error::WrongEventType(raw_type));
+    let gtid = read_typed::<GtidEvent>(alloc, by_default(), raw_type, HEAD).err();
+    let anonymous = read_typed::<AnonymousGtidEvent>(alloc, by_default(), raw_type, HEAD).err();
+    gtid == refusal && anonymous == refusal
+}
+
+#[test]
+fn other_types_hold_no_gtid(rt: HostRuntime) {
+    for raw_type in [0, 16, 32, 35, 41, 43, 255] {
+        assert!(rt; is_other(rt.alloc(), raw_type));
+    }
+}
+
+// Whether the getters of that GTID answer what it was given.
+fn has_its_parts(event: GtidEvent) -> bool {
+    let has_its_parts = event.flags_raw() == 1
+        && event.flags() == GtidFlags::MAY_HAVE_SBR
+        && event.sid() == [7; 16]
+        && (event.last_committed(), event.sequence_number()) == (3, 4)
+        && event.original_commit_timestamp() == 6
+        && event.lc_typecode() == Some(2);
+    drop(event);
+    has_its_parts
+}
+
+#[test]
+fn gtid_has_the_parts_that_it_was_given(rt: HostRuntime) {
+    assert!(rt; has_its_parts(other_gtid()));
+}
+
+// Whether that GTID is equal to a copy of it that owns its bytes.
+fn is_copied(alloc: Global, event: GtidEvent) -> Result<bool, Error> {
+    let is_copied = is_same(event.clone(alloc)?.into_owned(alloc), &event);
+    drop(event);
+    is_copied
+}
+
+#[test]
+fn gtid_is_copied(rt: HostRuntime) {
+    assert!(rt; is_copied(rt.alloc(), other_gtid()) == Ok(true));
+}
+
+fn is_anonymous_copied(alloc: Global, event: AnonymousGtidEvent) -> Result<bool, Error> {
+    let is_copied = is_same(event.clone(alloc)?.into_owned(alloc), &event);
+    drop(event);
+    is_copied
+}
+
+#[test]
+fn anonymous_gtid_is_copied(rt: HostRuntime) {
+    assert!(rt; is_anonymous_copied(rt.alloc(), AnonymousGtidEvent(other_gtid())) == Ok(true));
+}
+
+// Whether what is written of an anonymous GTID is read as that event; its length is told beforehand.
+fn is_anonymous_read_back(alloc: Global, event: AnonymousGtidEvent) -> Result<bool, Error> {
+    let bytes = written(alloc, &event)?;
+    let is_told = event.len(BinlogVersion::Version4) == bytes.len();
+    let is_read = is_same(read(alloc, bytes.as_slice()), &event);
+    drop(bytes);
+    drop(event);
+    Ok(is_told && is_read?)
+}
+
+#[test]
+fn anonymous_gtid_is_written_and_read(rt: HostRuntime) {
+    assert!(rt; is_anonymous_read_back(rt.alloc(), AnonymousGtidEvent(other_gtid())) == Ok(true));
+}
+
+// How many bytes are written for a GTID.
+fn written_len(alloc: Global, event: GtidEvent) -> Result<usize, Error> {
+    let bytes = written(alloc, &event);
+    drop(event);
+    let bytes = bytes?;
+    let len = bytes.len();
+    drop(bytes);
+    Ok(len)
+}
+
+// The buffer grows once.
+#[test]
+fn writing_makes_one_allocation(rt: HostRuntime) {
+    assert!(rt; written_len(rt.alloc(), new_gtid()) == Ok(54));
+}
