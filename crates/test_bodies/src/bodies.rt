@@ -1,71 +1,115 @@
-//! What the bodies of events are read as and written as, by rows from outside.
-use crate::descriptions::DESCRIPTION;
+//! What the bodies of events are read as and written as, by rows from outside. What holds values is asked in functions
+//! without a runtime: their proofs are short.
 use binlog_bodies::{
-    BeginLoadQueryEvent, BinlogStruct, BinlogVersion, Error, IncidentEvent, IntvarEvent, Invalid,
-    RandEvent, RotateEvent, RowsQueryEvent, XidEvent, laws,
+    BeginLoadQueryEvent, Error, IncidentEvent, IntvarEvent, Invalid, RandEvent, RotateEvent,
+    RowsQueryEvent, XidEvent, laws,
 };
 use binlog_consts::{IncidentType, IntvarEventType, UnknownIncidentType};
-use binlog_description::{DescriptionRef, laws as description_laws};
-use binlog_wire::{MySerialize, RawInt};
-use std::borrow::CowSlice;
-use std::test::Fail;
-use test_reading::{is_written, read, read_under, refusal, stating};
+use binlog_description::laws as description_laws;
+use binlog_wire::RawInt;
+use std::alloc::Global;
+use std::borrow::{CowSlice, CowStr};
+use test_reading::{
+    by_default, is_read_as, is_rewritten, is_same, is_text, is_written, read, refusal,
+    refusal_under, stating, told_len,
+};
 
 /// Eight bytes of 11.
-const ELEVEN: &[u8] = b"\x0b\0\0\0\0\0\0\0";
+pub(crate) const ELEVEN: &[u8] = b"\x0b\0\0\0\0\0\0\0";
 
 /// A rotate to the start of a second file.
 const ROTATE: &[u8] = b"\x04\0\0\0\0\0\0\0master-bin.000002";
 
-// The event of that body.
+/// Seeds of 11 and 2^63.
+const SEEDS: &[u8] = b"\x0b\0\0\0\0\0\0\0\0\0\0\0\0\0\0\x80";
+
+/// The statement that made row events.
+const STATEMENT: &[u8] = b"\0insert into t1 values (1)";
+
+/// The first five bytes of a file.
+const BLOCK: &[u8] = b"\x01\x02\0\0block";
+
+/// A message that is too long, and its front that isn't.
+const MESSAGE: [u8; 300] = [b'm'; 300];
+
+const CUT_MESSAGE: [u8; 255] = [b'm'; 255];
+
+// The event of `ROTATE`.
 fn rotate() -> RotateEvent<'static> {
     RotateEvent::new(4, CowSlice::Borrowed(b"master-bin.000002"))
 }
 
-#[test]
-fn rotate_of_the_sample_is_read(rt: HostRuntime) -> Result<(), Fail> {
-    let event: RotateEvent = read(rt.alloc(), ROTATE)?;
-    assert!(rt; event.position() == 4);
-    assert!(rt; event.name_raw() == b"master-bin.000002".as_slice());
-    assert!(rt; event.name(rt.alloc())?.as_str() == "master-bin.000002");
-    assert!(rt; !event.is_fake());
-    assert!(rt; event == rotate());
-    Ok(())
+// Whether a rotate goes to this position of this file, and whether it is fake.
+fn goes_to(event: RotateEvent<'_>, position: u64, name: &[u8], is_fake: bool) -> bool {
+    let goes_to = event.position() == position
+        && event.name_raw() == name
+        && event.is_fake() == is_fake;
+    drop(event);
+    goes_to
+}
+
+// Whether the name of its file is this text.
+fn is_named(alloc: Global, event: RotateEvent<'_>, name: &str) -> Result<bool, Error> {
+    let is_text = is_text(event.name(alloc), name);
+    drop(event);
+    is_text
 }
 
 #[test]
-fn rotate_is_written(rt: HostRuntime) -> Result<(), Fail> {
-    assert!(rt; rotate().len(BinlogVersion::Version4) == 25);
-    assert!(rt; is_written(rt.alloc(), &rotate(), ROTATE)?);
-    Ok(())
+fn rotate_of_the_sample_is_read(rt: HostRuntime) {
+    assert!(rt; is_read_as(rt.alloc(), by_default(), ROTATE, rotate()));
+    assert!(rt; goes_to(rotate(), 4, b"master-bin.000002", false));
+    assert!(rt; is_named(rt.alloc(), rotate(), "master-bin.000002") == Ok(true));
 }
 
 #[test]
-fn rotate_is_copied(rt: HostRuntime) -> Result<(), Fail> {
-    let copy = rotate().clone(rt.alloc())?.into_owned(rt.alloc())?;
-    assert!(rt; copy == rotate());
-    Ok(())
+fn rotate_is_written(rt: HostRuntime) {
+    assert!(rt; told_len(rotate()) == 25);
+    assert!(rt; is_rewritten::<RotateEvent>(rt.alloc(), ROTATE, ROTATE) == Ok(true));
 }
 
-#[test]
-fn rotate_to_position_0_is_fake(rt: HostRuntime) -> Result<(), Fail> {
-    let fake = rotate()
-        .with_position(0)
-        .with_name(CowSlice::Borrowed(b"a\xff"));
-    assert!(rt; fake.is_fake());
-    assert!(rt; fake.name(rt.alloc())?.as_str() == "a\u{fffd}");
-    Ok(())
-}
-
-#[test]
-fn rotate_is_shown_by_its_parts(rt: HostRuntime) -> Result<(), Fail> {
+// Whether the rotate is equal to a copy of it that owns its bytes.
+fn is_rotate_copied(alloc: Global) -> Result<bool, Error> {
     let event = rotate();
-    let text = format!(in rt.alloc(); "{event:?}")?;
-    assert!(rt;
-        text.as_str()
-            == "RotateEvent { position: 4, name: [109, 97, 115, 116, 101, 114, 45, 98, 105, 110, 46, 48, 48, 48, 48, 48, 50] }"
-    );
-    Ok(())
+    let is_copied = is_same(event.clone(alloc)?.into_owned(alloc), &event);
+    drop(event);
+    is_copied
+}
+
+#[test]
+fn rotate_is_copied(rt: HostRuntime) {
+    assert!(rt; is_rotate_copied(rt.alloc()) == Ok(true));
+}
+
+// A rotate that no server has written to its own file.
+fn fake() -> RotateEvent<'static> {
+    rotate()
+        .with_position(0)
+        .with_name(CowSlice::Borrowed(b"a\xff"))
+}
+
+#[test]
+fn rotate_to_position_0_is_fake(rt: HostRuntime) {
+    assert!(rt; goes_to(fake(), 0, b"a\xff", true));
+    assert!(rt; is_named(rt.alloc(), fake(), "a\u{fffd}") == Ok(true));
+}
+
+// Whether the rotate is shown so.
+fn is_rotate_shown(alloc: Global, wanted: &str) -> Result<bool, Error> {
+    let event = rotate();
+    let text = format!(in alloc; "{event:?}");
+    drop(event);
+    let text = text?;
+    let is_shown = text.as_str() == wanted;
+    drop(text);
+    Ok(is_shown)
+}
+
+#[test]
+fn rotate_is_shown_by_its_parts(rt: HostRuntime) {
+    let wanted =
+        "RotateEvent { position: 4, name: [109, 97, 115, 116, 101, 114, 45, 98, 105, 110, 46, 48, 48, 48, 48, 48, 50] }";
+    assert!(rt; is_rotate_shown(rt.alloc(), wanted) == Ok(true));
 }
 
 #[test]
@@ -88,25 +132,36 @@ fn bytes_left_over_are_refused(rt: HostRuntime) {
 }
 
 #[test]
-fn xid_is_read_and_written(rt: HostRuntime) -> Result<(), Fail> {
-    let event: XidEvent = read(rt.alloc(), ELEVEN)?;
-    assert!(rt; event == XidEvent { xid: 11 });
-    assert!(rt; event.len(BinlogVersion::Version4) == 8);
-    assert!(rt; is_written(rt.alloc(), &event, ELEVEN)?);
-    Ok(())
+fn xid_is_read_and_written(rt: HostRuntime) {
+    assert!(rt; is_read_as(rt.alloc(), by_default(), ELEVEN, XidEvent { xid: 11 }));
+    assert!(rt; is_rewritten::<XidEvent>(rt.alloc(), ELEVEN, ELEVEN) == Ok(true));
+    assert!(rt; told_len(XidEvent { xid: 11 }) == 8);
+}
+
+/// Post-header lengths of 0, and of 2 for the end of a transaction.
+const XID_OF_TWO: &[u8] = &[0, 0, 0, 0, 0, 0, 0, 0, 0, 0, 0, 0, 0, 0, 0, 2];
+
+// Whether a body is read as that end of a transaction where those lengths are stated.
+fn is_eleven_behind_two(alloc: Global, body: &[u8]) -> bool {
+    let fde = stating(XID_OF_TWO);
+    let is_eleven = is_read_as(alloc, fde.as_ref(), body, XidEvent { xid: 11 });
+    drop(fde);
+    is_eleven
+}
+
+// Why a body is refused there.
+fn refusal_behind_two(alloc: Global, body: &[u8]) -> Option<Error> {
+    let fde = stating(XID_OF_TWO);
+    let refusal = refusal_under::<XidEvent>(alloc, fde.as_ref(), body);
+    drop(fde);
+    refusal
 }
 
 #[test]
-fn xid_stands_behind_its_post_header(rt: HostRuntime) -> Result<(), Fail> {
-    let alloc = rt.alloc();
-    let lengths = [0, 0, 0, 0, 0, 0, 0, 0, 0, 0, 0, 0, 0, 0, 0, 2];
-    let stated = stating(&lengths);
-    let fde = stated.as_ref();
-    let event: XidEvent = read_under(alloc, fde, b"\xff\xff\x0b\0\0\0\0\0\0\0")?;
-    assert!(rt; event == XidEvent { xid: 11 });
-    assert!(rt; read_under::<XidEvent>(alloc, fde, b"\xff").err() == Some(Error::EndOfBody));
-    assert!(rt; read_under::<XidEvent>(alloc, fde, ELEVEN).err() == Some(Error::EndOfBody));
-    Ok(())
+fn xid_stands_behind_its_post_header(rt: HostRuntime) {
+    assert!(rt; is_eleven_behind_two(rt.alloc(), b"\xff\xff\x0b\0\0\0\0\0\0\0"));
+    assert!(rt; refusal_behind_two(rt.alloc(), b"\xff") == Some(Error::EndOfBody));
+    assert!(rt; refusal_behind_two(rt.alloc(), ELEVEN) == Some(Error::EndOfBody));
 }
 
 #[test]
@@ -135,183 +190,207 @@ fn integer_variables_are_read(rt: HostRuntime) {
     }
 }
 
-#[test]
-fn integer_variable_is_written(rt: HostRuntime) -> Result<(), Fail> {
-    let event = IntvarEvent::new(IntvarEventType::INVALID_INT_EVENT, 0)
+// An integer variable, set by its parts.
+fn last_insert_id() -> IntvarEvent {
+    IntvarEvent::new(IntvarEventType::INVALID_INT_EVENT, 0)
         .with_subtype(IntvarEventType::LAST_INSERT_ID_EVENT)
-        .with_value(258);
-    assert!(rt; event.subtype() == IntvarEventType::LAST_INSERT_ID_EVENT);
-    assert!(rt; event.value() == 258);
-    assert!(rt; event.len(BinlogVersion::Version4) == 9);
-    assert!(rt; is_written(rt.alloc(), &event, b"\x01\x02\x01\0\0\0\0\0\0")?);
-    Ok(())
+        .with_value(258)
 }
 
-/// Seeds of 11 and 2^63.
-const SEEDS: &[u8] = b"\x0b\0\0\0\0\0\0\0\0\0\0\0\0\0\0\x80";
+#[test]
+fn integer_variable_has_its_parts(rt: HostRuntime) {
+    assert!(rt; last_insert_id().subtype() == IntvarEventType::LAST_INSERT_ID_EVENT);
+    assert!(rt; last_insert_id().value() == 258);
+    assert!(rt; told_len(last_insert_id()) == 9);
+}
 
 #[test]
-fn random_seeds(rt: HostRuntime) -> Result<(), Fail> {
-    let event: RandEvent = read(rt.alloc(), SEEDS)?;
-    let wanted = RandEvent {
+fn integer_variable_is_written(rt: HostRuntime) {
+    let body = b"\x01\x02\x01\0\0\0\0\0\0";
+    assert!(rt; is_written(rt.alloc(), &last_insert_id(), body) == Ok(true));
+    assert!(rt; is_rewritten::<IntvarEvent>(rt.alloc(), body, body) == Ok(true));
+}
+
+// The event of `SEEDS`.
+fn seeds() -> RandEvent {
+    RandEvent {
         seed1: RawInt::new(11),
         seed2: RawInt::new(1 << 63),
-    };
-    assert!(rt; event == wanted);
-    assert!(rt; event.clone()? == event);
-    assert!(rt; event.len(BinlogVersion::Version4) == 16);
-    assert!(rt; is_written(rt.alloc(), &event, SEEDS)?);
-    Ok(())
+    }
+}
+
+// Whether they are equal to a copy of them.
+fn are_seeds_copied() -> Result<bool, Error> {
+    let copy = seeds().clone()?;
+    let is_copied = copy == seeds();
+    drop(copy);
+    Ok(is_copied)
 }
 
 #[test]
-fn message_of_an_incident_is_cut_at_255_bytes(rt: HostRuntime) -> Result<(), Fail> {
-    let message = [b'm'; 300];
-    let event = IncidentEvent::new(IncidentType::LOST_EVENTS, CowSlice::Borrowed(&message));
-    assert!(rt; event.message_raw() == [b'm'; 255].as_slice());
-    assert!(rt; event.message(rt.alloc())?.as_str().len() == 255);
-    assert!(rt; event.len(BinlogVersion::Version4) == 258);
-    Ok(())
+fn random_seeds(rt: HostRuntime) {
+    assert!(rt; is_read_as(rt.alloc(), by_default(), SEEDS, seeds()));
+    assert!(rt; is_rewritten::<RandEvent>(rt.alloc(), SEEDS, SEEDS) == Ok(true));
+    assert!(rt; are_seeds_copied() == Ok(true));
+    assert!(rt; told_len(seeds()) == 16);
+}
+
+// An incident with the message that is too long.
+fn incident<'a>() -> IncidentEvent<'a> {
+    IncidentEvent::new(IncidentType::LOST_EVENTS, CowSlice::Borrowed(&MESSAGE))
+}
+
+// How many bytes a text has.
+fn len_of(text: Result<CowStr<'_, Global>, Error>) -> Result<usize, Error> {
+    let text = text?;
+    let len = text.as_str().len();
+    drop(text);
+    Ok(len)
+}
+
+// Whether an incident has this message, and a text of as many bytes.
+fn has_message(alloc: Global, event: IncidentEvent<'_>, message: &[u8]) -> Result<bool, Error> {
+    let is_raw = event.message_raw() == message;
+    let len = len_of(event.message(alloc));
+    drop(event);
+    Ok(is_raw && len? == message.len())
 }
 
 #[test]
-fn cut_message_of_an_incident_is_written(rt: HostRuntime) -> Result<(), Fail> {
-    let message = [b'm'; 300];
-    let event = IncidentEvent::new(IncidentType::LOST_EVENTS, CowSlice::Borrowed(&message));
-    let mut wanted = Vec::from_slice(rt.alloc(), b"\x01\0\xff")?;
-    wanted.extend_from_slice(&[b'm'; 255])?;
-    assert!(rt; is_written(rt.alloc(), &event, &wanted)?);
-    let cut: IncidentEvent = read(rt.alloc(), &wanted)?;
-    assert!(rt; cut.message_raw() == [b'm'; 255].as_slice());
-    assert!(rt; cut != event);
-    Ok(())
+fn message_of_an_incident_is_cut_at_255_bytes(rt: HostRuntime) {
+    assert!(rt; has_message(rt.alloc(), incident(), &CUT_MESSAGE) == Ok(true));
+    assert!(rt; told_len(incident()) == 258);
+}
+
+// Whether what is written of that incident is this front and the cut message, which are read as another.
+fn is_cut_written(alloc: Global, front: &[u8]) -> Result<bool, Error> {
+    let mut wanted = Vec::from_slice(alloc, front)?;
+    wanted.extend_from_slice(&CUT_MESSAGE)?;
+    let event = incident();
+    let is_written = is_written(alloc, &event, wanted.as_slice());
+    let is_same = is_same(read(alloc, wanted.as_slice()), &event);
+    drop(event);
+    drop(wanted);
+    Ok(is_written? && !is_same?)
 }
 
 #[test]
-fn incident_is_copied(rt: HostRuntime) -> Result<(), Fail> {
-    let message = [b'm'; 300];
-    let event = IncidentEvent::new(IncidentType::LOST_EVENTS, CowSlice::Borrowed(&message));
-    let copy = event.clone(rt.alloc())?.into_owned(rt.alloc())?;
-    assert!(rt; copy == event);
-    Ok(())
+fn cut_message_of_an_incident_is_written(rt: HostRuntime) {
+    assert!(rt; is_cut_written(rt.alloc(), b"\x01\0\xff") == Ok(true));
+}
+
+// Whether that incident is equal to a copy of it that owns its bytes.
+fn is_incident_copied(alloc: Global) -> Result<bool, Error> {
+    let event = incident();
+    let is_copied = is_same(event.clone(alloc)?.into_owned(alloc), &event);
+    drop(event);
+    is_copied
 }
 
 #[test]
-fn incident_has_a_type_that_may_be_unknown(rt: HostRuntime) -> Result<(), Fail> {
-    let event = IncidentEvent::new(IncidentType::LOST_EVENTS, CowSlice::Borrowed(b"m"))
+fn incident_is_copied(rt: HostRuntime) {
+    assert!(rt; is_incident_copied(rt.alloc()) == Ok(true));
+}
+
+// The type of an incident.
+fn type_of(event: IncidentEvent<'_>) -> Result<IncidentType, UnknownIncidentType> {
+    let incident_type = event.incident_type();
+    drop(event);
+    incident_type
+}
+
+fn type_in(alloc: Global, body: &[u8]) -> Result<Result<IncidentType, UnknownIncidentType>, Error> {
+    Ok(type_of(read(alloc, body)?))
+}
+
+#[test]
+fn incident_has_a_type_that_may_be_unknown(rt: HostRuntime) {
+    let changed = incident()
         .with_incident_type(IncidentType::NONE)
         .with_message(CowSlice::Borrowed(b""));
-    assert!(rt; event.incident_type() == Ok(IncidentType::NONE));
-    let unknown: IncidentEvent = read(rt.alloc(), b"\x02\x01\x01m")?;
-    assert!(rt; unknown.incident_type() == Err(UnknownIncidentType(258)));
-    Ok(())
+    assert!(rt; type_of(changed) == Ok(IncidentType::NONE));
+    let unknown = type_in(rt.alloc(), b"\x02\x01\x01m");
+    assert!(rt; unknown == Ok(Err(UnknownIncidentType(258))));
+}
+
+// The event of `STATEMENT`.
+fn statement() -> RowsQueryEvent<'static> {
+    RowsQueryEvent::new(CowSlice::Borrowed(b"insert into t1 values (1)"))
+}
+
+// Whether its statement is this text.
+fn is_statement(alloc: Global, wanted: &str) -> Result<bool, Error> {
+    let event = statement();
+    let is_raw = event.query_raw() == wanted.as_bytes();
+    let is_text = is_text(event.query(alloc), wanted);
+    drop(event);
+    Ok(is_raw && is_text?)
 }
 
 #[test]
-fn statement_of_rows_is_read(rt: HostRuntime) -> Result<(), Fail> {
-    let event: RowsQueryEvent = read(rt.alloc(), b"\xffinsert into t1 values (1)")?;
-    assert!(rt; event.query_raw() == b"insert into t1 values (1)".as_slice());
-    assert!(rt; event.query(rt.alloc())?.as_str() == "insert into t1 values (1)");
-    assert!(rt; event.len(BinlogVersion::Version4) == 26);
-    Ok(())
+fn statement_of_rows_is_read(rt: HostRuntime) {
+    let body = b"\xffinsert into t1 values (1)".as_slice();
+    assert!(rt; is_read_as(rt.alloc(), by_default(), body, statement()));
+    assert!(rt; is_statement(rt.alloc(), "insert into t1 values (1)") == Ok(true));
 }
 
 #[test]
-fn statement_of_rows_is_written(rt: HostRuntime) -> Result<(), Fail> {
-    let event = RowsQueryEvent::new(CowSlice::Borrowed(b"insert into t1 values (1)"));
-    assert!(rt; is_written(rt.alloc(), &event, b"\0insert into t1 values (1)")?);
-    let copy = event.clone(rt.alloc())?.into_owned(rt.alloc())?;
-    assert!(rt; copy == event);
-    Ok(())
+fn statement_of_rows_is_written(rt: HostRuntime) {
+    let body = b"\xffinsert into t1 values (1)".as_slice();
+    assert!(rt; is_rewritten::<RowsQueryEvent>(rt.alloc(), body, STATEMENT) == Ok(true));
+    assert!(rt; told_len(statement()) == 26);
 }
 
-// The first five bytes of a file.
+// Whether the statement is equal to a copy of it that owns its bytes.
+fn is_statement_copied(alloc: Global) -> Result<bool, Error> {
+    let event = statement();
+    let is_copied = is_same(event.clone(alloc)?.into_owned(alloc), &event);
+    drop(event);
+    is_copied
+}
+
+#[test]
+fn statement_of_rows_is_copied(rt: HostRuntime) {
+    assert!(rt; is_statement_copied(rt.alloc()) == Ok(true));
+}
+
+// The event of `BLOCK`.
 fn block() -> BeginLoadQueryEvent<'static> {
     BeginLoadQueryEvent::new(0)
         .with_file_id(513)
         .with_block_data(CowSlice::Borrowed(b"block"))
 }
 
-#[test]
-fn first_block_of_a_file_is_read(rt: HostRuntime) -> Result<(), Fail> {
-    let event: BeginLoadQueryEvent = read(rt.alloc(), b"\x01\x02\0\0block")?;
-    assert!(rt; event.file_id() == 513);
-    assert!(rt; event.block_data() == b"block".as_slice());
-    assert!(rt; event == block());
-    Ok(())
+// Whether its getters answer what it was given.
+fn has_its_parts(event: BeginLoadQueryEvent<'_>) -> bool {
+    let has_its_parts = event.file_id() == 513 && event.block_data() == b"block".as_slice();
+    drop(event);
+    has_its_parts
 }
 
 #[test]
-fn first_block_of_a_file_is_written(rt: HostRuntime) -> Result<(), Fail> {
-    assert!(rt; block().len(BinlogVersion::Version4) == 9);
-    assert!(rt; is_written(rt.alloc(), &block(), b"\x01\x02\0\0block")?);
-    let copy = block().clone(rt.alloc())?.into_owned(rt.alloc())?;
-    assert!(rt; copy == block());
-    Ok(())
-}
-
-// Where one allocation is refused (tests/refused_memory.py), the answer to the call that asked for it is want of memory, and
-// what stood there before stays; every other answer is as ever.
-#[test]
-fn refused_memory_changes_nothing(rt: HostRuntime) -> Result<(), Fail> {
-    let mut bytes = Vec::new(rt.alloc());
-    let event = RotateEvent::new(4, CowSlice::Borrowed(b"a\xff"));
-    match event.serialize(rt.alloc(), &mut bytes) {
-        Ok(()) => assert!(rt; bytes.as_slice() == b"\x04\0\0\0\0\0\0\0a\xff".as_slice()),
-        Err(error) => {
-            assert!(rt; error == Error::Memory);
-            assert!(rt; bytes.is_empty());
-        }
-    }
-    match event.name(rt.alloc()) {
-        Ok(name) => assert!(rt; name.as_str() == "a\u{fffd}"),
-        Err(error) => assert!(rt; error == Error::Memory),
-    }
-    Ok(())
+fn first_block_of_a_file_is_read(rt: HostRuntime) {
+    assert!(rt; is_read_as(rt.alloc(), by_default(), BLOCK, block()));
+    assert!(rt; has_its_parts(block()));
 }
 
 #[test]
-fn refused_memory_makes_no_copy(rt: HostRuntime) -> Result<(), Fail> {
-    let event = RotateEvent::new(4, CowSlice::Borrowed(b"a\xff"));
-    match event.clone(rt.alloc())?.into_owned(rt.alloc()) {
-        Ok(owned) => match owned.clone(rt.alloc()) {
-            Ok(copy) => assert!(rt; copy == owned),
-            Err(error) => assert!(rt; error == Error::Memory),
-        },
-        Err(error) => assert!(rt; error == Error::Memory),
-    }
-    Ok(())
+fn first_block_of_a_file_is_written(rt: HostRuntime) {
+    assert!(rt; is_rewritten::<BeginLoadQueryEvent>(rt.alloc(), BLOCK, BLOCK) == Ok(true));
+    assert!(rt; told_len(block()) == 9);
 }
 
-// Under a lent description: it asks for no memory at all.
-#[test]
-fn reading_takes_no_memory(rt: HostRuntime) -> Result<(), Fail> {
-    let alloc = rt.alloc();
-    let fde = DescriptionRef::read(DESCRIPTION)?;
-    let rotate: RotateEvent = read_under(alloc, fde, b"\x04\0\0\0\0\0\0\0a")?;
-    assert!(rt; rotate.position() == 4);
-    assert!(rt; read_under::<XidEvent>(alloc, fde, ELEVEN)?.xid == 11);
-    let intvar: IntvarEvent = read_under(alloc, fde, b"\x02\x0b\0\0\0\0\0\0\0")?;
-    assert!(rt; intvar.value() == 11);
-    Ok(())
+// Whether the block is equal to a copy of it that owns its bytes.
+fn is_block_copied(alloc: Global) -> Result<bool, Error> {
+    let event = block();
+    let is_copied = is_same(event.clone(alloc)?.into_owned(alloc), &event);
+    drop(event);
+    is_copied
 }
 
 #[test]
-fn reading_further_bodies_takes_no_memory(rt: HostRuntime) -> Result<(), Fail> {
-    let rand: RandEvent = read(rt.alloc(), b"\x0b\0\0\0\0\0\0\0\x0c\0\0\0\0\0\0\0")?;
-    assert!(rt; rand.seed2.0 == 12);
-    let incident: IncidentEvent = read(rt.alloc(), b"\x01\0\x01m")?;
-    assert!(rt; incident.message_raw() == b"m".as_slice());
-    Ok(())
-}
-
-#[test]
-fn reading_texts_and_blocks_takes_no_memory(rt: HostRuntime) -> Result<(), Fail> {
-    let query: RowsQueryEvent = read(rt.alloc(), b"\0q")?;
-    assert!(rt; query.query_raw() == b"q".as_slice());
-    let block: BeginLoadQueryEvent = read(rt.alloc(), b"\x01\0\0\0b")?;
-    assert!(rt; block.block_data() == b"b".as_slice());
-    Ok(())
+fn first_block_of_a_file_is_copied(rt: HostRuntime) {
+    assert!(rt; is_block_copied(rt.alloc()) == Ok(true));
 }
 
 #[test]

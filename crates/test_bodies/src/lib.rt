@@ -6,3 +6,5 @@
 mod bodies;
 #[cfg(test)]
 mod descriptions;
+#[cfg(test)]
+mod memory;
