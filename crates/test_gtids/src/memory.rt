@@ -67,7 +67,7 @@ fn is_tagged_copied(alloc: Global) -> Result<bool, Error> {
     is_copied
 }
 
-fn are_previous_copied(alloc: Global) -> Result<bool, Error> {
+pub(crate) fn are_previous_copied(alloc: Global) -> Result<bool, Error> {
     let event: PreviousGtidsEvent = read(alloc, TAGGED_SID)?;
     let is_copied = is_same(previous_copied(alloc, &event), &event);
     drop(event);

@@ -1,5 +1,6 @@
 //! The GTIDs of earlier files.
 use crate::gtids::{TAGGED_SID, UUID};
+use crate::memory::are_previous_copied;
 use binlog_gtids::{PreviousGtidsEvent, PreviousGtidsSid};
 use binlog_numbers::{GnoInterval, Tag};
 use binlog_wire::{Error, Invalid};
@@ -127,4 +128,9 @@ fn tag_that_is_none_is_refused(rt: HostRuntime) {
     let parts: &[&[u8]] = &[b"\x01\x01\0\0\0\0\0\x01", &UUID, b"\x049a", &[0; 8]];
     let refused = are_refused(rt.alloc(), parts, Error::InvalidData(Invalid::Tag));
     assert!(rt; refused == Ok(true));
+}
+
+#[test]
+fn previous_gtids_are_copied(rt: HostRuntime) {
+    assert!(rt; are_previous_copied(rt.alloc()) == Ok(true));
 }

@@ -73,14 +73,14 @@ fn copied_of_any_type(alloc: Global, event: &RowsEvent<'_>) -> Result<RowsEvent<
 }
 
 // Whether an event is equal to such a copy.
-fn is_map_copied(alloc: Global) -> Result<bool, Error> {
+pub(crate) fn is_map_copied(alloc: Global) -> Result<bool, Error> {
     let map: TableMapEvent = read(alloc, ONE_COLUMN)?;
     let is_copied = is_same(map_copied(alloc, &map), &map);
     drop(map);
     is_copied
 }
 
-fn are_updated_rows_copied(alloc: Global) -> Result<bool, Error> {
+pub(crate) fn are_updated_rows_copied(alloc: Global) -> Result<bool, Error> {
     let event: UpdateRowsEvent = read(alloc, UPDATE)?;
     let is_copied = is_same(copied(alloc, &event), &event);
     drop(event);
@@ -91,7 +91,7 @@ fn is_copied_of_any_type(alloc: Global, event: &RowsEvent<'_>) -> Result<bool, E
     is_same(copied_of_any_type(alloc, event), event)
 }
 
-fn are_written_rows_copied(alloc: Global) -> Result<bool, Error> {
+pub(crate) fn are_written_rows_copied(alloc: Global) -> Result<bool, Error> {
     let event: WriteRowsEvent = read(alloc, WRITE)?;
     let is_copied = is_copied_of_any_type(alloc, event.event());
     drop(event);
@@ -110,14 +110,14 @@ fn a_copy_of_rows_is_equal_or_refused_for_memory(rt: HostRuntime) {
 }
 
 // Whether the names of a table are these as text.
-fn is_database(alloc: Global, body: &[u8], name: &str) -> Result<bool, Error> {
+pub(crate) fn is_database(alloc: Global, body: &[u8], name: &str) -> Result<bool, Error> {
     let map: TableMapEvent = read(alloc, body)?;
     let is_text = is_text(map.database_name(alloc), name);
     drop(map);
     is_text
 }
 
-fn is_table(alloc: Global, body: &[u8], name: &str) -> Result<bool, Error> {
+pub(crate) fn is_table(alloc: Global, body: &[u8], name: &str) -> Result<bool, Error> {
     let map: TableMapEvent = read(alloc, body)?;
     let is_text = is_text(map.table_name(alloc), name);
     drop(map);

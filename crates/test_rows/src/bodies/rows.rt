@@ -1,4 +1,5 @@
 //! Row events of one type.
+use super::memory::{are_updated_rows_copied, are_written_rows_copied};
 use super::{OF_ONE_IMAGE, OF_SIX, OF_TEN, UPDATE, UPDATE_V1, WRITE, WRITTEN, has_bits};
 use binlog_consts::EventType;
 use binlog_description::{BinlogEvent, DescriptionRef};
@@ -475,4 +476,10 @@ fn reading_older_rows_takes_no_memory(rt: HostRuntime) {
 fn reading_older_updated_rows_takes_no_memory(rt: HostRuntime) {
     let is_read = is_read_as::<UpdateRowsV1>(rt.alloc(), by_default(), UPDATE_V1, &UPDATE_V1_SAYS);
     assert!(rt; is_read == Ok(true));
+}
+
+#[test]
+fn row_events_are_copied(rt: HostRuntime) {
+    assert!(rt; are_updated_rows_copied(rt.alloc()) == Ok(true));
+    assert!(rt; are_written_rows_copied(rt.alloc()) == Ok(true));
 }

@@ -1,4 +1,5 @@
 //! Table maps.
+use super::memory::{is_database, is_map_copied, is_table};
 use super::{NINE_COLUMNS, OF_SIX, ONE_COLUMN, has_bits};
 use binlog_description::DescriptionRef;
 use binlog_rows::TableMapEvent;
@@ -222,4 +223,15 @@ fn is_written_alone(alloc: Global, body: &[u8], wanted: &[u8]) -> Result<bool, E
 #[test]
 fn writing_a_table_map_makes_one_allocation(rt: HostRuntime) {
     assert!(rt; is_written_alone(rt.alloc(), NINE_COLUMNS, NINE_WRITTEN) == Ok(true));
+}
+
+#[test]
+fn a_table_map_is_copied(rt: HostRuntime) {
+    assert!(rt; is_map_copied(rt.alloc()) == Ok(true));
+}
+
+#[test]
+fn names_of_a_table_map(rt: HostRuntime) {
+    assert!(rt; is_database(rt.alloc(), NINE_COLUMNS, "ä") == Ok(true));
+    assert!(rt; is_table(rt.alloc(), NINE_COLUMNS, "\u{fffd}") == Ok(true));
 }

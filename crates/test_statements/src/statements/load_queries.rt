@@ -1,5 +1,6 @@
 //! The events of statements that load a file.
 use super::LOAD;
+use super::memory::is_load_query_copied;
 use binlog_consts::LoadDuplicateHandling;
 use binlog_statements::ExecuteLoadQueryEvent;
 use binlog_wire::{Error, Invalid};
@@ -82,4 +83,9 @@ fn variables_are_written_in_65_535_bytes(rt: HostRuntime) {
 #[test]
 fn fronts_of_a_load_query_are_refused(rt: HostRuntime) {
     assert!(rt; are_fronts_refused::<ExecuteLoadQueryEvent>(rt.alloc(), LOAD, 31));
+}
+
+#[test]
+fn a_load_query_is_copied(rt: HostRuntime) {
+    assert!(rt; is_load_query_copied(rt.alloc(), LOAD) == Ok(true));
 }

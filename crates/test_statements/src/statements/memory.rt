@@ -61,21 +61,21 @@ fn variable_copied(
 }
 
 // Whether a body's event is equal to its copy, owned and copied again.
-fn is_query_copied(alloc: Global, body: &[u8]) -> Result<bool, Error> {
+pub(crate) fn is_query_copied(alloc: Global, body: &[u8]) -> Result<bool, Error> {
     let event: QueryEvent = read(alloc, body)?;
     let is_copied = is_same(query_copied(alloc, &event), &event);
     drop(event);
     is_copied
 }
 
-fn is_load_query_copied(alloc: Global, body: &[u8]) -> Result<bool, Error> {
+pub(crate) fn is_load_query_copied(alloc: Global, body: &[u8]) -> Result<bool, Error> {
     let event: ExecuteLoadQueryEvent = read(alloc, body)?;
     let is_copied = is_same(load_query_copied(alloc, &event), &event);
     drop(event);
     is_copied
 }
 
-fn is_variable_copied(alloc: Global, body: &[u8]) -> Result<bool, Error> {
+pub(crate) fn is_variable_copied(alloc: Global, body: &[u8]) -> Result<bool, Error> {
     let event: UserVarEvent = read(alloc, body)?;
     let is_copied = is_same(variable_copied(alloc, &event), &event);
     drop(event);
@@ -95,7 +95,7 @@ fn a_copy_of_a_variable_is_equal_or_refused_for_memory(rt: HostRuntime) {
 }
 
 // Whether the schema of a body is this text.
-fn is_schema(alloc: Global, body: &[u8], wanted: &str) -> Result<bool, Error> {
+pub(crate) fn is_schema(alloc: Global, body: &[u8], wanted: &str) -> Result<bool, Error> {
     let event: QueryEvent = read(alloc, body)?;
     let is_text = is_text(event.schema(alloc), wanted);
     drop(event);
@@ -103,7 +103,7 @@ fn is_schema(alloc: Global, body: &[u8], wanted: &str) -> Result<bool, Error> {
 }
 
 // Whether the statement of a body is this text.
-fn is_query(alloc: Global, body: &[u8], wanted: &str) -> Result<bool, Error> {
+pub(crate) fn is_query(alloc: Global, body: &[u8], wanted: &str) -> Result<bool, Error> {
     let event: QueryEvent = read(alloc, body)?;
     let is_text = is_text(event.query(alloc), wanted);
     drop(event);

@@ -1,11 +1,13 @@
 //! The events of statements.
+use super::memory::{is_query, is_query_copied, is_schema};
 use super::{CREATE_TABLE, STATUS};
 use binlog_statements::QueryEvent;
 use binlog_wire::Error;
 use std::alloc::Global;
 use std::borrow::CowSlice;
 use test_reading::{
-    are_fronts_refused, by_default, is_read_as, is_written_with, refusal_under, stating, told_len,
+    are_fronts_refused, by_default, is_read_as, is_rewritten, is_written_with, refusal_under,
+    stating, told_len,
 };
 
 /// Thread 1, time 2, error 3, schema `d`, no variables, the statement `q`.
@@ -121,4 +123,17 @@ fn a_schema_is_written_in_255_bytes(rt: HostRuntime) {
 #[test]
 fn fronts_of_a_statement_are_refused(rt: HostRuntime) {
     assert!(rt; are_fronts_refused::<QueryEvent>(rt.alloc(), CREATE_TABLE, 44));
+}
+
+#[test]
+fn first_statement_of_the_sample_is_written_and_copied(rt: HostRuntime) {
+    let is_written = is_rewritten::<QueryEvent>(rt.alloc(), CREATE_TABLE, CREATE_TABLE);
+    assert!(rt; is_written == Ok(true));
+    assert!(rt; is_query_copied(rt.alloc(), CREATE_TABLE) == Ok(true));
+}
+
+#[test]
+fn texts_of_a_statement(rt: HostRuntime) {
+    assert!(rt; is_schema(rt.alloc(), CREATE_TABLE, "test") == Ok(true));
+    assert!(rt; is_query(rt.alloc(), SHORT, "q") == Ok(true));
 }

@@ -1,10 +1,11 @@
 //! The events of user variables.
 use super::INTEGER;
+use super::memory::is_variable_copied;
 use binlog_consts::{ItemResult, UnknownItemResultType, UserVarFlags};
 use binlog_statements::UserVarEvent;
 use binlog_wire::Error;
 use std::alloc::Global;
-use test_reading::{are_fronts_refused, read, refusal};
+use test_reading::{are_fronts_refused, is_rewritten, read, refusal};
 
 /// A null `a`.
 const NULL: &[u8] = b"\x01\0\0\0a\x02";
@@ -95,4 +96,19 @@ fn one_byte_more_is_left_over(rt: HostRuntime) {
 fn fronts_of_a_user_variable_are_refused(rt: HostRuntime) {
     assert!(rt; are_fronts_refused::<UserVarEvent>(rt.alloc(), NULL, 6));
     assert!(rt; are_fronts_refused::<UserVarEvent>(rt.alloc(), INTEGER, 16));
+}
+
+#[test]
+fn user_variables_are_written(rt: HostRuntime) {
+    let null = is_rewritten::<UserVarEvent>(rt.alloc(), b"\x01\0\0\0a\x02", b"\x01\0\0\0a\x01");
+    assert!(rt; null == Ok(true));
+    let with_flags = b"\x01\0\0\0a\0\x02\x3f\0\0\0\x01\0\0\0\x07\0".as_slice();
+    let integer = is_rewritten::<UserVarEvent>(rt.alloc(), INTEGER, with_flags);
+    assert!(rt; integer == Ok(true));
+}
+
+#[test]
+fn user_variables_are_copied(rt: HostRuntime) {
+    assert!(rt; is_variable_copied(rt.alloc(), INTEGER) == Ok(true));
+    assert!(rt; is_variable_copied(rt.alloc(), b"\0\0\0\0\x01") == Ok(true));
 }
