@@ -2,7 +2,7 @@
 use binlog_gtids::GtidEvent;
 use binlog_wire::Error;
 use std::alloc::Global;
-use test_reading::{by_default, joined, read_typed};
+use test_reading::{by_default, joined, read_typed, written};
 
 /// A body without a tag and without a clock: flags 0, a source of zeros, and the number 1.
 pub(crate) const HEAD: &[u8] = b"\0\0\0\0\0\0\0\0\0\0\0\0\0\0\0\0\0\x01\0\0\0\0\0\0\0";
@@ -29,4 +29,14 @@ pub(crate) fn read_gtid(alloc: Global, raw_type: u8, parts: &[&[u8]]) -> Result<
 /// Reads a body with a tag.
 pub(crate) fn read_tagged(alloc: Global, body: &[u8]) -> Result<GtidEvent, Error> {
     read_typed(alloc, by_default(), 42, body)
+}
+
+/// How many bytes are written for a GTID.
+pub(crate) fn written_len(alloc: Global, event: GtidEvent) -> Result<usize, Error> {
+    let bytes = written(alloc, &event);
+    drop(event);
+    let bytes = bytes?;
+    let len = bytes.len();
+    drop(bytes);
+    Ok(len)
 }

@@ -1,5 +1,5 @@
 //! GTIDs with a tag.
-use crate::gtids::{BACKUP, UUID, read_gtid, read_tagged};
+use crate::gtids::{BACKUP, UUID, read_gtid, read_tagged, written_len};
 use binlog_consts::{BinlogVersion, EventType};
 use binlog_description::BinlogStruct;
 use binlog_gtids::{AnonymousGtidEvent, GtidEvent};
@@ -7,7 +7,7 @@ use binlog_numbers::Tag;
 use binlog_wire::{Error, Field, Invalid, MySerialize};
 use std::alloc::Global;
 use test_reading::{
-    is_same, is_unwritable, is_written, is_written_as, is_written_with, joined, told_len, written,
+    is_same, is_unwritable, is_written, is_written_as, is_written_with, joined, told_len,
 };
 
 /// What stands behind the payload size of this body.
@@ -287,18 +287,15 @@ fn reading_a_tag_makes_one_allocation(rt: HostRuntime) {
 }
 
 // How many bytes are written for a GTID of the tag `test`, which is lent.
-fn written_len(alloc: Global) -> Result<usize, Error> {
-    let event = GtidEvent::new_tagged(UUID, Tag::from_bytes(b"test")?, 1);
-    let bytes = written(alloc, &event);
-    drop(event);
-    let bytes = bytes?;
-    let len = bytes.len();
-    drop(bytes);
-    Ok(len)
+fn lent_tag_len(alloc: Global) -> Result<usize, Error> {
+    written_len(
+        alloc,
+        GtidEvent::new_tagged(UUID, Tag::from_bytes(b"test")?, 1),
+    )
 }
 
 // The buffer grows once.
 #[test]
 fn writing_a_tag_makes_one_allocation(rt: HostRuntime) {
-    assert!(rt; written_len(rt.alloc()) == Ok(58));
+    assert!(rt; lent_tag_len(rt.alloc()) == Ok(58));
 }

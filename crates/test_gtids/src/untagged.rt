@@ -1,5 +1,5 @@
 //! GTIDs without a tag.
-use crate::gtids::{HEAD, read_gtid};
+use crate::gtids::{HEAD, read_gtid, written_len};
 use binlog_consts::{BinlogVersion, EventType};
 use binlog_description::BinlogStruct;
 use binlog_gtids::{AnonymousGtidEvent, GtidEvent, GtidFlags};
@@ -229,16 +229,6 @@ fn is_anonymous_read_back(alloc: Global, event: AnonymousGtidEvent) -> Result<bo
 #[test]
 fn anonymous_gtid_is_written_and_read(rt: HostRuntime) {
     assert!(rt; is_anonymous_read_back(rt.alloc(), AnonymousGtidEvent(other_gtid())) == Ok(true));
-}
-
-// How many bytes are written for a GTID.
-fn written_len(alloc: Global, event: GtidEvent) -> Result<usize, Error> {
-    let bytes = written(alloc, &event);
-    drop(event);
-    let bytes = bytes?;
-    let len = bytes.len();
-    drop(bytes);
-    Ok(len)
 }
 
 // The buffer grows once.
