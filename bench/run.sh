@@ -8,7 +8,7 @@ lister=${1:-$here/../crates/binlog_list/out/binlog_list}
 copier=${2:-$here/../crates/bench_write_back/out/bench_write_back}
 typed=${3:-$here/../crates/bench_typed/out/bench_typed}
 reader=${4:-$here/../crates/bench_reading/out/bench_reading}
-slice_lister=${5:-$here/../crates/test_slice_listing/out/test_slice_listing}
+slice_lister=${5:-$here/../crates/probe_slice_listing/out/probe_slice_listing}
 baselines=$here/baseline/target/release
 
 for program in "$lister" "$copier" "$typed" "$reader" "$slice_lister"; do

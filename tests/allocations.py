@@ -4,7 +4,7 @@
 Usage: allocations.py
 
 The programs and tests are those that are built in crates/NAME/out. Further events take one buffer each where they are
-owned (test_owned_events), and nothing where they are lent (binlog_list, binlog_json, bench_write_back), also where statements and their
+owned (probe_owned_events), and nothing where they are lent (binlog_list, binlog_json, bench_write_back), also where statements and their
 status variables are read (bench_typed), nor does a checksum. Where a header states 4,294,967,295 bytes and few have come,
 in pieces of 20, no allocation of a program grows by more than 65,536 bytes, and none of a test does in whose name the word
 `boundless` stands. The last line is `N passed, M failed`; the exit status is 1 if something failed. Without the C compiler
@@ -35,7 +35,7 @@ LOGS = {
 }
 
 # How many allocations each program makes for a further event.
-PROGRAMS = {"binlog_list": 0, "binlog_json": 0, "bench_write_back": 0, "bench_typed": 0, "test_owned_events": 1}
+PROGRAMS = {"binlog_list": 0, "binlog_json": 0, "bench_write_back": 0, "bench_typed": 0, "probe_owned_events": 1}
 
 # The bytes by which an allocation may grow at a time, and those that a read gives where it gives pieces.
 LARGEST_GROWTH = 65_536

@@ -7,7 +7,7 @@ Usage: damaged_copies.py [--json] [PROGRAM [SAMPLE]]
 
 PROGRAM reads a binlog on standard input; its default is the built binlog_list, and
 with --json, which compares lines of JSON, the built binlog_json. Without --json the
-built test_slice_listing lists each log too, and has to list it alike.
+built probe_slice_listing lists each log too, and has to list it alike.
 Without SAMPLE the sample is made in memory. The last line of the output is
 `N passed, M failed`; the exit status is 1 if something failed.
 """
@@ -28,7 +28,7 @@ import make_sample
 
 REPOSITORY = Path(__file__).resolve().parent.parent
 LISTING_PROGRAM = REPOSITORY / "crates/binlog_list/out/binlog_list"
-SLICE_PROGRAM = REPOSITORY / "crates/test_slice_listing/out/test_slice_listing"
+SLICE_PROGRAM = REPOSITORY / "crates/probe_slice_listing/out/probe_slice_listing"
 JSON_PROGRAM = REPOSITORY / "crates/binlog_json/out/binlog_json"
 
 PROCESSES_AT_A_TIME = 2

@@ -82,12 +82,12 @@ def failure_fault(_content):
 
 PROGRAMS = {
     "binlog_list": listing_fault,
-    "test_slice_listing": listing_fault,
+    "probe_slice_listing": listing_fault,
     "binlog_json": json_fault,
     "bench_write_back": written_back_fault,
     "bench_typed": failure_fault,
-    "test_owned_events": failure_fault,
-    "test_typed_events": failure_fault,
+    "probe_owned_events": failure_fault,
+    "probe_typed_events": failure_fault,
 }
 
 

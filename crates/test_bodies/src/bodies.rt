@@ -9,7 +9,7 @@ use binlog_description::laws as description_laws;
 use binlog_wire::RawInt;
 use std::alloc::Global;
 use std::borrow::{CowSlice, CowStr};
-use test_reading::{
+use testkit_bodies::{
     by_default, is_read_as, is_rewritten, is_same, is_text, is_written, read, refusal,
     refusal_under, stating, told_len,
 };

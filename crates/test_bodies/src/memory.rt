@@ -9,7 +9,7 @@ use binlog_bodies::{
 use binlog_consts::IntvarEventType;
 use binlog_description::{BinlogEvent, DescriptionRef};
 use std::alloc::Global;
-use test_reading::{
+use testkit_bodies::{
     is_granted, is_read, is_read_as, is_rewritten_behind, is_same, is_text, read, read_under,
 };
 

@@ -2,7 +2,7 @@
 use binlog_gtids::GtidEvent;
 use binlog_wire::Error;
 use std::alloc::Global;
-use test_reading::{by_default, joined, read_typed, written};
+use testkit_bodies::{by_default, joined, read_typed, written};
 
 /// A body without a tag and without a clock: flags 0, a source of zeros, and the number 1.
 pub(crate) const HEAD: &[u8] = b"\0\0\0\0\0\0\0\0\0\0\0\0\0\0\0\0\0\x01\0\0\0\0\0\0\0";

@@ -4,7 +4,7 @@ use crate::gtids::{BACKUP, HEAD, TAGGED_SID, read_tagged};
 use binlog_gtids::{AnonymousGtidEvent, GtidEvent, PreviousGtidsEvent};
 use binlog_wire::Error;
 use std::alloc::Global;
-use test_reading::{is_granted, is_rewritten_behind, is_same, is_written_behind, read, refusal};
+use testkit_bodies::{is_granted, is_rewritten_behind, is_same, is_written_behind, read, refusal};
 
 /// A new GTID: no tag, the number 1, and a clock of zeros.
 const NEW: &[u8] =

@@ -5,7 +5,7 @@ use binlog_gtids::{PreviousGtidsEvent, PreviousGtidsSid};
 use binlog_numbers::{GnoInterval, Tag};
 use binlog_wire::{Error, Invalid};
 use std::alloc::{AllocError, Global};
-use test_reading::{
+use testkit_bodies::{
     are_fronts_refused, is_rewritten, is_same, is_written, joined, read, refusal, told_len,
 };
 

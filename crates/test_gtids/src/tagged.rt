@@ -6,7 +6,7 @@ use binlog_gtids::{AnonymousGtidEvent, GtidEvent};
 use binlog_numbers::Tag;
 use binlog_wire::{Error, Field, Invalid, MySerialize};
 use std::alloc::Global;
-use test_reading::{
+use testkit_bodies::{
     is_same, is_unwritable, is_written, is_written_as, is_written_with, joined, told_len,
 };
 

@@ -5,7 +5,7 @@ use binlog_description::BinlogStruct;
 use binlog_gtids::{AnonymousGtidEvent, GtidEvent, GtidFlags};
 use binlog_wire::{Error, Field, Invalid};
 use std::alloc::Global;
-use test_reading::{
+use testkit_bodies::{
     by_default, is_rewritten, is_same, is_unwritable, is_written_as, read, read_typed, told_len,
     written,
 };

@@ -6,7 +6,7 @@ use binlog_rows::{
 };
 use binlog_wire::Error;
 use std::alloc::Global;
-use test_reading::{is_granted, is_rewritten_behind, is_same, is_text, is_written_behind, read};
+use testkit_bodies::{is_granted, is_rewritten_behind, is_same, is_text, is_written_behind, read};
 
 #[test]
 fn a_write_of_a_table_map_refused_for_memory_leaves_what_was_there(rt: HostRuntime) {

@@ -11,7 +11,7 @@ use binlog_rows::{
 };
 use binlog_wire::{BitView, Error, Invalid, MyDeserialize};
 use std::alloc::Global;
-use test_reading::{
+use testkit_bodies::{
     are_fronts_refused, by_default, is_rewritten, is_rewritten_under, read_under, refusal, stating,
 };
 

@@ -5,7 +5,7 @@ use binlog_description::DescriptionRef;
 use binlog_rows::TableMapEvent;
 use binlog_wire::{Error, Invalid};
 use std::alloc::Global;
-use test_reading::{
+use testkit_bodies::{
     are_fronts_refused, by_default, is_rewritten, is_rewritten_under, is_same, is_written_with,
     read, read_under, refusal, stating,
 };

@@ -6,7 +6,7 @@ use binlog_statements::ExecuteLoadQueryEvent;
 use binlog_wire::{Error, Invalid};
 use std::alloc::Global;
 use std::borrow::CowSlice;
-use test_reading::{
+use testkit_bodies::{
     are_fronts_refused, by_default, is_read_as, is_written_with, refusal, told_len,
 };
 

@@ -6,7 +6,7 @@ use binlog_statements::{
 };
 use binlog_wire::Error;
 use std::alloc::Global;
-use test_reading::{is_granted, is_read, is_rewritten_behind, is_same, is_text, read};
+use testkit_bodies::{is_granted, is_read, is_rewritten_behind, is_same, is_text, read};
 
 /// A body whose schema and statement are no text.
 const NO_TEXT: &[u8] = b"\x01\0\0\0\x02\0\0\0\x01\x03\0\0\0\xff\0\xfe";

@@ -5,7 +5,7 @@ use binlog_statements::QueryEvent;
 use binlog_wire::Error;
 use std::alloc::Global;
 use std::borrow::CowSlice;
-use test_reading::{
+use testkit_bodies::{
     are_fronts_refused, by_default, is_read_as, is_rewritten, is_written_with, refusal_under,
     stating, told_len,
 };

@@ -5,7 +5,7 @@ use binlog_consts::{ItemResult, UnknownItemResultType, UserVarFlags};
 use binlog_statements::UserVarEvent;
 use binlog_wire::Error;
 use std::alloc::Global;
-use test_reading::{are_fronts_refused, is_rewritten, read, refusal};
+use testkit_bodies::{are_fronts_refused, is_rewritten, read, refusal};
 
 /// A null `a`.
 const NULL: &[u8] = b"\x01\0\0\0a\x02";
