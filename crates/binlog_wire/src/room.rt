@@ -1,17 +1,26 @@
 //! Makes room in a buffer, or answers that memory ran out.
-ghost use Rattle.std.specs.Prelude.{◌≡◌, ◌+◌, ◌≤◌, OnOk, IsOkUnless, vec_len, vec_capacity};
+ghost use Rattle.std.specs.Prelude.{◌≡◌, ◌+◌, ◌*◌, ◌≤◌, max, IsOk, OnOk, OnErr, IsOkUnless, vec_len, vec_capacity};
 ghost use Rattle.binlog_wire.specs.declared.error.Error.TheVariants.{Memory};
 
 use crate::error::Error;
 
-/// Makes room for `count` more bytes, so that as many can be put into `buf` without a further growth.
+/// Makes room for `count` more bytes, so that as many can be put into `buf` without a further growth. A growth doubles
+/// the capacity, or makes it as large as is asked where that is more.
 ///
-/// Refused by [`Error::Memory`] alone; the contents of `buf` stay as they are either way.
+/// Refused by [`Error::Memory`] alone, and only where the room was missing; the contents of `buf` stay as they are either
+/// way.
 pub fn reserve(buf: &mut Vec<u8>, count: usize) -> Result<(), Error>
     ensures items { buf.new.items ≡ buf.old.items }
     ensures len { vec_len buf.new ≡ vec_len buf.old }
     ensures room { OnOk result (vec_len buf.new + count ≤ vec_capacity buf.new) }
+    ensures growth { vec_capacity buf.new ≤ max (2 * vec_capacity buf.old) (vec_len buf.old + count) }
+    ensures enough { vec_len buf.old + count ≤ vec_capacity buf.old → IsOk result }
+    ensures err { OnErr result (vec_capacity buf.new ≡ vec_capacity buf.old) }
     ensures memory { IsOkUnless result Memory }
 {
-    Ok(buf.reserve(count)?)
+    if count <= buf.capacity() - buf.len() {
+        return Ok(());
+    }
+    let doubled = buf.capacity().saturating_mul(2) - buf.len();
+    Ok(buf.reserve_exact(count.max(doubled))?)
 }
