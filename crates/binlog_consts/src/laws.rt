@@ -1,8 +1,8 @@
 //! Laws of the definitions, each a function whose contract says it.
-ghost use Rattle.std.specs.Prelude.{pos};
+ghost use Rattle.std.specs.Prelude.{◌≡◌, [], ◌∷◌, map, pos};
 ghost use Rattle.binlog_wire.specs.Laws.Numbers.{IsCode};
 ghost use Rattle.binlog_consts.specs.Codes.{subtype_number, subtype_of, checksum_alg_number, checksum_alg_of, incident_type_number, incident_type_of};
-ghost use Rattle.binlog_consts.specs.EventTypes.{event_number, event_type_of};
+ghost use Rattle.binlog_consts.specs.EventTypes.{event_number, event_type_of, event_types};
 ghost use Rattle.binlog_consts.specs.StatementCodes.{dup_handling_number, dup_handling_of, item_result_number, item_result_of};
 ghost use Rattle.binlog_consts.specs.StatusVarKeys.{status_var_key_number, status_var_key_of};
 ghost use Rattle.binlog_consts.specs.Versions.{version_number, version_of};
@@ -27,6 +27,16 @@ pub fn numbers_are_codes()
     ensures dup_handlings { IsCode 1 dup_handling_number dup_handling_of }
     ensures item_results { IsCode 1 item_result_number (λ n. item_result_of (pos n)) }
     ensures status_vars { IsCode 1 status_var_key_number status_var_key_of }
+{}
+
+/// The types of events, in the order of their numbers: 0 to 40, 42 and 43.
+pub fn event_types_in_order()
+    ensures { map event_number event_types
+        ≡ 0 ∷ 1 ∷ 2 ∷ 3 ∷ 4 ∷ 5 ∷ 6 ∷ 7 ∷ 8 ∷ 9
+        ∷ 10 ∷ 11 ∷ 12 ∷ 13 ∷ 14 ∷ 15 ∷ 16 ∷ 17 ∷ 18 ∷ 19
+        ∷ 20 ∷ 21 ∷ 22 ∷ 23 ∷ 24 ∷ 25 ∷ 26 ∷ 27 ∷ 28 ∷ 29
+        ∷ 30 ∷ 31 ∷ 32 ∷ 33 ∷ 34 ∷ 35 ∷ 36 ∷ 37 ∷ 38 ∷ 39
+        ∷ 40 ∷ 42 ∷ 43 ∷ [] }
 {}
 
 /// The number of each type of event.
