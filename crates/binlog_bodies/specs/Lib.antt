@@ -6,5 +6,6 @@ pub mod Rotate
 pub mod RowsQuery
 pub mod Xid
 pub mod ShortBodies
+pub mod Ranges
 pub use Rattle.binlog_wire.specs.Errors
 pub use Rattle.binlog_description.specs.Bodies

@@ -6,3 +6,4 @@ pub mod Statements
 pub mod Query
 pub mod ExecuteLoadQuery
 pub mod UserVar
+pub mod Ranges

@@ -33,3 +33,8 @@ Has v (DdlLoggedWithXid number) = (v.key ≡ keys.DdlLoggedWithXid) × (number �
 Has v (DefaultCollationForUtf8mb4 number) = (v.key ≡ keys.DefaultCollationForUtf8mb4) × (number ≡ little_number 2 v.value)
 Has v (SqlRequirePrimaryKey number) = (v.key ≡ keys.SqlRequirePrimaryKey) × (v.value ≡ number ∷ [])
 Has v (DefaultTableEncryption number) = (v.key ≡ keys.DefaultTableEncryption) × (v.value ≡ number ∷ [])
+
+-- A copy of a value: the same value, or a list of the same names.
+abbrev pub IsCopyOf : StatusVarVal → StatusVarVal → Type 0
+IsCopyOf (UpdatedDbNames names) (UpdatedDbNames copies) = copies.items ≡ names.items
+IsCopyOf value copy = copy ≡ value

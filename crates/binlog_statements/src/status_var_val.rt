@@ -1,6 +1,7 @@
 //! What the value of a status variable means.
-ghost use Rattle.std.specs.Prelude.{◌≡◌, ◌∷◌, ◌++◌, [], length, IfOk, IfErr, OnOk, OnErr};
+ghost use Rattle.std.specs.Prelude.{◌≡◌, ◌∷◌, ◌++◌, [], length, IfOk, IfErr, IsOkUnless, MatchOption, OnOk, OnErr};
 ghost use Rattle.binlog_consts.specs.declared.status_var_key.StatusVarKey.TheVariants.{UpdatedDbNames};
+ghost use Rattle.binlog_wire.specs.declared.error.Error.TheVariants.{Memory};
 ghost use Rattle.binlog_statements.specs.Layouts.{IsCounted, Both, counted, AreNames, IsWholeLen};
 ghost use Rattle.binlog_statements.specs.declared.layout.Layout.TheVariants.{Names};
 
@@ -79,6 +80,81 @@ pub enum StatusVarVal<'a> {
     DefaultTableEncryption(u8),
 }
 
+impl<'a> StatusVarVal<'a> {
+    ghost use Rattle.binlog_statements.specs.StatusVarValues.{IsCopyOf};
+
+    /// The same value once more: borrowed bytes stay borrowed, and owned ones are copied. Refused by [`Error::Memory`]
+    /// alone.
+    pub fn clone(&self, alloc: Global) -> Result<Self, Error>
+        ensures ok { IfOk result (IsCopyOf self.now) }
+        ensures memory { IsOkUnless result Memory }
+    {
+        Ok(match self {
+            StatusVarVal::TimeZone(text) => StatusVarVal::TimeZone(text.clone(alloc)?),
+            StatusVarVal::CatalogNz(text) => StatusVarVal::CatalogNz(text.clone(alloc)?),
+            StatusVarVal::Invoker { username, hostname } => StatusVarVal::Invoker {
+                username: username.clone(alloc)?,
+                hostname: hostname.clone(alloc)?,
+            },
+            StatusVarVal::UpdatedDbNames(names) => {
+                StatusVarVal::UpdatedDbNames(copied(alloc, names.as_slice())?)
+            }
+            StatusVarVal::Flags2(bits) => StatusVarVal::Flags2(*bits),
+            StatusVarVal::SqlMode(bits) => StatusVarVal::SqlMode(*bits),
+            StatusVarVal::Catalog(bytes) => StatusVarVal::Catalog(bytes),
+            StatusVarVal::AutoIncrement { increment, offset } => StatusVarVal::AutoIncrement {
+                increment: *increment,
+                offset: *offset,
+            },
+            StatusVarVal::Charset {
+                charset_client,
+                collation_connection,
+                collation_server,
+            } => StatusVarVal::Charset {
+                charset_client: *charset_client,
+                collation_connection: *collation_connection,
+                collation_server: *collation_server,
+            },
+            StatusVarVal::LcTimeNames(number) => StatusVarVal::LcTimeNames(*number),
+            StatusVarVal::CharsetDatabase(number) => StatusVarVal::CharsetDatabase(*number),
+            StatusVarVal::TableMapForUpdate(bits) => StatusVarVal::TableMapForUpdate(*bits),
+            StatusVarVal::MasterDataWritten(bytes) => StatusVarVal::MasterDataWritten(*bytes),
+            StatusVarVal::Microseconds(number) => StatusVarVal::Microseconds(*number),
+            StatusVarVal::CommitTs(bytes) => StatusVarVal::CommitTs(bytes),
+            StatusVarVal::CommitTs2(bytes) => StatusVarVal::CommitTs2(bytes),
+            StatusVarVal::ExplicitDefaultsForTimestamp(is_set) => {
+                StatusVarVal::ExplicitDefaultsForTimestamp(*is_set)
+            }
+            StatusVarVal::DdlLoggedWithXid(number) => StatusVarVal::DdlLoggedWithXid(*number),
+            StatusVarVal::DefaultCollationForUtf8mb4(number) => {
+                StatusVarVal::DefaultCollationForUtf8mb4(*number)
+            }
+            StatusVarVal::SqlRequirePrimaryKey(number) => {
+                StatusVarVal::SqlRequirePrimaryKey(*number)
+            }
+            StatusVarVal::DefaultTableEncryption(number) => {
+                StatusVarVal::DefaultTableEncryption(*number)
+            }
+        })
+    }
+}
+
+/// The names once more; refused by [`Error::Memory`] alone.
+fn copied<'a>(
+    alloc: Global,
+    names: &[RawBytes<'a, NullBytes>],
+) -> Result<Vec<RawBytes<'a, NullBytes>>, Error>
+    ensures ok { IfOk result (λ copies. copies.items ≡ names.now) }
+    ensures memory { IsOkUnless result Memory }
+{
+    let mut copies = Vec::new(alloc);
+    for name in names {
+        let copy = name.clone(alloc)?;
+        push_name(&mut copies, copy)?;
+    }
+    Ok(copies)
+}
+
 impl<'a> StatusVar<'a> {
     ghost use Rattle.binlog_statements.specs.StatusVarValues.{Has};
     ghost use Rattle.binlog_statements.specs.StatusVars.{variable_of};
@@ -90,8 +166,22 @@ impl<'a> StatusVar<'a> {
         ensures raw { IfErr result (λ raw. raw.now ≡ self.now.value.now) }
         ensures names_alone { OnErr result (self.now.key ≡ UpdatedDbNames) }
     {
+        match self.value_in_place() {
+            Some(value) => Ok(value),
+            None => match names(alloc, self.value) {
+                Ok(names) => Ok(StatusVarVal::UpdatedDbNames(names)),
+                Err(_) => Err(self.value),
+            },
+        }
+    }
+
+    // The value of any key but that of the names of databases. It is handed no allocator, so it takes no memory.
+    #[inline(always)]
+    fn value_in_place(&self) -> Option<StatusVarVal<'a>>
+        ensures { MatchOption result (self.now.key ≡ UpdatedDbNames) (Has (variable_of self.now)) }
+    {
         let raw = self.value;
-        Ok(match self.key {
+        Some(match self.key {
             StatusVarKey::Flags2 => StatusVarVal::Flags2(LittleEndian::read_u32(raw)),
             StatusVarKey::SqlMode => StatusVarVal::SqlMode(LittleEndian::read_u64(raw)),
             StatusVarKey::Catalog => StatusVarVal::Catalog(raw),
@@ -118,10 +208,7 @@ impl<'a> StatusVar<'a> {
                 let (username, hostname) = two_texts(raw);
                 StatusVarVal::Invoker { username, hostname }
             }
-            StatusVarKey::UpdatedDbNames => match names(alloc, raw) {
-                Ok(names) => StatusVarVal::UpdatedDbNames(names),
-                Err(_) => return Err(raw),
-            },
+            StatusVarKey::UpdatedDbNames => return None,
             StatusVarKey::Microseconds => StatusVarVal::Microseconds(LittleEndian::read_u24(raw)),
             StatusVarKey::CommitTs => StatusVarVal::CommitTs(raw),
             StatusVarKey::CommitTs2 => StatusVarVal::CommitTs2(raw),
@@ -200,7 +287,8 @@ fn push_name<'a>(
     names: &mut Vec<RawBytes<'a, NullBytes>>,
     name: RawBytes<'a, NullBytes>,
 ) -> Result<(), Error>
-    ensures { OnOk result (names.new.items ≡ names.old.items ++ name.entry ∷ []) }
+    ensures ok { OnOk result (names.new.items ≡ names.old.items ++ name.entry ∷ []) }
+    ensures memory { IsOkUnless result Memory }
 {
     match names.push(name) {
         Ok(()) => Ok(()),

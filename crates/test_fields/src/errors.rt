@@ -83,3 +83,22 @@ fn says_what_is_wrong(rt: HostRuntime) -> Result<(), Fail> {
     }
     Ok(())
 }
+
+#[test]
+fn names_the_field_that_can_not_be_written(rt: HostRuntime) -> Result<(), Fail> {
+    let alloc = rt.alloc();
+    let rows = [
+        (Field::Gno, "Gno"),
+        (Field::LastCommitted, "LastCommitted"),
+        (Field::SequenceNumber, "SequenceNumber"),
+        (Field::ImmediateCommitTimestamp, "ImmediateCommitTimestamp"),
+        (Field::OriginalCommitTimestamp, "OriginalCommitTimestamp"),
+        (Field::ImmediateServerVersion, "ImmediateServerVersion"),
+        (Field::Tag, "Tag"),
+        (Field::Sids, "Sids"),
+    ];
+    for (field, name) in rows {
+        assert!(rt; format!(in alloc; "{field:?}")?.as_str() == name);
+    }
+    Ok(())
+}

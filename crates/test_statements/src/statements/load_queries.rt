@@ -1,6 +1,6 @@
 //! The events of statements that load a file.
 use super::LOAD;
-use super::memory::is_load_query_copied;
+use super::memory::{has_texts, is_load_query_copied};
 use binlog_consts::LoadDuplicateHandling;
 use binlog_statements::ExecuteLoadQueryEvent;
 use binlog_wire::{Error, Invalid};
@@ -88,4 +88,9 @@ fn fronts_of_a_load_query_are_refused(rt: HostRuntime) {
 #[test]
 fn a_load_query_is_copied(rt: HostRuntime) {
     assert!(rt; is_load_query_copied(rt.alloc(), LOAD) == Ok(true));
+}
+
+#[test]
+fn texts_of_a_load_query(rt: HostRuntime) {
+    assert!(rt; has_texts(rt.alloc(), LOAD, "d", "LOAD") == Ok(true));
 }

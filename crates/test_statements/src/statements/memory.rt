@@ -11,6 +11,17 @@ use testkit_bodies::{is_granted, is_read, is_rewritten_behind, is_same, is_text,
 /// A body whose schema and statement are no text.
 const NO_TEXT: &[u8] = b"\x01\0\0\0\x02\0\0\0\x01\x03\0\0\0\xff\0\xfe";
 
+/// A catalog with a zero byte, a time zone, a catalog and an invoker.
+const TEXTS: &[u8] = b"\x02\x03std\0\x05\x03UTC\x06\x03std\x0b\x01a\x01b";
+
+/// The variables of fixed length that are not in the sample: the keys 3, 7 to 10 and 13 to 20.
+const NUMBERS: &[u8] =
+    b"\x03\x01\0\x01\0\x07\x08\0\x08\x08\0\x09\x01\0\0\0\0\0\0\0\x0a\x01\0\0\0\x0d\x01\0\0\x0e\x0f\x10\x01\
+    \x11\x01\0\0\0\0\0\0\0\x12\xff\0\x13\x01\x14\x01";
+
+/// Two names of databases.
+const NAMES: &[u8] = b"\x0c\x02a\0bc\0";
+
 #[test]
 fn a_refused_write_of_a_statement_leaves_what_was_there(rt: HostRuntime) {
     let query = is_rewritten_behind::<QueryEvent>(rt.alloc(), CREATE_TABLE, CREATE_TABLE);
@@ -110,10 +121,33 @@ pub(crate) fn is_query(alloc: Global, body: &[u8], wanted: &str) -> Result<bool,
     is_text
 }
 
+// Whether the schema and the statement of a body that loads a file are these texts.
+pub(crate) fn has_texts(
+    alloc: Global,
+    body: &[u8],
+    schema: &str,
+    query: &str,
+) -> Result<bool, Error> {
+    let event: ExecuteLoadQueryEvent = read(alloc, body)?;
+    let is_schema = is_text(event.schema(alloc), schema);
+    let is_query = is_text(event.query(alloc), query);
+    drop(event);
+    Ok(is_schema? && is_query?)
+}
+
+// Whether the name of a user variable is this text.
+pub(crate) fn is_name(alloc: Global, body: &[u8], wanted: &str) -> Result<bool, Error> {
+    let event: UserVarEvent = read(alloc, body)?;
+    let is_text = is_text(event.name(alloc), wanted);
+    drop(event);
+    is_text
+}
+
 #[test]
 fn refused_texts_are_errors(rt: HostRuntime) {
     assert!(rt; is_granted(is_schema(rt.alloc(), NO_TEXT, "\u{fffd}")));
     assert!(rt; is_granted(is_query(rt.alloc(), NO_TEXT, "\u{fffd}")));
+    assert!(rt; is_granted(is_name(rt.alloc(), b"\x01\0\0\0\xff\x01", "\u{fffd}")));
 }
 
 // How many names of databases a value has.
@@ -148,20 +182,23 @@ fn reading_statements_takes_no_memory(rt: HostRuntime) {
     assert!(rt; is_read::<UserVarEvent>(rt.alloc(), INTEGER));
 }
 
-// Whether each variable of a text gives a value.
-fn are_values_read(alloc: Global, text: &[u8]) -> bool {
+// How many variables of a text give a value.
+fn count_of_values(alloc: Global, text: &[u8]) -> usize {
+    let mut count: usize = 0;
     for var in StatusVarsIterator::new(text) {
-        if var.get_value(alloc).is_err() {
-            return false;
+        if var.get_value(alloc).is_ok() {
+            count = count.saturating_add(1);
         }
     }
-    true
+    count
 }
 
 // It asks for no memory at all.
 #[test]
 fn reading_status_variables_takes_no_memory(rt: HostRuntime) {
-    assert!(rt; are_values_read(rt.alloc(), STATUS));
+    assert!(rt; count_of_values(rt.alloc(), STATUS) == 4);
+    assert!(rt; count_of_values(rt.alloc(), TEXTS) == 4);
+    assert!(rt; count_of_values(rt.alloc(), NUMBERS) == 13);
 }
 
 // Whether the first variable of a text has this value.
@@ -182,6 +219,43 @@ fn is_value(answer: Result<StatusVarVal<'_>, &[u8]>, wanted: &StatusVarVal<'_>) 
         }
         Err(_) => false,
     }
+}
+
+// Whether a value is equal to its copy.
+fn is_value_copied(alloc: Global, value: &StatusVarVal<'_>) -> Result<bool, Error> {
+    let copy = value.clone(alloc)?;
+    let is_copied = is_value(Ok(copy), value);
+    Ok(is_copied)
+}
+
+// Whether the value of each variable of a text is equal to its copy.
+pub(crate) fn are_values_copied(alloc: Global, text: &[u8]) -> Result<bool, Error> {
+    for var in StatusVarsIterator::new(text) {
+        match var.get_value(alloc) {
+            Ok(value) => {
+                let is_copied = is_value_copied(alloc, &value);
+                drop(value);
+                if !is_copied? {
+                    return Ok(false);
+                }
+            }
+            Err(_) => return Err(Error::Memory),
+        }
+    }
+    Ok(true)
+}
+
+#[test]
+fn a_copy_of_a_status_variable_is_equal_or_refused_for_memory(rt: HostRuntime) {
+    assert!(rt; is_granted(are_values_copied(rt.alloc(), NAMES)));
+}
+
+// It asks for no memory at all, since its texts stay borrowed.
+#[test]
+fn copying_borrowed_status_variables_takes_no_memory(rt: HostRuntime) {
+    assert!(rt; are_values_copied(rt.alloc(), STATUS) == Ok(true));
+    assert!(rt; are_values_copied(rt.alloc(), TEXTS) == Ok(true));
+    assert!(rt; are_values_copied(rt.alloc(), NUMBERS) == Ok(true));
 }
 
 // Whether the first variable of a text has a list of names that is empty.

@@ -6,8 +6,8 @@ use binlog_wire::Error;
 use std::alloc::Global;
 use std::borrow::CowSlice;
 use testkit_bodies::{
-    are_fronts_refused, by_default, is_read_as, is_rewritten, is_written_with, refusal_under,
-    stating, told_len,
+    are_fronts_refused, by_default, is_read_as, is_rewritten, is_same, is_written_with,
+    refusal_under, stating, told_len,
 };
 
 /// Thread 1, time 2, error 3, schema `d`, no variables, the statement `q`.
@@ -136,4 +136,24 @@ fn first_statement_of_the_sample_is_written_and_copied(rt: HostRuntime) {
 fn texts_of_a_statement(rt: HostRuntime) {
     assert!(rt; is_schema(rt.alloc(), CREATE_TABLE, "test") == Ok(true));
     assert!(rt; is_query(rt.alloc(), SHORT, "q") == Ok(true));
+}
+
+// Whether a borrowed statement of so many bytes is equal to its copy that owns them.
+fn is_long_query_owned(alloc: Global, len: usize) -> Result<bool, Error> {
+    let mut query = Vec::new(alloc);
+    query.resize(len, b'q')?;
+    let owned = made()
+        .with_query(CowSlice::Borrowed(query.as_slice()))
+        .into_owned(alloc);
+    let is_same = is_same(
+        owned,
+        &made().with_query(CowSlice::Borrowed(query.as_slice())),
+    );
+    drop(query);
+    is_same
+}
+
+#[test]
+fn a_statement_of_100_001_bytes_is_owned(rt: HostRuntime) {
+    assert!(rt; is_long_query_owned(rt.alloc(), 100_001) == Ok(true));
 }

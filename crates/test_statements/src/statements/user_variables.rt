@@ -1,6 +1,6 @@
 //! The events of user variables.
 use super::INTEGER;
-use super::memory::is_variable_copied;
+use super::memory::{is_name, is_variable_copied};
 use binlog_consts::{ItemResult, UnknownItemResultType, UserVarFlags};
 use binlog_statements::UserVarEvent;
 use binlog_wire::Error;
@@ -111,4 +111,9 @@ fn user_variables_are_written(rt: HostRuntime) {
 fn user_variables_are_copied(rt: HostRuntime) {
     assert!(rt; is_variable_copied(rt.alloc(), INTEGER) == Ok(true));
     assert!(rt; is_variable_copied(rt.alloc(), b"\0\0\0\0\x01") == Ok(true));
+}
+
+#[test]
+fn name_of_a_user_variable(rt: HostRuntime) {
+    assert!(rt; is_name(rt.alloc(), INTEGER, "a") == Ok(true));
 }

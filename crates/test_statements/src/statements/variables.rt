@@ -1,8 +1,10 @@
 //! Which status variables a text has.
 use super::STATUS;
+use super::memory::are_values_copied;
 use binlog_consts::StatusVarKey;
 use binlog_statements::{StatusVars, StatusVarsIterator};
-use binlog_wire::RawBytes;
+use binlog_wire::{Error, RawBytes};
+use std::alloc::Global;
 use std::borrow::CowSlice;
 
 // Whether a text has variables of these keys, and then none for good.
@@ -92,4 +94,27 @@ fn the_first_variable_of_a_key(rt: HostRuntime) {
     let text = b"\x06\x01a\x05\0\x06\x01b".as_slice();
     assert!(rt; has_value(text, StatusVarKey::CatalogNz, Some(b"\x01a")));
     assert!(rt; has_value(text, StatusVarKey::Invoker, None));
+}
+
+#[test]
+fn names_of_databases_are_copied(rt: HostRuntime) {
+    assert!(rt; are_values_copied(rt.alloc(), b"\x0c\x02a\0bc\0") == Ok(true));
+}
+
+// How many variables a text of so many has, none of which has a value.
+fn count_of_variables(alloc: Global, count: usize) -> Result<usize, Error> {
+    let mut text = Vec::new(alloc);
+    text.resize(count, 14)?;
+    let vars = StatusVars(RawBytes::new(CowSlice::Owned(text)));
+    let mut found: usize = 0;
+    for _ in vars.iter() {
+        found = found.saturating_add(1);
+    }
+    drop(vars);
+    Ok(found)
+}
+
+#[test]
+fn variables_count_in_65_535_bytes_alone(rt: HostRuntime) {
+    assert!(rt; count_of_variables(rt.alloc(), 65_537) == Ok(65_535));
 }

@@ -2,7 +2,7 @@ use Rattle.std.proofs.Common.{subst}
 use Rattle.binlog_consts.specs.declared.status_var_key.StatusVarKey.{StatusVarKey}
 use Rattle.binlog_statements.specs.Layouts.{layout_of, IsLaidOut}
 use Rattle.binlog_statements.proofs.LayoutLaws.{whole_is}
-use Rattle.binlog_statements.proofs.status_vars.StatusVar.get_value.Goals as goal
+use Rattle.binlog_statements.proofs.status_vars.StatusVar.value_in_place.Goals as goal
 
 pub two_texts-username-requires : goal.two_texts-username-requires
 two_texts-username-requires c =

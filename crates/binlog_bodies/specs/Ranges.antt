@@ -1,0 +1,35 @@
+-- Values whose fields are in the ranges of their types: numbers of so many bytes, and texts of bytes.
+use Rattle.std.specs.Prelude.{◌<◌, ◌^◌}
+use Rattle.binlog_wire.specs.Fields.{IsBytes}
+use Rattle.binlog_bodies.specs.declared.events.begin_load_query.BeginLoadQueryEvent.{BeginLoadQueryEvent}
+use Rattle.binlog_bodies.specs.declared.events.incident.IncidentEvent.{IncidentEvent}
+use Rattle.binlog_bodies.specs.declared.events.intvar.IntvarEvent.{IntvarEvent}
+use Rattle.binlog_bodies.specs.declared.events.rand.RandEvent.{RandEvent}
+use Rattle.binlog_bodies.specs.declared.events.rotate.RotateEvent.{RotateEvent}
+use Rattle.binlog_bodies.specs.declared.events.rows_query.RowsQueryEvent.{RowsQueryEvent}
+use Rattle.binlog_bodies.specs.declared.events.xid.XidEvent.{XidEvent}
+
+pub record IsRotateInRange (e : RotateEvent) : Type 0 where
+  pub position : e.position < 256 ^ 8
+  pub name : IsBytes e.name
+
+pub record IsIntvarInRange (e : IntvarEvent) : Type 0 where
+  pub value : e.value < 256 ^ 8
+
+pub record IsRandInRange (e : RandEvent) : Type 0 where
+  pub seed1 : e.seed1.0 < 256 ^ 8
+  pub seed2 : e.seed2.0 < 256 ^ 8
+
+pub record IsXidInRange (e : XidEvent) : Type 0 where
+  pub xid : e.xid < 256 ^ 8
+
+pub record IsIncidentInRange (e : IncidentEvent) : Type 0 where
+  pub incident_type : e.incident_type < 256 ^ 2
+  pub message : IsBytes e.message
+
+pub record IsRowsQueryInRange (e : RowsQueryEvent) : Type 0 where
+  pub query : IsBytes e.query
+
+pub record IsBeginLoadQueryInRange (e : BeginLoadQueryEvent) : Type 0 where
+  pub file_id : e.file_id < 256 ^ 4
+  pub block_data : IsBytes e.block_data
