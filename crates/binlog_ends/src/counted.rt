@@ -1,7 +1,7 @@
 //! A reader or a writer of the standard library whose failures are counted.
-ghost use Rattle.std.specs.Prelude.{◌≡◌, ◌<◌, ◌≤◌, ◌↔◌, ℕ, List, Option, Some, None, IsNone, IfOk, OnOk, OnErr, MatchResult, length, take, drop};
+ghost use Rattle.std.specs.Prelude.{◌≡◌, ◌<◌, ◌≤◌, ◌↔◌, ℕ, List, Option, Some, None, IsNone, IsSome, Ok, IsOk, IfOk, OnOk, OnErr, MatchResult, length, take, drop};
 ghost use Rattle.std.specs.Io.KnownBytes.{Appends, Consumes, IsAtEnd, Keeps};
-ghost use Rattle.binlog_ends.specs.Counts.{after_failure, AppendsFront};
+ghost use Rattle.binlog_ends.specs.Counts.{after_failure, AppendsFront, CountsErr};
 
 use crate::failed::Failed;
 use crate::traits::{CountsFailures, ReadCounted, WriteCounted};
@@ -85,7 +85,19 @@ impl<T> CountsFailures for Counted<T> {
 impl<R: BufRead> ReadCounted for Counted<R> {
     ghost remaining = { λ counted. R.remaining counted.inner };
 
-    fn read_some(&mut self, buf: &mut [u8]) -> Result<usize, Failed> {
+    /// Copies what the reader shows, as far as there is room. The reader is asked once, and where it shows nothing the
+    /// input is at its end.
+    fn read_some(&mut self, buf: &mut [u8]) -> Result<usize, Failed>
+        ensures within { IfOk result (λ count. count ≤ length buf.new) }
+        ensures took { IfOk result (λ count. Consumes (R.remaining self.old.inner) (R.remaining self.new.inner) (take count buf.new)) }
+        ensures end { IfOk result (λ count. count ≡ 0 → 0 < length buf.old → IsAtEnd (R.remaining self.old.inner)) }
+        ensures keeps { OnErr result (Keeps (R.remaining self.old.inner) (R.remaining self.new.inner)) }
+        ensures rest { MatchResult result (λ count. drop count buf.new ≡ drop count buf.old) (λ _. buf.new ≡ buf.old) }
+        ensures empty { length buf.old ≡ 0 → result ≡ Ok 0 }
+        ensures counts { CountsErr result self.old.failures self.new.failures }
+        ensures unasked { length buf.old ≡ 0 → self.new ≡ self.old }
+        ensures last { MatchResult result (λ _. self.new.last_failure ≡ self.old.last_failure) (λ _. IsSome self.new.last_failure) }
+    {
         if buf.is_empty() {
             return Ok(0);
         }
@@ -99,14 +111,25 @@ impl<R: BufRead> ReadCounted for Counted<R> {
 impl<W: Write> WriteCounted for Counted<W> {
     ghost contents = { λ counted. W.contents counted.inner };
 
-    fn write_whole(&mut self, bytes: &[u8]) -> Result<(), Failed> {
+    /// Writes until all bytes are taken. A write that takes none of them is a failure, as is one that is interrupted.
+    fn write_whole(&mut self, bytes: &[u8]) -> Result<(), Failed>
+        ensures written { OnOk result (Appends (W.contents self.old.inner) (W.contents self.new.inner) bytes.now) }
+        ensures front { OnErr result (AppendsFront (W.contents self.old.inner) (W.contents self.new.inner) bytes.now) }
+        ensures empty { length bytes.now ≡ 0 → IsOk result }
+        ensures counts { CountsErr result self.old.failures self.new.failures }
+        ensures last { MatchResult result (λ _. self.new.last_failure ≡ self.old.last_failure) (λ _. IsSome self.new.last_failure) }
+    {
         match write_each(&mut self.inner, bytes) {
             Ok(()) => Ok(()),
             Err(kind) => Err(self.fail(kind)),
         }
     }
 
-    fn flush_counted(&mut self) -> Result<(), Failed> {
+    fn flush_counted(&mut self) -> Result<(), Failed>
+        ensures bytes { Keeps (W.contents self.old.inner) (W.contents self.new.inner) }
+        ensures counts { CountsErr result self.old.failures self.new.failures }
+        ensures last { MatchResult result (λ _. self.new.last_failure ≡ self.old.last_failure) (λ _. IsSome self.new.last_failure) }
+    {
         match self.inner.flush() {
             Ok(()) => Ok(()),
             Err(error) => Err(self.fail(error.kind())),

@@ -59,6 +59,8 @@ impl<R: Read> Read for Retrying<R> {
 impl<R: BufRead> BufRead for Retrying<R> {
     ghost consumable_len = { λ reader. R.consumable_len reader.inner };
 
+    // A reader that shows bytes is asked for them a second time, since those of the first can't be handed on from within
+    // the loop. It has them in its buffer then, so nothing is read for it.
     fn fill_buf(&mut self) -> io::Result<&[u8]> {
         'attempts: for _ in 1..ATTEMPTS {
             match self.inner.fill_buf() {
