@@ -11,6 +11,10 @@ use std::marker::Model;
 
 /// A reader or a writer, with the number of its failures and the kind of the last one.
 ///
+/// No contract of the standard library says when a reader or a writer fails, nor whether a flush reached it. So the
+/// contracts say that each [`Failed`] is counted, and that nothing else is; tests say that a failure comes only from the
+/// reader or the writer.
+///
 /// Contracts see the record of these three.
 #[derive(Debug, Drop)]
 pub struct Counted<T> {

@@ -7,6 +7,9 @@ pub const ATTEMPTS: usize = 64;
 
 /// A reader or a writer that tries an interrupted call again, [`ATTEMPTS`] times in a row at most. Behind them the
 /// interruption is answered.
+///
+/// No contract of the standard library says when a call is interrupted, so how often it is tried is tested and not proved;
+/// that no byte is lost is proved.
 #[derive(Debug, Drop)]
 pub struct Retrying<T> {
     inner: T,

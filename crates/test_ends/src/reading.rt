@@ -82,6 +82,12 @@ fn a_slice_is_read_in_pieces(rt: HostRuntime) {
     assert!(rt; is_at_end && failures == 0);
 }
 
+// What the first call answers, and how many failures are counted behind it.
+fn first_answer<R: ReadCounted>(input: &mut R) -> (Result<usize, Failed>, u64) {
+    let answer = input.read_some(&mut [0; 3]);
+    (answer, input.failures())
+}
+
 #[test]
 fn a_borrowed_reader_counts_on(rt: HostRuntime) {
     let plan = Plan {
@@ -90,9 +96,7 @@ fn a_borrowed_reader_counts_on(rt: HostRuntime) {
         kind: ErrorKind::Other,
     };
     let mut input = Counted::new(ByteReader::new(BYTES, plan));
-    let mut borrowed = &mut input;
-    let first = borrowed.read_some(&mut [0; 3]);
-    let borrowed_failures = borrowed.failures();
+    let (first, borrowed_failures) = first_answer(&mut &mut input);
     let failures = input.failures();
     let left = input.get_ref().left();
     drop(input);

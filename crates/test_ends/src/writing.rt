@@ -49,6 +49,10 @@ fn a_full_writer_fails(rt: HostRuntime) {
     assert!(rt; writes(rt.alloc(), 9, 3, b"abc") == (false, false, 2, zero, true));
 }
 
+fn flush<W: WriteCounted>(output: &mut W) -> Result<(), Failed> {
+    output.flush_counted()
+}
+
 #[test]
 fn a_flush_that_fails_is_counted(rt: HostRuntime) {
     let plan = Plan {
@@ -58,7 +62,7 @@ fn a_flush_that_fails_is_counted(rt: HostRuntime) {
     };
     let mut output = Counted::new(ByteWriter::new(rt.alloc(), 0, plan));
     let first = output.flush_counted();
-    let second = output.flush_counted();
+    let second = flush(&mut &mut output);
     let (failures, last) = (output.failures(), output.last_failure());
     drop(output);
     assert!(rt; first == Ok(()) && second == Err(Failed));
