@@ -1,0 +1,5 @@
+use Rattle.std.specs.Io.KnownBytes.{Keeps}
+use Rattle.binlog_ends.proofs.retrying.RetryingBufRead.fill_buf.Given as goal
+
+abbrev pub invariant-attempts : goal.invariant-attempts
+invariant-attempts g l = Keeps (g.R.Read.remaining l.fn.self.inner) (g.R.Read.remaining l.self.inner)

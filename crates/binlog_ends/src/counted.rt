@@ -1,0 +1,175 @@
+//! A reader or a writer of the standard library whose failures are counted.
+ghost use Rattle.std.specs.Prelude.{◌≡◌, ◌<◌, ◌≤◌, ◌↔◌, ℕ, List, Option, Some, None, IsNone, IsSome, Ok, IsOk, IfOk, OnOk, OnErr, MatchResult, length, take, drop};
+ghost use Rattle.std.specs.Io.KnownBytes.{Appends, Consumes, IsAtEnd, Keeps};
+ghost use Rattle.binlog_ends.specs.Counts.{after_failure, AppendsFront, CountsErr};
+
+use crate::failed::Failed;
+use crate::traits::{CountsFailures, ReadCounted, WriteCounted};
+use std::io;
+use std::io::{BufRead, ErrorKind, Write};
+use std::marker::Model;
+
+/// A reader or a writer, with the number of its failures and the kind of the last one.
+///
+/// No contract of the standard library says when a reader or a writer fails, nor whether a flush reached it. So the
+/// contracts say that each [`Failed`] is counted, and that nothing else is; tests say that a failure comes only from the
+/// reader or the writer.
+///
+/// Contracts see the record of these three.
+#[derive(Debug, Drop)]
+pub struct Counted<T> {
+    inner: T,
+    failures: u64,
+    last_failure: Option<ErrorKind>,
+}
+
+impl<T> Model for Counted<T> {
+    ghost use Rattle.std.specs.Prelude.{◌≡◌, ◌↔◌, IsNone};
+    ghost use Rattle.binlog_ends.specs.Views.{CountedView};
+
+    ghost Value = { CountedView T };
+
+    ghost view = { λ counted. record { inner = counted.inner; failures = counted.failures; last_failure = counted.last_failure } };
+
+    ghost invariant = { λ counted. IsNone counted.last_failure ↔ (counted.failures ≡ 0) };
+}
+
+impl<T> Counted<T> {
+    /// A reader or a writer that hasn't failed so far.
+    pub fn new(inner: T) -> Self
+        ensures { result ≡ record { inner = inner; failures = 0; last_failure = None } }
+    {
+        Counted {
+            inner,
+            failures: 0,
+            last_failure: None,
+        }
+    }
+
+    /// The reader or writer itself.
+    pub fn get_ref(&self) -> &T
+        ensures { result.now ≡ self.now.inner }
+    {
+        &self.inner
+    }
+
+    /// The reader or writer itself. The count is let go of.
+    pub fn into_inner(self) -> T
+        ensures { result ≡ self.inner }
+    {
+        self.inner
+    }
+
+    /// How the last call failed that did, or None where none has.
+    pub fn last_failure(&self) -> Option<ErrorKind>
+        ensures kind { result ≡ self.now.last_failure }
+        ensures none { IsNone result ↔ (self.now.failures ≡ 0) }
+    {
+        self.last_failure
+    }
+
+    // Counts a failure.
+    fn fail(&mut self, kind: ErrorKind) -> Failed
+        ensures { self.new ≡ record self.old { failures = after_failure self.old.failures; last_failure = Some kind } }
+    {
+        self.failures = self.failures.saturating_add(1);
+        self.last_failure = Some(kind);
+        Failed
+    }
+}
+
+impl<T> CountsFailures for Counted<T> {
+    ghost failures = { λ counted. counted.failures };
+
+    fn failures(&self) -> u64 {
+        self.failures
+    }
+}
+
+impl<R: BufRead> ReadCounted for Counted<R> {
+    ghost remaining = { λ counted. R.remaining counted.inner };
+
+    /// Copies what the reader shows, as far as there is room. The reader is asked once, and where it shows nothing the
+    /// input is at its end.
+    fn read_some(&mut self, buf: &mut [u8]) -> Result<usize, Failed>
+        ensures within { IfOk result (λ count. count ≤ length buf.new) }
+        ensures took { IfOk result (λ count. Consumes (R.remaining self.old.inner) (R.remaining self.new.inner) (take count buf.new)) }
+        ensures end { IfOk result (λ count. count ≡ 0 → 0 < length buf.old → IsAtEnd (R.remaining self.old.inner)) }
+        ensures keeps { OnErr result (Keeps (R.remaining self.old.inner) (R.remaining self.new.inner)) }
+        ensures rest { MatchResult result (λ count. drop count buf.new ≡ drop count buf.old) (λ _. buf.new ≡ buf.old) }
+        ensures empty { length buf.old ≡ 0 → result ≡ Ok 0 }
+        ensures counts { CountsErr result self.old.failures self.new.failures }
+        ensures unasked { length buf.old ≡ 0 → self.new ≡ self.old }
+        ensures last { MatchResult result (λ _. self.new.last_failure ≡ self.old.last_failure) (λ _. IsSome self.new.last_failure) }
+    {
+        if buf.is_empty() {
+            return Ok(0);
+        }
+        match copy_shown(&mut self.inner, buf) {
+            Ok(count) => Ok(count),
+            Err(error) => Err(self.fail(error.kind())),
+        }
+    }
+}
+
+impl<W: Write> WriteCounted for Counted<W> {
+    ghost contents = { λ counted. W.contents counted.inner };
+
+    /// Writes until all bytes are taken. A write that takes none of them is a failure, as is one that is interrupted.
+    fn write_whole(&mut self, bytes: &[u8]) -> Result<(), Failed>
+        ensures written { OnOk result (Appends (W.contents self.old.inner) (W.contents self.new.inner) bytes.now) }
+        ensures front { OnErr result (AppendsFront (W.contents self.old.inner) (W.contents self.new.inner) bytes.now) }
+        ensures empty { length bytes.now ≡ 0 → IsOk result }
+        ensures counts { CountsErr result self.old.failures self.new.failures }
+        ensures last { MatchResult result (λ _. self.new.last_failure ≡ self.old.last_failure) (λ _. IsSome self.new.last_failure) }
+    {
+        match write_each(&mut self.inner, bytes) {
+            Ok(()) => Ok(()),
+            Err(kind) => Err(self.fail(kind)),
+        }
+    }
+
+    fn flush_counted(&mut self) -> Result<(), Failed>
+        ensures bytes { Keeps (W.contents self.old.inner) (W.contents self.new.inner) }
+        ensures counts { CountsErr result self.old.failures self.new.failures }
+        ensures last { MatchResult result (λ _. self.new.last_failure ≡ self.old.last_failure) (λ _. IsSome self.new.last_failure) }
+    {
+        match self.inner.flush() {
+            Ok(()) => Ok(()),
+            Err(error) => Err(self.fail(error.kind())),
+        }
+    }
+}
+
+// Copies what the reader shows, as far as there is room.
+fn copy_shown<R: BufRead>(input: &mut R, buf: &mut [u8]) -> io::Result<usize>
+    requires { 0 < length buf.old }
+    ensures took { IfOk result (λ count. Consumes (R.remaining input.old) (R.remaining input.new) (take count buf.new)) }
+    ensures within { IfOk result (λ count. count ≤ length buf.new) }
+    ensures end { IfOk result (λ count. count ≡ 0 → IsAtEnd (R.remaining input.old)) }
+    ensures rest { MatchResult result (λ count. drop count buf.new ≡ drop count buf.old) (λ _. buf.new ≡ buf.old) }
+    ensures keeps { OnErr result (Keeps (R.remaining input.old) (R.remaining input.new)) }
+{
+    let shown = input.fill_buf()?;
+    let count = shown.len().min(buf.len());
+    buf[..count].copy_from_slice(&shown[..count]);
+    input.consume(count);
+    Ok(count)
+}
+
+// Writes all of the bytes, by as many writes as it takes; refused where one fails or takes none of them.
+fn write_each<W: Write>(output: &mut W, bytes: &[u8]) -> Result<(), ErrorKind>
+    ensures written { OnOk result (Appends (W.contents output.old) (W.contents output.new) bytes.now) }
+    ensures front { OnErr result (AppendsFront (W.contents output.old) (W.contents output.new) bytes.now) }
+    ensures empty { OnErr result (0 < length bytes.now) }
+{
+    let mut rest = bytes;
+    'writes: while !rest.is_empty() {
+        match output.write(rest) {
+            Ok(0) => return Err(ErrorKind::WriteZero),
+            Ok(count) => rest = &rest[count..],
+            Err(error) => return Err(error.kind()),
+        }
+    }
+    Ok(())
+}

@@ -1,0 +1,11 @@
+//! Tests of `binlog_ends`: readers and writers that fail, are interrupted, and take less than they are given.
+#![tactic(auto)]
+
+#[cfg(test)]
+mod devices;
+#[cfg(test)]
+mod reading;
+#[cfg(test)]
+mod retrying;
+#[cfg(test)]
+mod writing;
