@@ -10,3 +10,4 @@ pub mod TaggedWriting
 pub mod Taking
 pub mod Untagged
 pub mod Writable
+pub mod ReadGtids

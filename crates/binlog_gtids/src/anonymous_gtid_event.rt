@@ -1,5 +1,5 @@
 //! The event before a transaction that has no GTID.
-ghost use Rattle.std.specs.Prelude.{◌≡◌, refl, IfOk, IsOkUnless};
+ghost use Rattle.std.specs.Prelude.{◌≡◌, refl, Ok, IfOk, IsOkUnless};
 ghost use Rattle.binlog_wire.specs.declared.error.Error.TheVariants.{Memory};
 ghost use Rattle.binlog_gtids.specs.Gtids.{anonymous, unwritable_anonymous};
 ghost use Rattle.binlog_gtids.specs.Untagged.{untagged};
@@ -23,10 +23,9 @@ impl AnonymousGtidEvent {
         Ok(AnonymousGtidEvent(self.0.clone(alloc)?))
     }
 
-    /// The same event; it lends nothing.
+    /// The same event: it borrows nothing, so no memory is taken, and it is always Ok.
     pub fn into_owned(self, alloc: Global) -> Result<AnonymousGtidEvent, Error>
-        ensures ok { IfOk result (λ owned. owned ≡ self) }
-        ensures memory { IsOkUnless result Memory }
+        ensures { result ≡ Ok self }
     {
         Ok(AnonymousGtidEvent(self.0.into_owned(alloc)?))
     }

@@ -1,5 +1,5 @@
 //! The event that names the transaction behind it.
-ghost use Rattle.std.specs.Prelude.{◌≡◌, Option, None, Some, Bool, true, false, if◌then◌else◌, refl, bit_and, is_some, option_copied, IfOk, IsOkUnless};
+ghost use Rattle.std.specs.Prelude.{◌≡◌, Option, None, Some, Bool, true, false, if◌then◌else◌, refl, bit_and, is_some, option_copied, Ok, IfOk, IsOkUnless};
 ghost use Rattle.bitflags.specs.Sets.{known_bits};
 ghost use Rattle.binlog_wire.specs.declared.error.Error.TheVariants.{Memory};
 ghost use Rattle.binlog_consts.specs.declared.event_type.EventType.TheVariants.{GTID_EVENT, GTID_TAGGED_LOG_EVENT};
@@ -382,10 +382,9 @@ impl GtidEvent {
         })
     }
 
-    /// The same event; it lends nothing.
+    /// The same event: it borrows nothing, so no memory is taken, and it is always Ok.
     pub fn into_owned(self, _alloc: Global) -> Result<GtidEvent, Error>
-        ensures ok { IfOk result (λ owned. owned ≡ self) }
-        ensures memory { IsOkUnless result Memory }
+        ensures { result ≡ Ok self }
     {
         Ok(self)
     }

@@ -1,25 +1,50 @@
 //! Laws of the definitions, each a function whose contract says it.
-ghost use Rattle.std.specs.Prelude.{◌≡◌, ◌+◌, ◌<◌, ◌≤◌, ℕ, List, [], None, length};
+ghost use Rattle.std.specs.Prelude.{◌≡◌, ◌+◌, ◌<◌, ◌≤◌, ℕ, List, [], None, Some, length};
+ghost use Rattle.binlog_consts.specs.declared.version.BinlogVersion.{BinlogVersion};
+ghost use Rattle.binlog_description.specs.FormatDescription.{default_description};
 ghost use Rattle.binlog_numbers.specs.Sized.{Solves, least_size};
 ghost use Rattle.binlog_numbers.specs.Varlen.{IsVarlen};
 ghost use Rattle.binlog_numbers.specs.Repeated.{EachFits};
 ghost use Rattle.binlog_gtids.specs.PreviousGtids.{FitsSid, sids_format, unwritable_sids};
-ghost use Rattle.binlog_gtids.specs.Gtids.{gtid, raw_type_of, unwritable, HasTag};
+ghost use Rattle.binlog_gtids.specs.Gtids.{gtid, anonymous, raw_type_of, unwritable, unwritable_anonymous, HasTag};
 ghost use Rattle.binlog_gtids.specs.Writable.{InRange};
 ghost use Rattle.binlog_gtids.specs.declared.gtid_event.GtidEvent.{GtidEvent};
+ghost use Rattle.binlog_gtids.specs.declared.anonymous_gtid_event.AnonymousGtidEvent.{AnonymousGtidEvent};
+ghost use Rattle.binlog_gtids.specs.declared.previous_gtids_event.PreviousGtidsEvent.{PreviousGtidsEvent};
 ghost use Rattle.binlog_gtids.specs.declared.previous_gtids_sid.PreviousGtidsSid.{PreviousGtidsSid};
 
 use crate::anonymous_gtid_event::AnonymousGtidEvent;
 use crate::field_id;
 use crate::gtid_event::GtidEvent;
+use crate::gtid_flags::GtidFlags;
 use crate::previous_gtids_event::PreviousGtidsEvent;
+use crate::previous_gtids_sid::PreviousGtidsSid;
 use binlog_consts::EventType;
 use binlog_description::BinlogEvent;
+use binlog_wire::MyDeserialize;
+use bitflags::Flags;
+
+/// A GTID that was read, under whichever type of event, is its own normal form in the format in which it is written: so nothing
+/// of it is lost by writing it. The same holds of an anonymous GTID that was read without a tag; one that was read
+/// with a tag can't be written.
+pub fn read_gtids_are_normal()
+    ensures gtid { (raw : ℕ) (s : List ℕ) (event : GtidEvent) (r : List ℕ) → (gtid raw).spells s event r
+        → (gtid (raw_type_of event)).normal event ≡ event }
+    ensures anonymous { (raw : ℕ) (s : List ℕ) (event : AnonymousGtidEvent) (r : List ℕ) → (anonymous raw).spells s event r
+        → event.0.tag ≡ None → (anonymous 34).normal event ≡ event }
+{}
 
 /// A GTID whose fields are in the ranges of their types, and that isn't refused, fits the form of its own type: so what is
 /// written of it reads as its normal form.
 pub fn writable_gtids_fit()
     ensures { (event : GtidEvent) → InRange event → HasTag event.tag → unwritable event ≡ None → (gtid (raw_type_of event)).Fits event }
+{}
+
+/// An anonymous GTID whose fields are in the ranges of their types, and that isn't refused, fits the form of its type: so what
+/// is written of it reads as its normal form.
+pub fn writable_anonymous_gtids_fit()
+    ensures { (version : BinlogVersion) (event : AnonymousGtidEvent) → InRange event.0 → unwritable_anonymous event.0 ≡ None
+        → (⟦<AnonymousGtidEvent as BinlogEvent<'static>>⟧.format (default_description version) (⟦<AnonymousGtidEvent as BinlogEvent<'static>>⟧.raw_type event)).Fits event }
 {}
 
 /// The payload size that is written counts n other bytes and its own; no smaller one does, however it is spelled.
@@ -31,6 +56,34 @@ pub fn payload_sizes()
 /// Entries of previous GTIDs whose parts are in the ranges of their types, and that aren't refused, fit their form.
 pub fn writable_sids_fit()
     ensures { (sids : List PreviousGtidsSid) → EachFits FitsSid sids → unwritable_sids sids ≡ None → sids_format.Fits sids }
+{}
+
+/// The raw types under which events are written: 42 for a GTID with a tag, and 33 for one without.
+pub fn raw_types()
+    ensures tagged { (event : GtidEvent) (tag : List ℕ) → event.tag ≡ Some tag → ⟦<GtidEvent as BinlogEvent<'static>>⟧.raw_type event ≡ 42 }
+    ensures untagged { (event : GtidEvent) → event.tag ≡ None → ⟦<GtidEvent as BinlogEvent<'static>>⟧.raw_type event ≡ 33 }
+    ensures anonymous { (event : AnonymousGtidEvent) → ⟦<AnonymousGtidEvent as BinlogEvent<'static>>⟧.raw_type event ≡ 34 }
+    ensures previous { (event : PreviousGtidsEvent) → ⟦<PreviousGtidsEvent<'static> as BinlogEvent<'static>>⟧.raw_type event ≡ 35 }
+{}
+
+/// The sizes of what always takes as many bytes: none of these does.
+pub fn sizes()
+    ensures gtid { ⟦<GtidEvent as MyDeserialize<'static>>⟧.size ≡ None }
+    ensures anonymous { ⟦<AnonymousGtidEvent as MyDeserialize<'static>>⟧.size ≡ None }
+    ensures previous { ⟦<PreviousGtidsEvent<'static> as MyDeserialize<'static>>⟧.size ≡ None }
+    ensures sid { ⟦<PreviousGtidsSid<'static> as MyDeserialize<'static>>⟧.size ≡ None }
+{
+    prove!(matches!(GtidEvent::SIZE, None));
+    prove!(matches!(AnonymousGtidEvent::SIZE, None));
+    prove!(matches!(PreviousGtidsEvent::SIZE, None));
+    prove!(matches!(PreviousGtidsSid::SIZE, None));
+}
+
+/// Previous GTIDs whose entries' parts are in the ranges of their types, and that aren't refused, fit the form of their type:
+/// so what is written of them reads as their normal form.
+pub fn writable_previous_gtids_fit()
+    ensures { (version : BinlogVersion) (event : PreviousGtidsEvent) → EachFits FitsSid event.sids → unwritable_sids event.sids ≡ None
+        → (⟦<PreviousGtidsEvent<'static> as BinlogEvent<'static>>⟧.format (default_description version) (⟦<PreviousGtidsEvent<'static> as BinlogEvent<'static>>⟧.raw_type event)).Fits event }
 {}
 
 /// The types of events.
@@ -57,6 +110,11 @@ pub fn constants() {
     prove!(GtidEvent::ORIGINAL_COMMIT_TIMESTAMP_LENGTH == 7);
     prove!(GtidEvent::UNDEFINED_SERVER_VERSION == 999_999);
     prove!(GtidEvent::IMMEDIATE_SERVER_VERSION_LENGTH == 4);
+}
+
+/// The flags of GTIDs.
+pub fn flags() {
+    prove!(GtidFlags::MAY_HAVE_SBR.bits() == 1);
 }
 
 /// The ids of the fields of a GTID with a tag.

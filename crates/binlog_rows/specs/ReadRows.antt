@@ -1,5 +1,5 @@
 -- A row event that was read can be written.
-use Rattle.std.proofs.Common.{◌≡◌, ℕ, ◌^◌, ◌<◌, Bool, true, false, cond, eqb, Option, List, length, ap, ◌∙◌}
+use Rattle.std.proofs.Common.{ℕ, ◌^◌, ◌<◌, Bool, true, false, cond, eqb, Option, List, length, ap, ◌∙◌}
 use Rattle.binlog_rows.specs.Columns.{id_width, Bitmap}
 use Rattle.binlog_rows.specs.Forms.{default_length}
 use Rattle.binlog_rows.specs.ReadTableMaps.{lenenc_small, id_small_by}
@@ -8,11 +8,11 @@ use Rattle.binlog_rows.specs.declared.rows_form.RowsForm.{RowsForm}
 use Rattle.binlog_rows.specs.declared.rows_event.RowsEvent.{RowsEvent}
 
 -- the ids of tables take 6 bytes where a description states no length of the post-header
-id_fits : (has_extra : Bool) (id : ℕ) → id < 256 ^ 6 → id < 256 ^ id_width (cond has_extra 10 8)
+pub id_fits : (has_extra : Bool) (id : ℕ) → id < 256 ^ 6 → id < 256 ^ id_width (cond has_extra 10 8)
 id_fits true id small = small
 id_fits false id small = small
 
-extra_fits : (has_extra : Bool) (o : Option (List ℕ)) → (extra_in has_extra (cond has_extra 10 8)).Fits o
+pub extra_fits : (has_extra : Bool) (o : Option (List ℕ)) → (extra_in has_extra (cond has_extra 10 8)).Fits o
 extra_fits true o = tt
 extra_fits false o = tt
 

@@ -3,7 +3,7 @@
 -- columns, length-encoded; for each of the images that the type has, one bit for each column, set where the column is in that
 -- image; the rows, to the end. Of the types, 23 to 25 are the older ones, which keep no extra bytes.
 -- Source: MySQL's documentation of its source code, `mysql::binlog::event::Rows_event`.
-use Rattle.std.specs.Prelude.{◌≡◌, ℕ, ◌+◌, ◌-◌, ◌==◌, ◌≤◌, Bool, true, false, Option, Some, None, is_some, unwrap_or, IfSome, List, [], ◌++◌, length, take, Ok, refl}
+use Rattle.std.specs.Prelude.{◌≡◌, ℕ, ◌+◌, ◌-◌, ◌==◌, Bool, true, false, Option, Some, None, is_some, unwrap_or, IfSome, List, [], ◌++◌, length, take, Ok, refl}
 use Rattle.std.proofs.Common.{ap, arith}
 use Rattle.std.proofs.lemmas.List.{length-take, take_all}
 use Rattle.binlog_wire.specs.Fields.{little_bytes}

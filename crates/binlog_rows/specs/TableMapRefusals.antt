@@ -1,7 +1,7 @@
 -- Why a table map is refused: for the end of its bytes, or where one of its two length-encoded numbers should stand and
 -- doesn't.
-use Rattle.std.proofs.Common.{◌≡◌, ◌↔◌, ℕ, zero, suc, ◌+◌, ◌-◌, ◌<◌, ◌≤◌, ◌⊎◌, inl, inr, Bool, true, false, cond, ltb, eqb, List, [], ◌∷◌, length, take, drop, Result, Ok, Err, refl, sym, ap, subst, ◌∙◌, arith}
-use Rattle.std.proofs.lemmas.Bool.{ltb-false, eqb-true}
+use Rattle.std.proofs.Common.{◌≡◌, ◌↔◌, ℕ, zero, suc, ◌+◌, ◌-◌, ◌<◌, ◌≤◌, ◌⊎◌, inl, inr, Bool, true, false, cond, ltb, eqb, List, [], ◌∷◌, length, take, drop, Result, Ok, Err, refl, sym, ap, subst, arith}
+use Rattle.std.proofs.lemmas.Bool.{ltb-false}
 use Rattle.binlog_wire.specs.declared.error.Invalid.TheVariants as kinds
 use Rattle.binlog_wire.specs.Reading.{Refusal, ends, invalid, Read, ◌>>=◌, read_as}
 use Rattle.binlog_wire.specs.Fields.{IsBytes, IsBlock, little_number, number_at, block_at, text_at, rest_at, then_at, skipped_at}
@@ -9,11 +9,9 @@ use Rattle.binlog_wire.specs.Laws.Texts.{keeps_block}
 use Rattle.binlog_wire.specs.Formats.{Format, anywhere, block, silent, skip_then, then, ◌⨾◌}
 use Rattle.binlog_numbers.specs.LenEnc.{IsLenEnc, lenenc, lenenc_at, keeps_lenenc}
 use Rattle.binlog_numbers.specs.LenEncTexts.{lenenc_text}
-use Rattle.binlog_rows.specs.Columns.{Bitmap, bitmap, id_width}
-use Rattle.binlog_rows.specs.TableColumns.{TableColumns}
-use Rattle.binlog_rows.specs.TableMaps.{table, Fields, fields, columns_of, columns, table_map}
+use Rattle.binlog_rows.specs.Columns.{bitmap, id_width}
+use Rattle.binlog_rows.specs.TableMaps.{table, fields, columns_of, columns, table_map}
 use Rattle.binlog_rows.specs.declared.mapped_table.MappedTable.{MappedTable}
-use Rattle.binlog_rows.specs.declared.table_map_event.TableMapEvent.{TableMapEvent}
 
 -- a front of the bytes spells a value, and this byte is next
 abbrev pub IsBefore : {V : Type 0} → Format anywhere V → ℕ → List ℕ → Type 0

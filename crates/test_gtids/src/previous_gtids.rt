@@ -6,7 +6,7 @@ use binlog_numbers::{GnoInterval, Tag};
 use binlog_wire::{Error, Invalid};
 use std::alloc::{AllocError, Global};
 use testkit_bodies::{
-    are_fronts_refused, is_rewritten, is_same, is_written, joined, read, refusal, told_len,
+    are_fronts_refused, is_rewritten, is_same, is_written, joined, read, refusal, told_len, written,
 };
 
 /// An entry without a tag, behind its source: the numbers 1 to 5.
@@ -113,6 +113,44 @@ fn tagged_form_without_a_tag_is_read(rt: HostRuntime) {
 fn tagged_form_is_written_for_a_tag_alone(rt: HostRuntime) {
     let parts: &[&[u8]] = &[b"\x01\0\0\0\0\0\0\0", &UUID, &[0; 8]];
     assert!(rt; is_rewritten_as(rt.alloc(), NO_TAG, parts) == Ok(true));
+}
+
+/// How many intervals are more than 64 KiB, at 16 bytes each.
+const MANY: u64 = 5_000;
+
+// An entry without a tag and so many intervals, each of its own.
+fn many_intervals(alloc: Global) -> Result<PreviousGtidsEvent<'static>, Error> {
+    let mut intervals = Vec::new(alloc);
+    for start in 0..MANY {
+        intervals
+            .push(GnoInterval::new(2 * start, 2 * start + 1))
+            .map_err(AllocError::from)?;
+    }
+    let mut sids = Vec::new(alloc);
+    sids.push(PreviousGtidsSid::new(UUID, None, intervals))
+        .map_err(AllocError::from)?;
+    Ok(PreviousGtidsEvent::new(sids))
+}
+
+// Whether an event is written in so many bytes, which are read as it.
+fn is_read_back(
+    alloc: Global,
+    event: Result<PreviousGtidsEvent<'static>, Error>,
+    len: usize,
+) -> Result<bool, Error> {
+    let event = event?;
+    let bytes = written(alloc, &event)?;
+    let is_read = is_same(read(alloc, bytes.as_slice()), &event);
+    let is_long = bytes.len() == len;
+    drop(bytes);
+    drop(event);
+    Ok(is_long && is_read?)
+}
+
+// Eight bytes for the count of entries, sixteen for the source, eight for the count of intervals, and the intervals.
+#[test]
+fn more_than_64_kib_of_intervals_are_written_and_read(rt: HostRuntime) {
+    assert!(rt; is_read_back(rt.alloc(), many_intervals(rt.alloc()), 80_032) == Ok(true));
 }
 
 #[test]

@@ -250,12 +250,29 @@ fn cut_tagged_bodies_are_refused(rt: HostRuntime) {
     assert!(rt; why_longer(rt.alloc(), BACKUP) == Ok(Some(Error::RemainingBytes(1))));
 }
 
-// A GTID with a tag whose number and last commit don't fit.
-fn late(alloc: Global) -> Result<GtidEvent, Error> {
+/// A tagged body whose number, `last_committed` and `sequence_number` are 2^63 - 1.
+const GREATEST: &[u8] =
+    b"\x02\xa4\0\0\0\x02\xad\x02\xad\x02\xad\x02\xad\x02\xad\x02\xad\x02\xad\x02\xad\x02\xad\x02\xad\x02\xad\x02\xad\x02\xad\x02\xad\x02\xad\x02\xad\x02\x04\xff\xfe\xff\xff\xff\xff\xff\xff\xff\x06\x08test\x08\xff\xfe\xff\xff\xff\xff\xff\xff\xff\x0a\xff\xfe\xff\xff\xff\xff\xff\xff\xff\x0c\0\x10\0\x12\xfb\x11\x7a";
+
+/// A number, a `last_committed` and a `sequence_number`, and the first of these that doesn't fit.
+const LATE: [(u64, u64, u64, Field); 3] = [
+    (1 << 63, 1 << 63, 1 << 63, Field::Gno),
+    (1, 1 << 63, 1 << 63, Field::LastCommitted),
+    (1, 1, 1 << 63, Field::SequenceNumber),
+];
+
+// A GTID with a tag, of these.
+fn numbered(
+    alloc: Global,
+    gno: u64,
+    last_committed: u64,
+    sequence_number: u64,
+) -> Result<GtidEvent, Error> {
     Ok(
         tagged(alloc, b"test")?
-            .with_gno(1 << 63)
-            .with_last_committed(1 << 63),
+            .with_gno(gno)
+            .with_last_committed(last_committed)
+            .with_sequence_number(sequence_number),
     )
 }
 
@@ -266,18 +283,28 @@ fn is_refused<T: MySerialize + Drop>(alloc: Global, value: T, field: Field) -> R
     is_refused
 }
 
-fn is_late(alloc: Global) -> Result<bool, Error> {
-    is_refused(alloc, late(alloc)?, Field::Gno)
-}
-
-fn is_tagged(alloc: Global) -> Result<bool, Error> {
-    is_refused(alloc, AnonymousGtidEvent(late(alloc)?), Field::Tag)
+// Whether a GTID with a tag, of these, is refused for this field, and for its tag as an anonymous one.
+fn is_late(alloc: Global, gno: u64, last: u64, own: u64, field: Field) -> Result<bool, Error> {
+    let is_late = is_refused(alloc, numbered(alloc, gno, last, own)?, field);
+    let anonymous = AnonymousGtidEvent(numbered(alloc, gno, last, own)?);
+    let is_tagged = is_refused(alloc, anonymous, Field::Tag);
+    Ok(is_late? && is_tagged?)
 }
 
 #[test]
-fn tagged_numbers_that_do_not_fit(rt: HostRuntime) {
-    assert!(rt; is_late(rt.alloc()) == Ok(true));
-    assert!(rt; is_tagged(rt.alloc()) == Ok(true));
+fn first_number_that_does_not_fit_is_named(rt: HostRuntime) {
+    for (gno, last, own, field) in LATE {
+        assert!(rt; is_late(rt.alloc(), gno, last, own, field) == Ok(true));
+    }
+}
+
+#[test]
+fn greatest_numbers_are_written(rt: HostRuntime) {
+    let most = (1 << 63) - 1;
+    let event = numbered(rt.alloc(), most, most, most);
+    assert!(rt; is_made_of(rt.alloc(), event, &[GREATEST]) == Ok(true));
+    let event = numbered(rt.alloc(), most, most, most);
+    assert!(rt; are_read_as(rt.alloc(), &[GREATEST], event) == Ok(true));
 }
 
 // The allocation is that of the tag.

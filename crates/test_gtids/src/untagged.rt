@@ -142,23 +142,66 @@ fn is_late(alloc: Global, event: GtidEvent, field: Field) -> bool {
     is_late
 }
 
-#[test]
-fn times_that_do_not_fit_are_unwritable(rt: HostRuntime) {
-    let late = new_gtid().with_immediate_commit_timestamp(1 << 55);
-    assert!(rt; is_late(rt.alloc(), late, Field::ImmediateCommitTimestamp));
-    let later = new_gtid()
-        .with_original_commit_timestamp(1 << 56)
-        .with_immediate_server_version(1 << 31);
-    assert!(rt; is_late(rt.alloc(), later, Field::OriginalCommitTimestamp));
+/// The immediate and the original time, the immediate version, and the first of these that doesn't fit.
+const LATE: [(u64, u64, u32, Field); 5] = [
+    (1 << 55, 1 << 56, 1 << 31, Field::ImmediateCommitTimestamp),
+    (1 << 55, 1 << 55, 0, Field::ImmediateCommitTimestamp),
+    (0, 1 << 56, 1 << 31, Field::OriginalCommitTimestamp),
+    (0, u64::MAX, 0, Field::OriginalCommitTimestamp),
+    (0, 0, 1 << 31, Field::ImmediateServerVersion),
+];
+
+// A GTID of these times and this version.
+fn late_gtid(immediate: u64, original: u64, version: u32) -> GtidEvent {
+    new_gtid()
+        .with_immediate_commit_timestamp(immediate)
+        .with_original_commit_timestamp(original)
+        .with_immediate_server_version(version)
 }
 
 #[test]
-fn latest_times_are_written(rt: HostRuntime) {
-    let event = new_gtid()
-        .with_immediate_commit_timestamp((1 << 55) - 1)
-        .with_original_commit_timestamp((1 << 56) - 1);
-    let parts: &[&[u8]] = &[HEAD, CLOCK, &[0xff; 14], &[0; 5]];
+fn first_field_that_does_not_fit_is_named(rt: HostRuntime) {
+    for (immediate, original, version, field) in LATE {
+        assert!(rt; is_late(rt.alloc(), late_gtid(immediate, original, version), field));
+    }
+}
+
+// Whether an anonymous GTID that is late in this way is refused for this field.
+fn is_anonymous_late(alloc: Global, event: GtidEvent, field: Field) -> bool {
+    let event = AnonymousGtidEvent(event);
+    let is_late = is_unwritable(alloc, &event, field) == Ok(true);
+    drop(event);
+    is_late
+}
+
+#[test]
+fn first_field_of_an_anonymous_gtid_that_does_not_fit_is_named(rt: HostRuntime) {
+    for (immediate, original, version, field) in LATE {
+        assert!(rt; is_anonymous_late(rt.alloc(), late_gtid(immediate, original, version), field));
+    }
+}
+
+// Bit 55 of the immediate time and bit 31 of the immediate version say that an original one follows.
+#[test]
+fn latest_times_and_versions_are_written(rt: HostRuntime) {
+    let event = late_gtid((1 << 55) - 1, (1 << 56) - 1, (1 << 31) - 1).with_original_server_version(
+        u32::MAX,
+    );
+    let parts: &[&[u8]] = &[HEAD, CLOCK, &[0xff; 14], &[0], &[0xff; 8]];
     assert!(rt; goes_round(rt.alloc(), event, parts) == Ok(true));
+}
+
+// Whether a GTID without a clock is written so, whatever its time is.
+fn is_written_without_clock(alloc: Global) -> Result<bool, Error> {
+    let late = read_gtid(alloc, 33, &[HEAD])?.with_immediate_commit_timestamp(1 << 55);
+    let is_written = is_written_as(alloc, &late, &[HEAD]);
+    drop(late);
+    is_written
+}
+
+#[test]
+fn times_without_a_clock_are_not_written(rt: HostRuntime) {
+    assert!(rt; is_written_without_clock(rt.alloc()) == Ok(true));
 }
 
 // Whether a body of this raw type is refused as neither of the two events without a tag.
