@@ -1,12 +1,13 @@
 -- Lists of intervals that are apart: what adding an interval makes of one, and where it stands in it.
-use Rattle.std.proofs.Common.{◌≡◌, ◌≢◌, ℕ, zero, suc, ◌+◌, ◌-◌, ◌^◌, ◌<◌, ◌≤◌, min, max, Bool, true, false, ltb, leb, cond, ◌&&◌, ◌||◌, not, List, [], ◌∷◌, ◌++◌, length, take, drop, get_or, Result, Ok, Err, OnOk, OnErr, refl, sym, ap, subst, ◌∙◌, arith}
+use Rattle.std.proofs.Common.{◌≡◌, ℕ, zero, suc, ◌-◌, ◌^◌, ◌<◌, ◌≤◌, min, max, Bool, true, false, ltb, leb, cond, ◌&&◌, ◌||◌, not, List, [], ◌∷◌, ◌++◌, length, take, drop, get_or, Result, Ok, Err, OnOk, OnErr, refl, sym, ap, ◌∙◌, append-nil, inl, inr, arith}
 use Rattle.std.specs.List.{insert, AllWithin}
 use Rattle.std.specs.List.Sorted.{IsNonDecreasingBy}
 use Rattle.std.proofs.lemmas.List.{get_or_read}
-use Rattle.std.proofs.lemmas.Bool.{ltb-true, lt-ltb, le-ltb, true≢false}
+use Rattle.std.proofs.lemmas.Bool.{cases_lt, ltb-true, lt-ltb, le-ltb, le-leb, leb-true, true≢false, false≢true}
 use Rattle.std.proofs.lemmas.Bool.Decides.{nat_tests}
+use Rattle.std.proofs.lemmas.Grind.{common_steps}
 use Rattle.binlog_numbers.specs.declared.gno_interval.GnoInterval.{GnoInterval}
-use Rattle.binlog_gtids.specs.GnoSets.{is_within, is_held, AreApart, leading, ending_below, starting_up_to}
+use Rattle.binlog_gtids.specs.GnoSets.{is_within, is_held, is_up_to_last, AreApart, leading, ending_below, starting_up_to}
 
 abbrev pub interval : ℕ → ℕ → GnoInterval
 interval s e = record { start = s; end = e }
@@ -116,7 +117,7 @@ spliced (i ∷ is) low s e apart some =
 
 -- ---- how many there are in front of it and up to its end
 
-pub leading_most : (p : GnoInterval → Bool) (is : List GnoInterval) → leading p is ≤ length is
+leading_most : (p : GnoInterval → Bool) (is : List GnoInterval) → leading p is ≤ length is
 leading_most p [] = omega arith
 leading_most p (i ∷ is) = by_test (p i) (leading_most p is)
   where
@@ -129,6 +130,9 @@ module _ (is : List GnoInterval) (a u s e : ℕ) where
   below_by true true f le = omega arith
   below_by true false f le = absurd (true≢false (sym (f refl)))
   below_by false v f le = omega arith
+
+pub to_most : (is : List GnoInterval) (e : ℕ) → starting_up_to e is ≤ length is
+to_most is e = leading_most (λ i. leb i.start e) is
 
 pub in_order : (is : List GnoInterval) (low s e : ℕ) → AreApart low is → s < e → ending_below s is ≤ starting_up_to e is
 in_order [] low s e apart some = omega arith
@@ -170,6 +174,12 @@ ends_rise (x ∷ is) low apart zero zero d le within = omega arith
 ends_rise (x ∷ is) low apart zero (suc j) d le within = omega (arith, ends_above is x.end j d apart.3 (omega arith))
 ends_rise (x ∷ is) low apart (suc i) zero d le within = absurd (omega arith)
 ends_rise (x ∷ is) low apart (suc i) (suc j) d le within = ends_rise is x.end apart.3 i j d (omega arith) (omega arith)
+
+ends_below_start : (is : List GnoInterval) (low j k : ℕ) (d : GnoInterval) → AreApart low is → j < k → k < length is → (get_or is j d).end < (get_or is k d).start
+ends_below_start [] low j k d apart less within = absurd (omega arith)
+ends_below_start (i ∷ is) low j zero d apart less within = absurd (omega arith)
+ends_below_start (i ∷ is) low zero (suc k) d apart less within = starts_above is i.end k d apart.3 (omega arith)
+ends_below_start (i ∷ is) low (suc j) (suc k) d apart less within = ends_below_start is i.end j k d apart.3 (omega arith) (omega arith)
 
 -- ---- what is joined: nothing, or all from the first that it touches to the last
 
@@ -239,7 +249,7 @@ module _ (is : List GnoInterval) (s e from to : ℕ) (apart : AreApart 0 is) (so
   from_up_to = omega (arith, in_order is 0 s e apart some)
 
   pub to_within : to ≤ length is
-  to_within = omega (arith, leading_most (λ i. leb i.start e) is)
+  to_within = omega (arith, to_most is e)
 
   added_alone : from ≡ to → insert is from (interval s e) ≡ add_to is s e
   added_alone same =
@@ -278,3 +288,168 @@ pub apart_alone : {T E : Type 0} (r : Result T E) (is new : List GnoInterval) (s
 apart_alone (Ok x) is new s e from to apart some from_is to_is same positive small put stays =
     rw (put ∙ added_alone is s e from to apart some from_is to_is same) (apart_added is 0 s e apart (omega arith) some small)
 apart_alone (Err x) is new s e from to apart some from_is to_is same positive small put stays = rw stays apart
+
+-- ---- the number of intervals in front, where the last one tells it
+
+module _ (is : List GnoInterval) (low n : ℕ) (last : GnoInterval) (apart : AreApart low is) (within : 0 < length is) (last_is : last ≡ get_or is (length is - 1) last) where
+  last_at : (d : GnoInterval) → last ≡ get_or is (length is - 1) d
+  last_at d = get_or_read is (length is - 1) last (omega arith) last_is d
+
+  pub all_end_below : last.end < n → length is ≡ ending_below n is
+  all_end_below below =
+      parted (λ i. ltb i.end n) is (length is) (omega arith)
+      (λ k d from to. lt-ltb _ _ (omega (arith, ends_rise is low apart k (length is - 1) d (omega arith) (omega arith), ap (λ (i : GnoInterval). i.end) (last_at d))))
+      (λ k d from to. absurd (omega arith))
+
+  pub all_but_one_end_below : last.start ≤ n → n ≤ last.end → length is - 1 ≡ ending_below n is
+  all_but_one_end_below starts ends =
+      parted (λ i. ltb i.end n) is (length is - 1) (omega arith)
+      (λ k d from to. lt-ltb _ _ (omega (arith, ends_below_start is low k (length is - 1) d apart (omega arith) (omega arith), ap (λ (i : GnoInterval). i.start) (last_at d))))
+      (λ k d from to.
+      let same : k ≡ length is - 1 = omega arith in
+      rw (same, ← last_at d) (le-ltb _ _ ends))
+
+  pub all_start_up_to : last.start ≤ n → length is ≡ starting_up_to n is
+  all_start_up_to starts =
+      parted (λ i. leb i.start n) is (length is) (omega arith)
+      (λ k d from to. le-leb _ _ (omega (arith, starts_rise is low apart k (length is - 1) d (omega arith) (omega arith), ap (λ (i : GnoInterval). i.start) (last_at d))))
+      (λ k d from to. absurd (omega arith))
+
+-- ---- which numbers are held
+
+-- numbers below the intervals aren't held
+held_above : (is : List GnoInterval) (low n : ℕ) → AreApart low is → n ≤ low → is_held is n ≡ false
+held_above [] low n apart le = refl
+held_above (i ∷ is) low n apart le =
+    let above = apart.0 in
+    let inner = apart.1 in
+    let rest = held_above is i.end n apart.3 (omega arith) in
+    rw rest (grind (arith, nat_tests))
+
+-- where one starts at n or below it, the first does
+first_up_to : (is : List GnoInterval) (low n k : ℕ) → AreApart low is → starting_up_to n is ≡ suc k → low < n
+first_up_to [] low n k apart more = absurd (omega arith)
+first_up_to (i ∷ is) low n k apart more = by_test (leb i.start n) refl more
+  where
+    by_test : (b : Bool) → leb i.start n ≡ b → cond b (suc (starting_up_to n is)) 0 ≡ suc k → low < n
+    by_test true f more = omega (arith, apart.0, leb-true _ _ f)
+    by_test false f more = absurd (omega arith)
+
+module _ (i : GnoInterval) (is : List GnoInterval) (low n : ℕ) (apart : AreApart low (i ∷ is)) where
+  none_by : (b : Bool) → leb i.start n ≡ b → cond b (suc (starting_up_to n is)) 0 ≡ 0 → (b && ltb n i.end || is_held is n) ≡ false
+  none_by true f none = absurd (omega arith)
+  none_by false f none =
+      let inner = apart.1 in
+      held_above is i.end n apart.3 (grind (arith, nat_tests))
+
+  one_by : (b : Bool) → leb i.start n ≡ b → cond b (suc (starting_up_to n is)) 0 ≡ 1 → (starting_up_to n is ≡ 0 → is_held is n ≡ false)
+      → (b && ltb n i.end || is_held is n) ≡ ltb n i.end
+  one_by true f one rest = rw (rest (omega arith)) (or_false (ltb n i.end))
+    where
+      or_false : (b : Bool) → (b || false) ≡ b
+      or_false true = refl
+      or_false false = refl
+  one_by false f one rest = absurd (omega arith)
+
+  more_by : (k : ℕ) (z : GnoInterval) (b : Bool) → leb i.start n ≡ b → cond b (suc (starting_up_to n is)) 0 ≡ suc (suc k)
+      → (starting_up_to n is ≡ suc k → is_held is n ≡ ltb n (get_or is k z).end)
+      → (b && ltb n i.end || is_held is n) ≡ ltb n (get_or is k z).end
+  more_by k z true f more rest =
+      let there : starting_up_to n is ≡ suc k = omega arith in
+      let behind : ltb n i.end ≡ false = le-ltb _ _ (omega (arith, first_up_to is i.end n k apart.3 there)) in
+      rw behind (rest there)
+  more_by k z false f more rest = absurd (omega arith)
+
+pub held_nowhere : (is : List GnoInterval) (low n : ℕ) → AreApart low is → starting_up_to n is ≡ 0 → is_held is n ≡ false
+held_nowhere [] low n apart none = refl
+held_nowhere (i ∷ is) low n apart none = none_by i is low n apart (leb i.start n) refl none
+
+-- the last that starts at n or below it tells
+pub held_in_last : (is : List GnoInterval) (low n k : ℕ) (z : GnoInterval) → AreApart low is → starting_up_to n is ≡ suc k → is_held is n ≡ ltb n (get_or is k z).end
+held_in_last [] low n k z apart more = absurd (omega arith)
+held_in_last (i ∷ is) low n zero z apart more = one_by i is low n apart (leb i.start n) refl more (λ none. held_nowhere is i.end n apart.3 none)
+held_in_last (i ∷ is) low n (suc k) z apart more = more_by i is low n apart k z (leb i.start n) refl more (λ more. held_in_last is i.end n k z apart.3 more)
+
+-- ---- gaps
+
+-- those from a number on
+abbrev pub gaps_in : ℕ → List GnoInterval → List GnoInterval
+gaps_in next [] = []
+gaps_in next (i ∷ is) = cond (ltb next i.start) (interval next i.start ∷ gaps_in i.end is) (gaps_in i.end is)
+
+module _ (i : GnoInterval) (is : List GnoInterval) (low next n : ℕ) (apart : AreApart low (i ∷ is)) (near : next ≤ suc low) where
+  missing_by : (b : Bool) → ltb next i.start ≡ b → is_held (gaps_in i.end is) n ≡ (leb i.end n && (is_up_to_last is n && not (is_held is n)))
+      → is_held (cond b (interval next i.start ∷ gaps_in i.end is) (gaps_in i.end is)) n
+      ≡ (leb next n && ((ltb n i.end || is_up_to_last is n) && not (leb i.start n && ltb n i.end || is_held is n)))
+  missing_by true f rest =
+      let above = apart.0 in
+      let inner = apart.1 in
+      let low_free = held_above is i.end n apart.3 in
+      rw rest (grind (arith, nat_tests, low_free))
+  missing_by false f rest =
+      let above = apart.0 in
+      let inner = apart.1 in
+      let low_free = held_above is i.end n apart.3 in
+      rw rest (grind (arith, nat_tests, low_free))
+
+pub gaps_missing : (is : List GnoInterval) (low next n : ℕ) → AreApart low is → next ≤ suc low
+    → is_held (gaps_in next is) n ≡ (leb next n && (is_up_to_last is n && not (is_held is n)))
+gaps_missing [] low next n apart near = grind (arith, nat_tests)
+gaps_missing (i ∷ is) low next n apart near = missing_by i is low next n apart near (ltb next i.start) refl (gaps_missing is i.end i.end n apart.3 (omega arith))
+
+module _ (i : GnoInterval) (is : List GnoInterval) (low next floor : ℕ) (apart : AreApart low (i ∷ is)) (above : floor < next) where
+  gaps_by : (b : Bool) → ltb next i.start ≡ b → ((floor : ℕ) → floor < i.end → AreApart floor (gaps_in i.end is))
+      → next ≤ suc low → AreApart floor (cond b (interval next i.start ∷ gaps_in i.end is) (gaps_in i.end is))
+  gaps_by true f rest near = (above, ltb-true _ _ f, omega (arith, apart.1, apart.2), rest i.start apart.1)
+  gaps_by false f rest near = rest floor (omega (arith, apart.0, apart.1))
+
+pub gaps_apart : (is : List GnoInterval) (low next floor : ℕ) → AreApart low is → next ≤ suc low → floor < next → AreApart floor (gaps_in next is)
+gaps_apart [] low next floor apart near above = tt
+gaps_apart (i ∷ is) low next floor apart near above =
+    gaps_by i is low next floor apart above (ltb next i.start) refl (λ floor less. gaps_apart is i.end i.end floor apart.3 (omega arith) less) near
+
+-- once all intervals are passed
+pub gaps_are : (is items : List GnoInterval) (gaps : List GnoInterval) (next at : ℕ) → items ≡ is → length items ≤ at
+    → gaps ++ gaps_in next (drop at items) ≡ gaps_in 1 items → gaps ≡ gaps_in 1 is
+gaps_are is items gaps next at same past are =
+    let over : drop at items ≡ [] = grind (arith, common_steps) in
+    sym (append-nil gaps) ∙ ap (λ (left : List GnoInterval). gaps ++ gaps_in next left) (sym over) ∙ are ∙ ap (gaps_in 1) same
+
+-- ---- one list of intervals for a set of numbers
+
+equal_by : (a b : ℕ) → (a < b → ⊥) → (b < a → ⊥) → a ≡ b
+equal_by a b below above = elim (cases_lt a b) [ inl less ↦ absurd (below less) | inr least ↦ elim (cases_lt b a) [ inl less ↦ absurd (above less) | inr most ↦ omega arith ] ]
+
+first_held : (i : GnoInterval) (is : List GnoInterval) → i.start < i.end → is_held (i ∷ is) i.start ≡ true
+first_held i is inner = rw (le-leb i.start i.start (omega arith), lt-ltb i.start i.end inner) refl
+
+not_before : (i j : GnoInterval) (is js : List GnoInterval) (low : ℕ) → i.start < i.end → AreApart low (j ∷ js) → ((n : ℕ) → is_held (i ∷ is) n ≡ is_held (j ∷ js) n) → i.start < j.start → ⊥
+not_before i j is js low inner b same less =
+    let raised : AreApart i.start (j ∷ js) = (less, b.1, b.2, b.3) in
+    false≢true (sym (held_above (j ∷ js) i.start i.start raised (omega arith)) ∙ sym (same i.start) ∙ first_held i is inner)
+
+not_shorter : (i j : GnoInterval) (is js : List GnoInterval) → AreApart i.end is → j.start ≤ i.end → ((n : ℕ) → is_held (i ∷ is) n ≡ is_held (j ∷ js) n) → i.end < j.end → ⊥
+not_shorter i j is js behind starts same less =
+    let free = held_above is i.end i.end behind (omega arith) in
+    let held = same i.end in
+    grind (arith, nat_tests, free, held)
+
+same_tails : (i j : GnoInterval) (is js : List GnoInterval) → AreApart i.end is → AreApart j.end js → i.end ≡ j.end → ((n : ℕ) → is_held (i ∷ is) n ≡ is_held (j ∷ js) n) → (n : ℕ) → is_held is n ≡ is_held js n
+same_tails i j is js behind after ends same n = elim (cases_lt n i.end) [
+  | inl less ↦ held_above is i.end n behind (omega arith) ∙ sym (held_above js j.end n after (omega arith))
+  | inr least ↦ (let held = same n in grind (arith, nat_tests, held))
+]
+
+pub one_list : (is js : List GnoInterval) (low floor : ℕ) → AreApart low is → AreApart floor js → ((n : ℕ) → is_held is n ≡ is_held js n) → is ≡ js
+one_list [] [] low floor a b same = refl
+one_list [] (j ∷ js) low floor a b same = absurd (false≢true (same j.start ∙ first_held j js b.1))
+one_list (i ∷ is) [] low floor a b same = absurd (false≢true (sym (same i.start) ∙ first_held i is a.1))
+one_list (i ∷ is) (j ∷ js) low floor a b same =
+    let back : (n : ℕ) → is_held (j ∷ js) n ≡ is_held (i ∷ is) n = λ n. sym (same n) in
+    let starts : i.start ≡ j.start = equal_by _ _ (not_before i j is js floor a.1 b same) (not_before j i js is low b.1 a back) in
+    let inner_i = a.1 in
+    let inner_j = b.1 in
+    let ends : i.end ≡ j.end = equal_by _ _ (not_shorter i j is js a.3 (omega arith) same) (not_shorter j i js is b.3 (omega arith) back) in
+    let tails : is ≡ js = one_list is js i.end j.end a.3 b.3 (same_tails i j is js a.3 b.3 ends same) in
+    let first : i ≡ j = ap (λ (s : ℕ). interval s i.end) starts ∙ ap (λ (e : ℕ). interval j.start e) ends in
+    ap (λ (x : GnoInterval). x ∷ is) first ∙ ap (λ (xs : List GnoInterval). j ∷ xs) tails

@@ -1,5 +1,5 @@
 -- Sets of transaction numbers (GNOs) of one source, each as a list of intervals.
-use Rattle.std.specs.Prelude.{ℕ, suc, ◌^◌, ◌<◌, ◌≤◌, ⊤, Bool, false, ◌&&◌, ◌||◌, List, [], ◌∷◌, nat_lt, nat_le, if◌then◌else◌}
+use Rattle.std.specs.Prelude.{ℕ, suc, ◌^◌, ◌<◌, ◌≤◌, ⊤, Bool, false, not, ◌&&◌, ◌||◌, List, [], ◌∷◌, nat_lt, nat_le, if◌then◌else◌}
 use Rattle.binlog_numbers.specs.declared.gno_interval.GnoInterval.{GnoInterval}
 
 -- n is one of the interval's numbers
@@ -16,6 +16,15 @@ is_held (i ∷ is) n = is_within i n || is_held is n
 abbrev pub AreApart : ℕ → List GnoInterval → Type 0
 AreApart low [] = ⊤
 AreApart low (i ∷ is) = (low < i.start) × (i.start < i.end) × (i.end ≤ 2 ^ 63) × AreApart i.end is
+
+-- n is a number of an interval, or below one
+abbrev pub is_up_to_last : List GnoInterval → ℕ → Bool
+is_up_to_last [] n = false
+is_up_to_last (i ∷ is) n = nat_lt n i.end || is_up_to_last is n
+
+-- n is one of the numbers from 1 up to the greatest that is held, and isn't held itself
+abbrev pub is_missing : List GnoInterval → ℕ → Bool
+is_missing is n = nat_le 1 n && (is_up_to_last is n && not (is_held is n))
 
 -- how many intervals at the front pass a test
 abbrev pub leading : (GnoInterval → Bool) → List GnoInterval → ℕ

@@ -1,8 +1,10 @@
 //! The transaction numbers of one source.
-ghost use Rattle.std.specs.Prelude.{◌≡◌, ◌++◌, ◌∷◌, ◌^◌, ◌<◌, ◌≤◌, ◌||◌, ℕ, [], length, take, drop, OnOk, OnErr, IsOkUnless};
+ghost use Rattle.std.specs.Prelude.{◌≡◌, ◌++◌, ◌∷◌, ◌^◌, ◌<◌, ◌≤◌, ◌||◌, ◌↔◌, ℕ, [], length, take, drop, IfOk, OnOk, OnErr, IsOkUnless, IsTrue};
 ghost use Rattle.std.specs.List.{insert};
 ghost use Rattle.binlog_wire.specs.declared.error.Error.TheVariants.{Memory};
-ghost use Rattle.binlog_gtids.specs.GnoSets.{is_within, is_held, AreApart, ending_below, starting_up_to};
+ghost use Rattle.binlog_gtids.specs.GnoSets.{is_within, is_held, is_missing, AreApart, ending_below, starting_up_to};
+
+pub mod laws;
 
 use binlog_numbers::GnoInterval;
 use binlog_wire::Error;
@@ -72,22 +74,80 @@ impl GnoSet {
         replace(&mut self.intervals, from, to, merged);
         Ok(())
     }
+
+    /// Whether the set is empty.
+    pub fn is_empty(&self) -> bool
+        ensures { IsTrue result ↔ (self.now ≡ []) }
+    {
+        self.intervals.is_empty()
+    }
+
+    /// Whether the number is held.
+    pub fn contains(&self, gno: u64) -> bool
+        ensures { result ≡ is_held self.now gno }
+    {
+        let at = count_starting_up_to(&self.intervals, gno);
+        at > 0 && gno < self.intervals[at - 1].end()
+    }
+
+    /// The numbers from 1 up to the greatest held one that aren't held, as intervals in their order. Between two of them
+    /// there is a number that is held. Refused by [`Error::Memory`] alone; without a gap it takes no memory.
+    pub fn gaps(&self) -> Result<Vec<GnoInterval>, Error>
+        ensures missing { IfOk result (λ gaps. (n : ℕ) → is_held gaps.items n ≡ is_missing self.now n) }
+        ensures apart { IfOk result (λ gaps. AreApart 0 gaps.items) }
+        ensures memory { IsOkUnless result Memory }
+    {
+        let mut gaps = Vec::with_capacity(*self.intervals.allocator(), self.count_gaps())?;
+        let mut next = 1;
+        for interval in &self.intervals {
+            if next < interval.start() {
+                let gap = GnoInterval::new(next, interval.start());
+                gaps.push(gap).map_err(AllocError::from)?;
+            }
+            next = interval.end();
+        }
+        Ok(gaps)
+    }
+
+    // How many gaps there are: one before each interval, but for a first one that starts at 1.
+    fn count_gaps(&self) -> usize {
+        match self.intervals.first() {
+            Some(first) if first.start() == 1 => self.intervals.len() - 1,
+            _ => self.intervals.len(),
+        }
+    }
+
+    /// The same set once more. Refused by [`Error::Memory`] alone.
+    pub fn clone(&self) -> Result<Self, Error>
+        ensures ok { IfOk result (λ copy. copy ≡ self.now) }
+        ensures memory { IsOkUnless result Memory }
+    {
+        let intervals = Vec::from_slice(*self.intervals.allocator(), &self.intervals)?;
+        Ok(GnoSet { intervals })
+    }
 }
 
-// How many intervals end below a number.
+// How many intervals end below a number; in constant time where the last one starts at it or below.
 fn count_ending_below(intervals: &[GnoInterval], gno: u64) -> usize
     requires { AreApart 0 intervals.now }
     ensures { result ≡ ending_below gno intervals.now }
 {
-    intervals.partition_point(|interval| interval.end() < gno)
+    match intervals.last() {
+        Some(last) if last.end() < gno => intervals.len(),
+        Some(last) if last.start() <= gno => intervals.len() - 1,
+        _ => intervals.partition_point(|interval| interval.end() < gno),
+    }
 }
 
-// How many intervals start at a number or below it.
+// How many intervals start at a number or below it; in constant time where the last one does.
 fn count_starting_up_to(intervals: &[GnoInterval], gno: u64) -> usize
     requires { AreApart 0 intervals.now }
     ensures { result ≡ starting_up_to gno intervals.now }
 {
-    intervals.partition_point(|interval| interval.start() <= gno)
+    match intervals.last() {
+        Some(last) if last.start() <= gno => intervals.len(),
+        _ => intervals.partition_point(|interval| interval.start() <= gno),
+    }
 }
 
 // Inserts an interval at a place.

@@ -7,7 +7,7 @@
 mod anonymous_gtid_event;
 mod clock;
 pub mod field_id;
-mod gno_set;
+pub mod gno_set;
 mod gtid_event;
 mod gtid_flags;
 pub mod laws;

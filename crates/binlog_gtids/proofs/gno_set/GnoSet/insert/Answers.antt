@@ -1,4 +1,4 @@
-use Rattle.std.proofs.Common.{◌≡◌, ap, ◌∙◌, arith, rules}
+use Rattle.std.proofs.Common.{◌≡◌, arith, rules}
 use Rattle.std.proofs.lemmas.Grind.{common_steps}
 use Rattle.binlog_gtids.specs.GnoSets.{ending_below, starting_up_to}
 use Rattle.binlog_gtids.proofs.GnoSets.{from_up_to, to_within, held_alone, apart_alone, held_joined, apart_joined}
