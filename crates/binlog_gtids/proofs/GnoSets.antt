@@ -2,7 +2,7 @@
 use Rattle.std.proofs.Common.{◌≡◌, ℕ, zero, suc, ◌-◌, ◌^◌, ◌<◌, ◌≤◌, min, max, Bool, true, false, ltb, leb, cond, ◌&&◌, ◌||◌, not, List, [], ◌∷◌, ◌++◌, length, take, drop, get_or, Result, Ok, Err, OnOk, OnErr, refl, sym, ap, ◌∙◌, append-nil, inl, inr, arith}
 use Rattle.std.specs.List.{insert, AllWithin}
 use Rattle.std.specs.List.Sorted.{IsNonDecreasingBy}
-use Rattle.std.proofs.lemmas.List.{get_or_read}
+use Rattle.std.proofs.lemmas.List.{get_or_read, drop_all}
 use Rattle.std.proofs.lemmas.Bool.{cases_lt, ltb-true, lt-ltb, le-ltb, le-leb, leb-true, true≢false, false≢true}
 use Rattle.std.proofs.lemmas.Bool.Decides.{nat_tests}
 use Rattle.std.proofs.lemmas.Grind.{common_steps}
@@ -453,3 +453,25 @@ one_list (i ∷ is) (j ∷ js) low floor a b same =
     let tails : is ≡ js = one_list is js i.end j.end a.3 b.3 (same_tails i j is js a.3 b.3 ends same) in
     let first : i ≡ j = ap (λ (s : ℕ). interval s i.end) starts ∙ ap (λ (e : ℕ). interval j.start e) ends in
     ap (λ (x : GnoInterval). x ∷ is) first ∙ ap (λ (xs : List GnoInterval). j ∷ xs) tails
+
+-- ---- the union of two sets
+
+-- what an interval of a list says of itself
+pub some_at : (is : List GnoInterval) (low k : ℕ) (d : GnoInterval) → AreApart low is → k < length is
+    → (low < (get_or is k d).start) × ((get_or is k d).start < (get_or is k d).end) × ((get_or is k d).end ≤ 2 ^ 63)
+some_at [] low k d apart within = absurd (omega arith)
+some_at (i ∷ is) low zero d apart within = (apart.0, apart.1, apart.2)
+some_at (i ∷ is) low (suc k) d apart within =
+    let rest = some_at is i.end k d apart.3 (omega arith) in
+    (omega (arith, apart.0, apart.1, rest.0), rest.1, rest.2)
+
+-- once all intervals are passed
+pub union_done : (union items is others : List GnoInterval) (at n : ℕ) → items ≡ others → length items ≤ at
+    → ((n : ℕ) → (is_held union n || is_held (drop at items) n) ≡ (is_held is n || is_held items n)) → is_held union n ≡ (is_held is n || is_held others n)
+union_done union items is others at n same past whole =
+    let over : drop at items ≡ [] = drop_all at items past in
+    sym (or_false (is_held union n)) ∙ ap (λ (left : List GnoInterval). is_held union n || is_held left n) (sym over) ∙ whole n ∙ ap (λ (all : List GnoInterval). is_held is n || is_held all n) same
+  where
+    or_false : (b : Bool) → (b || false) ≡ b
+    or_false true = refl
+    or_false false = refl

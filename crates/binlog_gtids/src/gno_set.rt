@@ -125,6 +125,18 @@ impl GnoSet {
         let intervals = Vec::from_slice(*self.intervals.allocator(), &self.intervals)?;
         Ok(GnoSet { intervals })
     }
+
+    /// The set of the numbers of both, in memory from this set's allocator. Refused by [`Error::Memory`] alone.
+    pub fn union(&self, other: &GnoSet) -> Result<Self, Error>
+        ensures ok { IfOk result (λ union. (n : ℕ) → is_held union n ≡ (is_held self.now n || is_held other.now n)) }
+        ensures memory { IsOkUnless result Memory }
+    {
+        let mut union = self.clone()?;
+        for interval in &other.intervals {
+            union.insert(interval.start(), interval.end())?;
+        }
+        Ok(union)
+    }
 }
 
 // How many intervals end below a number; in constant time where the last one starts at it or below.
