@@ -1,5 +1,6 @@
 pub mod EntryReading
 pub mod Flags
+pub mod GnoSets
 pub mod Gtids
 pub mod PreviousGtids
 pub mod Tagged

@@ -7,6 +7,7 @@
 mod anonymous_gtid_event;
 mod clock;
 pub mod field_id;
+pub mod gno_set;
 mod gtid_event;
 mod gtid_flags;
 pub mod laws;
@@ -19,6 +20,7 @@ mod tagged_writing;
 mod untagged;
 
 pub use anonymous_gtid_event::AnonymousGtidEvent;
+pub use gno_set::GnoSet;
 pub use gtid_event::GtidEvent;
 pub use gtid_flags::GtidFlags;
 pub use previous_gtids_event::PreviousGtidsEvent;

@@ -2,6 +2,8 @@
 #![tactic(auto)]
 
 #[cfg(test)]
+mod gno_sets;
+#[cfg(test)]
 mod gtids;
 #[cfg(test)]
 mod memory;

@@ -1,0 +1,188 @@
+//! The transaction numbers of one source.
+ghost use Rattle.std.specs.Prelude.{◌≡◌, ◌++◌, ◌∷◌, ◌^◌, ◌<◌, ◌≤◌, ◌||◌, ◌↔◌, ℕ, [], length, take, drop, IfOk, OnOk, OnErr, IsOkUnless, IsTrue};
+ghost use Rattle.std.specs.List.{insert};
+ghost use Rattle.binlog_wire.specs.declared.error.Error.TheVariants.{Memory};
+ghost use Rattle.binlog_gtids.specs.GnoSets.{is_within, is_held, is_missing, AreApart, ending_below, starting_up_to};
+
+pub mod laws;
+
+use binlog_numbers::GnoInterval;
+use binlog_wire::Error;
+use std::alloc::{AllocError, Global};
+use std::marker::Model;
+
+/// A set of the transaction numbers of one source, from 1 up to 2^63 - 1.
+///
+/// It keeps the one sorted list of intervals that don't touch each other, as MySQL's `Gtid_set` does. Contracts see this
+/// list.
+#[derive(Debug, Drop)]
+pub struct GnoSet {
+    intervals: Vec<GnoInterval>,
+}
+
+impl Model for GnoSet {
+    ghost use Rattle.std.specs.Prelude.{List};
+    ghost use Rattle.binlog_numbers.specs.declared.gno_interval.GnoInterval.{GnoInterval};
+    ghost use Rattle.binlog_gtids.specs.GnoSets.{AreApart};
+
+    ghost Value = { List GnoInterval };
+
+    ghost view = { λ set. set.intervals.items };
+
+    ghost invariant = { λ set. AreApart 0 set.intervals.items };
+}
+
+impl GnoSet {
+    /// The empty set; it takes no memory.
+    pub fn new(alloc: Global) -> Self
+        ensures { result ≡ [] }
+    {
+        GnoSet {
+            intervals: Vec::new(alloc),
+        }
+    }
+
+    /// The numbers, as intervals in their order. Between two of them there is a number that isn't held.
+    pub fn intervals(&self) -> &[GnoInterval]
+        ensures list { result.now ≡ self.now }
+        ensures apart { AreApart 0 result.now }
+    {
+        self.intervals.as_slice()
+    }
+
+    /// Adds the numbers from `start` up to, not including, `end`; `start` is at least 1 and below `end`, and `end` is at
+    /// most 2^63. Refused by [`Error::Memory`] alone, with the set as it was.
+    ///
+    /// It takes memory only where the numbers neither touch nor overlap an interval, and constant time where they start
+    /// at the last interval or behind it.
+    pub fn insert(&mut self, start: u64, end: u64) -> Result<(), Error>
+        requires positive { 1 ≤ start }
+        requires some { start < end }
+        requires small { end ≤ 2 ^ 63 }
+        ensures ok { OnOk result ((n : ℕ) → is_held self.new n ≡ (is_within (record { start = start; end = end }) n || is_held self.old n)) }
+        ensures err { OnErr result (self.new ≡ self.old) }
+        ensures memory { IsOkUnless result Memory }
+    {
+        let from = count_ending_below(&self.intervals, start);
+        let to = count_starting_up_to(&self.intervals, end);
+        if from == to {
+            return add(&mut self.intervals, from, GnoInterval::new(start, end));
+        }
+        let first = self.intervals[from];
+        let last = self.intervals[to - 1];
+        let merged = GnoInterval::new(start.min(first.start()), end.max(last.end()));
+        replace(&mut self.intervals, from, to, merged);
+        Ok(())
+    }
+
+    /// Whether the set is empty.
+    pub fn is_empty(&self) -> bool
+        ensures { IsTrue result ↔ (self.now ≡ []) }
+    {
+        self.intervals.is_empty()
+    }
+
+    /// Whether the number is held.
+    pub fn contains(&self, gno: u64) -> bool
+        ensures { result ≡ is_held self.now gno }
+    {
+        let at = count_starting_up_to(&self.intervals, gno);
+        at > 0 && gno < self.intervals[at - 1].end()
+    }
+
+    /// The numbers from 1 up to the greatest held one that aren't held, as intervals in their order. Between two of them
+    /// there is a number that is held. Refused by [`Error::Memory`] alone; without a gap it takes no memory.
+    pub fn gaps(&self) -> Result<Vec<GnoInterval>, Error>
+        ensures missing { IfOk result (λ gaps. (n : ℕ) → is_held gaps.items n ≡ is_missing self.now n) }
+        ensures apart { IfOk result (λ gaps. AreApart 0 gaps.items) }
+        ensures memory { IsOkUnless result Memory }
+    {
+        let mut gaps = Vec::with_capacity(*self.intervals.allocator(), self.count_gaps())?;
+        let mut next = 1;
+        for interval in &self.intervals {
+            if next < interval.start() {
+                let gap = GnoInterval::new(next, interval.start());
+                gaps.push(gap).map_err(AllocError::from)?;
+            }
+            next = interval.end();
+        }
+        Ok(gaps)
+    }
+
+    // How many gaps there are: one before each interval, but for a first one that starts at 1.
+    fn count_gaps(&self) -> usize {
+        match self.intervals.first() {
+            Some(first) if first.start() == 1 => self.intervals.len() - 1,
+            _ => self.intervals.len(),
+        }
+    }
+
+    /// The same set once more. Refused by [`Error::Memory`] alone.
+    pub fn clone(&self) -> Result<Self, Error>
+        ensures ok { IfOk result (λ copy. copy ≡ self.now) }
+        ensures memory { IsOkUnless result Memory }
+    {
+        let intervals = Vec::from_slice(*self.intervals.allocator(), &self.intervals)?;
+        Ok(GnoSet { intervals })
+    }
+
+    /// The set of the numbers of both, in memory from this set's allocator. Refused by [`Error::Memory`] alone.
+    pub fn union(&self, other: &GnoSet) -> Result<Self, Error>
+        ensures ok { IfOk result (λ union. (n : ℕ) → is_held union n ≡ (is_held self.now n || is_held other.now n)) }
+        ensures memory { IsOkUnless result Memory }
+    {
+        let mut union = self.clone()?;
+        for interval in &other.intervals {
+            union.insert(interval.start(), interval.end())?;
+        }
+        Ok(union)
+    }
+}
+
+// How many intervals end below a number; in constant time where the last one starts at it or below.
+fn count_ending_below(intervals: &[GnoInterval], gno: u64) -> usize
+    requires { AreApart 0 intervals.now }
+    ensures { result ≡ ending_below gno intervals.now }
+{
+    match intervals.last() {
+        Some(last) if last.end() < gno => intervals.len(),
+        Some(last) if last.start() <= gno => intervals.len() - 1,
+        _ => intervals.partition_point(|interval| interval.end() < gno),
+    }
+}
+
+// How many intervals start at a number or below it; in constant time where the last one does.
+fn count_starting_up_to(intervals: &[GnoInterval], gno: u64) -> usize
+    requires { AreApart 0 intervals.now }
+    ensures { result ≡ starting_up_to gno intervals.now }
+{
+    match intervals.last() {
+        Some(last) if last.start() <= gno => intervals.len(),
+        _ => intervals.partition_point(|interval| interval.start() <= gno),
+    }
+}
+
+// Inserts an interval at a place.
+fn add(intervals: &mut Vec<GnoInterval>, at: usize, interval: GnoInterval) -> Result<(), Error>
+    requires { at ≤ length intervals.old.items }
+    ensures ok { OnOk result (intervals.new.items ≡ insert intervals.old.items at interval) }
+    ensures err { OnErr result (intervals.new.items ≡ intervals.old.items) }
+    ensures memory { IsOkUnless result Memory }
+{
+    match intervals.insert(at, interval) {
+        Ok(()) => Ok(()),
+        Err(failed) => Err(AllocError::from(failed).into()),
+    }
+}
+
+// Puts one interval in place of those from `from` up to, not including, `to`.
+fn replace(intervals: &mut Vec<GnoInterval>, from: usize, to: usize, interval: GnoInterval)
+    requires some { from < to }
+    requires within { to ≤ length intervals.old.items }
+    ensures { intervals.new.items ≡ take from intervals.old.items ++ interval ∷ drop to intervals.old.items }
+{
+    let len = intervals.len();
+    intervals[from] = interval;
+    intervals.copy_within(to..len, from + 1);
+    intervals.truncate(from + 1 + (len - to));
+}

@@ -1,0 +1,137 @@
+//! Sets of transaction numbers.
+use binlog_gtids::GnoSet;
+use binlog_numbers::GnoInterval;
+use binlog_wire::Error;
+use std::alloc::Global;
+use testkit_bodies::is_granted;
+
+/// The number behind the greatest.
+const END: u64 = 1 << 63;
+
+// Adds an interval, where it is one of such numbers.
+fn add(set: &mut GnoSet, start: u64, end: u64) -> Result<(), Error> {
+    if 1 <= start && start < end && end <= END {
+        set.insert(start, end)?;
+    }
+    Ok(())
+}
+
+// A set of these intervals.
+fn set_of(alloc: Global, intervals: &[(u64, u64)]) -> Result<GnoSet, Error> {
+    let mut set = GnoSet::new(alloc);
+    for &(start, end) in intervals {
+        add(&mut set, start, end)?;
+    }
+    Ok(set)
+}
+
+// Whether these are the intervals.
+fn are(intervals: &[GnoInterval], wanted: &[(u64, u64)]) -> bool {
+    intervals.len() == wanted.len()
+        && intervals.iter().zip(wanted.iter()).all(|(interval, wanted)| (
+            interval.start(),
+            interval.end(),
+        ) == *wanted)
+}
+
+// Whether a set of intervals keeps these.
+fn keeps(alloc: Global, intervals: &[(u64, u64)], wanted: &[(u64, u64)]) -> Result<bool, Error> {
+    let set = set_of(alloc, intervals)?;
+    let keeps = are(set.intervals(), wanted);
+    drop(set);
+    Ok(keeps)
+}
+
+// Whether a set of intervals has these gaps.
+fn lacks(alloc: Global, intervals: &[(u64, u64)], wanted: &[(u64, u64)]) -> Result<bool, Error> {
+    let set = set_of(alloc, intervals)?;
+    let gaps = set.gaps();
+    drop(set);
+    let gaps = gaps?;
+    let lacks = are(gaps.as_slice(), wanted);
+    drop(gaps);
+    Ok(lacks)
+}
+
+#[test]
+fn touching_intervals_are_one(rt: HostRuntime) {
+    assert!(rt; keeps(rt.alloc(), &[(1, 6), (6, 8)], &[(1, 8)]) == Ok(true));
+}
+
+#[test]
+fn numbers_are_kept_in_order(rt: HostRuntime) {
+    let numbers: &[(u64, u64)] = &[(5, 6), (1, 2), (2, 3)];
+    assert!(rt; keeps(rt.alloc(), numbers, &[(1, 3), (5, 6)]) == Ok(true));
+}
+
+#[test]
+fn gap_between_intervals(rt: HostRuntime) {
+    assert!(rt; lacks(rt.alloc(), &[(1, 2), (2, 3), (5, 6)], &[(3, 5)]) == Ok(true));
+}
+
+#[test]
+fn gap_begins_at_1(rt: HostRuntime) {
+    assert!(rt; lacks(rt.alloc(), &[(4, 6)], &[(1, 4)]) == Ok(true));
+}
+
+#[test]
+fn all_numbers_are_taken(rt: HostRuntime) {
+    assert!(rt; keeps(rt.alloc(), &[(1, END)], &[(1, END)]) == Ok(true));
+}
+
+#[test]
+fn three_intervals_are_swallowed(rt: HostRuntime) {
+    let intervals: &[(u64, u64)] = &[(2, 3), (5, 6), (8, 9), (11, 12), (4, 10)];
+    assert!(rt; keeps(rt.alloc(), intervals, &[(2, 3), (4, 10), (11, 12)]) == Ok(true));
+}
+
+// Whether a set holds a number, and its copy does.
+fn is_held(alloc: Global, intervals: &[(u64, u64)], gno: u64) -> Result<bool, Error> {
+    let set = set_of(alloc, intervals)?;
+    let is_held = set.contains(gno);
+    let copy = set.clone();
+    drop(set);
+    let copy = copy?;
+    let is_held = is_held && copy.contains(gno) && !copy.is_empty();
+    drop(copy);
+    Ok(is_held)
+}
+
+#[test]
+fn ends_are_not_held(rt: HostRuntime) {
+    assert!(rt; is_held(rt.alloc(), &[(1, 6), (8, 9)], 5) == Ok(true));
+    assert!(rt; is_held(rt.alloc(), &[(1, 6), (8, 9)], 6) == Ok(false));
+    assert!(rt; is_held(rt.alloc(), &[(1, 6), (8, 9)], 8) == Ok(true));
+}
+
+/// As many intervals as a set keeps before it grows again.
+const FOUR: &[(u64, u64)] = &[(10, 12), (20, 22), (30, 32), (40, 42)];
+
+// Whether a set of four gets a fifth, or is as it was where that is refused.
+fn is_whole(alloc: Global) -> Result<bool, Error> {
+    let mut set = set_of(alloc, FOUR)?;
+    let wanted: &[(u64, u64)] = match add(&mut set, 15, 17) {
+        Ok(()) => &[(10, 12), (15, 17), (20, 22), (30, 32), (40, 42)],
+        Err(_) => FOUR,
+    };
+    let is_whole = are(set.intervals(), wanted);
+    drop(set);
+    Ok(is_whole)
+}
+
+#[test]
+fn an_insertion_refused_for_memory_leaves_the_set(rt: HostRuntime) {
+    assert!(rt; is_granted(is_whole(rt.alloc())));
+}
+
+#[test]
+fn gaps_and_copies_are_whole_or_refused_for_memory(rt: HostRuntime) {
+    assert!(rt; is_granted(lacks(rt.alloc(), &[(4, 6), (8, 9)], &[(1, 4), (6, 8)])));
+    assert!(rt; is_granted(is_held(rt.alloc(), &[(1, 6)], 5)));
+}
+
+// The allocation is that of the first interval.
+#[test]
+fn a_set_of_touching_intervals_makes_one_allocation(rt: HostRuntime) {
+    assert!(rt; lacks(rt.alloc(), &[(1, 6), (6, 8), (2, 9)], &[]) == Ok(true));
+}
