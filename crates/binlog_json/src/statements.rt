@@ -47,7 +47,6 @@ fn write_query_texts(
 ) -> Result<(), AllocError>
     ensures { Adds result line.old line.new (statement_texts event.now.statement) }
 {
-    line.key("status_vars")?;
     write_status_vars(line, alloc, event.status_vars())?;
     line.text_member("schema", event.schema_raw())?;
     line.text_member("query", event.query_raw())?;
@@ -98,7 +97,6 @@ fn write_load_query_texts(
 ) -> Result<(), AllocError>
     ensures { Adds result line.old line.new (statement_texts event.now.statement) }
 {
-    line.key("status_vars")?;
     write_status_vars(line, alloc, event.status_vars())?;
     line.text_member("schema", event.schema_raw())?;
     line.text_member("query", event.query_raw())?;

@@ -48,6 +48,11 @@ or_null value (Some x) = value x
 abbrev pub member : List ℕ → List Token → List Token
 member name value = key name ∷ value
 
+-- a member that is bytes, left out where there are none
+abbrev pub bytes_member_if_any : List ℕ → List ℕ → List Token
+bytes_member_if_any name [] = []
+bytes_member_if_any name (byte ∷ bytes) = member name (bytes_value (byte ∷ bytes))
+
 -- an object of these members
 abbrev pub object : List Token → List Token
 object members = begin_object ∷ (members ++ end_object ∷ [])

@@ -5,7 +5,7 @@ ghost use Rattle.json.specs.Lex.{tokens as read_tokens};
 ghost use Rattle.json.specs.Print.{escape, print, token_text};
 ghost use Rattle.json.specs.Token as tokens;
 ghost use Rattle.json_line.specs.Lines.{IsPlainText};
-ghost use Rattle.json_line.specs.Tokens.{Adds, number_value, bytes_value, text_value, uuid_value, bits_value, or_null, member};
+ghost use Rattle.json_line.specs.Tokens.{Adds, number_value, bytes_value, text_value, uuid_value, bits_value, or_null, member, bytes_member_if_any};
 
 use crate::buffer::Buffer;
 use crate::plain::is_plain;
@@ -386,6 +386,18 @@ impl Line {
     {
         self.key(name)?;
         self.bytes(bytes)
+    }
+
+    /// A member of an object that is bytes in hexadecimal digits, left out where there are none.
+    #[inline(always)]
+    pub fn bytes_member_if_any(&mut self, name: &str, bytes: &[u8]) -> Result<(), AllocError>
+        requires { IsPlainText name.now }
+        ensures { Adds result self.old self.new (bytes_member_if_any name.now bytes.now) }
+    {
+        if bytes.is_empty() {
+            return Ok(());
+        }
+        self.bytes_member(name, bytes)
     }
 
     /// A member of an object that is bits.
