@@ -570,8 +570,8 @@ def log(name, events):
     return Log(name, content, listing.encode("ascii"), lines.encode("utf-8"))
 
 
-def undamaged():
-    """Logs of each kind of events behind each description, of all of them, and of descriptions."""
+def described_events():
+    """Logs of each kind of events behind each description, of all of them, and of long events."""
     for description in DESCRIPTIONS:
         all_events = [description.event]
         for name, events in KINDS.items():
@@ -582,6 +582,11 @@ def undamaged():
         long = long_events(description.lengths) if description in LONG_UNDER else []
         for number, event in enumerate(long):
             yield log(f"long event {number}, {description.name}", [description.event, event])
+
+
+def undamaged():
+    """Logs of events behind descriptions, and of descriptions."""
+    yield from described_events()
     followed = [[event, encode.xid(value=11)] for event in descriptions()]
     for number, events in enumerate(followed):
         yield log(f"description {number}", events)
