@@ -1,6 +1,5 @@
 -- The values of status variables, by their bytes.
-use Rattle.std.proofs.Common.{◌≡◌, ◌≢◌, ◌↔◌, ℕ, zero, suc, ◌+◌, ◌≤◌, Bool, true, false, List, [], ◌∷◌, ◌++◌, length, take, inl, inr, refl, sym, ap, ◌∙◌, arith, append_assoc, append-nil, length-append, flat_map, IsTrue, nat_eq}
-use Rattle.std.proofs.lemmas.List.{length-take}
+use Rattle.std.proofs.Common.{◌≡◌, ◌≢◌, ◌↔◌, ℕ, zero, suc, ◌+◌, ◌≤◌, Bool, true, false, List, [], ◌∷◌, ◌++◌, length, inl, inr, refl, sym, ap, ◌∙◌, arith, append_assoc, append-nil, length-append, flat_map, IsTrue, nat_eq}
 use Rattle.std.specs.List.{All}
 use Rattle.std.proofs.lemmas.Bool.{false≢true}
 use Rattle.std.proofs.lemmas.Bool.Decides.{eqb_tells}
@@ -56,8 +55,8 @@ variables_fit text =
     let begins = variables_begin text in
     omega (arith, ap length begins.1.is, length-append (flat_map variable_bytes (variables text)) begins.0)
 
--- those before one, and that one, take no more bytes than the variables of the text
+-- those before one, and that one, take no more bytes than the text has
 pub one_more_fits : (text : List ℕ) (len : ℕ) (left after : List Variable) (v : Variable)
-    → len + variables_len left ≡ variables_len (variables (take 65535 text)) → left ≡ v ∷ after → len + (1 + length v.value) ≤ 65535
+    → len + variables_len left ≡ variables_len (variables text) → left ≡ v ∷ after → len + (1 + length v.value) ≤ length text
 one_more_fits text len left after v so_far is =
-    omega (arith, so_far, ap variables_len is, length-append (variable_bytes v) (flat_map variable_bytes after), variables_fit (take 65535 text), length-take 65535 text)
+    omega (arith, so_far, ap variables_len is, length-append (variable_bytes v) (flat_map variable_bytes after), variables_fit text)

@@ -397,6 +397,16 @@ impl Line {
         if bytes.is_empty() {
             return Ok(());
         }
+        self.rare_bytes_member(name, bytes)
+    }
+
+    // A member that few objects have.
+    #[cold]
+    #[inline(never)]
+    fn rare_bytes_member(&mut self, name: &str, bytes: &[u8]) -> Result<(), AllocError>
+        requires { IsPlainText name.now }
+        ensures { Adds result self.old self.new (member name.now (bytes_value bytes.now)) }
+    {
         self.bytes_member(name, bytes)
     }
 

@@ -1,4 +1,4 @@
-use Rattle.std.proofs.Common.{◌≡◌, ◌+◌, ◌∷◌, ◌++◌, [], flat_map, length, take}
+use Rattle.std.proofs.Common.{◌≡◌, ◌+◌, ◌∷◌, ◌++◌, [], flat_map, length}
 use Rattle.json.specs.Token.{begin_array}
 use Rattle.binlog_statements.specs.StatusVariables.{variable_bytes, variables}
 use Rattle.binlog_json.specs.StatusVars.{variable_object}
@@ -8,6 +8,6 @@ use Rattle.binlog_json.proofs.status_vars.write_variables.Given as goal
 abbrev pub invariant-variables : goal.invariant-variables
 invariant-variables l =
     (l.line ++ flat_map variable_object (variables l.variable-iterator.unread.now)
-    ≡ l.fn.line ++ begin_array ∷ [] ++ flat_map variable_object (variables (take 65535 l.status_vars.0)))
+    ≡ l.fn.line ++ begin_array ∷ [] ++ flat_map variable_object (variables l.text))
     × (l.len + length (flat_map variable_bytes (variables l.variable-iterator.unread.now))
-    ≡ length (flat_map variable_bytes (variables (take 65535 l.status_vars.0))))
+    ≡ length (flat_map variable_bytes (variables l.text)))
