@@ -5,7 +5,8 @@ use Rattle.binlog_rows.specs.RowsData.{event_in}
 use Rattle.binlog_rows.specs.declared.rows_event.RowsEvent.{RowsEvent}
 use Rattle.binlog_rows.specs.declared.rows_event_data.RowsEventData.{RowsEventData}
 use Rattle.binlog_rows.specs.declared.table_map_event.TableMapEvent.{TableMapEvent}
-use Rattle.json_line.specs.Tokens.{number_value, text_value, bytes_value, bits_value, or_null, member, bytes_member_if_any, object}
+use Rattle.json_line.specs.Tokens.{number_value, text_value, bytes_value, or_null, member, bytes_member_if_any, object}
+use Rattle.binlog_json.specs.Bits.{bits_value}
 
 -- the table
 abbrev pub mapped_table : TableMapEvent → List Token

@@ -3,9 +3,11 @@
 
 ghost use Rattle.std.specs.Prelude.{option_map};
 ghost use Rattle.binlog_rows.specs.Images.{bitmap_of};
-ghost use Rattle.json_line.specs.Tokens.{Adds, bits_value, or_null};
+ghost use Rattle.json_line.specs.Tokens.{Adds, or_null};
+ghost use Rattle.binlog_json.specs.Bits.{bits_value};
 ghost use Rattle.binlog_json.specs.Rows.{mapped_table, mapped_columns, table_map_object, extra_data_member, rows_table, rows_columns, rows_object};
 
+use crate::bits::write_bits;
 use binlog_file::{BitView, RowsEvent, RowsEventData, TableMapEvent};
 use json_line::Line;
 use std::alloc::AllocError;
@@ -36,7 +38,8 @@ fn write_columns(line: &mut Line, event: &TableMapEvent<'_>) -> Result<(), Alloc
     line.number_member("columns_count", event.columns_count())?;
     line.bytes_member("columns_type", event.columns_type_raw())?;
     line.bytes_member("columns_metadata", event.columns_metadata_raw())?;
-    line.bits_member("null_bitmask", event.null_bitmask())?;
+    line.key("null_bitmask")?;
+    write_bits(line, event.null_bitmask())?;
     line.bytes_member("optional_metadata", event.optional_metadata_raw())?;
     Ok(())
 }
@@ -89,7 +92,7 @@ fn write_image(line: &mut Line, image: Option<BitView<'_>>) -> Result<(), AllocE
     ensures { Adds result line.old line.new (or_null bits_value (option_map bitmap_of image.entry)) }
 {
     match image {
-        Some(bits) => line.bits(bits),
+        Some(bits) => write_bits(line, bits),
         None => line.null(),
     }
 }
