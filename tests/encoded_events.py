@@ -48,6 +48,9 @@ ROWS_KINDS = [
     (39, "PARTIAL_UPDATE_ROWS_EVENT", True, True),
 ]
 
+# Those that keep no extra bytes.
+OLDER_ROWS = (23, 24, 25)
+
 # The numbers among the status variables: key and width.
 NUMBER_VARIABLES = {
     "Flags2": (0, 4),
@@ -191,12 +194,10 @@ def statement(head, load, *, status_vars=(), tail=b"", schema="", text="", betwe
     body += number(len(bytes_of(schema)), 1) + number(head["error_code"], 2)
     body += number(len(status), 2) + load + status
     body += bytes_of(schema) + number(between, 1) + bytes_of(text)
-    behind = {
-        "status_vars": [member for _, member in status_vars],
-        "schema": shown(schema),
-        "query": shown(text),
-    }
-    return body, head | behind
+    variables = {"status_vars": [member for _, member in status_vars]}
+    if tail:
+        variables["status_vars_rest"] = tail.hex()
+    return body, head | variables | {"schema": shown(schema), "query": shown(text)}
 
 
 def query(*, thread_id=0, execution_time=0, error_code=0, skipped=b"", **texts):
@@ -484,16 +485,19 @@ def table_map(
 
 
 def rows(kind, spelling, *, table_id, flags, extra, before, after, content):
-    """`extra` is the count of extra bytes and these; an image that the kind lacks isn't used."""
+    """`extra` is the count of extra bytes, or None, and these; an image that the kind lacks isn't used."""
     number_of_type, name, has_before, has_after = kind
     columns = len(before)
-    body = number(table_id, spelling.id_width) + number(flags, 2) + extra
+    count, extra_bytes = extra
+    body = number(table_id, spelling.id_width) + number(flags, 2)
+    body += b"" if count is None else number(count, 2) + extra_bytes
     body += length_encoded(columns, spelling.width)
     body += bits(before, spelling.fill) if has_before else b""
     body += bits(after, spelling.fill) if has_after else b""
-    data = {
-        "table_id": table_id,
-        "flags": flags,
+    data = {"table_id": table_id, "flags": flags}
+    if extra_bytes and number_of_type not in OLDER_ROWS:
+        data["extra_data"] = extra_bytes.hex()
+    data |= {
         "num_columns": columns,
         "columns_before_image": list(before) if has_before else None,
         "columns_after_image": list(after) if has_after else None,

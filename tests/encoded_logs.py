@@ -22,6 +22,8 @@ HEADERS = [
     (0x4ABB35FC, 1, 1670, 8),
     (0xFFFFFFFF, 0xFFFFFFFF, 0xFFFFFFFF, 0xFFFF),
     (0x01020304, 0x05060708, 0x090A0B0C, 0x0D0E),
+    # Of its two flags only the lower one is cleared under the checksum.
+    (1, 2, 3, 0x0003),
 ]
 
 
@@ -43,6 +45,9 @@ ROWS_TYPES = [kind[0] for kind in encode.ROWS_KINDS]
 SHORT_IDS = other_lengths(dict.fromkeys([19, *ROWS_TYPES], 6))
 LONG_HEADS = other_lengths({2: 15, 16: 2, 19: 10} | dict.fromkeys(ROWS_TYPES, 10))
 
+# The lengths up to a type in the middle of those that have one, so that the others have the format's own.
+FIRST_LENGTHS = other_lengths({2: 15, 16: 2})[:19]
+
 DESCRIPTIONS = [
     described("no lengths, no algorithm", b"", server_version="5.0.86-debug-log"),
     described("algorithm 0", POST_HEADER_LENGTHS, algorithm=0),
@@ -50,6 +55,8 @@ DESCRIPTIONS = [
     described("ids of 4 bytes, no algorithm", SHORT_IDS, server_version="5.5.62"),
     described("ids of 4 bytes, algorithm 1", SHORT_IDS, algorithm=1),
     described("long post-headers, algorithm 1", LONG_HEADS, algorithm=1),
+    described("no lengths, algorithm 1", b"", algorithm=1),
+    described("the first lengths, algorithm 1", FIRST_LENGTHS, algorithm=1),
 ]
 CHECKSUMMED, SHORT, LONG = DESCRIPTIONS[2], DESCRIPTIONS[3], DESCRIPTIONS[5]
 
@@ -348,12 +355,11 @@ def table_maps(lengths):
 
 
 def extra_bytes(lengths, type_number):
-    """Spellings of no extra bytes and of some, where the description has a place for them."""
+    """Counts of no extra bytes and of some, with these, where the description has a place for them."""
     if lengths[type_number] != 10:
-        return [b""]
-    counts = [encode.number(count, 2) for count in (0, 1, 2)]
-    contents = (b"\xaa", bytes(range(100)))
-    return counts + [encode.number(2 + len(content), 2) + content for content in contents]
+        return [(None, b"")]
+    contents = (b"\xaa", b"\0", bytes(range(100)))
+    return [(count, b"") for count in (0, 1, 2)] + [(2 + len(content), content) for content in contents]
 
 
 def rows_of(kind):
@@ -375,6 +381,65 @@ def rows_of(kind):
                 yield encode.rows(kind, longer, **shared, **images, content=b"")
 
     return events
+
+
+# ---- long events
+
+
+def whole_status(length):
+    """Status variables that take so many bytes."""
+    number_of_modes, left = divmod(length, 9)
+    modes = [encode.number_variable("SqlMode", value) for value in range(number_of_modes)]
+    return modes + left * [encode.commit_time(14)]
+
+
+LONGEST_STATUS = 65_535
+LONGEST_EXTRA = 65_533
+
+
+def long_queries(lengths):
+    skipped = b"\xaa" * max(0, lengths[2] - 13)
+    for text in ("q", "\n", "\u20ac", b"\xff"):
+        for length in (8_192, 20_000):
+            yield encode.query(text=length * text, skipped=skipped)
+    for tail in (b"", b"\x15", LONGEST_STATUS * b"\xff"):
+        variables = whole_status(LONGEST_STATUS - len(tail))
+        yield encode.query(status_vars=variables, tail=tail, text="q", skipped=skipped)
+    zeros = {"ids": (0, 0, 0), "file_id": 2, "start_pos": 0, "end_pos": 3, "dup_handling": 0}
+    yield encode.execute_load_query(status_vars=whole_status(LONGEST_STATUS), text="q", **zeros)
+
+
+def long_rows(lengths):
+    for kind in encode.ROWS_KINDS:
+        has_extra = lengths[kind[0]] == 10
+        extra = (2 + LONGEST_EXTRA, LONGEST_EXTRA * b"\xe7") if has_extra else (None, b"")
+        shared = {"table_id": 5, "flags": 0xF, "extra": extra}
+        spelling, columns = spelling_of(lengths, kind[0]), {"before": [True], "after": [True]}
+        yield encode.rows(kind, spelling, **shared, **columns, content=70_000 * b"\7")
+        many = some_bits(70_000, 3)
+        yield encode.rows(kind, spelling, **shared, before=many, after=many, content=b"")
+
+
+def long_table_maps(lengths):
+    many = {"types": 70_000 * b"\3", "nulls": some_bits(70_000, 5)}
+    names = {"table_id": 5, "flags": 1, "database": 255 * "d", "table": 255 * "t"}
+    metadata = {"metadata": 70_000 * b"\1", "optional": 70_000 * b"\2"}
+    yield encode.table_map(spelling_of(lengths, 19), **names, **many, **metadata)
+
+
+def long_events(lengths):
+    """Events whose lines don't fit the memory that a line begins with, and texts as long as they may be."""
+    yield from long_queries(lengths)
+    yield from long_rows(lengths)
+    yield from long_table_maps(lengths)
+    content = 70_000 * b"\xff"
+    yield encode.begin_load_query(file_id=2, block=content)
+    yield encode.user_var(name=70_000 * "n", value_type=0, charset_number=33, value=content)
+    yield encode.rows_query(text=70_000 * "r")
+    yield encode.rotate(position=1 << 32, name=70_000 * "f")
+    yield encode.previous_gtids([(SOURCES[1], None, 5_000 * [(1, 6)])])
+    yield encode.kept(40, content)
+    yield encode.unknown(41, content)
 
 
 def plain(make, type_number):
@@ -417,6 +482,9 @@ PLAIN_KINDS = {
     "unknown types": unknown_types,
 }
 KINDS = FIELDS_KINDS | ROWS_KINDS | PLAIN_KINDS
+
+# Under which descriptions there are long events.
+LONG_UNDER = [CHECKSUMMED, SHORT]
 
 # Which kinds are damaged under which descriptions: all that have fields, and those that it changes.
 DAMAGED_UNDER = [
@@ -502,8 +570,8 @@ def log(name, events):
     return Log(name, content, listing.encode("ascii"), lines.encode("utf-8"))
 
 
-def undamaged():
-    """Logs of each kind of events behind each description, of all of them, and of descriptions."""
+def described_events():
+    """Logs of each kind of events behind each description, of all of them, and of long events."""
     for description in DESCRIPTIONS:
         all_events = [description.event]
         for name, events in KINDS.items():
@@ -511,6 +579,14 @@ def undamaged():
             all_events += of_kind
             yield log(f"{name}, {description.name}", [description.event, *of_kind])
         yield log(f"all events, {description.name}", all_events)
+        long = long_events(description.lengths) if description in LONG_UNDER else []
+        for number, event in enumerate(long):
+            yield log(f"long event {number}, {description.name}", [description.event, event])
+
+
+def undamaged():
+    """Logs of events behind descriptions, and of descriptions."""
+    yield from described_events()
     followed = [[event, encode.xid(value=11)] for event in descriptions()]
     for number, events in enumerate(followed):
         yield log(f"description {number}", events)

@@ -19,13 +19,35 @@ READ, UNKNOWN, REFUSED = "read", "unknown", "refused"
 KEPT = {1, 6, 8, 9, 10, 11, 12, 20, 21, 22, 28, 36, 37, 38, 40}
 IGNORED = {0, 3, 7, 27, 43}
 
-QUERY, XID, TABLE_MAP = 2, 16, 19
+XID, TABLE_MAP = 16, 19
 # The rows' types, and whether each has an image before and one after.
 OLDER_ROWS = {23: (False, True), 24: (True, True), 25: (True, False)}
 ROWS = {30: (False, True), 31: (True, True), 32: (True, False), 39: (True, True)}
 
-# The lengths of post-headers where a description states none.
-DEFAULT_LENGTHS = {QUERY: 13, XID: 0, TABLE_MAP: 8} | dict.fromkeys(OLDER_ROWS, 8) | dict.fromkeys(ROWS, 10)
+# The lengths of post-headers where a description states none, of all types that have a post-header.
+DEFAULT_LENGTHS = {
+    1: 56,  # START_EVENT_V3
+    2: 13,  # QUERY_EVENT
+    4: 8,  # ROTATE_EVENT
+    9: 4,  # APPEND_BLOCK_EVENT
+    11: 4,  # DELETE_FILE_EVENT
+    15: 99,  # FORMAT_DESCRIPTION_EVENT
+    17: 4,  # BEGIN_LOAD_QUERY_EVENT
+    18: 26,  # EXECUTE_LOAD_QUERY_EVENT
+    19: 8,  # TABLE_MAP_EVENT
+    23: 8,  # WRITE_ROWS_EVENT_V1
+    24: 8,  # UPDATE_ROWS_EVENT_V1
+    25: 8,  # DELETE_ROWS_EVENT_V1
+    26: 2,  # INCIDENT_EVENT
+    30: 10,  # WRITE_ROWS_EVENT
+    31: 10,  # UPDATE_ROWS_EVENT
+    32: 10,  # DELETE_ROWS_EVENT
+    33: 42,  # GTID_EVENT
+    34: 42,  # ANONYMOUS_GTID_EVENT
+    36: 18,  # TRANSACTION_CONTEXT_EVENT
+    37: 52,  # VIEW_CHANGE_EVENT
+    39: 10,  # PARTIAL_UPDATE_ROWS_EVENT
+}
 
 QUERY_HEAD = 13
 LOAD_HEAD = 26
@@ -175,7 +197,7 @@ STATUS_VARIABLES = [
 
 
 def status_variables(data):
-    """The whole variables at the front."""
+    """The whole variables at the front, and the bytes behind them."""
     variables = []
     while data and data[0] < len(STATUS_VARIABLES):
         key, value_of = STATUS_VARIABLES[data[0]]
@@ -184,7 +206,12 @@ def status_variables(data):
             break
         variables.append({"key": key, "value": found[0]})
         data = found[1]
-    return variables
+    return variables, data
+
+
+def unless_empty(name, content):
+    """A member of bytes, left out where there are none."""
+    return {name: Bytes(content)} if content else {}
 
 
 def statement_head(head):
@@ -195,7 +222,9 @@ def statement_texts(data, head):
     status, data = taken(data, number_in(head, 11, 2))
     schema, data = taken(data, head[8])
     _, data = taken(data, 1)
-    return {"status_vars": status_variables(status), "schema": Text(schema), "query": Text(data)}
+    variables, behind = status_variables(status)
+    texts = {"schema": Text(schema), "query": Text(data)}
+    return {"status_vars": variables} | unless_empty("status_vars_rest", behind) | texts
 
 
 def query(data, header_length):
@@ -326,22 +355,22 @@ def table_map(data, header_length):
     }, b""
 
 
-def rows(has_before, has_after):
+def rows(has_before, has_after, has_extra):
     def taken_image(data, columns, is_there):
         return taken_bits(data, columns) if is_there else (None, data)
 
     def decode(data, header_length):
         table_id, data = taken_table_id(data, header_length)
         flags, data = taken_number(data, 2)
+        extra = b""
         if header_length == 10:
             count, data = taken_number(data, 2)
-            _, data = taken(data, max(0, count - 2))
+            extra, data = taken(data, max(0, count - 2))
         columns, data = taken_length(data)
         before, data = taken_image(data, columns, has_before)
         after, data = taken_image(data, columns, has_after)
-        return {
-            "table_id": table_id,
-            "flags": flags,
+        head = {"table_id": table_id, "flags": flags} | unless_empty("extra_data", extra if has_extra else b"")
+        return head | {
             "num_columns": columns,
             "columns_before_image": before,
             "columns_after_image": after,
@@ -485,7 +514,7 @@ def previous_gtids(data, _header_length):
 
 
 TYPED = {
-    QUERY: query,
+    2: query,
     4: rotate,
     5: intvar,
     13: rand,
@@ -500,7 +529,9 @@ TYPED = {
     34: untagged_gtid,
     35: previous_gtids,
     42: tagged_gtid,
-} | {number: rows(*images) for number, images in (OLDER_ROWS | ROWS).items()}
+}
+TYPED |= {number: rows(*images, has_extra=False) for number, images in OLDER_ROWS.items()}
+TYPED |= {number: rows(*images, has_extra=True) for number, images in ROWS.items()}
 
 
 def stated_length(lengths, number):

@@ -1,2 +1,3 @@
 pub mod Tokens
 pub mod StatusVars
+pub mod BitTokens

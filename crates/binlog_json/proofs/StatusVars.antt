@@ -1,11 +1,13 @@
 -- The values of status variables, by their bytes.
-use Rattle.std.proofs.Common.{◌≡◌, ◌≢◌, ◌↔◌, ℕ, zero, suc, Bool, true, false, List, [], ◌∷◌, ◌++◌, length, inl, inr, refl, sym, ap, ◌∙◌, append_assoc, append-nil, flat_map, IsTrue, nat_eq}
+use Rattle.std.proofs.Common.{◌≡◌, ◌≢◌, ◌↔◌, ℕ, zero, suc, ◌+◌, ◌≤◌, Bool, true, false, List, [], ◌∷◌, ◌++◌, length, inl, inr, refl, sym, ap, ◌∙◌, arith, append_assoc, append-nil, length-append, flat_map, IsTrue, nat_eq}
 use Rattle.std.specs.List.{All}
 use Rattle.std.proofs.lemmas.Bool.{false≢true}
 use Rattle.std.proofs.lemmas.Bool.Decides.{eqb_tells}
 use Rattle.std.proofs.lemmas.List.Elements.{All-head, All-tail}
 use Rattle.binlog_wire.specs.Fields.{HasNoZero}
 use Rattle.binlog_statements.specs.Layouts.{AreNames, ended}
+use Rattle.binlog_statements.specs.StatusVariables.{Variable, variable_bytes, variables}
+use Rattle.binlog_statements.proofs.VariableLaws.{variables_begin}
 use Rattle.binlog_json.specs.StatusVars.{is_set_in, names_from, names_in}
 
 -- ---- flags
@@ -40,3 +42,21 @@ differs a b unlike = elim (eqb_tells a b) [ inl same ↦ absurd (unlike same.1) 
 pub names_are : (value : List ℕ) (names : List (List ℕ)) → AreNames value names → names ≡ names_in value
 names_are value names (inl (is, none)) = rw is none
 names_are value names (inr (few, is, zeros)) = rw (is, differs (length names) 254 few) (sym (all_names names zeros))
+
+-- ---- lengths
+
+-- the bytes of variables
+abbrev pub variables_len : List Variable → ℕ
+variables_len vars = length (flat_map variable_bytes vars)
+
+-- the variables of a text take no more bytes than it has
+pub variables_fit : (text : List ℕ) → variables_len (variables text) ≤ length text
+variables_fit text =
+    let begins = variables_begin text in
+    omega (arith, ap length begins.1.is, length-append (flat_map variable_bytes (variables text)) begins.0)
+
+-- those before one, and that one, take no more bytes than the text has
+pub one_more_fits : (text : List ℕ) (len : ℕ) (left after : List Variable) (v : Variable)
+    → len + variables_len left ≡ variables_len (variables text) → left ≡ v ∷ after → len + (1 + length v.value) ≤ length text
+one_more_fits text len left after v so_far is =
+    omega (arith, so_far, ap variables_len is, length-append (variable_bytes v) (flat_map variable_bytes after), variables_fit text)

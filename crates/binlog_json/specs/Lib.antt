@@ -6,3 +6,4 @@ pub mod Gtids
 pub mod Rows
 pub mod Data
 pub mod ItemLines
+pub mod Bits

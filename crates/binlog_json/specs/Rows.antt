@@ -1,11 +1,12 @@
 -- The objects of table maps and of row events.
-use Rattle.std.specs.Prelude.{List, ◌++◌, length, take, codes}
+use Rattle.std.specs.Prelude.{ℕ, List, [], ◌++◌, length, take, codes, Option, Some, None}
 use Rattle.json.specs.Token.{Token}
 use Rattle.binlog_rows.specs.RowsData.{event_in}
 use Rattle.binlog_rows.specs.declared.rows_event.RowsEvent.{RowsEvent}
 use Rattle.binlog_rows.specs.declared.rows_event_data.RowsEventData.{RowsEventData}
 use Rattle.binlog_rows.specs.declared.table_map_event.TableMapEvent.{TableMapEvent}
-use Rattle.json_line.specs.Tokens.{number_value, text_value, bytes_value, bits_value, or_null, member, object}
+use Rattle.json_line.specs.Tokens.{number_value, text_value, bytes_value, or_null, member, bytes_member_if_any, object}
+use Rattle.binlog_json.specs.Bits.{bits_value}
 
 -- the table
 abbrev pub mapped_table : TableMapEvent → List Token
@@ -27,14 +28,24 @@ mapped_columns e =
 abbrev pub table_map_object : TableMapEvent → List Token
 table_map_object e = object (mapped_table e ++ mapped_columns e)
 
--- the table, and which columns are in the images of a row
-abbrev pub rows_columns : RowsEvent → List Token
-rows_columns e =
+-- the extra bytes, of which 65,533 count; left out where there are none
+abbrev pub extra_data_member : Option (List ℕ) → List Token
+extra_data_member None = []
+extra_data_member (Some bytes) = bytes_member_if_any (codes "extra_data") (take 65533 bytes)
+
+-- the table
+abbrev pub rows_table : RowsEvent → List Token
+rows_table e =
     member (codes "table_id") (number_value e.head.table_id)
     ++ member (codes "flags") (number_value e.head.flags)
-    ++ member (codes "num_columns") (number_value e.columns.count)
+    ++ extra_data_member e.head.extra
+
+-- which columns are in the images of a row
+abbrev pub rows_columns : RowsEvent → List Token
+rows_columns e =
+    member (codes "num_columns") (number_value e.columns.count)
     ++ member (codes "columns_before_image") (or_null bits_value e.columns.before)
     ++ member (codes "columns_after_image") (or_null bits_value e.columns.after)
 
 abbrev pub rows_object : RowsEventData → List Token
-rows_object e = object (rows_columns (event_in e) ++ member (codes "rows_data") (bytes_value (event_in e).rows))
+rows_object e = object (rows_table (event_in e) ++ rows_columns (event_in e) ++ member (codes "rows_data") (bytes_value (event_in e).rows))

@@ -12,7 +12,7 @@ use Rattle.binlog_statements.specs.declared.query.QueryEvent.{QueryEvent}
 use Rattle.binlog_statements.specs.declared.execute_load_query.ExecuteLoadQueryEvent.{ExecuteLoadQueryEvent}
 use Rattle.binlog_statements.specs.declared.user_var.UserVarEvent.{UserVarEvent}
 use Rattle.json_line.specs.Tokens.{number_value, text_value, bytes_value, member, object}
-use Rattle.binlog_json.specs.StatusVars.{status_vars_value}
+use Rattle.binlog_json.specs.StatusVars.{status_vars_members}
 
 -- ---- statements
 
@@ -23,10 +23,10 @@ statement_head s =
     ++ member (codes "execution_time") (number_value s.execution_time)
     ++ member (codes "error_code") (number_value s.error_code)
 
--- the status variables, the schema and the statement
+-- the status variables and the bytes behind them, the schema and the statement
 abbrev pub statement_texts : Statement → List Token
 statement_texts s =
-    member (codes "status_vars") (status_vars_value (take 65535 s.texts.status_vars.0))
+    status_vars_members (take 65535 s.texts.status_vars.0)
     ++ member (codes "schema") (text_value (take 255 s.texts.schema))
     ++ member (codes "query") (text_value s.texts.query)
 

@@ -1,11 +1,11 @@
 -- The status variables of a statement.
-use Rattle.std.specs.Prelude.{ℕ, zero, suc, List, [], ◌∷◌, ◌++◌, take, drop, slice_index, flat_map, codes, cond, nat_eq, Bool, true, false}
+use Rattle.std.specs.Prelude.{ℕ, zero, suc, List, [], ◌∷◌, ◌++◌, length, take, drop, slice_index, flat_map, codes, cond, nat_eq, Bool, true, false}
 use Rattle.byteorder.specs.Endian.{little_number}
 use Rattle.json.specs.Token.{Token, string, boolean}
 use Rattle.binlog_consts.specs.declared.status_var_key.StatusVarKey.{StatusVarKey}
 use Rattle.binlog_consts.specs.declared.status_var_key.StatusVarKey.TheVariants.{Flags2, SqlMode, Catalog, AutoIncrement, Charset, TimeZone, CatalogNz, LcTimeNames, CharsetDatabase, TableMapForUpdate, MasterDataWritten, Invoker, UpdatedDbNames, Microseconds, CommitTs, CommitTs2, ExplicitDefaultsForTimestamp, DdlLoggedWithXid, DefaultCollationForUtf8mb4, SqlRequirePrimaryKey, DefaultTableEncryption}
-use Rattle.binlog_statements.specs.StatusVariables.{Variable, variables}
-use Rattle.json_line.specs.Tokens.{number_value, text_value, bytes_value, member, object, array}
+use Rattle.binlog_statements.specs.StatusVariables.{Variable, variable_bytes, variables}
+use Rattle.json_line.specs.Tokens.{number_value, text_value, bytes_value, member, bytes_member_if_any, object, array}
 
 -- the name of a key
 abbrev pub key_name : StatusVarKey → List ℕ
@@ -102,3 +102,13 @@ variable_object v = entry (key_name v.key) (value_of_key v.key v.value)
 -- the variables of a text, in order
 abbrev pub status_vars_value : List ℕ → List Token
 status_vars_value text = array (flat_map variable_object (variables text))
+
+-- the bytes behind the variables of a text
+abbrev pub behind_variables : List ℕ → List ℕ
+behind_variables text = drop (length (flat_map variable_bytes (variables text))) text
+
+-- the variables of a text, and the bytes behind them
+abbrev pub status_vars_members : List ℕ → List Token
+status_vars_members text =
+    member (codes "status_vars") (status_vars_value text)
+    ++ bytes_member_if_any (codes "status_vars_rest") (behind_variables text)

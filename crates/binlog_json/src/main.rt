@@ -1,6 +1,7 @@
 //! Prints the events of the binary log on standard input as lines of JSON.
 #![tactic(auto)]
 
+mod bits;
 mod bodies;
 mod data_value;
 mod gtids;

@@ -26,3 +26,6 @@ pub(crate) fn print_events<R: BufRead + Drop, W: Write>(
     let mut lines = JsonLines::new(alloc);
     list(alloc, input, &mut lines, output)
 }
+
+#[cfg(test)]
+mod tests;

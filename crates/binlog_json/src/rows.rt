@@ -3,9 +3,11 @@
 
 ghost use Rattle.std.specs.Prelude.{option_map};
 ghost use Rattle.binlog_rows.specs.Images.{bitmap_of};
-ghost use Rattle.json_line.specs.Tokens.{Adds, bits_value, or_null};
-ghost use Rattle.binlog_json.specs.Rows.{mapped_table, mapped_columns, table_map_object, rows_columns, rows_object};
+ghost use Rattle.json_line.specs.Tokens.{Adds, or_null};
+ghost use Rattle.binlog_json.specs.Bits.{bits_value};
+ghost use Rattle.binlog_json.specs.Rows.{mapped_table, mapped_columns, table_map_object, extra_data_member, rows_table, rows_columns, rows_object};
 
+use crate::bits::write_bits;
 use binlog_file::{BitView, RowsEvent, RowsEventData, TableMapEvent};
 use json_line::Line;
 use std::alloc::AllocError;
@@ -36,7 +38,8 @@ fn write_columns(line: &mut Line, event: &TableMapEvent<'_>) -> Result<(), Alloc
     line.number_member("columns_count", event.columns_count())?;
     line.bytes_member("columns_type", event.columns_type_raw())?;
     line.bytes_member("columns_metadata", event.columns_metadata_raw())?;
-    line.bits_member("null_bitmask", event.null_bitmask())?;
+    line.key("null_bitmask")?;
+    write_bits(line, event.null_bitmask())?;
     line.bytes_member("optional_metadata", event.optional_metadata_raw())?;
     Ok(())
 }
@@ -46,18 +49,36 @@ pub(crate) fn write_rows(line: &mut Line, event: &RowsEventData<'_>) -> Result<(
 {
     let event = event.event();
     line.begin_object()?;
+    write_rows_table(line, event)?;
     write_rows_columns(line, event)?;
     line.bytes_member("rows_data", event.rows_data())?;
     line.end_object()?;
     Ok(())
 }
 
-// Writes the table, and which columns are in the images of a row.
-fn write_rows_columns(line: &mut Line, event: &RowsEvent<'_>) -> Result<(), AllocError>
-    ensures { Adds result line.old line.new (rows_columns event.now) }
+fn write_rows_table(line: &mut Line, event: &RowsEvent<'_>) -> Result<(), AllocError>
+    ensures { Adds result line.old line.new (rows_table event.now) }
 {
     line.number_member("table_id", event.table_id())?;
     line.number_member("flags", u64::from(event.flags_raw()))?;
+    write_extra_data(line, event)?;
+    Ok(())
+}
+
+// Writes the extra bytes, if there are some.
+fn write_extra_data(line: &mut Line, event: &RowsEvent<'_>) -> Result<(), AllocError>
+    ensures { Adds result line.old line.new (extra_data_member event.now.head.extra) }
+{
+    match event.extra_data() {
+        Some(bytes) => line.bytes_member_if_any("extra_data", bytes),
+        None => Ok(()),
+    }
+}
+
+// Writes which columns are in the images of a row.
+fn write_rows_columns(line: &mut Line, event: &RowsEvent<'_>) -> Result<(), AllocError>
+    ensures { Adds result line.old line.new (rows_columns event.now) }
+{
     line.number_member("num_columns", event.num_columns())?;
     line.key("columns_before_image")?;
     write_image(line, event.columns_before_image())?;
@@ -71,7 +92,7 @@ fn write_image(line: &mut Line, image: Option<BitView<'_>>) -> Result<(), AllocE
     ensures { Adds result line.old line.new (or_null bits_value (option_map bitmap_of image.entry)) }
 {
     match image {
-        Some(bits) => line.bits(bits),
+        Some(bits) => write_bits(line, bits),
         None => line.null(),
     }
 }

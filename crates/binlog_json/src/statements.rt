@@ -47,8 +47,7 @@ fn write_query_texts(
 ) -> Result<(), AllocError>
     ensures { Adds result line.old line.new (statement_texts event.now.statement) }
 {
-    line.key("status_vars")?;
-    write_status_vars(line, alloc, event.status_vars())?;
+    write_status_vars(line, alloc, event.status_vars_raw())?;
     line.text_member("schema", event.schema_raw())?;
     line.text_member("query", event.query_raw())?;
     Ok(())
@@ -98,8 +97,7 @@ fn write_load_query_texts(
 ) -> Result<(), AllocError>
     ensures { Adds result line.old line.new (statement_texts event.now.statement) }
 {
-    line.key("status_vars")?;
-    write_status_vars(line, alloc, event.status_vars())?;
+    write_status_vars(line, alloc, event.status_vars_raw())?;
     line.text_member("schema", event.schema_raw())?;
     line.text_member("query", event.query_raw())?;
     Ok(())

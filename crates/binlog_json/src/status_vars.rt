@@ -1,34 +1,49 @@
 //! The status variables of a statement.
 #![tactic(auto, using(std::proofs::Common::append_assoc))]
 
-ghost use Rattle.std.specs.Prelude.{[], ◌∷◌, ◌++◌, codes, flat_map, take};
+ghost use Rattle.std.specs.Prelude.{◌≡◌, ◌≤◌, [], ◌∷◌, ◌++◌, codes, flat_map, length, IfOk};
 ghost use Rattle.json.specs.Token.{boolean};
-ghost use Rattle.binlog_statements.specs.StatusVariables.{Variable};
+ghost use Rattle.binlog_statements.specs.StatusVariables.{Variable, variable_bytes, variables};
 ghost use Rattle.binlog_statements.specs.StatusVarValues.{Has};
 ghost use Rattle.binlog_statements.specs.StatusVars.{variable_of};
 ghost use Rattle.json_line.specs.Lines.{IsPlainText};
 ghost use Rattle.json_line.specs.Tokens.{Adds, text_value, number_value, bytes_value, member, object, array};
-ghost use Rattle.binlog_json.specs.StatusVars.{entry, variable_object, status_vars_value};
+ghost use Rattle.binlog_json.specs.StatusVars.{entry, variable_object, status_vars_value, status_vars_members};
 
-use binlog_file::{StatusVar, StatusVarVal, StatusVars};
+use binlog_file::{StatusVar, StatusVarVal, StatusVarsIterator};
 use binlog_wire::{NullBytes, RawBytes};
 use json_line::Line;
 use std::alloc::{AllocError, Global};
 
-/// Writes a list of the variables, in order.
+/// Writes the member of the variables of a text, and that of the bytes behind them, if there are some.
 pub(crate) fn write_status_vars(
     line: &mut Line,
     alloc: Global,
-    status_vars: &StatusVars<'_>,
+    text: &[u8],
 ) -> Result<(), AllocError>
-    ensures { Adds result line.old line.new (status_vars_value (take 65535 status_vars.now.0)) }
+    ensures { Adds result line.old line.new (status_vars_members text.now) }
 {
+    line.key("status_vars")?;
+    let len = write_variables(line, alloc, text)?;
+    line.bytes_member_if_any("status_vars_rest", &text[len..])?;
+    Ok(())
+}
+
+// Writes a list of the variables of a text, in order, and answers how many bytes they take.
+#[inline(always)]
+fn write_variables(line: &mut Line, alloc: Global, text: &[u8]) -> Result<usize, AllocError>
+    ensures list { Adds result line.old line.new (status_vars_value text.now) }
+    ensures len { IfOk result (λ len. len ≡ length (flat_map variable_bytes (variables text.now))) }
+    ensures fits { IfOk result (λ len. len ≤ length text.now) }
+{
+    let mut len = 0;
     line.begin_array()?;
-    'variables: for variable in status_vars.iter() {
+    'variables: for variable in StatusVarsIterator::new(text) {
         write_variable(line, alloc, &variable)?;
+        len += 1 + variable.raw().len();
     }
     line.end_array()?;
-    Ok(())
+    Ok(len)
 }
 
 // Writes a variable, where there is memory to parse its value.

@@ -1,7 +1,6 @@
 pub mod Digits
 pub mod BufferTexts
 pub mod Texts
-pub mod Tokens
 pub mod OneMore
 pub mod PlainTexts
 pub mod Members

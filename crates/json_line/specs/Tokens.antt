@@ -1,10 +1,9 @@
 -- The parts of a line as tokens of JSON.
-use Rattle.std.specs.Prelude.{◌≡◌, ℕ, zero, suc, List, [], ◌∷◌, ◌++◌, length, cond, nat_eq, codes, decimal, Option, Some, None, Result, OnOk}
+use Rattle.std.specs.Prelude.{◌≡◌, ℕ, List, [], ◌∷◌, ◌++◌, length, cond, nat_eq, codes, decimal, Option, Some, None, Result, OnOk}
 use Rattle.std.specs.Str.Lossy.{utf8_valid_len}
 use Rattle.hex.specs.Hex.{encode_lower}
 use Rattle.uuid.specs.Text.{hyphenated_text, lower}
 use Rattle.json.specs.Token.{Token, begin_object, end_object, begin_array, end_array, key, string, number, boolean, null}
-use Rattle.binlog_wire.specs.Bits.{bit_of}
 
 -- these tokens are added, unless memory ran out
 abbrev pub Adds : {A E : Type 0} → Result A E → List Token → List Token → List Token → Type 0
@@ -30,14 +29,6 @@ text_value text =
 abbrev pub uuid_value : List ℕ → List Token
 uuid_value bytes = string (hyphenated_text lower bytes) ∷ []
 
--- the first bits of bytes, so many of them
-unfoldable pub first_bits : ℕ → List ℕ → List Token
-first_bits zero bytes = []
-first_bits (suc n) bytes = first_bits n bytes ++ boolean (bit_of bytes n) ∷ []
-
-unfoldable pub bits_value : ℕ × List ℕ → List Token
-bits_value bits = begin_array ∷ [] ++ first_bits bits.0 bits.1 ++ end_array ∷ []
-
 -- a value, or null
 abbrev pub or_null : {A : Type 0} → (A → List Token) → Option A → List Token
 or_null value None = null ∷ []
@@ -47,6 +38,11 @@ or_null value (Some x) = value x
 
 abbrev pub member : List ℕ → List Token → List Token
 member name value = key name ∷ value
+
+-- a member that is bytes, left out where there are none
+abbrev pub bytes_member_if_any : List ℕ → List ℕ → List Token
+bytes_member_if_any name [] = []
+bytes_member_if_any name (byte ∷ bytes) = member name (bytes_value (byte ∷ bytes))
 
 -- an object of these members
 abbrev pub object : List Token → List Token

@@ -5,11 +5,10 @@ ghost use Rattle.json.specs.Lex.{tokens as read_tokens};
 ghost use Rattle.json.specs.Print.{escape, print, token_text};
 ghost use Rattle.json.specs.Token as tokens;
 ghost use Rattle.json_line.specs.Lines.{IsPlainText};
-ghost use Rattle.json_line.specs.Tokens.{Adds, number_value, bytes_value, text_value, uuid_value, bits_value, or_null, member};
+ghost use Rattle.json_line.specs.Tokens.{Adds, number_value, bytes_value, text_value, uuid_value, or_null, member, bytes_member_if_any};
 
 use crate::buffer::Buffer;
 use crate::plain::is_plain;
-use binlog_wire::BitView;
 use json::Writer;
 use std::alloc::{AllocError, Global};
 use std::marker::Model;
@@ -57,7 +56,7 @@ fn token_writer(token: &mut Vec<u8>, alloc: Global) -> Writer<Global>
 }
 
 /// Each call that writes adds its tokens, or fails where memory runs out. The line is then as it was, but where a value of several
-/// tokens (a text that isn't UTF-8, bits) or a member of such a value had begun.
+/// tokens (a text that isn't UTF-8) or a member of such a value had begun.
 impl Line {
     /// An empty line, which takes no memory yet.
     pub fn new(alloc: Global) -> Self
@@ -299,21 +298,6 @@ impl Line {
         self.string(text)
     }
 
-    /// Bits as a list of booleans.
-    #[tactic(auto, unfolding(crate::specs::Tokens::bits_value))]
-    pub fn bits(&mut self, bits: BitView<'_>) -> Result<(), AllocError>
-        ensures { Adds result self.old self.new (bits_value (bits.entry.len, bits.entry.bytes.now)) }
-    {
-        self.begin_array()?;
-        'bits: for index in 0..bits.len() {
-            match bits.bit(index) {
-                Some(bit) => self.boolean(bit)?,
-                None => unreachable!(),
-            }
-        }
-        self.end_array()
-    }
-
     /// A byte as a number, or null.
     #[inline]
     pub fn byte_or_null(&mut self, number: Option<u8>) -> Result<(), AllocError>
@@ -388,13 +372,25 @@ impl Line {
         self.bytes(bytes)
     }
 
-    /// A member of an object that is bits.
+    /// A member of an object that is bytes in hexadecimal digits, left out where there are none.
     #[inline(always)]
-    pub fn bits_member(&mut self, name: &str, bits: BitView<'_>) -> Result<(), AllocError>
+    pub fn bytes_member_if_any(&mut self, name: &str, bytes: &[u8]) -> Result<(), AllocError>
         requires { IsPlainText name.now }
-        ensures { Adds result self.old self.new (member name.now (bits_value (bits.entry.len, bits.entry.bytes.now))) }
+        ensures { Adds result self.old self.new (bytes_member_if_any name.now bytes.now) }
     {
-        self.key(name)?;
-        self.bits(bits)
+        if bytes.is_empty() {
+            return Ok(());
+        }
+        self.rare_bytes_member(name, bytes)
+    }
+
+    // A member that few objects have.
+    #[cold]
+    #[inline(never)]
+    fn rare_bytes_member(&mut self, name: &str, bytes: &[u8]) -> Result<(), AllocError>
+        requires { IsPlainText name.now }
+        ensures { Adds result self.old self.new (member name.now (bytes_value bytes.now)) }
+    {
+        self.bytes_member(name, bytes)
     }
 }

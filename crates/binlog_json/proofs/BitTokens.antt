@@ -3,7 +3,7 @@ use Rattle.std.proofs.Common.{◌≡◌, ℕ, ◌+◌, ◌<◌, List, [], ◌∷
 use Rattle.std.proofs.lemmas.Bool.{lt-ltb}
 use Rattle.json.specs.Token.{Token, begin_array, boolean}
 use Rattle.binlog_wire.specs.Bits.{bit_of, bit_in}
-use Rattle.json_line.specs.Tokens.{first_bits}
+use Rattle.binlog_json.specs.Bits.{first_bits}
 
 pub no_bits : (old new : List Token) (bytes : List ℕ) → new ≡ old ++ begin_array ∷ [] → new ≡ old ++ begin_array ∷ [] ++ first_bits 0 bytes
 unfolding first_bits

@@ -1,0 +1,12 @@
+-- Bits as lists of booleans.
+use Rattle.std.specs.Prelude.{ℕ, zero, suc, List, [], ◌∷◌, ◌++◌}
+use Rattle.json.specs.Token.{Token, begin_array, end_array, boolean}
+use Rattle.binlog_wire.specs.Bits.{bit_of}
+
+-- the first bits of bytes, so many of them
+unfoldable pub first_bits : ℕ → List ℕ → List Token
+first_bits zero bytes = []
+first_bits (suc n) bytes = first_bits n bytes ++ boolean (bit_of bytes n) ∷ []
+
+unfoldable pub bits_value : ℕ × List ℕ → List Token
+bits_value bits = begin_array ∷ [] ++ first_bits bits.0 bits.1 ++ end_array ∷ []
