@@ -1,41 +1,104 @@
 #!/usr/bin/env python3
-"""Watches what the programs and the tests allocate.
+"""Watches what the programs and the tests allocate, and that they free it.
 
 Usage: allocations.py
 
 The programs and tests are those that are built in crates/NAME/out. Further events take one buffer each where they are
-owned (probe_owned_events), and nothing where they are lent (binlog_list, binlog_json, bench_write_back), also where statements and their
-status variables are read (bench_typed), nor does a checksum. Where a header states 4,294,967,295 bytes and few have come,
+owned (probe_owned_events), and nothing where they are borrowed (binlog_list, binlog_json, bench_write_back), also where
+statements and their status variables are read (bench_typed), nor does a checksum. A description that comes into force, and
+a table map, is copied once: one allocation for each of its texts that isn't empty, and one for the description.
+
+No allocation of a program is larger than what came and 65,536 bytes; a table of table maps may have 12 bytes for each byte
+that came. All is freed when a program or a test ends. Where a header states 4,294,967,295 bytes and few have come,
 in pieces of 20, no allocation of a program grows by more than 65,536 bytes, and none of a test does in whose name the word
 `boundless` stands. The last line is `N passed, M failed`; the exit status is 1 if something failed. Without the C compiler
 `cc` nothing is run, and both numbers are 0.
 """
 
 import socket
+import struct
 import sys
+from typing import Callable, NamedTuple
 
 import checksummed_sample
+import json_sample
 import make_sample
 import watched
 from damaged_copies import MAGIC
 
 FEW, MANY = 10, 1010
 
-# All logs fit into the program's input buffer of 65,536 bytes, so that each event is shown whole.
+TABLE_MAP = 19
+
+
+def table_map(table_id):
+    """A table map of this id: the table `t` of the database `d`, with one column."""
+    body = struct.pack("<Q", table_id)[:6] + bytes.fromhex("01 00 01 64 00 01 74 00 01 03 00 01")
+    return make_sample.frame(TABLE_MAP, body, 0)
+
+
+def statement_of(count):
+    """A statement that names so many databases."""
+    variables = bytes([0x0C, count]) + count * b"a\0"
+    head = struct.pack("<IIBHH", 1, 0, 0, 0, len(variables))
+    return make_sample.frame(make_sample.QUERY, head + variables + b"\0q", 0)
+
+
 PLAIN_EVENT = make_sample.frame(make_sample.XID, make_sample.XID_BODY, 0)
 STATEMENT = make_sample.frame(make_sample.QUERY, make_sample.query_body(b"d", b"q"), 0)
 CHECKSUMMED_EVENT = checksummed_sample.event(make_sample.XID, make_sample.XID_BODY)
+DESCRIPTION = make_sample.file_start()[len(MAGIC) :]
 
-# What a log begins with, and the event that it repeats.
+
+class Log(NamedTuple):
+    """What a log begins with, the event of each number behind it, how many allocations each of these takes to be kept,
+    how many more where the event is owned, and by how many steps a table grows meanwhile. They aren't counted where a
+    program may list what stands in an event."""
+
+    start: bytes
+    event: Callable
+    kept: int = 0
+    owned: int = 0
+    growths: int = 0
+    is_counted: bool = True
+
+    def of(self, count):
+        return self.start + b"".join(map(self.event, range(count)))
+
+
+# All but the last two fit into the program's input buffer of 65,536 bytes, so that each event is shown whole.
 LOGS = {
-    "events under the default description": (MAGIC, PLAIN_EVENT),
-    "events under a description": (make_sample.file_start(), PLAIN_EVENT),
-    "statements": (make_sample.file_start(), STATEMENT),
-    "events with checksums": (MAGIC + checksummed_sample.description(), CHECKSUMMED_EVENT),
+    "events under the default description": Log(MAGIC, lambda _: PLAIN_EVENT),
+    "events under a description": Log(make_sample.file_start(), lambda _: PLAIN_EVENT),
+    "statements": Log(make_sample.file_start(), lambda _: STATEMENT),
+    "events with checksums": Log(MAGIC + checksummed_sample.description(), lambda _: CHECKSUMMED_EVENT),
+    # The names, the types and the null bits; there are no metadata.
+    "table maps": Log(MAGIC, table_map, kept=4, growths=8),
+    "one table map": Log(MAGIC + table_map(7), lambda _: table_map(7)),
+    # The version, the lengths and the description itself, and the same for the description under which an event stands.
+    "descriptions": Log(MAGIC, lambda _: DESCRIPTION, kept=3, owned=3),
+    "statements that name databases": Log(MAGIC, lambda _: statement_of(100), is_counted=False),
+}
+
+# Logs that are read once.
+WHOLE_LOGS = {
+    "no log": b"x",
+    "the sample": make_sample.sample(),
+    "the sample with checksums": checksummed_sample.sample(),
+    "each body": json_sample.sample(),
+    "each body, cut": json_sample.sample()[:-1],
 }
 
 # How many allocations each program makes for a further event.
 PROGRAMS = {"binlog_list": 0, "binlog_json": 0, "bench_write_back": 0, "bench_typed": 0, "probe_owned_events": 1}
+
+# The programs that hold a whole log, of which memory may have twice the bytes, and one that prints texts of its own.
+HOLDING = {"probe_slice_listing"}
+OTHERS = HOLDING | {"probe_typed_events", "bench_reading"}
+
+# The bytes that a table of table maps may take for each byte of a log: an entry of 216 bytes for an event of 37 bytes, and
+# twice as many as there are.
+OF_TABLE_MAPS = 12
 
 # The bytes by which an allocation may grow at a time, and those that a read gives where it gives pieces.
 LARGEST_GROWTH = 65_536
@@ -50,16 +113,41 @@ BOUNDLESS_LOGS = {
 }
 
 
-def count_failure(watch, name, log, for_each):
+def counts(name, log, few, many, for_each):
     """None if each further event makes so many further allocations, else what is wrong."""
-    start, event = LOGS[log]
-    few, many = (
-        len(watch.run([watched.program(name)], start + count * event).allocations)
-        for count in (FEW, MANY)
-    )
-    if many - few == for_each * (MANY - FEW):
+    further = len(many.allocations) - len(few.allocations)
+    wanted = (for_each + log.kept + for_each * log.owned) * (MANY - FEW)
+    if wanted <= further <= wanted + log.growths:
         return None
-    return f"{name}: {log}: {many - few} allocations for {MANY - FEW} events"
+    return f"{name}: {further} allocations for {MANY - FEW} events, not {wanted}"
+
+
+def left_failure(name, run):
+    """None if the program freed all that it allocated, else what is wrong."""
+    return None if run.left == 0 else f"{name}: {run.left} blocks aren't freed"
+
+
+def log_failures(watch, name, for_each):
+    """What is wrong with a program over the logs that repeat an event."""
+    for described, log in LOGS.items():
+        title = f"{name} over {described}"
+        contents = [log.of(count) for count in (FEW, MANY)]
+        runs = [watch.run([watched.program(name)], content) for content in contents]
+        if for_each is not None and log.is_counted:
+            yield counts(title, log, *runs, for_each)
+        factor = OF_TABLE_MAPS if log.growths else 2 if name in HOLDING else 1
+        for run, content in zip(runs, contents):
+            yield total_failure(title, run, factor * len(content))
+            yield left_failure(title, run)
+
+
+def whole_log_failures(watch, name):
+    for described, content in WHOLE_LOGS.items():
+        title = f"{name} over {described}"
+        run = watch.run([watched.program(name)], content)
+        factor = 2 if name in HOLDING else 1
+        yield total_failure(title, run, factor * len(content))
+        yield left_failure(title, run)
 
 
 def run_over_pieces(watch, command, content):
@@ -82,7 +170,7 @@ def growth_failure(name, run):
 
 def total_failure(name, run, came):
     """None if no allocation is larger than what came and one growth, else what is wrong."""
-    largest = max(new for _, new in run.allocations)
+    largest = max((new for _, new in run.allocations), default=0)
     if largest <= came + LARGEST_GROWTH:
         return None
     return f"{name}: an allocation of {largest} bytes where {came} came"
@@ -90,20 +178,26 @@ def total_failure(name, run, came):
 
 def all_failures(watch):
     for name, for_each in PROGRAMS.items():
-        for log in LOGS:
-            yield count_failure(watch, name, log, for_each)
+        yield from log_failures(watch, name, for_each)
+        yield from whole_log_failures(watch, name)
         command = [watched.program(name)]
         for log, content in BOUNDLESS_LOGS.items():
             described = f"{name} over {log} of a boundless event"
             run = watch.run(command, content)
             yield growth_failure(described, run)
             yield total_failure(described, run, len(content))
+            yield left_failure(described, run)
             if len(content) < 10 * PIECE:
                 pieces = run_over_pieces(watch, command, content)
                 yield growth_failure(f"{described}, in pieces", pieces)
+    for name in sorted(OTHERS):
+        yield from log_failures(watch, name, None)
+        yield from whole_log_failures(watch, name)
     for program, name in watched.tests():
+        run = watch.run([program, name])
+        yield left_failure(f"the test {name}", run)
         if "boundless" in name:
-            yield growth_failure(f"the test {name}", watch.run([program, name]))
+            yield growth_failure(f"the test {name}", run)
 
 
 if __name__ == "__main__":

@@ -5,9 +5,9 @@ Usage: refused_memory.py
 
 The programs and tests are those that are built in crates/NAME/out. Each runs with its first allocation refused, then with
 its second one, and so on until a run asks for fewer. The listing and the lines of JSON must then have the first lines and the status 3, what is
-written back must be a front of the log, and a test must pass: those run in whose full name the word `memory` stands. A
-test whose name says that reading takes no memory must make no allocation at all, also none whose refusal it would hide,
-and one whose name says that something makes one allocation exactly one.
+written back must be a front of the log, and a program must free all that it got. A test must pass: those run in whose full
+name the word `memory` stands. A test whose name ends in `takes_no_memory` or `take_no_memory` must make no allocation at
+all, also none whose refusal it would hide, and one whose name ends in `makes_one_allocation` exactly one.
 The last line is `N passed, M failed`, where each run counts; the exit status is 1 if one failed. Without the C compiler `cc`
 nothing is run, and both numbers are 0.
 """
@@ -40,8 +40,13 @@ def failures(watch, name, command, content, fault):
         run = watch.run(command, content, refused=number)
         if not run.is_refused:
             return
-        wrong = fault(run)
+        wrong = fault(run) or left_fault(run)
         yield wrong and f"{name}, its allocation {number} refused: {wrong}"
+
+
+def left_fault(run):
+    """None if nothing is left, or the program, a test, runs in a process that doesn't exit by itself."""
+    return f"{run.left} blocks aren't freed" if run.left else None
 
 
 def status_fault(run, wanted):
@@ -97,7 +102,7 @@ def test_fault(run):
 
 def stated_allocations(name):
     """How many allocations a test makes by its name, or None where the name doesn't say."""
-    if name.rpartition("::")[2].startswith("reading") and name.endswith("takes_no_memory"):
+    if name.endswith(("takes_no_memory", "take_no_memory")):
         return 0
     return 1 if name.endswith("makes_one_allocation") else None
 

@@ -1,6 +1,7 @@
 /* Watches the allocations of the program that it is preloaded into. It writes a line for each to the descriptor
  * ALLOCATION_REPORT: the bytes that there were, and those that are asked for. The allocation whose number, counted from
- * 1, is REFUSED_ALLOCATION is refused, and its line is `refused`. Both are numbers in the environment. */
+ * 1, is REFUSED_ALLOCATION is refused, and its line is `refused`. Both are numbers in the environment. When the program
+ * exits, a line `left` says how many blocks were allocated and not freed. */
 #include <errno.h>
 #include <malloc.h>
 #include <stdio.h>
@@ -11,8 +12,10 @@
 void *__libc_malloc(size_t size);
 void *__libc_calloc(size_t count, size_t size);
 void *__libc_realloc(void *old, size_t size);
+void __libc_free(void *block);
 
 static long asked = 0;
+static long blocks = 0;
 
 static long number(const char *name) {
     const char *text = getenv(name);
@@ -37,12 +40,30 @@ static int is_refused(size_t old, size_t size) {
     return 0;
 }
 
-void *malloc(size_t size) { return is_refused(0, size) ? NULL : __libc_malloc(size); }
+static void *counted(void *block) {
+    blocks += block != NULL;
+    return block;
+}
+
+void *malloc(size_t size) { return is_refused(0, size) ? NULL : counted(__libc_malloc(size)); }
 
 void *calloc(size_t count, size_t size) {
-    return is_refused(0, count * size) ? NULL : __libc_calloc(count, size);
+    return is_refused(0, count * size) ? NULL : counted(__libc_calloc(count, size));
 }
 
 void *realloc(void *old, size_t size) {
-    return is_refused(old == NULL ? 0 : malloc_usable_size(old), size) ? NULL : __libc_realloc(old, size);
+    if (old == NULL)
+        return malloc(size);
+    return is_refused(malloc_usable_size(old), size) ? NULL : __libc_realloc(old, size);
+}
+
+void free(void *block) {
+    blocks -= block != NULL;
+    __libc_free(block);
+}
+
+__attribute__((destructor)) static void report_blocks(void) {
+    char line[64];
+    snprintf(line, sizeof line, "left %ld\n", blocks);
+    report(line);
 }

@@ -15,13 +15,14 @@ COMPILER = "cc"
 
 
 class Run(NamedTuple):
-    """What came of a run: its output, its status, whether an allocation was refused, and the others: for each the bytes
-    that there were, and those that were asked for."""
+    """What came of a run: its output, its status, whether an allocation was refused, the others, for each the bytes that
+    there were and those that were asked for, and how many blocks were not freed, None where the program didn't exit."""
 
     output: bytes
     status: int
     is_refused: bool
     allocations: list
+    left: int | None
 
 
 class Watch:
@@ -58,8 +59,10 @@ class Watch:
             )
             report.seek(0)
             lines = report.read().decode().splitlines()
-        sizes = [tuple(map(int, line.split())) for line in lines if line != "refused"]
-        return Run(finished.stdout, finished.returncode, "refused" in lines, sizes)
+        left = [int(line.split()[1]) for line in lines if line.startswith("left")]
+        sizes = [tuple(map(int, line.split())) for line in lines if line[0].isdigit()]
+        left_last = left[-1] if left else None
+        return Run(finished.stdout, finished.returncode, "refused" in lines, sizes, left_last)
 
 
 def program(name):

@@ -1,0 +1,44 @@
+//! How to go through a log of which parts may be damaged.
+use binlog_file::{BinlogFile, BinlogVersion, Error};
+use std::alloc::Global;
+use std::io::BufRead;
+
+/// What was found in a log.
+#[derive(Clone, Copy, Debug, Default, PartialEq, Eq)]
+pub struct Findings {
+    /// How many events could be read.
+    pub events: u64,
+    /// How many events are damaged, each with the next event behind it.
+    pub damaged: u64,
+    /// Whether an event states an impossible size, so that no event can be found behind it.
+    pub is_broken_off: bool,
+}
+
+/// Reads a log to its end, and counts the events that can be read and those that are damaged.
+///
+/// # Errors
+///
+/// - [`Error::EndOfInput`] and [`Error::InvalidFileHeader`] where the input is no binary log.
+/// - [`Error::Memory`] and [`Error::FrameMemory`] where memory ran out, [`Error::Reader`] and [`Error::ReaderInFrame`]
+///   where the reader failed.
+pub fn examine<R: BufRead + Drop>(alloc: Global, input: R) -> Result<Findings, Error> {
+    let file = BinlogFile::new(alloc, BinlogVersion::Version4, input)?;
+    let mut findings = Findings::default();
+    for item in file.items() {
+        match item {
+            Ok(_) => findings.events = findings.events.saturating_add(1),
+            // The event is damaged. The file goes on with the next one.
+            Err(Error::TooShortForChecksum | Error::EndOfBody | Error::InvalidData(_)) => {
+                findings.damaged = findings.damaged.saturating_add(1);
+            }
+            // The file gives no item behind it.
+            Err(Error::EventSizeTooSmall(_)) => findings.is_broken_off = true,
+            // Memory ran out, or the reader failed.
+            Err(error) => return Err(error),
+        }
+    }
+    Ok(findings)
+}
+
+#[cfg(test)]
+mod tests;

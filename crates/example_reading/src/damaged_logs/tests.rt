@@ -1,0 +1,47 @@
+use super::{Findings, examine};
+use binlog_file::Error;
+use std::test::Fail;
+use testkit_logs::{
+    COUNTED, COUNTED_XID, DESCRIPTION, FILE_HEADER, REFUSED_DESCRIPTION, SHORT, joined,
+};
+
+/// A rotate whose position has seven bytes, with a checksum.
+const SHORT_ROTATE: &[u8] =
+    b"\0\0\0\0\x04\x01\0\0\0\x1e\0\0\0\0\0\0\0\0\0\x04\0\0\0\0\0\0\x1a\0\0\0";
+
+/// The header of an event that states 18 bytes, one fewer than a header has.
+const UNDERSIZED: &[u8] = b"\0\0\0\0\x10\x01\0\0\0\x12\0\0\0\0\0\0\0\0\0";
+
+/// A description and a transaction's end, and between them three damaged events. Behind them no event can be found.
+const DAMAGED: &[&[u8]] = &[
+    FILE_HEADER,
+    DESCRIPTION,
+    COUNTED,
+    SHORT,
+    SHORT_ROTATE,
+    REFUSED_DESCRIPTION,
+    COUNTED,
+    COUNTED_XID,
+    UNDERSIZED,
+    COUNTED_XID,
+];
+
+#[test]
+fn damaged_events_are_counted(rt: HostRuntime) -> Result<(), Fail> {
+    let log = joined(rt.alloc(), DAMAGED)?;
+    let wanted = Findings {
+        events: 2,
+        damaged: 3,
+        is_broken_off: true,
+    };
+    assert!(rt; examine(rt.alloc(), log.as_slice()) == Ok(wanted));
+    Ok(())
+}
+
+#[test]
+fn what_is_no_log_is_refused(rt: HostRuntime) {
+    let short: &[u8] = b"\xfebi";
+    assert!(rt; examine(rt.alloc(), short) == Err(Error::EndOfInput));
+    let other: &[u8] = b"\x89PNG";
+    assert!(rt; examine(rt.alloc(), other) == Err(Error::InvalidFileHeader));
+}

@@ -1,0 +1,42 @@
+//! How to list the identifiers of a log's transactions.
+use binlog_file::{BinlogFile, BinlogVersion, Error, EventType, GtidEvent};
+use std::alloc::Global;
+use std::io::{BufRead, Write};
+use uuid::Uuid;
+
+/// Writes a line for each transaction of a log that has a global transaction identifier: the source, the tag if there is
+/// one, and the number, with colons between.
+///
+/// # Errors
+///
+/// Those of [`BinlogFile`] and of reading a GTID event; [`Error::Writer`] where the writer failed.
+pub fn list_gtids<R: BufRead + Drop, W: Write>(
+    alloc: Global,
+    input: R,
+    output: &mut W,
+) -> Result<(), Error> {
+    let file = BinlogFile::new(alloc, BinlogVersion::Version4, input)?;
+    for item in file.items() {
+        let event = item?;
+        if let Ok(EventType::GTID_EVENT | EventType::GTID_TAGGED_LOG_EVENT) = event
+            .header()
+            .event_type()
+        {
+            write_gtid(&event.read_event(alloc)?, output)?;
+        }
+    }
+    Ok(())
+}
+
+fn write_gtid<W: Write>(gtid: &GtidEvent, output: &mut W) -> Result<(), Error> {
+    let source = Uuid::from_bytes(gtid.sid());
+    let number = gtid.gno();
+    let written = match gtid.tag() {
+        Some(tag) => writeln!(output, "{source}:{}:{number}", tag.as_str()),
+        None => writeln!(output, "{source}:{number}"),
+    };
+    written.map_err(|_| Error::Writer)
+}
+
+#[cfg(test)]
+mod tests;

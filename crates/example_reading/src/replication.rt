@@ -1,0 +1,53 @@
+//! How to follow the events that a source sends, which have no file header before them.
+use binlog_file::{BinlogVersion, Error, Event, EventStreamReader, EventType, RotateEvent};
+use std::alloc::Global;
+
+/// A place in the logs of a source, from which its events can be asked for again.
+#[derive(Debug, PartialEq, Eq, Drop)]
+pub struct Place {
+    /// The name of the log.
+    pub log: Vec<u8>,
+    /// The first byte of the next event in it.
+    pub position: u64,
+}
+
+/// The place behind these events.
+///
+/// # Errors
+///
+/// Those of [`EventStreamReader::read`] and of reading a rotate.
+pub fn follow(alloc: Global, events: &[u8]) -> Result<Place, Error> {
+    let mut reader = EventStreamReader::new(alloc, BinlogVersion::Version4);
+    let mut rest = events;
+    let mut place = Place {
+        log: Vec::new(alloc),
+        position: 0,
+    };
+    // Bounded, so that the loop is proved to end.
+    'events: for _ in 0..u64::MAX {
+        let Some(event) = reader.read(&mut rest)? else {
+            return Ok(place);
+        };
+        place.go_behind(alloc, &event)?;
+    }
+    Ok(place)
+}
+
+impl Place {
+    // Goes to the place behind an event.
+    fn go_behind(&mut self, alloc: Global, event: &Event) -> Result<(), Error> {
+        let header = event.header();
+        if let Ok(EventType::ROTATE_EVENT) = header.event_type() {
+            let rotate: RotateEvent = event.read_event(alloc)?;
+            self.log = Vec::from_slice(alloc, rotate.name_raw())?;
+            self.position = rotate.position();
+        } else if header.log_pos() != 0 {
+            // Events that the source made for the stream alone state 0.
+            self.position = u64::from(header.log_pos());
+        }
+        Ok(())
+    }
+}
+
+#[cfg(test)]
+mod tests;

@@ -1,0 +1,5 @@
+//! How to write a log with `binlog_file`, a module for each task. Each test runs its task over a small log.
+#![tactic(auto)]
+
+pub mod filtering;
+pub mod new_events;
