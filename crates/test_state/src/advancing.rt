@@ -1,0 +1,126 @@
+//! A file that goes from event to event: its events are borrowed beside its reader, which knows their table maps.
+use binlog_file::{BinlogFile, Error, WriteRowsEventV1};
+use std::alloc::Global;
+use std::io::BufRead;
+use testkit_logs::{FILE_HEADER, PLAIN_XID, file_of, next_item};
+
+/// Table maps of id 5, of the tables `t` and `u` of the database `d`, each with one column.
+const MAP_OF_T: &[u8] = b"\0\0\0\0\x13\x01\0\0\0\x25\0\0\0\0\0\0\0\0\0\
+    \x05\0\0\0\0\0\x01\0\x01d\0\x01t\0\x01\x03\0\x01";
+
+const MAP_OF_U: &[u8] = b"\0\0\0\0\x13\x01\0\0\0\x25\0\0\0\0\0\0\0\0\0\
+    \x05\0\0\0\0\0\x01\0\x01d\0\x01u\0\x01\x03\0\x01";
+
+/// One row for the table of id 5, and one for that of id 7: the number 1.
+const ROWS_OF_5: &[u8] = b"\0\0\0\0\x17\x01\0\0\0\x22\0\0\0\0\0\0\0\0\0\
+    \x05\0\0\0\0\0\x01\0\x01\x01\0\x01\0\0\0";
+
+const ROWS_OF_7: &[u8] = b"\0\0\0\0\x17\x01\0\0\0\x22\0\0\0\0\0\0\0\0\0\
+    \x07\0\0\0\0\0\x01\0\x01\x01\0\x01\0\0\0";
+
+const ROWS: &[&[u8]] = &[
+    FILE_HEADER,
+    MAP_OF_T,
+    ROWS_OF_5,
+    MAP_OF_U,
+    ROWS_OF_5,
+    ROWS_OF_7,
+];
+
+// The name of the table whose rows the event holds at which the file stands.
+fn table_of_rows<R: BufRead + Drop>(alloc: Global, file: &BinlogFile<R>) -> Option<u8> {
+    let event = file.event()?;
+    let rows: WriteRowsEventV1<'_> = event.read_event(alloc).ok()?;
+    let map = file.reader().get_tme(rows.table_id())?;
+    map.table_name_raw().first().copied()
+}
+
+// The same behind so many items of the file.
+fn table_behind(alloc: Global, items: usize) -> Result<Option<u8>, Error> {
+    let mut file = file_of(alloc, ROWS)?;
+    for _ in 0..items {
+        let _ = file.advance();
+    }
+    Ok(table_of_rows(alloc, &file))
+}
+
+#[test]
+fn rows_stand_beside_their_table_map(rt: HostRuntime) {
+    assert!(rt; table_behind(rt.alloc(), 2) == Ok(Some(b't')));
+    assert!(rt; table_behind(rt.alloc(), 4) == Ok(Some(b'u')));
+    assert!(rt; table_behind(rt.alloc(), 5) == Ok(None));
+}
+
+// The type of the event at which the file stands.
+fn kind<R: BufRead + Drop>(file: &BinlogFile<R>) -> Option<u8> {
+    Some(file.event()?.header().event_type_raw())
+}
+
+// Goes to the next item, and answers the type of its event.
+fn next_kind<R: BufRead + Drop>(file: &mut BinlogFile<R>) -> Option<u8> {
+    let _ = file.advance();
+    kind(file)
+}
+
+// The types of the events at which a file of these parts stands, before the first call and behind three.
+fn kinds(alloc: Global, parts: &[&[u8]]) -> Result<[Option<u8>; 4], Error> {
+    let mut file = file_of(alloc, parts)?;
+    let first = kind(&file);
+    Ok([
+        first,
+        next_kind(&mut file),
+        next_kind(&mut file),
+        next_kind(&mut file),
+    ])
+}
+
+#[test]
+fn a_file_stands_at_an_event_that_it_went_to(rt: HostRuntime) {
+    let wanted = Ok([None, Some(16), Some(19), None]);
+    assert!(rt; kinds(rt.alloc(), &[FILE_HEADER, PLAIN_XID, MAP_OF_T]) == wanted);
+}
+
+/// A table map that lacks its last byte, between two events.
+const SHORT_MAP: &[u8] = b"\0\0\0\0\x13\x01\0\0\0\x24\0\0\0\0\0\0\0\0\0\
+    \x05\0\0\0\0\0\x01\0\x01d\0\x01t\0\x01\x03\0";
+
+const WITH_ERROR: &[&[u8]] = &[FILE_HEADER, PLAIN_XID, SHORT_MAP, PLAIN_XID];
+
+#[test]
+fn a_file_stands_at_no_event_behind_an_error(rt: HostRuntime) {
+    let wanted = Ok([None, Some(16), None, Some(16)]);
+    assert!(rt; kinds(rt.alloc(), WITH_ERROR) == wanted);
+}
+
+// The types of the events at which a file stands behind `next_ref` and `next`.
+fn kinds_behind_both(alloc: Global) -> Result<[Option<u8>; 2], Error> {
+    let mut file = file_of(alloc, &[FILE_HEADER, PLAIN_XID, MAP_OF_T])?;
+    let _ = file.next_ref();
+    let lent = kind(&file);
+    next_item(&mut file);
+    Ok([lent, kind(&file)])
+}
+
+#[test]
+fn next_hands_its_event_over(rt: HostRuntime) {
+    assert!(rt; kinds_behind_both(rt.alloc()) == Ok([Some(16), None]));
+}
+
+// What `advance` answers three times: 0 for an event, the number of an error, none at the end.
+fn answers(alloc: Global, parts: &[&[u8]]) -> Result<[Option<u8>; 3], Error> {
+    let mut file = file_of(alloc, parts)?;
+    Ok([answer(&mut file), answer(&mut file), answer(&mut file)])
+}
+
+fn answer<R: BufRead + Drop>(file: &mut BinlogFile<R>) -> Option<u8> {
+    match file.advance()? {
+        Ok(()) => Some(0),
+        Err(error) => Some(error.number()),
+    }
+}
+
+#[test]
+fn going_on_answers_errors_and_the_end(rt: HostRuntime) {
+    assert!(rt; answers(rt.alloc(), WITH_ERROR) == Ok([Some(0), Some(5), Some(0)]));
+    assert!(rt; answers(rt.alloc(), &[FILE_HEADER, PLAIN_XID]) == Ok([Some(0), None, None]));
+}
