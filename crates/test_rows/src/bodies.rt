@@ -2,6 +2,7 @@
 //! is compared in functions without a runtime, one reader for all its getters: their proofs are short.
 use binlog_wire::BitView;
 
+mod copies;
 mod memory;
 mod rows;
 mod table_maps;

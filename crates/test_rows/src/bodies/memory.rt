@@ -48,14 +48,17 @@ fn a_write_of_any_type_refused_for_memory_leaves_what_was_there(rt: HostRuntime)
 }
 
 // A copy of a copy that owns its bytes.
-fn map_copied(alloc: Global, map: &TableMapEvent<'_>) -> Result<TableMapEvent<'static>, Error> {
+pub(crate) fn map_copied(
+    alloc: Global,
+    map: &TableMapEvent<'_>,
+) -> Result<TableMapEvent<'static>, Error> {
     let owned = map.clone(alloc)?.into_owned(alloc)?;
     let copy = owned.clone(alloc);
     drop(owned);
     copy
 }
 
-fn copied<K: RowsKind>(
+pub(crate) fn copied<K: RowsKind>(
     alloc: Global,
     event: &RowsEventOf<'_, K>,
 ) -> Result<RowsEventOf<'static, K>, Error> {

@@ -377,7 +377,13 @@ fn older_types_of_events(rt: HostRuntime) {
     assert!(rt; WriteRowsEventV1::EVENT_TYPE == EventType::WRITE_ROWS_EVENT_V1);
     assert!(rt; UpdateRowsEventV1::EVENT_TYPE == EventType::UPDATE_ROWS_EVENT_V1);
     assert!(rt; DeleteRowsEventV1::EVENT_TYPE == EventType::DELETE_ROWS_EVENT_V1);
-    assert!(rt; WriteRowsEvent::SIZE == None);
+}
+
+#[test]
+fn row_events_have_no_size(rt: HostRuntime) {
+    for size in [WriteRowsEvent::SIZE, UpdateRowsEventV1::SIZE] {
+        assert!(rt; size == None);
+    }
 }
 
 // Where a post-header of 6 bytes is stated, ids take 4 bytes and no extra bytes stand.
