@@ -11,8 +11,8 @@ abbrev pub is_held : List GnoInterval → ℕ → Bool
 is_held [] n = false
 is_held (i ∷ is) n = is_within i n || is_held is n
 
--- The intervals stand in order, each holds a number of at most 2^63 - 1, and between two of them, and above `low`, there is a number that
--- none of them holds.
+-- The intervals are in order. Each holds a number, ends at 2^63 at most, and starts above the end of the one before it; the first starts
+-- above `low`. So between two intervals there is a number that isn't held.
 abbrev pub AreApart : ℕ → List GnoInterval → Type 0
 AreApart low [] = ⊤
 AreApart low (i ∷ is) = (low < i.start) × (i.start < i.end) × (i.end ≤ 2 ^ 63) × AreApart i.end is

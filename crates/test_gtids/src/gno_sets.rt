@@ -85,6 +85,30 @@ fn three_intervals_are_swallowed(rt: HostRuntime) {
     assert!(rt; keeps(rt.alloc(), intervals, &[(2, 3), (4, 10), (11, 12)]) == Ok(true));
 }
 
+// Whether these are the intervals of the union of two sets.
+fn is_union(
+    alloc: Global,
+    one: &[(u64, u64)],
+    other: &[(u64, u64)],
+    wanted: &[(u64, u64)],
+) -> Result<bool, Error> {
+    let one = set_of(alloc, one)?;
+    let other = set_of(alloc, other)?;
+    let union = one.union(&other);
+    drop(one);
+    drop(other);
+    let union = union?;
+    let is_union = are(union.intervals(), wanted);
+    drop(union);
+    Ok(is_union)
+}
+
+#[test]
+fn union_holds_the_numbers_of_both(rt: HostRuntime) {
+    let other: &[(u64, u64)] = &[(6, 8), (10, 11)];
+    assert!(rt; is_union(rt.alloc(), &[(1, 6)], other, &[(1, 8), (10, 11)]) == Ok(true));
+}
+
 // Whether a set holds a number, and its copy does.
 fn is_held(alloc: Global, intervals: &[(u64, u64)], gno: u64) -> Result<bool, Error> {
     let set = set_of(alloc, intervals)?;
