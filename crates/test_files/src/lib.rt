@@ -9,6 +9,8 @@ mod closed_logs;
 #[cfg(test)]
 mod describing;
 #[cfg(test)]
+mod exact_reading;
+#[cfg(test)]
 mod framing;
 #[cfg(test)]
 mod large_values;
