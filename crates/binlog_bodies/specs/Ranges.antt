@@ -1,4 +1,4 @@
--- Values whose fields are in the ranges of their types: numbers of so many bytes, and texts of bytes.
+-- Values whose fields are in the ranges of their Rust types.
 use Rattle.std.specs.Prelude.{◌<◌, ◌^◌}
 use Rattle.binlog_wire.specs.Fields.{IsBytes}
 use Rattle.binlog_bodies.specs.declared.events.begin_load_query.BeginLoadQueryEvent.{BeginLoadQueryEvent}

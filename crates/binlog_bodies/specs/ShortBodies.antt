@@ -1,4 +1,4 @@
--- When a body of fixed length is refused for too few bytes: exactly where it has fewer than it takes.
+-- A body of fixed length is refused as `ends` exactly where there are fewer bytes.
 use Rattle.std.specs.Prelude.{◌≡◌, ◌↔◌, ℕ, ◌+◌, ◌<◌, List, length}
 use Rattle.std.proofs.Common.{[], Err}
 use Rattle.binlog_consts.specs.Codes.{subtype_of}

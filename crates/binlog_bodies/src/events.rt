@@ -1,4 +1,4 @@
-//! The bodies of events, one module each.
+//! The event bodies, one module for each event type.
 pub mod begin_load_query;
 pub mod incident;
 pub mod intvar;

@@ -1,4 +1,6 @@
-//! The typed bodies of the smaller events of a MySQL binary log.
+//! The typed bodies of the smaller event types of a MySQL binary log.
+//!
+//! Names follow the Rust crate `mysql_common`, module `binlog::events`.
 #![tactic(auto)]
 
 mod events;

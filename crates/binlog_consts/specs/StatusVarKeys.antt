@@ -1,4 +1,4 @@
--- The keys of status variables: their numbers, 0 to 20.
+-- The keys of status variables and their codes, 0 to 20.
 -- Source: MySQL's internals documentation, "QUERY_EVENT", and the documentation of its source code,
 -- `mysql::binlog::event::Query_event`.
 use Rattle.std.specs.Prelude.{◌≡◌, ℕ, ◌≤◌, List, [], ◌∷◌, Result, Ok, Err, refl}
@@ -8,7 +8,7 @@ use Rattle.binlog_consts.specs.declared.status_var_key.StatusVarKey.{StatusVarKe
 use Rattle.binlog_consts.specs.declared.status_var_key.StatusVarKey.TheVariants.{Flags2, SqlMode, Catalog, AutoIncrement, Charset, TimeZone, CatalogNz, LcTimeNames, CharsetDatabase, TableMapForUpdate, MasterDataWritten, Invoker, UpdatedDbNames, Microseconds, CommitTs, CommitTs2, ExplicitDefaultsForTimestamp, DdlLoggedWithXid, DefaultCollationForUtf8mb4, SqlRequirePrimaryKey, DefaultTableEncryption}
 use Rattle.binlog_consts.specs.declared.status_var_key.UnknownStatusVarKey.{UnknownStatusVarKey}
 
--- the number that stands for a key
+-- The code of a key.
 abbrev pub status_var_key_number : StatusVarKey → ℕ
 status_var_key_number Flags2 = 0
 status_var_key_number SqlMode = 1
@@ -32,7 +32,7 @@ status_var_key_number DefaultCollationForUtf8mb4 = 18
 status_var_key_number SqlRequirePrimaryKey = 19
 status_var_key_number DefaultTableEncryption = 20
 
--- the keys
+-- The keys.
 abbrev pub status_var_keys : List StatusVarKey
 status_var_keys =
     Flags2 ∷
@@ -58,11 +58,11 @@ status_var_keys =
     DefaultTableEncryption ∷
     []
 
--- the key that a number stands for
+-- The key with this code.
 abbrev pub status_var_key_of : ℕ → Result StatusVarKey UnknownStatusVarKey
 status_var_key_of = value_of status_var_key_number status_var_keys (λ n. record { 0 = n })
 
--- a key's number stands for it
+-- Decoding a key's code gives the key.
 status_var_key_again : (key : StatusVarKey) → status_var_key_of (status_var_key_number key) ≡ Ok key
 status_var_key_again Flags2 = refl
 status_var_key_again SqlMode = refl
@@ -86,10 +86,10 @@ status_var_key_again DefaultCollationForUtf8mb4 = refl
 status_var_key_again SqlRequirePrimaryKey = refl
 status_var_key_again DefaultTableEncryption = refl
 
--- from 21 on no number stands for a key
+-- A number of 21 or more is the code of no key.
 pub status_var_key_past : (n : ℕ) → 21 ≤ n → status_var_key_of n ≡ Err (record { 0 = n })
 status_var_key_past n past = unknown_above status_var_key_number status_var_keys (λ m. record { 0 = m }) 21 n refl past
 
--- a byte says which key it is, if any
+-- The keys have unique codes of one byte.
 pub status_var_key_is_code : IsCode 1 status_var_key_number status_var_key_of
 status_var_key_is_code = is_code 1 status_var_key_number status_var_keys (λ n. record { 0 = n }) refl status_var_key_again

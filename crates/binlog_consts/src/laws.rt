@@ -1,4 +1,4 @@
-//! Laws of the definitions, each a function whose contract says it.
+//! Laws of the definitions. Each is a function that does nothing and whose contract states the law.
 ghost use Rattle.std.specs.Prelude.{◌≡◌, [], ◌∷◌, map, pos};
 ghost use Rattle.binlog_wire.specs.Laws.Numbers.{IsCode};
 ghost use Rattle.binlog_consts.specs.Codes.{subtype_number, subtype_of, checksum_alg_number, checksum_alg_of, incident_type_number, incident_type_of};
@@ -16,8 +16,8 @@ use crate::status_var_key::StatusVarKey;
 use crate::version::BinlogVersion;
 use bitflags::Flags;
 
-/// Each table of codes undoes its numbers: a value has one number, which fits the bytes that it stands in, and no other
-/// number stands for it.
+/// Each table is one to one: a value has one code, which fits in the bytes of its field, and no other number is its
+/// code.
 pub fn numbers_are_codes()
     ensures event_types { IsCode 1 event_number event_type_of }
     ensures versions { IsCode 2 version_number version_of }
@@ -29,7 +29,7 @@ pub fn numbers_are_codes()
     ensures status_vars { IsCode 1 status_var_key_number status_var_key_of }
 {}
 
-/// The types of events, in the order of their numbers: 0 to 40, 42 and 43.
+/// The event types in the order of their numbers: 0 to 40, 42 and 43.
 pub fn event_types_in_order()
     ensures { map event_number event_types
         ≡ 0 ∷ 1 ∷ 2 ∷ 3 ∷ 4 ∷ 5 ∷ 6 ∷ 7 ∷ 8 ∷ 9
@@ -39,7 +39,7 @@ pub fn event_types_in_order()
         ∷ 40 ∷ 42 ∷ 43 ∷ [] }
 {}
 
-/// The number of each type of event.
+/// The number of each event type.
 pub fn event_type_numbers() {
     prove!(EventType::UNKNOWN_EVENT as u8 == 0);
     prove!(EventType::START_EVENT_V3 as u8 == 1);
@@ -86,7 +86,7 @@ pub fn event_type_numbers() {
     prove!(EventType::ENUM_END_EVENT as u8 == 43);
 }
 
-/// The numbers of versions, integer variables, checksum algorithms and incidents.
+/// The codes of binlog versions, INTVAR subtypes, checksum algorithms and incident types.
 pub fn code_numbers() {
     prove!(BinlogVersion::Version1 as u16 == 1);
     prove!(BinlogVersion::Version2 as u16 == 2);
@@ -101,7 +101,7 @@ pub fn code_numbers() {
     prove!(IncidentType::LOST_EVENTS as u16 == 1);
 }
 
-/// The numbers in the events of statements: how duplicates are handled, and the types of user variables.
+/// The codes of duplicate-key handling and of user variable types.
 pub fn statement_code_numbers() {
     prove!(LoadDuplicateHandling::LOAD_DUP_ERROR as u8 == 0);
     prove!(LoadDuplicateHandling::LOAD_DUP_IGNORE as u8 == 1);
@@ -113,7 +113,7 @@ pub fn statement_code_numbers() {
     prove!(ItemResult::DECIMAL_RESULT as i8 == 4);
 }
 
-/// The number of each key of a status variable.
+/// The code of each status variable key.
 pub fn status_var_key_numbers() {
     prove!(StatusVarKey::Flags2 as u8 == 0);
     prove!(StatusVarKey::SqlMode as u8 == 1);
@@ -138,7 +138,7 @@ pub fn status_var_key_numbers() {
     prove!(StatusVarKey::DefaultTableEncryption as u8 == 20);
 }
 
-/// The bits of the flags of an event.
+/// The bits of the event flags.
 pub fn event_flag_bits() {
     prove!(EventFlags::LOG_EVENT_BINLOG_IN_USE_F.bits() == 0x1);
     prove!(EventFlags::LOG_EVENT_FORCED_ROTATE_F.bits() == 0x2);

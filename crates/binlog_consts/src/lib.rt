@@ -1,7 +1,9 @@
-//! The constants of MySQL's binary log: the types of events, their flags, versions, and small tables of numbers.
+//! The constants of MySQL's binary log: event types, flags, versions, status variable keys and small tables of codes.
 //!
-//! Each table is an enum or a set of flags, and the numbers that stand for its values. The tables stand in `specs/`, and
-//! the law [`laws::numbers_are_codes`] says of each that its numbers are one in both directions.
+//! Each table is an enum with its codes, or a set of flags. The tables are in `specs/`; the law
+//! [`laws::numbers_are_codes`] states that each value has one code and each code one value.
+//!
+//! Names follow the Rust crate `mysql_common`, module `binlog::consts`.
 #![tactic(auto)]
 
 mod codes;

@@ -3,7 +3,7 @@ ghost use Rattle.std.specs.Prelude.{⊤};
 
 use bitflags::{Flag, Flags, bitflag_items};
 
-/// The flags of a row event, in its body.
+/// The flags of a row event, in its post-header.
 ///
 /// Source: MySQL's documentation of its source code, `mysql::binlog::event::Rows_event`.
 #[derive(Clone, Copy, Debug, PartialEq, Eq, Hash)]
@@ -11,13 +11,13 @@ pub struct RowsEventFlags(u16);
 
 bitflag_items! {
     impl RowsEventFlags: u16 {
-        /// The statement ends with this event.
+        /// The event is the last one of its statement.
         const STMT_END = 0x1;
-        /// Foreign keys are not checked.
+        /// Foreign keys aren't checked.
         const NO_FOREIGN_KEY_CHECKS = 0x2;
-        /// Unique keys are not checked.
+        /// Unique keys aren't checked.
         const RELAXED_UNIQUE_CHECKS = 0x4;
-        /// Each row has all of its columns.
+        /// Each row has values for all columns.
         const COMPLETE_ROWS = 0x8;
     }
 }

@@ -1,10 +1,9 @@
-//! Tables of numbers in the events of statements: how duplicate rows are handled, what type a user variable has, and its
-//! flags.
+//! Codes in statement events: duplicate-key handling, and the type and flags of a user variable.
 use binlog_wire::{Constant, Invalid};
 use bitflags::{Flag, Flags, bitflag_items};
 use thiserror::Error;
 
-/// What `LOAD DATA` does with a row whose key is there already.
+/// What `LOAD DATA` does with a row whose unique key is already in the table.
 ///
 /// Source: MySQL's internals documentation, "EXECUTE_LOAD_QUERY_EVENT".
 #[allow(non_camel_case_types)]
@@ -12,13 +11,13 @@ use thiserror::Error;
 pub enum LoadDuplicateHandling {
     /// The statement fails.
     LOAD_DUP_ERROR = 0,
-    /// The new row is left out.
+    /// The new row is ignored.
     LOAD_DUP_IGNORE = 1,
-    /// The new row takes the place of the old one.
+    /// The new row replaces the old one.
     LOAD_DUP_REPLACE = 2,
 }
 
-/// The value with this number; any other number is refused with itself.
+/// The handling with this code; any other number is [`Invalid::DupHandling`] with that number.
 impl TryFrom<u8> for LoadDuplicateHandling {
     ghost use Rattle.std.specs.Prelude.{◌≡◌};
     ghost use Rattle.binlog_consts.specs.StatementCodes.{dup_handling_of};
@@ -37,7 +36,7 @@ impl TryFrom<u8> for LoadDuplicateHandling {
     }
 }
 
-/// The number of the value.
+/// The code of the handling.
 impl From<LoadDuplicateHandling> for u8 {
     ghost use Rattle.std.specs.Prelude.{◌≡◌};
     ghost use Rattle.binlog_consts.specs.StatementCodes.{dup_handling_number};
@@ -71,7 +70,7 @@ impl Constant<u8> for LoadDuplicateHandling {
 #[allow(non_camel_case_types)]
 #[derive(Clone, Copy, Debug, PartialEq, Eq, Hash)]
 pub enum ItemResult {
-    /// A text.
+    /// A string.
     STRING_RESULT = 0,
     /// A floating-point number.
     REAL_RESULT = 1,
@@ -83,12 +82,12 @@ pub enum ItemResult {
     DECIMAL_RESULT = 4,
 }
 
-/// The number of a type of values that is not known: any below 0 or above 4.
+/// The code of an unknown value type, below 0 or above 4.
 #[derive(Clone, Copy, Debug, PartialEq, Eq, Hash, Error)]
 #[error("the type of values {0} is not known")]
 pub struct UnknownItemResultType(pub i8);
 
-/// The value with this number; any other number is refused with itself.
+/// The type with this code; any other number is [`UnknownItemResultType`] with that number.
 impl TryFrom<i8> for ItemResult {
     ghost use Rattle.std.specs.Prelude.{◌≡◌};
     ghost use Rattle.binlog_consts.specs.StatementCodes.{item_result_of};
@@ -109,7 +108,7 @@ impl TryFrom<i8> for ItemResult {
     }
 }
 
-/// The number of the value.
+/// The code of the type.
 impl From<ItemResult> for i8 {
     ghost use Rattle.std.specs.Prelude.{◌≡◌, pos};
     ghost use Rattle.binlog_consts.specs.StatementCodes.{item_result_number};
@@ -121,7 +120,7 @@ impl From<ItemResult> for i8 {
     }
 }
 
-/// The flags of a user variable.
+/// The flags of a USER_VAR event.
 ///
 /// Source: MySQL's documentation of its source code, `mysql::binlog::event::User_var_event`.
 #[derive(Clone, Copy, Debug, PartialEq, Eq, Hash)]
@@ -129,7 +128,7 @@ pub struct UserVarFlags(u8);
 
 bitflag_items! {
     impl UserVarFlags: u8 {
-        /// The value is an integer without a sign.
+        /// The value is an unsigned integer.
         const UNSIGNED = 0x1;
     }
 }

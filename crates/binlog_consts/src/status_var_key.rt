@@ -1,15 +1,15 @@
-//! What a status variable of a statement is.
+//! The keys of status variables.
 use thiserror::Error;
 
-/// What a status variable of a statement is: the key in front of its value.
+/// The key of a status variable, the byte before its value in a QUERY or EXECUTE_LOAD_QUERY event.
 ///
 /// Source: MySQL's internals documentation, "QUERY_EVENT", and the documentation of its source code,
 /// `mysql::binlog::event::Query_event`.
 #[derive(Clone, Copy, Debug, PartialEq, Eq, Hash)]
 pub enum StatusVarKey {
-    /// Options of the session, as `AUTO_IS_NULL`: a set of bits.
+    /// Session options such as `AUTO_IS_NULL`, as bits.
     Flags2 = 0,
-    /// The SQL mode of the session: a set of bits.
+    /// The session's `sql_mode`, as bits.
     SqlMode = 1,
     /// The catalog, as MySQL 5.0.0 to 5.0.3 write it.
     Catalog = 2,
@@ -17,7 +17,7 @@ pub enum StatusVarKey {
     AutoIncrement = 3,
     /// The session's `character_set_client`, `collation_connection` and `collation_server`.
     Charset = 4,
-    /// The session's time zone.
+    /// The session's `time_zone`.
     TimeZone = 5,
     /// The catalog, as MySQL 5.0.4 and later write it.
     CatalogNz = 6,
@@ -25,23 +25,23 @@ pub enum StatusVarKey {
     LcTimeNames = 7,
     /// The session's `collation_database`.
     CharsetDatabase = 8,
-    /// The tables that a multi-table `UPDATE` changes: a set of bits.
+    /// The tables that a multi-table `UPDATE` changes, as bits.
     TableMapForUpdate = 9,
-    /// How many bytes of the event the source's source wrote; in relay logs alone.
+    /// The length in bytes of the original event, where the source is older than MySQL 5.0; in relay logs alone.
     MasterDataWritten = 10,
-    /// The user who invoked the statement.
+    /// The user and host that invoked the statement.
     Invoker = 11,
     /// The names of the databases that the statement changes.
     UpdatedDbNames = 12,
-    /// The microseconds of the time at which the statement began.
+    /// The microseconds of the statement's start time.
     Microseconds = 13,
-    /// Not written any more.
+    /// No longer written.
     CommitTs = 14,
-    /// Not written any more.
+    /// No longer written.
     CommitTs2 = 15,
     /// The session's `explicit_defaults_for_timestamp`.
     ExplicitDefaultsForTimestamp = 16,
-    /// The number of the transaction of a statement that changes a schema.
+    /// The XID of a DDL statement.
     DdlLoggedWithXid = 17,
     /// The session's `default_collation_for_utf8mb4`.
     DefaultCollationForUtf8mb4 = 18,
@@ -51,12 +51,12 @@ pub enum StatusVarKey {
     DefaultTableEncryption = 20,
 }
 
-/// The number of a status variable that is not known: any above 20.
+/// The code of an unknown status variable, 21 or more.
 #[derive(Clone, Copy, Debug, PartialEq, Eq, Hash, Error)]
 #[error("the status variable {0} is not known")]
 pub struct UnknownStatusVarKey(pub u8);
 
-/// The key with this number; any other number is refused with itself.
+/// The key with this code; any other number is [`UnknownStatusVarKey`] with that number.
 impl TryFrom<u8> for StatusVarKey {
     ghost use Rattle.std.specs.Prelude.{◌≡◌};
     ghost use Rattle.binlog_consts.specs.StatusVarKeys.{status_var_key_of};
@@ -93,7 +93,7 @@ impl TryFrom<u8> for StatusVarKey {
     }
 }
 
-/// The number of the key.
+/// The code of the key.
 impl From<StatusVarKey> for u8 {
     ghost use Rattle.std.specs.Prelude.{◌≡◌};
     ghost use Rattle.binlog_consts.specs.StatusVarKeys.{status_var_key_number};

@@ -1,4 +1,4 @@
--- Lists of intervals that are apart: what adding an interval makes of one, and where it stands in it.
+-- Lists of ascending intervals that are apart: the list after adding an interval, and the index where it is added.
 use Rattle.std.proofs.Common.{◌≡◌, ℕ, zero, suc, ◌-◌, ◌^◌, ◌<◌, ◌≤◌, min, max, Bool, true, false, ltb, leb, cond, ◌&&◌, ◌||◌, not, List, [], ◌∷◌, ◌++◌, length, take, drop, get_or, Result, Ok, Err, OnOk, OnErr, refl, sym, ap, ◌∙◌, append-nil, inl, inr, arith}
 use Rattle.std.specs.List.{insert, AllWithin}
 use Rattle.std.specs.List.Sorted.{IsNonDecreasingBy}
@@ -12,12 +12,12 @@ use Rattle.binlog_gtids.specs.GnoSets.{is_within, is_held, is_up_to_last, AreApa
 abbrev pub interval : ℕ → ℕ → GnoInterval
 interval s e = record { start = s; end = e }
 
--- the intervals, with one more, which is joined with those that it touches
+-- the intervals with one more, joined with those that it touches
 abbrev pub add_to : List GnoInterval → ℕ → ℕ → List GnoInterval
 add_to [] s e = interval s e ∷ []
 add_to (i ∷ is) s e = cond (ltb i.end s) (i ∷ add_to is s e) (cond (ltb e i.start) (interval s e ∷ i ∷ is) (add_to is (min s i.start) (max e i.end)))
 
--- what it is joined to
+-- the interval that it is joined to
 abbrev pub joined : List GnoInterval → ℕ → ℕ → GnoInterval
 joined [] s e = interval s e
 joined (i ∷ is) s e = cond (ltb i.end s) (joined is s e) (cond (ltb e i.start) (interval s e) (joined is (min s i.start) (max e i.end)))
@@ -26,7 +26,7 @@ apart_lower : (is : List GnoInterval) (high low : ℕ) → low ≤ high → AreA
 apart_lower [] high low le apart = tt
 apart_lower (i ∷ is) high low le apart = (omega (arith, apart.0), apart.1, apart.2, apart.3)
 
--- ---- they stay apart
+-- ---- the intervals stay apart
 
 module _ (i : GnoInterval) (is : List GnoInterval) (low s e : ℕ) (apart : AreApart low (i ∷ is)) (above : low < s) (some : s < e) (small : e ≤ 2 ^ 63) where
   apart_by : (b d : Bool) → ltb i.end s ≡ b → ltb e i.start ≡ d → (i.end < s → AreApart i.end (add_to is s e)) → AreApart low (add_to is (min s i.start) (max e i.end))
@@ -45,7 +45,7 @@ apart_added (i ∷ is) low s e apart above some small =
     (λ behind. apart_added is i.end s e apart.3 behind some small)
     (apart_added is low (min s i.start) (max e i.end) (apart_lower is i.end low (omega arith) apart.3) (omega arith) (omega arith) (omega arith))
 
--- ---- they hold the numbers that they held, and the new ones
+-- ---- they contain the previous numbers and the new ones
 
 module _ (i : GnoInterval) (is : List GnoInterval) (s e n : ℕ) (inner : i.start < i.end) (some : s < e) where
   held_by : (b d : Bool) → ltb i.end s ≡ b → ltb e i.start ≡ d → is_held (add_to is s e) n ≡ (is_within (interval s e) n || is_held is n)
@@ -69,9 +69,9 @@ held_added (i ∷ is) low s e n apart some =
     (held_added is i.end s e n apart.3 some)
     (held_added is i.end (min s i.start) (max e i.end) n apart.3 (omega arith))
 
--- ---- where the new interval stands
+-- ---- the index of the new interval
 
--- a higher end doesn't reach intervals behind one that ends there
+-- a higher end doesn't reach the intervals after one that ends there
 up_to_higher : (is : List GnoInterval) (low m e : ℕ) → AreApart low is → m ≤ low → starting_up_to (max e m) is ≡ starting_up_to e is
 up_to_higher [] low m e apart le = refl
 up_to_higher (i ∷ is) low m e apart le =
@@ -80,7 +80,7 @@ up_to_higher (i ∷ is) low m e apart le =
     let same : leb i.start (max e m) ≡ leb i.start e = grind (arith, nat_tests) in
     rw (same, up_to_higher is i.end m e apart.3 (omega arith)) refl
 
--- no interval ends below a number that isn't above the first's end
+-- no interval ends below a number that isn't above the end of the first
 below_none : (is : List GnoInterval) (low s : ℕ) → AreApart low is → s ≤ low → ending_below s is ≡ 0
 below_none [] low s apart le = refl
 below_none (i ∷ is) low s apart le =
@@ -115,7 +115,7 @@ spliced (i ∷ is) low s e apart some =
     let joins = spliced is i.end (min s i.start) (max e i.end) apart.3 (omega arith) in
     rw (below_none is i.end (min s i.start) apart.3 le, up_to_higher is i.end i.end e apart.3 (omega arith)) at joins)
 
--- ---- how many there are in front of it and up to its end
+-- ---- the number of intervals before it, and of those up to its end
 
 leading_most : (p : GnoInterval → Bool) (is : List GnoInterval) → leading p is ≤ length is
 leading_most p [] = omega arith
@@ -140,7 +140,7 @@ in_order (i ∷ is) low s e apart some =
     let inner = apart.1 in
     below_by is (ending_below s is) (starting_up_to e is) s e (ltb i.end s) (leb i.start e) (λ f. grind (arith, nat_tests)) (in_order is i.end s e apart.3 some)
 
--- what the tests of a list of intervals say where they part it
+-- the tests of a list of intervals split it in two
 module _ (p : GnoInterval → Bool) where
   pub parted : (is : List GnoInterval) (n : ℕ) → n ≤ length is → AllWithin (λ i. p i ≡ true) is 0 n → AllWithin (λ i. p i ≡ false) is n (length is) → n ≡ leading p is
   parted [] n within front back = omega arith
@@ -149,7 +149,7 @@ module _ (p : GnoInterval → Bool) where
       rw (front 0 i (omega arith) (omega arith))
       (ap suc (parted is n (omega arith) (λ k d from to. front (suc k) d (omega arith) (omega arith)) (λ k d from to. back (suc k) d (omega arith) (omega arith))))
 
--- ---- their ends and starts rise
+-- ---- ends and starts ascend
 
 starts_above : (is : List GnoInterval) (low k : ℕ) (d : GnoInterval) → AreApart low is → k < length is → low < (get_or is k d).start
 starts_above [] low k d apart within = absurd (omega arith)
@@ -181,7 +181,7 @@ ends_below_start (i ∷ is) low j zero d apart less within = absurd (omega arith
 ends_below_start (i ∷ is) low zero (suc k) d apart less within = starts_above is i.end k d apart.3 (omega arith)
 ends_below_start (i ∷ is) low (suc j) (suc k) d apart less within = ends_below_start is i.end j k d apart.3 (omega arith) (omega arith)
 
--- ---- what is joined: nothing, or all from the first that it touches to the last
+-- ---- which intervals are joined: none, or all from the first to the last that it touches
 
 module _ (i : GnoInterval) (is : List GnoInterval) (s e : ℕ) (inner : i.start < i.end) (some : s < e) where
   alone_by : (b d : Bool) → leb i.start e ≡ (b || not d) → (ending_below s is ≡ starting_up_to e is → joined is s e ≡ interval s e)
@@ -197,12 +197,12 @@ joined_alone (i ∷ is) low s e apart some same =
     alone_by i is s e apart.1 some (ltb i.end s) (ltb e i.start) (first_starts i is s e apart.1 some (ltb i.end s) (ltb e i.start) refl refl)
     (joined_alone is i.end s e apart.3 some) same
 
--- the first and the last that are touched
+-- the first and the last interval that it touches
 abbrev pub span : List GnoInterval → GnoInterval → ℕ → ℕ → ℕ → ℕ → GnoInterval
 span is d from last s e = interval (min s (get_or is from d).start) (max e (get_or is last d).end)
 
 module _ (i : GnoInterval) (is : List GnoInterval) (low s e : ℕ) (z : GnoInterval) (apart : AreApart low (i ∷ is)) (some : s < e) where
-  -- the first is the last too
+  -- the first is also the last
   span_one : (b d : Bool) → leb i.start e ≡ (b || not d) → (starting_up_to e is ≡ 0 → joined is (min s i.start) (max e i.end) ≡ interval (min s i.start) (max e i.end))
       → cond (leb i.start e) (suc (starting_up_to e is)) 0 ≡ 1 → cond b (suc (ending_below s is)) 0 ≤ 0
       → cond b (joined is s e) (cond d (interval s e) (joined is (min s i.start) (max e i.end))) ≡ span (i ∷ is) z (cond b (suc (ending_below s is)) 0) 0 s e
@@ -210,7 +210,7 @@ module _ (i : GnoInterval) (is : List GnoInterval) (low s e : ℕ) (z : GnoInter
   span_one false true f alone to from = let none = rw f at to in absurd (omega arith)
   span_one false false f alone to from = let none = rw f at to in alone (omega arith)
 
-  -- one behind the first is the last
+  -- one after the first is the last
   span_more : (last : ℕ) (b d : Bool) → leb i.start e ≡ (b || not d) → (starting_up_to e is ≡ suc last → ending_below s is ≤ last → joined is s e ≡ span is z (ending_below s is) last s e)
       → (starting_up_to e is ≡ suc last → joined is (min s i.start) (max e i.end) ≡ span (i ∷ is) z 0 (suc last) s e)
       → cond (leb i.start e) (suc (starting_up_to e is)) 0 ≡ suc (suc last) → cond b (suc (ending_below s is)) 0 ≤ suc last
@@ -242,7 +242,7 @@ joined_span (i ∷ is) low s e (suc last) z apart some to from =
     rw (first, same_start, same_end) at there)
     to from
 
--- ---- what the code makes of the intervals
+-- ---- the list that the code makes
 
 module _ (is : List GnoInterval) (s e from to : ℕ) (apart : AreApart 0 is) (some : s < e) (from_is : from ≡ ending_below s is) (to_is : to ≡ starting_up_to e is) where
   pub from_up_to : from ≤ to
@@ -276,7 +276,7 @@ module _ (is : List GnoInterval) (s e from to : ℕ) (apart : AreApart 0 is) (so
     pub apart_joined : AreApart 0 new
     apart_joined = rw (put ∙ added_joined less first last first_is last_is) (apart_added is 0 s e apart (omega arith) some small)
 
--- what putting it there, or the refusal of it, leaves
+-- the list after the insertion, or after its failure
 pub held_alone : {T E : Type 0} (r : Result T E) (is new : List GnoInterval) (s e from to : ℕ) → AreApart 0 is → s < e → from ≡ ending_below s is → to ≡ starting_up_to e is → from ≡ to
     → OnOk r (new ≡ insert is from (interval s e)) → OnOk r ((n : ℕ) → is_held new n ≡ (is_within (interval s e) n || is_held is n))
 held_alone (Ok x) is new s e from to apart some from_is to_is same put = λ n.
@@ -289,7 +289,7 @@ apart_alone (Ok x) is new s e from to apart some from_is to_is same positive sma
     rw (put ∙ added_alone is s e from to apart some from_is to_is same) (apart_added is 0 s e apart (omega arith) some small)
 apart_alone (Err x) is new s e from to apart some from_is to_is same positive small put stays = rw stays apart
 
--- ---- the number of intervals in front, where the last one tells it
+-- ---- the number of intervals before it, if the last one determines it
 
 module _ (is : List GnoInterval) (low n : ℕ) (last : GnoInterval) (apart : AreApart low is) (within : 0 < length is) (last_is : last ≡ get_or is (length is - 1) last) where
   last_at : (d : GnoInterval) → last ≡ get_or is (length is - 1) d
@@ -315,9 +315,9 @@ module _ (is : List GnoInterval) (low n : ℕ) (last : GnoInterval) (apart : Are
       (λ k d from to. le-leb _ _ (omega (arith, starts_rise is low apart k (length is - 1) d (omega arith) (omega arith), ap (λ (i : GnoInterval). i.start) (last_at d))))
       (λ k d from to. absurd (omega arith))
 
--- ---- which numbers are held
+-- ---- the numbers of the set
 
--- numbers below the intervals aren't held
+-- numbers below the intervals aren't in the set
 held_above : (is : List GnoInterval) (low n : ℕ) → AreApart low is → n ≤ low → is_held is n ≡ false
 held_above [] low n apart le = refl
 held_above (i ∷ is) low n apart le =
@@ -326,7 +326,7 @@ held_above (i ∷ is) low n apart le =
     let rest = held_above is i.end n apart.3 (omega arith) in
     rw rest (grind (arith, nat_tests))
 
--- where one starts at n or below it, the first does
+-- if one starts at n or below it, the first does
 first_up_to : (is : List GnoInterval) (low n k : ℕ) → AreApart low is → starting_up_to n is ≡ suc k → low < n
 first_up_to [] low n k apart more = absurd (omega arith)
 first_up_to (i ∷ is) low n k apart more = by_test (leb i.start n) refl more
@@ -364,7 +364,7 @@ pub held_nowhere : (is : List GnoInterval) (low n : ℕ) → AreApart low is →
 held_nowhere [] low n apart none = refl
 held_nowhere (i ∷ is) low n apart none = none_by i is low n apart (leb i.start n) refl none
 
--- the last that starts at n or below it tells
+-- the last interval that starts at n or below it decides
 pub held_in_last : (is : List GnoInterval) (low n k : ℕ) (z : GnoInterval) → AreApart low is → starting_up_to n is ≡ suc k → is_held is n ≡ ltb n (get_or is k z).end
 held_in_last [] low n k z apart more = absurd (omega arith)
 held_in_last (i ∷ is) low n zero z apart more = one_by i is low n apart (leb i.start n) refl more (λ none. held_nowhere is i.end n apart.3 none)
@@ -372,7 +372,7 @@ held_in_last (i ∷ is) low n (suc k) z apart more = more_by i is low n apart k 
 
 -- ---- gaps
 
--- those from a number on
+-- the gaps from a number on
 abbrev pub gaps_in : ℕ → List GnoInterval → List GnoInterval
 gaps_in next [] = []
 gaps_in next (i ∷ is) = cond (ltb next i.start) (interval next i.start ∷ gaps_in i.end is) (gaps_in i.end is)
@@ -408,7 +408,7 @@ gaps_apart [] low next floor apart near above = tt
 gaps_apart (i ∷ is) low next floor apart near above =
     gaps_by i is low next floor apart above (ltb next i.start) refl (λ floor less. gaps_apart is i.end i.end floor apart.3 (omega arith) less) near
 
--- once all intervals are passed
+-- after all intervals
 pub gaps_are : (is items : List GnoInterval) (gaps : List GnoInterval) (next at : ℕ) → items ≡ is → length items ≤ at
     → gaps ++ gaps_in next (drop at items) ≡ gaps_in 1 items → gaps ≡ gaps_in 1 is
 gaps_are is items gaps next at same past are =
@@ -456,7 +456,7 @@ one_list (i ∷ is) (j ∷ js) low floor a b same =
 
 -- ---- the union of two sets
 
--- what an interval of a list says of itself
+-- the bounds of an interval of a list
 pub some_at : (is : List GnoInterval) (low k : ℕ) (d : GnoInterval) → AreApart low is → k < length is
     → (low < (get_or is k d).start) × ((get_or is k d).start < (get_or is k d).end) × ((get_or is k d).end ≤ 2 ^ 63)
 some_at [] low k d apart within = absurd (omega arith)
@@ -465,7 +465,7 @@ some_at (i ∷ is) low (suc k) d apart within =
     let rest = some_at is i.end k d apart.3 (omega arith) in
     (omega (arith, apart.0, apart.1, rest.0), rest.1, rest.2)
 
--- once all intervals are passed
+-- after all intervals
 pub union_done : (union items is others : List GnoInterval) (at n : ℕ) → items ≡ others → length items ≤ at
     → ((n : ℕ) → (is_held union n || is_held (drop at items) n) ≡ (is_held is n || is_held items n)) → is_held union n ≡ (is_held is n || is_held others n)
 union_done union items is others at n same past whole =

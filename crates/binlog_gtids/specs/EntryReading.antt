@@ -1,4 +1,4 @@
--- What the parts of a reading of fields need.
+-- What reading one field needs.
 use Rattle.std.proofs.Common.{◌≡◌, ℕ, ◌<◌, ◌⊎◌, inl, inr, Bool, false, cond, ltb, List, Ok, Err, sym, ap, subst, ◌∙◌, arith}
 use Rattle.std.proofs.lemmas.Bool.{lt-ltb, le-ltb}
 use Rattle.binlog_wire.specs.declared.error.Error.{Error}
@@ -12,7 +12,7 @@ use Rattle.binlog_gtids.specs.TaggedFields.{Entry, Value, entry, known, value_of
 use Rattle.binlog_gtids.specs.Taking.{with_entry}
 use Rattle.binlog_gtids.specs.declared.tagged_fields.TaggedFields.{TaggedFields}
 
--- the value of the field of this id
+-- The value of the field with this id.
 pub value_is : (id k : ℕ) → id ≡ k → k < 12 → (s m : List ℕ) (v : Value) (f g : TaggedFields) → (value_of_id k).reads s ≡ Ok (v, m) → g ≡ with_entry (k, v) f
     → (x : Value) × (id < 12) × ((value_of_id id).reads s ≡ Ok (x, m)) × (g ≡ with_entry (id, x) f)
 value_is id k e less s m v f g read is =
@@ -24,7 +24,7 @@ RefusesValue id s e = ((id < 12) × Refuses ⊥ e ((value_of_id id).reads s)) �
 pub value_refused : (id k : ℕ) → id ≡ k → k < 12 → (s : List ℕ) (e : Error) → Refuses ⊥ e ((value_of_id k).reads s) → RefusesValue id s e
 value_refused id k is less s e h = subst (λ (i : ℕ). RefusesValue i s e) (sym is) (inl (less, h))
 
--- ---- an id and its value
+-- ---- a field id and its value
 
 abbrev value_behind : ℕ × List ℕ → Read Entry
 value_behind a = (value_of_id a.0).reads a.1 >>= λ b. Ok ((a.0, b.0), b.1)

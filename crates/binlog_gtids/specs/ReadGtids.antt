@@ -8,14 +8,14 @@ use Rattle.binlog_gtids.specs.Untagged.{untagged, untagged_with, is_untagged_typ
 use Rattle.binlog_gtids.specs.declared.gtid_event.GtidEvent.{GtidEvent}
 use Rattle.binlog_gtids.specs.declared.anonymous_gtid_event.AnonymousGtidEvent.{AnonymousGtidEvent}
 
--- the form with a tag, and that without one
+-- The format with a tag, and that without.
 with_tag : (g : GtidEvent) (t : List ℕ) → g.tag ≡ Some t → tagged.normal g ≡ g → (gtid (raw_type_of g)).normal g ≡ g
 with_tag g t e h = subst (λ (o : Option (List ℕ)). (gtid (by_tag o 42 33)).normal g ≡ g) (sym e) h
 
 without_tag : (g : GtidEvent) → g.tag ≡ None → untagged.normal g ≡ g → (gtid (raw_type_of g)).normal g ≡ g
 without_tag g e h = subst (λ (o : Option (List ℕ)). (gtid (by_tag o 42 33)).normal g ≡ g) (sym e) h
 
--- without a clock and with one, there is no tag
+-- With or without a clock, there is no tag.
 no_tag : (h : Head) (c : Option Clock) → (untagged_with h c).tag ≡ None
 no_tag h (Some c) = refl
 no_tag h None = refl
@@ -40,11 +40,11 @@ by_types raw s g r true is_untagged h = tagged_is_normal s g r h
 by_types raw s g r false true h = untagged_is_normal s g r h
 by_types raw s g r false false h = absurd h
 
--- whatever the raw type under which it was read
+-- Under any raw type under which it was read.
 pub gtid_normal : (raw : ℕ) (s : List ℕ) (g : GtidEvent) (r : List ℕ) → (gtid raw).spells s g r → (gtid (raw_type_of g)).normal g ≡ g
 gtid_normal raw s g r h = by_types raw s g r (eqb raw 42) (is_untagged_type raw) h
 
--- the same of an anonymous one that was read without a tag
+-- The same for an anonymous GTID that was read without a tag.
 pub anonymous_normal : (raw : ℕ) (s : List ℕ) (event : AnonymousGtidEvent) (r : List ℕ) → (anonymous raw).spells s event r → event.0.tag ≡ None
     → (anonymous 34).normal event ≡ event
 anonymous_normal raw s event r h none =

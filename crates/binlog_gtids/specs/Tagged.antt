@@ -1,5 +1,6 @@
--- The body of a GTID with a tag: a byte 2; the size of the whole body, which counts itself; the last id that may not be
--- ignored; fields.
+-- The body of a GTID with a tag: a byte 2; the payload size, which counts the whole body with itself; the last
+-- non-ignorable field id; the fields.
+-- Source: MySQL's source documentation, `Gtid_event`, and the documentation of its serialization library.
 use Rattle.std.proofs.Common.{◌≡◌, ℕ, ◌+◌, ◌^◌, ◌<◌, inl, inr, Bool, true, false, cond, ltb, eqb, Option, None, Some, List, [], ◌∷◌, length, replicate, Result, Ok, Err, refl, sym, ap, subst, ◌∙◌, arith}
 use Rattle.std.proofs.lemmas.Bool.{eqb-true}
 use Rattle.std.proofs.lemmas.List.{length-append}
@@ -14,38 +15,44 @@ use Rattle.binlog_numbers.specs.Within.{within}
 use Rattle.binlog_gtids.specs.TaggedFields.{Value, Entry, entry, fields, number_in, bytes_in}
 use Rattle.binlog_gtids.specs.declared.gtid_event.GtidEvent.{GtidEvent}
 
--- version, size, last id
+-- Serialization version, payload size, last non-ignorable field id.
 abbrev pub Head : Type 0
 Head = ℕ × (ℕ × ℕ)
 
+-- The format of the head; the version must be 2.
 abbrev pub head : Format anywhere Head
 head = allowed 1 (λ n. eqb n 2) kinds.SerializationVersion ⨾ varlen ⨾ varlen
 
 pub fields_end : (h : Head) (s : List ℕ) (v : List Entry) (r : List ℕ) → (fields h.1.1).spells s v r → r ≡ []
 fields_end h s v r spelled = spelled.3
 
+-- The format of the head and the fields, which end where the payload size says.
 abbrev pub tagged_fields : Format last (Head × List Entry)
 tagged_fields = within head (λ h. h.1.0) kinds.PayloadSize (λ h. fields h.1.1) fields_end
 
--- ---- what fields say
+-- ---- the values of the fields
 
--- the last value of a field
+-- The last value of a field.
 abbrev pub or_else : Option Value → Option Value → Option Value
 or_else (Some v) other = Some v
 or_else None other = other
 
+-- The last value of the field with this id, if there is one.
 abbrev pub last_of : ℕ → List Entry → Option Value
 last_of id [] = None
 last_of id (e ∷ es) = or_else (last_of id es) (cond (eqb e.0 id) (Some e.1) None)
 
+-- A field's number, or the default if the field is absent.
 abbrev pub number_or : ℕ → Option Value → ℕ
 number_or default (Some v) = number_in v
 number_or default None = default
 
+-- A field's bytes, or the default if the field is absent.
 abbrev pub bytes_or : List ℕ → Option Value → List ℕ
 bytes_or default (Some v) = bytes_in v
 bytes_or default None = default
 
+-- The event with this tag and these fields. Absent fields have their defaults.
 abbrev pub gtid_with : List ℕ → List Entry → GtidEvent
 gtid_with tag es = record {
   flags = number_or 0 (last_of 0 es);
@@ -63,20 +70,24 @@ gtid_with tag es = record {
   commit_group_ticket = number_or 0 (last_of 11 es);
 }
 
+-- The event with the tag of its field; without that field the body is invalid.
 abbrev pub with_tag : Option Value → List Entry → Result GtidEvent Invalid
 with_tag (Some v) es = Ok (gtid_with (bytes_in v) es)
 with_tag None es = Err kinds.MissingTag
 
+-- The event that a head and fields encode.
 abbrev pub tagged_of : Head × List Entry → Result GtidEvent Invalid
 tagged_of x = with_tag (last_of 3 x.1) x.1
 
 -- ---- which fields are written
 
+-- The bytes of the tag; empty for none.
 abbrev pub tag_in : Option (List ℕ) → List ℕ
 tag_in (Some t) = t
 tag_in None = []
 
--- rising ids; an original only where it differs, a ticket only where it is not 0
+-- The fields in ascending order of their ids; an original timestamp or version only if it differs, a ticket only if it
+-- isn't 0.
 abbrev pub entries_by : Bool → Bool → Bool → GtidEvent → List Entry
 entries_by same_time same_version no_ticket g =
     let ticket : List Entry = cond no_ticket [] ((11, inl g.commit_group_ticket) ∷ []) in
@@ -85,19 +96,23 @@ entries_by same_time same_version no_ticket g =
     (0, inl g.flags) ∷ (1, inr g.sid) ∷ (2, inl g.gno) ∷ (3, inr (tag_in g.tag)) ∷ (4, inl g.last_committed) ∷ (5, inl g.sequence_number)
     ∷ (6, inl g.immediate_commit_timestamp) ∷ cond same_time length ((7, inl g.original_commit_timestamp) ∷ length)
 
+-- The fields that are written of an event.
 abbrev pub entries : GtidEvent → List Entry
 entries g = entries_by (eqb g.immediate_commit_timestamp g.original_commit_timestamp) (eqb g.immediate_server_version g.original_server_version) (eqb 0 g.commit_group_ticket) g
 
+-- The encoding of these fields.
 abbrev pub entries_written : GtidEvent → List ℕ
 entries_written g = each_written entry.written (entries g)
 
--- two other bytes: the version and the last id
+-- Two other bytes come first: the version and the last non-ignorable field id.
 abbrev pub written_size : GtidEvent → ℕ
 written_size g = least_size (2 + length (entries_written g))
 
+-- The head and the fields that are written of an event.
 abbrev pub tagged_code : GtidEvent → Head × List Entry
 tagged_code g = ((2, (written_size g, 0)), entries g)
 
+-- The event with these original timestamp, original version and ticket.
 abbrev pub tagged_with : GtidEvent → ℕ → ℕ → ℕ → GtidEvent
 tagged_with g original_commit_timestamp original_server_version ticket = record {
   flags = g.flags;
@@ -115,10 +130,11 @@ tagged_with g original_commit_timestamp original_server_version ticket = record 
   commit_group_ticket = ticket;
 }
 
+-- What writing keeps of an event: everything except the clock code.
 abbrev pub tagged_normal : GtidEvent → GtidEvent
 tagged_normal g = tagged_with g g.original_commit_timestamp g.original_server_version g.commit_group_ticket
 
--- each field fits; so few bytes have a size of two bytes at most
+-- Each field fits, and the body is so short that its size has at most two bytes.
 abbrev pub FitsTagged : GtidEvent → Type 0
 FitsTagged g = EachFits entry.Fits (entries g) × (length (entries_written g) + 4 < 16384)
 
@@ -153,7 +169,7 @@ agree : (a : Bool) (i o : ℕ) → eqb i o ≡ a → cond a i o ≡ o
 agree true i o e = eqb-true _ _ e
 agree false i o e = refl
 
--- the fields that are written say the value
+-- The written fields have the values of the event.
 pub entries_say : (h : Head) (g : GtidEvent) → tagged_of (h, entries g) ≡ Ok (tagged_normal g)
 entries_say h g =
     said h g (eqb g.immediate_commit_timestamp g.original_commit_timestamp) (eqb g.immediate_server_version g.original_server_version) (eqb 0 g.commit_group_ticket)
@@ -192,5 +208,6 @@ tagged_choice = record {
   again = λ g fits. refl;
 }
 
+-- The format of a GTID with a tag.
 abbrev pub tagged : Format last GtidEvent
 tagged = chosen tagged_of tagged_code tagged_normal FitsTagged tagged_fields tagged_choice

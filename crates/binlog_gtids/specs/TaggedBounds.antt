@@ -1,4 +1,4 @@
--- A tagged GTID of which each field fits takes few bytes, so its size fits two bytes.
+-- A GTID with a tag whose fields fit is so short that its payload size fits two bytes.
 use Rattle.std.proofs.Common.{◌≡◌, ℕ, ◌+◌, ◌*◌, ◌<◌, ◌≤◌, inl, inr, Bool, true, false, cond, eqb, List, [], ◌∷◌, ◌++◌, length, arith}
 use Rattle.std.proofs.lemmas.List.{length-append}
 use Rattle.binlog_numbers.specs.VarlenWriting.{varlen_written, varlen_most}
@@ -20,7 +20,7 @@ sid_few s e = omega (arith, length-append (varlen_written 1) (each_written varle
 tag_few : (t : List ℕ) → length t ≤ 32 → length (entry.written (3, inr t)) ≤ 50
 tag_few t e = omega (arith, length-append (varlen_written 3) (varlen_written (length t) ++ t), length-append (varlen_written (length t)) t, varlen_most 3, varlen_most (length t), e)
 
--- one entry more
+-- one more field
 more : (e : Entry) (es : List Entry) (k l : ℕ) → length (entry.written e) ≤ k → length (each_written entry.written es) ≤ l → length (each_written entry.written (e ∷ es)) ≤ k + l
 more e es k l h i = omega (arith, length-append (entry.written e) (each_written entry.written es), h, i)
 

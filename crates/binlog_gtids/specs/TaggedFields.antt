@@ -1,4 +1,4 @@
--- The fields of a GTID with a tag: an id and a value, a number or bytes.
+-- The fields of a GTID with a tag: a field id and a value, which is a number or bytes.
 -- Source: MySQL's source documentation, `Gtid_event`, and the documentation of its serialization library.
 use Rattle.std.proofs.Common.{◌≡◌, ℕ, suc, ◌*◌, ◌/◌, ◌%◌, ◌^◌, ◌<◌, ◌≤◌, ◌⊎◌, inl, inr, Bool, true, false, cond, ltb, eqb, List, [], ◌∷◌, Result, length, Ok, Err, refl, ap, ◌∙◌, subst, arith}
 use Rattle.std.proofs.lemmas.Bool.{ltb-true, lt-ltb, le-ltb}
@@ -17,10 +17,11 @@ use Rattle.binlog_numbers.specs.Within.{IsEnd, until}
 
 -- ---- values
 
+-- A number of at most `max`.
 abbrev pub at_most : ℕ → ℕ → Format anywhere ℕ
 at_most id max = tested varlen (λ n. refl) (λ n. ltb n (suc max)) (kinds.FieldRange id)
 
--- a signed number that is not negative: twice its value
+-- A signed number that isn't negative; it is encoded as twice its value.
 abbrev pub halved : ℕ → ℕ → Result ℕ Invalid
 halved id n = cond (eqb (n % 2) 0) (Ok (n / 2)) (Err (kinds.Negative id))
 
@@ -36,33 +37,40 @@ halved_choice id = record {
   again = λ y fits. refl;
 }
 
+-- A signed number that isn't negative.
 abbrev pub not_negative : ℕ → Format anywhere ℕ
 not_negative id = chosen (halved id) (λ y. 2 * y) (λ y. y) (λ y. y < 2 ^ 63) varlen (halved_choice id)
 
 -- ---- fields
 
--- a number, or bytes
+-- A number, or bytes.
 abbrev pub Value : Type 0
 Value = ℕ ⊎ List ℕ
 
+-- The number of a value.
 abbrev pub number_in : Value → ℕ
 number_in (inl n) = n
 number_in (inr s) = 0
 
+-- The bytes of a value.
 abbrev pub bytes_in : Value → List ℕ
 bytes_in (inl n) = []
 bytes_in (inr s) = s
 
+-- A format whose value is a number.
 abbrev pub as_number : Format anywhere ℕ → Format anywhere Value
 as_number f = made (λ n. inl n) number_in f (λ s a r h. refl) (λ b. refl)
 
+-- A format whose value is bytes.
 abbrev pub as_bytes : Format anywhere (List ℕ) → Format anywhere Value
 as_bytes f = made (λ s. inr s) bytes_in f (λ s a r h. refl) (λ b. refl)
 
+-- The id is one of these.
 abbrev pub is_any : List ℕ → ℕ → Bool
 is_any [] id = false
 is_any (i ∷ is) id = cond (eqb id i) true (is_any is id)
 
+-- The format of the value of the field with this id.
 abbrev pub value_of_id : ℕ → Format anywhere Value
 value_of_id id =
     choose (eqb id 0) (as_number (at_most id 255))
@@ -72,9 +80,11 @@ value_of_id id =
     (choose (is_any (9 ∷ 10 ∷ []) id) (as_number (at_most id 4294967295))
     (as_number varlen)))))
 
+-- A field id and a value.
 abbrev pub Entry : Type 0
 Entry = ℕ × Value
 
+-- The ids 0 to 11 are known; any other is invalid.
 abbrev pub known : ℕ → Result ℕ Invalid
 known id = cond (ltb id 12) (Ok id) (Err (kinds.UnknownField id))
 
@@ -87,20 +97,22 @@ known_choice = record {
   again = λ id fits. refl;
 }
 
--- an id of 0 to 11 and a value of its kind
+-- A field id of 0 to 11 and its value.
 abbrev pub entry : Format anywhere Entry
 entry = then (chosen known (λ id. id) (λ id. id) (λ id. id < 12) varlen known_choice) value_of_id
 
--- ---- where fields end
+-- ---- the end of the fields
 
--- nothing, or the id of a field that is not known and may be ignored, with any bytes
+-- No bytes, or an unknown field id that may be ignored, followed by any bytes.
 abbrev pub IsTail : ℕ → List ℕ → Type 0
 IsTail last_id x = (x ≡ []) ⊎ ((id : ℕ) × (m : List ℕ) × IsVarlen x id m × (11 < id) × (last_id < id))
 
+-- An id was read that is unknown and above the last non-ignorable one.
 abbrev pub ignored : ℕ → Read ℕ → Bool
 ignored last_id (Ok x) = cond (ltb 11 x.0) (ltb last_id x.0) false
 ignored last_id (Err e) = false
 
+-- The test for `IsTail`.
 abbrev pub is_tail : ℕ → List ℕ → Bool
 is_tail last_id [] = true
 is_tail last_id (b ∷ s) = ignored last_id (varlen_at (b ∷ s))
@@ -128,7 +140,7 @@ counted_by last_id id false b ha hb counts = refl
 counted_by last_id id true false ha hb counts = refl
 counted_by last_id id true true ha hb counts = absurd (omega (arith, counts (ltb-true _ _ ha), ltb-true _ _ hb))
 
--- an id that is known, or may not be ignored, and bytes that are none
+-- Bytes that begin with an id that is known or may not be ignored aren't the end. Nor are bytes that begin with no id.
 pub id_goes_on : (last_id : ℕ) (s : List ℕ) (id : ℕ) (m : List ℕ) → varlen_at s ≡ Ok (id, m) → (11 < id → id ≤ last_id) → is_tail last_id s ≡ false
 id_goes_on last_id [] id m e counts = absurd cc
 id_goes_on last_id (b ∷ s) id m e counts = ap (ignored last_id) e ∙ counted_by last_id id (ltb 11 id) (ltb last_id id) refl refl counts
@@ -159,6 +171,6 @@ tail_is_end last_id = record {
   moves = omega arith;
 }
 
--- the fields of a body that says this last id
+-- The fields of a body with this last non-ignorable field id.
 abbrev pub fields : ℕ → Format last (List Entry)
 fields last_id = until entry (IsTail last_id) (is_tail last_id) (tail_is_end last_id)

@@ -1,4 +1,4 @@
--- A GTID with a tag, read a part at a time: the bytes that its size counts, and then the fields in these.
+-- A GTID with a tag, read part by part: the bytes that the payload size counts, and then the fields in them.
 use Rattle.std.specs.Prelude.{⊤}
 use Rattle.std.proofs.Common.{◌≡◌, ℕ, ◌+◌, ◌-◌, ◌≤◌, Bool, true, false, cond, ltb, List, [], length, take, drop, Result, Ok, Err, refl, sym, ap, ◌∙◌, arith}
 use Rattle.std.proofs.lemmas.Bool.{le-ltb}
@@ -14,17 +14,18 @@ use Rattle.binlog_gtids.specs.TaggedFields.{Entry, fields}
 use Rattle.binlog_gtids.specs.Tagged.{Head, head, tagged, tagged_of}
 use Rattle.binlog_gtids.specs.Taking.{no_fields, taken, event_known, event_taken}
 
--- the head of these bytes, and those behind it that its size counts
+-- The head of these bytes, and the bytes after it that the payload size counts.
 abbrev pub counted_by : ℕ → Head × List ℕ → Read (Head × List ℕ)
 counted_by whole h =
     cond (ltb (h.0.1.0 + length h.1) whole) (Err (invalid (kinds.PayloadSize h.0.1.0)))
     (cond (ltb whole h.0.1.0) (Err ends)
     (Ok ((h.0, take (left_within h.0.1.0 (length h.1) whole) h.1), drop (left_within h.0.1.0 (length h.1) whole) h.1)))
 
+-- The head, and the bytes after it that its payload size counts.
 abbrev pub payload_at : List ℕ → Read (Head × List ℕ)
 payload_at s = head.reads s >>= counted_by (length s)
 
--- the fields in these bytes, before the rest
+-- The fields in these bytes, before the rest.
 abbrev pub fields_in : (Head × List ℕ) × List ℕ → Read (Head × List Entry)
 fields_in p = (fields p.0.0.1.1).reads p.0.1 >>= λ v. Ok ((p.0.0, v.0), p.1)
 
@@ -49,7 +50,7 @@ behind_head whole (Err d) = refl
 pub tagged_parts : (s : List ℕ) → tagged.reads s ≡ read_decoded tagged_of (payload_at s >>= fields_in)
 tagged_parts s = ap (read_decoded tagged_of) (behind_head (length s) (head.reads s))
 
--- the bytes that the size counts, by how many are left behind the head
+-- The bytes that the payload size counts, by the number of bytes after the head.
 pub payload_ok : (s m body rest : List ℕ) (h : Head) (n : ℕ) → head.reads s ≡ Ok (h, m) → length s - length m ≤ h.1.0 → h.1.0 ≤ length s
     → n ≡ length m - (length s - h.1.0) → body ≡ take n m → rest ≡ drop n m → payload_at s ≡ Ok ((h, body), rest)
 payload_ok s m body rest h n e reaches there is front back =
@@ -58,17 +59,17 @@ payload_ok s m body rest h n e reaches there is front back =
     let same : left_within h.1.0 (length m) (length s) ≡ n = omega arith in
     ap (λ (x : Read Head). x >>= counted_by (length s)) e ∙ rw (enough, fits, same, front, back) refl
 
--- what is refused in the payload is refused in the whole
+-- An error in the payload is an error of the whole body.
 pub tagged_refused : (s : List ℕ) (d : Refusal) → payload_at s ≡ Err d → tagged.reads s ≡ Err d
 tagged_refused s d e = tagged_parts s ∙ ap (λ (x : Read (Head × List ℕ)). read_decoded tagged_of (x >>= fields_in)) e
 
--- and what is refused in its fields is
+-- So is an error in its fields.
 pub fields_refused : (s body m : List ℕ) (h : Head) (d : Refusal) → payload_at s ≡ Ok ((h, body), m) → (fields h.1.1).reads body ≡ Err d → tagged.reads s ≡ Err d
 fields_refused s body m h d e f =
     tagged_parts s ∙ ap (λ (x : Read (Head × List ℕ)). read_decoded tagged_of (x >>= fields_in)) e
     ∙ ap (λ (x : Read (List Entry)). read_decoded tagged_of (x >>= λ v. Ok ((h, v.0), m))) f
 
--- the event of the fields
+-- The event with these fields.
 pub tagged_known : (s body m : List ℕ) (h : Head) (es : List Entry) → payload_at s ≡ Ok ((h, body), m) → (fields h.1.1).reads body ≡ Ok (es, [])
     → tagged.reads s ≡ meant (event_known (taken es no_fields)) m
 tagged_known s body m h es e f =
@@ -86,7 +87,7 @@ known_ok (Ok x) m g e =
     ap (λ (y : GtidEvent × List ℕ). Ok (y.0, m)) same
 known_ok (Err why) m g e = absurd cc
 
--- what is given of the fields alone is given of them before a rest
+-- The result for the fields alone is the result for them before a rest.
 pub gives_known : (whole : Read GtidEvent) (r : Result GtidEvent Invalid) (m : List ℕ) (result : Result GtidEvent Error) → whole ≡ meant r m
     → Gives ⊤ [] result (meant r []) → Gives ⊤ m result whole
 gives_known whole r m (Ok g) is h = is ∙ known_ok r m g h

@@ -1,4 +1,4 @@
--- A GTID with a tag, written a part at a time.
+-- A GTID with a tag, written part by part.
 use Rattle.std.proofs.Common.{◌≡◌, ℕ, ◌+◌, ◌*◌, ◌<◌, Bool, true, false, cond, eqb, Option, Some, List, [], ◌∷◌, ◌++◌, length, refl, sym, ap, ◌∙◌, append_assoc, arith}
 use Rattle.std.proofs.lemmas.List.{append-nil, length-append}
 use Rattle.binlog_numbers.specs.VarlenWriting.{varlen_written}
@@ -10,23 +10,28 @@ use Rattle.binlog_gtids.specs.Tagged.{head, tagged, tag_in, entries_by, entries_
 
 -- ---- fields
 
+-- A field with a number.
 abbrev pub number_field : ℕ → ℕ → List ℕ
 number_field id n = varlen_written id ++ varlen_written n
 
--- a number that is written only where it differs from the usual one
+-- A number that is written only if it differs from the default.
 abbrev pub changed_field : ℕ → ℕ → ℕ → List ℕ
 changed_field id usual n = cond (eqb usual n) [] (number_field id n)
 
+-- The field of the source's UUID: one number for each byte.
 abbrev pub sid_field : List ℕ → List ℕ
 sid_field sid = varlen_written 1 ++ each_written varlen_written sid
 
+-- The field of the tag, after its length.
 abbrev pub tag_field : List ℕ → List ℕ
 tag_field tag = varlen_written 3 ++ (varlen_written (length tag) ++ tag)
 
+-- The fields up to the logical timestamps.
 abbrev pub first_fields : GtidEvent → List ℕ → List ℕ
 first_fields g tag =
     number_field 0 g.flags ++ (sid_field g.sid ++ (number_field 2 (2 * g.gno) ++ (tag_field tag ++ (number_field 4 (2 * g.last_committed) ++ number_field 5 (2 * g.sequence_number)))))
 
+-- The fields from the commit timestamps on.
 abbrev pub last_fields : GtidEvent → List ℕ
 last_fields g =
     number_field 6 g.immediate_commit_timestamp
@@ -35,7 +40,7 @@ last_fields g =
     ++ (number_field 9 g.immediate_server_version
     ++ (changed_field 10 g.immediate_server_version g.original_server_version ++ changed_field 11 0 g.commit_group_ticket))))
 
--- ---- these are the bytes of the entries
+-- ---- these are the bytes of the fields
 
 split_twelve : (a b c d e f g h i j k l : List ℕ)
     → a ++ (b ++ (c ++ (d ++ (e ++ (f ++ (g ++ (h ++ (i ++ (j ++ (k ++ (l ++ [])))))))))))
@@ -65,29 +70,29 @@ fields_bytes g tag e =
     (number_field 8 g.tx_length) (number_field 9 g.immediate_server_version) (changed_field 10 g.immediate_server_version g.original_server_version) (changed_field 11 0 g.commit_group_ticket)
     ∙ ap (λ (o : Option (List ℕ)). first_fields g (tag_in o) ++ last_fields g) e
 
--- ---- how long
+-- ---- lengths
 
 pub six_length : (a b c d e f : List ℕ) → length (a ++ (b ++ (c ++ (d ++ (e ++ f))))) ≡ length a + length b + length c + length d + length e + length f
 six_length a b c d e f =
     omega (arith, length-append a (b ++ (c ++ (d ++ (e ++ f)))), length-append b (c ++ (d ++ (e ++ f))), length-append c (d ++ (e ++ f)), length-append d (e ++ f), length-append e f)
 
--- what is put one after the other
+-- Parts appended one after the other.
 pub put_six : (s a b c d e f p q r t u v : List ℕ) → p ≡ s ++ a → q ≡ p ++ b → r ≡ q ++ c → t ≡ r ++ d → u ≡ t ++ e → v ≡ u ++ f
     → v ≡ s ++ (a ++ (b ++ (c ++ (d ++ (e ++ f)))))
 put_six s a b c d e f p q r t u v ha hb hc hd he hf = rw (hf, he, hd, hc, hb, ha) (simp append_assoc)
 
--- the whole body is as long as the size that it states
+-- The body has the length that its payload size states.
 pub tagged_length : (g : GtidEvent) → length (entries_written g) + 4 < 16384 → length (tagged.written g) ≡ written_size g
 tagged_length g few =
     let n : ℕ = 2 + length (entries_written g) in
     length-append (head.written (2, (written_size g, 0))) (entries_written g)
     ∙ whole_size n (least_size n) (least_size_solves n (omega arith)) (length (entries_written g)) refl
 
--- the length of these fields is that of the entries
+-- The length of these fields is that of the written ones.
 pub fields_length : (g : GtidEvent) (tag : List ℕ) → g.tag ≡ Some tag → length (entries_written g) ≡ length (first_fields g tag) + length (last_fields g)
 fields_length g tag e = ap length (fields_bytes g tag e) ∙ length-append (first_fields g tag) (last_fields g)
 
--- the head, and then the fields
+-- The head, and then the fields.
 pub put_whole : (g : GtidEvent) (tag s p q r t u : List ℕ) (size : ℕ) → g.tag ≡ Some tag → size ≡ written_size g
     → p ≡ s ++ 2 ∷ [] → q ≡ p ++ varlen_written size → r ≡ q ++ varlen_written 0 → t ≡ r ++ first_fields g tag → u ≡ t ++ last_fields g → u ≡ s ++ tagged.written g
 put_whole g tag s p q r t u size has is hp hq hr ht hu =

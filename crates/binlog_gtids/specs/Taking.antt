@@ -1,4 +1,4 @@
--- Fields of a GTID with a tag, taken one after the other: the later of repeated ones counts.
+-- Fields of a GTID with a tag, read one after the other: if a field is repeated, the last one counts.
 use Rattle.std.proofs.Common.{◌≡◌, ℕ, Bool, true, false, cond, eqb, Option, None, Some, List, [], ◌∷◌, ◌++◌, replicate, Result, Ok, Err, refl, ap, ◌∙◌}
 use Rattle.std.specs.Prelude.{unwrap_or}
 use Rattle.binlog_wire.specs.declared.error.Invalid.{Invalid}
@@ -8,7 +8,7 @@ use Rattle.binlog_gtids.specs.Tagged.{Head, or_else, last_of, number_or, bytes_o
 use Rattle.binlog_gtids.specs.declared.gtid_event.GtidEvent.{GtidEvent}
 use Rattle.binlog_gtids.specs.declared.tagged_fields.TaggedFields.{TaggedFields}
 
--- no field is known
+-- No field was read.
 abbrev pub no_fields : TaggedFields
 no_fields = record {
   flags = None;
@@ -25,10 +25,11 @@ no_fields = record {
   commit_group_ticket = None;
 }
 
--- what is known of the field of this id once an entry is taken, where o was known
+-- The value of the field with this id after another field was read; it was o before.
 abbrev pub newer : {X : Type 0} → ℕ → (Value → X) → Entry → Option X → Option X
 newer id seen e o = cond (eqb e.0 id) (Some (seen e.1)) o
 
+-- The fields after another field was read.
 abbrev pub with_entry : Entry → TaggedFields → TaggedFields
 with_entry e f = record {
   flags = newer 0 number_in e f.flags;
@@ -45,6 +46,7 @@ with_entry e f = record {
   commit_group_ticket = newer 11 number_in e f.commit_group_ticket;
 }
 
+-- The fields after these were read, one after the other.
 abbrev pub taken : List Entry → TaggedFields → TaggedFields
 taken [] f = f
 taken (e ∷ es) f = taken es (with_entry e f)
@@ -53,8 +55,9 @@ pub taken_more : (es : List Entry) (e : Entry) (f : TaggedFields) → taken (es 
 taken_more [] e f = refl
 taken_more (d ∷ es) e f = taken_more es e (with_entry d f)
 
--- ---- the event of the fields that are known
+-- ---- the event with the fields that were read
 
+-- The event with these fields and this tag. Absent fields have their defaults.
 abbrev pub event_of : TaggedFields → List ℕ → GtidEvent
 event_of f tag = record {
   flags = unwrap_or f.flags 0;
@@ -72,14 +75,16 @@ event_of f tag = record {
   commit_group_ticket = unwrap_or f.commit_group_ticket 0;
 }
 
+-- The event, if there is a tag.
 abbrev pub event_if : Option (List ℕ) → TaggedFields → Result GtidEvent Invalid
 event_if (Some tag) f = Ok (event_of f tag)
 event_if None f = Err kinds.MissingTag
 
+-- The event with the fields that were read; without a tag they are invalid.
 abbrev pub event_known : TaggedFields → Result GtidEvent Invalid
 event_known f = event_if f.tag f
 
--- ---- what is known of a field is what its last entry says
+-- ---- a field has the value of its last occurrence
 
 abbrev seen_last : {X : Type 0} → (Value → X) → Option Value → Option X → Option X
 seen_last seen (Some v) o = Some (seen v)
@@ -136,7 +141,7 @@ known_by : (es : List Entry) (o : Option Value) → last_of 3 es ≡ o → event
 known_by es (Some v) e = ap (λ (g : GtidEvent). Ok g) (event_same es (bytes_in v))
 known_by es None e = refl
 
--- The event of the fields that are taken is the event of the entries.
+-- The event with the fields that were read is the event of the format.
 pub event_taken : (h : Head) (es : List Entry) → event_known (taken es no_fields) ≡ tagged_of (h, es)
 event_taken h es =
     ap (λ (o : Option (List ℕ)). event_if o (taken es no_fields)) (known (λ f. f.tag) 3 bytes_in (λ e f. refl) es no_fields)

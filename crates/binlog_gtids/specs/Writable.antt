@@ -1,4 +1,4 @@
--- Which GTIDs can't be written, and by which field, the first in the order of the body.
+-- The GTIDs that can't be written, and by which field: the first in the order of the body.
 use Rattle.std.proofs.Common.{◌≡◌, ℕ, suc, ◌^◌, ◌<◌, ◌≤◌, inl, Bool, true, false, cond, eqb, ltb, Option, None, Some, List, [], ◌∷◌, length, refl, arith}
 use Rattle.std.proofs.lemmas.Bool.{ltb-true, lt-ltb, eqb-true}
 use Rattle.binlog_numbers.specs.Tags.{is_tag, tag_short}
@@ -14,13 +14,13 @@ use Rattle.binlog_gtids.specs.declared.gtid_event.GtidEvent.{GtidEvent}
 use Rattle.binlog_numbers.specs.Announced.{FitsBehind}
 use Rattle.binlog_gtids.specs.Untagged.{FitsUntagged, clock, clock_if, clock_of}
 
--- the first field whose test fails
+-- The first field whose test fails.
 abbrev pub first_failing : List (Bool × Field) → Option Error
 first_failing [] = None
 first_failing (x ∷ xs) = cond x.0 (first_failing xs) (Some (Unwritable x.1))
 
--- An immediate time below 2^55; an original time that differs below 2^56; an immediate version below 2^31. Without a clock
--- none of these is written.
+-- An immediate timestamp below 2^55; an original timestamp, if it differs, below 2^56; an immediate version below
+-- 2^31. Without a clock none of them is written.
 abbrev pub unwritable_untagged : GtidEvent → Option Error
 unwritable_untagged g =
     cond g.has_clock
@@ -30,7 +30,7 @@ unwritable_untagged g =
     ∷ (ltb g.immediate_server_version 2147483648, which.ImmediateServerVersion) ∷ []))
     None
 
--- what the types of the fields say
+-- The ranges given by the types of the fields.
 pub record InRange (g : GtidEvent) : Type 0 where
   pub flags : g.flags < 2 ^ 8
   pub sid : length g.sid ≡ 16
@@ -79,7 +79,7 @@ clock_fits g range true h =
       ((time, original), (wide g.tx_length range.tx_length, (version, late))),
     )
 
--- A GTID without a tag that isn't refused fits its form.
+-- A GTID without a tag that writing doesn't refuse fits its format.
 pub untagged_fits : (g : GtidEvent) → InRange g → g.tag ≡ None → unwritable_untagged g ≡ None → FitsUntagged g
 untagged_fits g range none writable =
     let flags : g.flags < 256 ^ 1 = omega (arith, range.flags) in
@@ -87,7 +87,7 @@ untagged_fits g range none writable =
 
 -- ---- with a tag
 
--- the signed numbers below 2^63
+-- The signed numbers are below 2^63.
 abbrev pub unwritable_tagged : GtidEvent → Option Error
 unwritable_tagged g =
     first_failing ((ltb g.gno 9223372036854775808, which.Gno) ∷ (ltb g.last_committed 9223372036854775808, which.LastCommitted) ∷ (ltb g.sequence_number 9223372036854775808, which.SequenceNumber) ∷ [])
@@ -99,7 +99,7 @@ maybe false e es h i = (h, i)
 limited : (n max : ℕ) → n < suc max → suc max ≤ 2 ^ 32 → (n < 256 ^ 8) × (ltb n (suc max) ≡ true)
 limited n max less small = (omega arith, lt-ltb _ _ less)
 
--- A GTID with a tag that has no failing field fits its form.
+-- A GTID with a tag that has no failing field fits its format.
 pub tagged_fits : (g : GtidEvent) → InRange g → is_tag (tag_in g.tag) ≡ true → unwritable_tagged g ≡ None → FitsTagged g
 tagged_fits g range tag writable =
     let all = three_hold (ltb g.gno (9223372036854775808)) (ltb g.last_committed (9223372036854775808)) (ltb g.sequence_number (9223372036854775808)) which.Gno which.LastCommitted which.SequenceNumber writable in

@@ -1,4 +1,4 @@
-//! The event before a transaction that has no GTID.
+//! ANONYMOUS_GTID_EVENT: a transaction without a GTID follows.
 ghost use Rattle.std.specs.Prelude.{◌≡◌, refl, Ok, IfOk, IsOkUnless};
 ghost use Rattle.binlog_wire.specs.declared.error.Error.TheVariants.{Memory};
 ghost use Rattle.binlog_gtids.specs.Gtids.{anonymous, unwritable_anonymous};
@@ -10,12 +10,13 @@ use binlog_description::{BinlogCtx, BinlogEvent};
 use binlog_wire::{Error, Field, MyDeserialize, ParseBuf, Put};
 use std::alloc::Global;
 
-/// The transaction behind this event has no GTID. Its body is that of a [`GtidEvent`] without a tag.
+/// An ANONYMOUS_GTID event, type 34: the transaction after it has no GTID. Its body is that of a [`GtidEvent`] without
+/// a tag.
 #[derive(Debug, PartialEq, Eq, Hash, Drop)]
 pub struct AnonymousGtidEvent(pub GtidEvent);
 
 impl AnonymousGtidEvent {
-    /// The same event once more.
+    /// A copy of the event.
     pub fn clone(&self, alloc: Global) -> Result<Self, Error>
         ensures ok { IfOk result (λ copy. copy ≡ self.now) }
         ensures memory { IsOkUnless result Memory }
@@ -23,7 +24,7 @@ impl AnonymousGtidEvent {
         Ok(AnonymousGtidEvent(self.0.clone(alloc)?))
     }
 
-    /// The same event: it borrows nothing, so no memory is taken, and it is always Ok.
+    /// The same event. It borrows nothing, so no memory is allocated and the result is always Ok.
     pub fn into_owned(self, alloc: Global) -> Result<AnonymousGtidEvent, Error>
         ensures { result ≡ Ok self }
     {
@@ -55,7 +56,7 @@ impl Put for AnonymousGtidEvent {
 
     ghost refusal = { λ event. unwritable_anonymous event.0 };
 
-    /// [`Error::Unwritable`] for a tag, and else as of a [`GtidEvent`].
+    /// [`Error::Unwritable`] if the event has a tag; otherwise as for a [`GtidEvent`].
     fn check(&self) -> Result<(), Error> {
         if self.0.is_tagged() {
             return Err(Error::Unwritable(Field::Tag));

@@ -1,4 +1,4 @@
-//! What stands behind the clock code of a GTID without a tag.
+//! The fields after the clock code of a GTID without a tag.
 ghost use Rattle.std.specs.Prelude.{◌≡◌, ◌++◌, ◌+◌, ◌≤◌, ◌<◌, length, vec_len, vec_capacity};
 ghost use Rattle.binlog_wire.specs.Reading.{Gives};
 ghost use Rattle.binlog_numbers.specs.Announced.{announced_written};
@@ -7,16 +7,16 @@ ghost use Rattle.binlog_gtids.specs.Untagged.{logical_times, times_if_left, leng
 use binlog_numbers::LenEnc;
 use binlog_wire::{Error, IntRepr, LeU32, LeU56, LeU64, ParseBuf};
 
-/// The bit of an immediate time that says that an original time follows.
+/// The bit of an immediate commit timestamp that says that an original one follows.
 const TIME_FOLLOWS: u64 = 1 << 55;
 
-/// The bit of an immediate version that says that an original version follows.
+/// The bit of an immediate server version that says that an original one follows.
 const VERSION_FOLLOWS: u32 = 1 << 31;
 
-/// The version of a server that doesn't say one.
+/// The version of a server that doesn't state one.
 pub(crate) const UNDEFINED_VERSION: u32 = 999_999;
 
-/// Takes `last_committed` and `sequence_number`, which stand in one unit.
+/// Reads `last_committed` and `sequence_number`, which are one unit.
 pub(crate) fn read_logical_times(buf: &mut ParseBuf<'_>) -> Result<(u64, u64), Error>
     ensures { Gives ⊥ buf.new result (logical_times.reads buf.old) }
 {
@@ -28,7 +28,7 @@ pub(crate) fn read_logical_times(buf: &mut ParseBuf<'_>) -> Result<(u64, u64), E
     Ok((last_committed, sequence_number))
 }
 
-/// Takes the immediate and the original time, both 0 where fewer than 7 bytes are left.
+/// Reads the immediate and the original commit timestamp; both are 0 if fewer than 7 bytes are left.
 pub(crate) fn read_times(buf: &mut ParseBuf<'_>) -> Result<(u64, u64), Error>
     ensures { Gives ⊥ buf.new result (times_if_left.reads buf.old) }
 {
@@ -43,7 +43,7 @@ pub(crate) fn read_times(buf: &mut ParseBuf<'_>) -> Result<(u64, u64), Error>
     Ok((immediate - TIME_FOLLOWS, original))
 }
 
-/// Takes the transaction's length, 0 where no byte is left.
+/// Reads the transaction length; 0 if no byte is left.
 pub(crate) fn read_length(buf: &mut ParseBuf<'_>) -> Result<u64, Error>
     ensures { Gives ⊥ buf.new result (length_if_left.reads buf.old) }
 {
@@ -53,7 +53,7 @@ pub(crate) fn read_length(buf: &mut ParseBuf<'_>) -> Result<u64, Error>
     LenEnc::read(buf)
 }
 
-/// Takes the immediate and the original version, both [`UNDEFINED_VERSION`] where fewer than 4 bytes are left.
+/// Reads the immediate and the original server version; both are [`UNDEFINED_VERSION`] if fewer than 4 bytes are left.
 pub(crate) fn read_versions(buf: &mut ParseBuf<'_>) -> Result<(u32, u32), Error>
     ensures { Gives ⊥ buf.new result (versions_if_left.reads buf.old) }
 {
@@ -68,7 +68,7 @@ pub(crate) fn read_versions(buf: &mut ParseBuf<'_>) -> Result<(u32, u32), Error>
     Ok((immediate - VERSION_FOLLOWS, original))
 }
 
-/// Appends `last_committed` and `sequence_number`, where `buf` has room for them.
+/// Appends `last_committed` and `sequence_number`. `buf` has room for them.
 pub(crate) fn put_logical_times(last_committed: u64, sequence_number: u64, buf: &mut Vec<u8>)
     requires { vec_len buf.old + 16 ≤ vec_capacity buf.old }
     ensures items { buf.new.items ≡ buf.old.items ++ logical_times.written (last_committed, sequence_number) }
@@ -79,7 +79,7 @@ pub(crate) fn put_logical_times(last_committed: u64, sequence_number: u64, buf: 
     LeU64::put(sequence_number, buf);
 }
 
-/// How many bytes the times take.
+/// The number of bytes written for the commit timestamps.
 pub(crate) fn times_len(immediate: u64, original: u64) -> usize
     ensures count { result ≡ length (announced_written 7 36028797018963968 (immediate, original)) }
     ensures small { result ≤ 14 }
@@ -87,7 +87,7 @@ pub(crate) fn times_len(immediate: u64, original: u64) -> usize
     if immediate == original { 7 } else { 14 }
 }
 
-/// Appends the times, of which the immediate one is below 2^55, where `buf` has room for them.
+/// Appends the commit timestamps, of which the immediate one is below 2^55. `buf` has room for them.
 pub(crate) fn put_times(immediate: u64, original: u64, buf: &mut Vec<u8>)
     requires time { immediate < 36028797018963968 }
     requires room { vec_len buf.old + length (announced_written 7 36028797018963968 (immediate, original)) ≤ vec_capacity buf.old }
@@ -103,7 +103,7 @@ pub(crate) fn put_times(immediate: u64, original: u64, buf: &mut Vec<u8>)
     }
 }
 
-/// How many bytes the versions take.
+/// The number of bytes written for the server versions.
 pub(crate) fn versions_len(immediate: u32, original: u32) -> usize
     ensures count { result ≡ length (announced_written 4 2147483648 (immediate, original)) }
     ensures small { result ≤ 8 }
@@ -111,7 +111,7 @@ pub(crate) fn versions_len(immediate: u32, original: u32) -> usize
     if immediate == original { 4 } else { 8 }
 }
 
-/// Appends the versions, of which the immediate one is below 2^31, where `buf` has room for them.
+/// Appends the server versions, of which the immediate one is below 2^31. `buf` has room for them.
 pub(crate) fn put_versions(immediate: u32, original: u32, buf: &mut Vec<u8>)
     requires version { immediate < 2147483648 }
     requires room { vec_len buf.old + length (announced_written 4 2147483648 (immediate, original)) ≤ vec_capacity buf.old }

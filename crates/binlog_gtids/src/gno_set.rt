@@ -1,4 +1,4 @@
-//! The transaction numbers of one source.
+//! Sets of transaction numbers (GNOs) of one source.
 ghost use Rattle.std.specs.Prelude.{◌≡◌, ◌++◌, ◌∷◌, ◌^◌, ◌<◌, ◌≤◌, ◌||◌, ◌↔◌, ℕ, [], length, take, drop, IfOk, OnOk, OnErr, IsOkUnless, IsTrue};
 ghost use Rattle.std.specs.List.{insert};
 ghost use Rattle.binlog_wire.specs.declared.error.Error.TheVariants.{Memory};
@@ -11,10 +11,10 @@ use binlog_wire::Error;
 use std::alloc::{AllocError, Global};
 use std::marker::Model;
 
-/// A set of the transaction numbers of one source, from 1 up to 2^63 - 1.
+/// A set of transaction numbers (GNOs) of one source, from 1 to 2^63 - 1.
 ///
-/// It keeps the one sorted list of intervals that don't touch each other, as MySQL's `Gtid_set` does. Contracts see this
-/// list.
+/// It is kept as the only sorted list of intervals of which no two touch or overlap, as in MySQL's `Gtid_set`.
+/// Contracts see this list.
 #[derive(Debug, Drop)]
 pub struct GnoSet {
     intervals: Vec<GnoInterval>,
@@ -33,7 +33,7 @@ impl Model for GnoSet {
 }
 
 impl GnoSet {
-    /// The empty set; it takes no memory.
+    /// The empty set. No memory is allocated.
     pub fn new(alloc: Global) -> Self
         ensures { result ≡ [] }
     {
@@ -42,7 +42,7 @@ impl GnoSet {
         }
     }
 
-    /// The numbers, as intervals in their order. Between two of them there is a number that isn't held.
+    /// The intervals in ascending order. Between any two there is a number that the set doesn't contain.
     pub fn intervals(&self) -> &[GnoInterval]
         ensures list { result.now ≡ self.now }
         ensures apart { AreApart 0 result.now }
@@ -50,11 +50,11 @@ impl GnoSet {
         self.intervals.as_slice()
     }
 
-    /// Adds the numbers from `start` up to, not including, `end`; `start` is at least 1 and below `end`, and `end` is at
-    /// most 2^63. Refused by [`Error::Memory`] alone, with the set as it was.
+    /// Adds the numbers from `start` to `end`, `end` excluded. `start` is at least 1 and below `end`; `end` is at most
+    /// 2^63. The only error is [`Error::Memory`], which leaves the set unchanged.
     ///
-    /// It takes memory only where the numbers neither touch nor overlap an interval, and constant time where they start
-    /// at the last interval or behind it.
+    /// Memory is allocated only if the new numbers neither touch nor overlap an interval. Takes constant time if they
+    /// start in the last interval or after it.
     pub fn insert(&mut self, start: u64, end: u64) -> Result<(), Error>
         requires positive { 1 ≤ start }
         requires some { start < end }
@@ -82,7 +82,7 @@ impl GnoSet {
         self.intervals.is_empty()
     }
 
-    /// Whether the number is held.
+    /// Whether the set contains the number.
     pub fn contains(&self, gno: u64) -> bool
         ensures { result ≡ is_held self.now gno }
     {
@@ -90,8 +90,9 @@ impl GnoSet {
         at > 0 && gno < self.intervals[at - 1].end()
     }
 
-    /// The numbers from 1 up to the greatest held one that aren't held, as intervals in their order. Between two of them
-    /// there is a number that is held. Refused by [`Error::Memory`] alone; without a gap it takes no memory.
+    /// The missing numbers, from 1 to the greatest number of the set, as intervals in ascending order. Between any two
+    /// there is a number that the set contains. The only error is [`Error::Memory`]; without gaps no memory is
+    /// allocated.
     pub fn gaps(&self) -> Result<Vec<GnoInterval>, Error>
         ensures missing { IfOk result (λ gaps. (n : ℕ) → is_held gaps.items n ≡ is_missing self.now n) }
         ensures apart { IfOk result (λ gaps. AreApart 0 gaps.items) }
@@ -109,7 +110,7 @@ impl GnoSet {
         Ok(gaps)
     }
 
-    // How many gaps there are: one before each interval, but for a first one that starts at 1.
+    // The number of gaps: one before each interval, except a first interval that starts at 1.
     fn count_gaps(&self) -> usize {
         match self.intervals.first() {
             Some(first) if first.start() == 1 => self.intervals.len() - 1,
@@ -117,7 +118,7 @@ impl GnoSet {
         }
     }
 
-    /// The same set once more. Refused by [`Error::Memory`] alone.
+    /// A copy of the set. The only error is [`Error::Memory`].
     pub fn clone(&self) -> Result<Self, Error>
         ensures ok { IfOk result (λ copy. copy ≡ self.now) }
         ensures memory { IsOkUnless result Memory }
@@ -126,7 +127,7 @@ impl GnoSet {
         Ok(GnoSet { intervals })
     }
 
-    /// The set of the numbers of both, in memory from this set's allocator. Refused by [`Error::Memory`] alone.
+    /// The union of both sets, with memory from this set's allocator. The only error is [`Error::Memory`].
     pub fn union(&self, other: &GnoSet) -> Result<Self, Error>
         ensures ok { IfOk result (λ union. (n : ℕ) → is_held union n ≡ (is_held self.now n || is_held other.now n)) }
         ensures memory { IsOkUnless result Memory }
@@ -139,7 +140,7 @@ impl GnoSet {
     }
 }
 
-// How many intervals end below a number; in constant time where the last one starts at it or below.
+// The number of intervals that end below a number; constant time if the last one starts at it or below.
 fn count_ending_below(intervals: &[GnoInterval], gno: u64) -> usize
     requires { AreApart 0 intervals.now }
     ensures { result ≡ ending_below gno intervals.now }
@@ -151,7 +152,7 @@ fn count_ending_below(intervals: &[GnoInterval], gno: u64) -> usize
     }
 }
 
-// How many intervals start at a number or below it; in constant time where the last one does.
+// The number of intervals that start at a number or below it; constant time if the last one does.
 fn count_starting_up_to(intervals: &[GnoInterval], gno: u64) -> usize
     requires { AreApart 0 intervals.now }
     ensures { result ≡ starting_up_to gno intervals.now }
@@ -162,7 +163,7 @@ fn count_starting_up_to(intervals: &[GnoInterval], gno: u64) -> usize
     }
 }
 
-// Inserts an interval at a place.
+// Inserts an interval at an index.
 fn add(intervals: &mut Vec<GnoInterval>, at: usize, interval: GnoInterval) -> Result<(), Error>
     requires { at ≤ length intervals.old.items }
     ensures ok { OnOk result (intervals.new.items ≡ insert intervals.old.items at interval) }
@@ -175,7 +176,7 @@ fn add(intervals: &mut Vec<GnoInterval>, at: usize, interval: GnoInterval) -> Re
     }
 }
 
-// Puts one interval in place of those from `from` up to, not including, `to`.
+// Replaces the intervals from `from` to `to`, `to` excluded, by one interval.
 fn replace(intervals: &mut Vec<GnoInterval>, from: usize, to: usize, interval: GnoInterval)
     requires some { from < to }
     requires within { to ≤ length intervals.old.items }

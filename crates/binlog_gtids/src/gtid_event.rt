@@ -1,4 +1,4 @@
-//! The event that names the transaction behind it.
+//! GTID_EVENT: the GTID of the next transaction.
 ghost use Rattle.std.specs.Prelude.{◌≡◌, Option, None, Some, Bool, true, false, if◌then◌else◌, refl, bit_and, is_some, option_copied, Ok, IfOk, IsOkUnless};
 ghost use Rattle.bitflags.specs.Sets.{known_bits};
 ghost use Rattle.binlog_wire.specs.declared.error.Error.TheVariants.{Memory};
@@ -17,14 +17,19 @@ use binlog_wire::{Error, MyDeserialize, ParseBuf, Put, RawFlags};
 use bitflags::Flags;
 use std::alloc::Global;
 
-/// The transaction behind this event has this GTID: the id of the source and the number within it.
+/// A GTID event: the GTID of the transaction after it, which is the source's UUID, an optional tag, and the
+/// transaction number (GNO).
 ///
-/// Without a tag, as servers before 8.3 write it, its body is flags, 1 byte; the source's id, 16; the number, 8. If the clock
-/// code 2 follows: `last_committed` and `sequence_number`, 8 bytes each, and then, as far as the body goes, the times of the
-/// commit on the immediate and the original server, the length of the transaction, and the versions of these servers. With a
-/// tag, its body is the serialization version 2, the size of the whole body, the last id that may not be ignored, and fields,
-/// each an id ([`field_id`](crate::field_id)) and a value, in variable-length integers. An original that is equal to the
-/// immediate isn't written. See `Gtid_event` in MySQL's source documentation.
+/// Without a tag, type 33, little-endian numbers: flags (1), source UUID (16), GNO (8). If the clock code 2 follows:
+/// `last_committed` and `sequence_number` (8 each); then, as far as the body goes, the commit timestamps on the
+/// immediate and the original server, the transaction length, and the versions of both servers.
+///
+/// With a tag, type 42: the serialization version 2, the size of the whole body, the last non-ignorable field id, and
+/// fields, each a field id ([`field_id`](crate::field_id)) and a value, in variable-length integers.
+///
+/// An original timestamp or version is written only if it differs from the immediate one.
+///
+/// Source: MySQL's source documentation, `Gtid_event`.
 #[derive(Debug, PartialEq, Eq, Hash, Drop)]
 pub struct GtidEvent {
     pub(crate) flags: u8,
@@ -43,26 +48,26 @@ pub struct GtidEvent {
 }
 
 impl GtidEvent {
-    /// The stated length of the post-header.
+    /// The length of the post-header that descriptions state.
     pub const POST_HEADER_LENGTH: usize = 42;
-    /// How many bytes a source's id takes.
+    /// The length of a source's UUID in bytes.
     pub const ENCODED_SID_LENGTH: usize = 16;
     /// The serialization version of GTIDs with a tag.
     pub const TAGGED_SERIALIZATION_VERSION_V2: u8 = 2;
-    /// The ticket that is none.
+    /// The value for no commit group ticket.
     pub const COMMIT_GROUP_TICKET_UNSET: u64 = 0;
     /// The clock code.
     pub const LOGICAL_TIMESTAMP_TYPECODE: u8 = 2;
-    /// How many bytes an immediate commit time takes.
+    /// The length of an immediate commit timestamp in bytes.
     pub const IMMEDIATE_COMMIT_TIMESTAMP_LENGTH: usize = 7;
-    /// How many bytes an original commit time takes.
+    /// The length of an original commit timestamp in bytes.
     pub const ORIGINAL_COMMIT_TIMESTAMP_LENGTH: usize = 7;
-    /// The version of a server that doesn't say one.
+    /// The version of a server that doesn't state one.
     pub const UNDEFINED_SERVER_VERSION: u32 = 999_999;
-    /// How many bytes an immediate version takes.
+    /// The length of an immediate server version in bytes.
     pub const IMMEDIATE_SERVER_VERSION_LENGTH: usize = 4;
 
-    /// The GTID of this source and number, with a clock code and everything else 0.
+    /// A GTID without a tag, with a clock code. All other fields are 0.
     pub fn new(sid: [u8; 16], gno: u64) -> Self
         ensures { result ≡ record {
           flags = 0;
@@ -97,7 +102,7 @@ impl GtidEvent {
         }
     }
 
-    /// The GTID of this source, tag and number, without a clock code, with both versions unknown and everything else 0.
+    /// A GTID with a tag, without a clock code. Both server versions are undefined; all other fields are 0.
     pub fn new_tagged(sid: [u8; 16], tag: Tag<'static>, gno: u64) -> Self
         ensures { result ≡ record {
           flags = 0;
@@ -132,14 +137,14 @@ impl GtidEvent {
         }
     }
 
-    /// Whether there is a tag.
+    /// Whether the event has a tag.
     pub fn is_tagged(&self) -> bool
         ensures { result ≡ is_some self.now.tag }
     {
         self.tag.is_some()
     }
 
-    /// The type under which the event is written: [`EventType::GTID_TAGGED_LOG_EVENT`] with a tag, and
+    /// The type under which the event is written: [`EventType::GTID_TAGGED_LOG_EVENT`] with a tag,
     /// [`EventType::GTID_EVENT`] without.
     pub fn event_type(&self) -> EventType
         ensures { result ≡ by_tag self.now.tag GTID_TAGGED_LOG_EVENT GTID_EVENT }
@@ -150,7 +155,7 @@ impl GtidEvent {
         }
     }
 
-    /// The event with this tag.
+    /// Sets the tag.
     pub fn with_tag(mut self, tag: Tag<'static>) -> Self
         ensures { result ≡ record self { tag = Some tag.entry } }
     {
@@ -158,14 +163,14 @@ impl GtidEvent {
         self
     }
 
-    /// The tag, if there is one.
+    /// The tag, if any.
     pub fn tag(&self) -> Option<&Tag<'static>>
         ensures { option_copied result ≡ self.now.tag }
     {
         self.tag.as_ref()
     }
 
-    /// The event with this ticket.
+    /// Sets the commit group ticket.
     pub fn with_commit_group_ticket(mut self, commit_group_ticket: u64) -> Self
         ensures { result ≡ record self { commit_group_ticket = commit_group_ticket } }
     {
@@ -173,14 +178,14 @@ impl GtidEvent {
         self
     }
 
-    /// The ticket of the group of transactions that are committed together; 0 is none.
+    /// The commit group ticket: transactions with the same ticket are committed together. 0 is none.
     pub fn commit_group_ticket(&self) -> u64
         ensures { result ≡ self.now.commit_group_ticket }
     {
         self.commit_group_ticket
     }
 
-    /// The event with these flags.
+    /// Sets the flags.
     pub fn with_flags(mut self, flags: GtidFlags) -> Self
         ensures { result ≡ record self { flags = flags.0 } }
     {
@@ -195,14 +200,14 @@ impl GtidEvent {
         RawFlags::<GtidFlags, u8>::new(self.flags).get()
     }
 
-    /// The flags, known or not.
+    /// All bits of the flags.
     pub fn flags_raw(&self) -> u8
         ensures { result ≡ self.now.flags }
     {
         self.flags
     }
 
-    /// The clock code 2, where there is one.
+    /// The clock code 2, if any.
     pub fn lc_typecode(&self) -> Option<u8>
         ensures { result ≡ (if self.now.has_clock then Some 2 else None) }
     {
@@ -213,7 +218,7 @@ impl GtidEvent {
         }
     }
 
-    /// The event with a clock code.
+    /// Sets the clock code: the fields after it are written.
     pub fn with_lc_typecode(mut self) -> Self
         ensures { result ≡ record self { has_clock = true } }
     {
@@ -221,7 +226,7 @@ impl GtidEvent {
         self
     }
 
-    /// The event with this source's id.
+    /// Sets the source's UUID.
     pub fn with_sid(mut self, sid: [u8; 16]) -> Self
         ensures { result ≡ record self { sid = sid } }
     {
@@ -229,14 +234,14 @@ impl GtidEvent {
         self
     }
 
-    /// The source's id, its UUID as 16 bytes.
+    /// The source's UUID: 16 bytes, in the order of its text form.
     pub fn sid(&self) -> [u8; 16]
         ensures { result ≡ self.now.sid }
     {
         self.sid
     }
 
-    /// The event with this number.
+    /// Sets the transaction number.
     pub fn with_gno(mut self, gno: u64) -> Self
         ensures { result ≡ record self { gno = gno } }
     {
@@ -244,14 +249,14 @@ impl GtidEvent {
         self
     }
 
-    /// The number of the transaction within its source.
+    /// The transaction number (GNO).
     pub fn gno(&self) -> u64
         ensures { result ≡ self.now.gno }
     {
         self.gno
     }
 
-    /// The event with this `last_committed`.
+    /// Sets `last_committed`.
     pub fn with_last_committed(mut self, last_committed: u64) -> Self
         ensures { result ≡ record self { last_committed = last_committed } }
     {
@@ -259,14 +264,14 @@ impl GtidEvent {
         self
     }
 
-    /// The logical time of the last commit that the transaction depends on.
+    /// `last_committed`: the logical timestamp of the latest commit that the transaction depends on.
     pub fn last_committed(&self) -> u64
         ensures { result ≡ self.now.last_committed }
     {
         self.last_committed
     }
 
-    /// The event with this `sequence_number`.
+    /// Sets `sequence_number`.
     pub fn with_sequence_number(mut self, sequence_number: u64) -> Self
         ensures { result ≡ record self { sequence_number = sequence_number } }
     {
@@ -274,14 +279,14 @@ impl GtidEvent {
         self
     }
 
-    /// The logical time of the transaction's own commit.
+    /// `sequence_number`: the logical timestamp of the transaction's own commit.
     pub fn sequence_number(&self) -> u64
         ensures { result ≡ self.now.sequence_number }
     {
         self.sequence_number
     }
 
-    /// The event with this immediate commit time.
+    /// Sets the immediate commit timestamp, in microseconds since 1970-01-01 UTC.
     pub fn with_immediate_commit_timestamp(mut self, immediate_commit_timestamp: u64) -> Self
         ensures { result ≡ record self { immediate_commit_timestamp = immediate_commit_timestamp } }
     {
@@ -289,14 +294,14 @@ impl GtidEvent {
         self
     }
 
-    /// The time of the commit on the immediate server, in microseconds since 1970.
+    /// The commit timestamp on the immediate server, in microseconds since 1970-01-01 UTC.
     pub fn immediate_commit_timestamp(&self) -> u64
         ensures { result ≡ self.now.immediate_commit_timestamp }
     {
         self.immediate_commit_timestamp
     }
 
-    /// The event with this original commit time.
+    /// Sets the original commit timestamp, in microseconds since 1970-01-01 UTC.
     pub fn with_original_commit_timestamp(mut self, original_commit_timestamp: u64) -> Self
         ensures { result ≡ record self { original_commit_timestamp = original_commit_timestamp } }
     {
@@ -304,14 +309,14 @@ impl GtidEvent {
         self
     }
 
-    /// The time of the commit on the original server, in microseconds since 1970.
+    /// The commit timestamp on the original server, in microseconds since 1970-01-01 UTC.
     pub fn original_commit_timestamp(&self) -> u64
         ensures { result ≡ self.now.original_commit_timestamp }
     {
         self.original_commit_timestamp
     }
 
-    /// The event with this length.
+    /// Sets the transaction length in bytes.
     pub fn with_tx_length(mut self, tx_length: u64) -> Self
         ensures { result ≡ record self { tx_length = tx_length } }
     {
@@ -319,14 +324,14 @@ impl GtidEvent {
         self
     }
 
-    /// The length of the transaction in bytes.
+    /// The transaction length in bytes.
     pub fn tx_length(&self) -> u64
         ensures { result ≡ self.now.tx_length }
     {
         self.tx_length
     }
 
-    /// The event with this original version.
+    /// Sets the version of the original server.
     pub fn with_original_server_version(mut self, original_server_version: u32) -> Self
         ensures { result ≡ record self { original_server_version = original_server_version } }
     {
@@ -334,14 +339,14 @@ impl GtidEvent {
         self
     }
 
-    /// The version of the original server, 80036 for 8.0.36.
+    /// The version of the original server, for example 80036 for 8.0.36.
     pub fn original_server_version(&self) -> u32
         ensures { result ≡ self.now.original_server_version }
     {
         self.original_server_version
     }
 
-    /// The event with this immediate version.
+    /// Sets the version of the immediate server.
     pub fn with_immediate_server_version(mut self, immediate_server_version: u32) -> Self
         ensures { result ≡ record self { immediate_server_version = immediate_server_version } }
     {
@@ -349,14 +354,14 @@ impl GtidEvent {
         self
     }
 
-    /// The version of the immediate server, 80036 for 8.0.36.
+    /// The version of the immediate server, for example 80036 for 8.0.36.
     pub fn immediate_server_version(&self) -> u32
         ensures { result ≡ self.now.immediate_server_version }
     {
         self.immediate_server_version
     }
 
-    /// The same event once more.
+    /// A copy of the event.
     pub fn clone(&self, alloc: Global) -> Result<Self, Error>
         ensures ok { IfOk result (λ copy. copy ≡ self.now) }
         ensures memory { IsOkUnless result Memory }
@@ -382,7 +387,7 @@ impl GtidEvent {
         })
     }
 
-    /// The same event: it borrows nothing, so no memory is taken, and it is always Ok.
+    /// The same event. It borrows nothing, so no memory is allocated and the result is always Ok.
     pub fn into_owned(self, _alloc: Global) -> Result<GtidEvent, Error>
         ensures { result ≡ Ok self }
     {
@@ -397,9 +402,14 @@ fn is_untagged_type(raw_type: u8) -> bool
     matches!(raw_type, 33 | 34)
 }
 
-/// Without a tag under the raw types 33 and 34, with one under 42, and [`Error::WrongEventType`] under any other;
-/// [`Error::EndOfBody`] where the bytes end within a field, and [`Error::InvalidData`] for a field that isn't allowed. Memory is
-/// taken for a tag alone.
+/// The raw types 33 and 34 have a body without a tag, 42 one with a tag. Memory is allocated only for a tag.
+///
+/// # Errors
+///
+/// - [`Error::WrongEventType`] for any other raw type.
+/// - [`Error::EndOfBody`] if the bytes end within a field.
+/// - [`Error::InvalidData`] if a field has an invalid value.
+/// - [`Error::Memory`] if the allocation for a tag fails.
 impl<'de> MyDeserialize<'de> for GtidEvent {
     const SIZE: Option<usize> = None;
 
@@ -430,9 +440,13 @@ impl Put for GtidEvent {
 
     ghost refusal = { unwritable };
 
-    /// [`Error::Unwritable`] for the first field that the form can't hold. With a tag: a number, a `last_committed` or a
-    /// `sequence_number` from 2^63. Without one, with a clock code only: an immediate time from 2^55, an original time that
-    /// differs from 2^56, an immediate version from 2^31.
+    /// # Errors
+    ///
+    /// [`Error::Unwritable`] for the first of these fields, in this order:
+    ///
+    /// - with a tag: a GNO, a `last_committed` or a `sequence_number` of 2^63 or more;
+    /// - without a tag, and only with a clock code: an immediate timestamp of 2^55 or more, an original timestamp of
+    ///   2^56 or more that differs from it, an immediate version of 2^31 or more.
     fn check(&self) -> Result<(), Error> {
         match &self.tag {
             Some(_) => self.check_tagged(),

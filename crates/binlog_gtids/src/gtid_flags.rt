@@ -11,7 +11,7 @@ pub struct GtidFlags(u8);
 
 bitflag_items! {
     impl GtidFlags: u8 {
-        /// The transaction may have changes that are logged as statements.
+        /// The transaction may contain changes that are logged as statements.
         const MAY_HAVE_SBR = 0x1;
     }
 }

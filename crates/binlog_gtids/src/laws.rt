@@ -1,4 +1,4 @@
-//! Laws of the definitions, each a function whose contract says it.
+//! Laws of the definitions. Each is a function without effect whose contract states it.
 ghost use Rattle.std.specs.Prelude.{◌≡◌, ◌+◌, ◌<◌, ◌≤◌, ℕ, List, [], None, Some, length};
 ghost use Rattle.binlog_consts.specs.declared.version.BinlogVersion.{BinlogVersion};
 ghost use Rattle.binlog_description.specs.FormatDescription.{default_description};
@@ -24,9 +24,9 @@ use binlog_description::BinlogEvent;
 use binlog_wire::MyDeserialize;
 use bitflags::Flags;
 
-/// A GTID that was read, under whichever type of event, is its own normal form in the format in which it is written: so nothing
-/// of it is lost by writing it. The same holds of an anonymous GTID that was read without a tag; one that was read
-/// with a tag can't be written.
+/// A GTID that was read under any event type is its own normal form in the format in which it is written. So writing
+/// loses nothing of it. The same holds for an anonymous GTID that was read without a tag; one that was read with a tag
+/// can't be written.
 pub fn read_gtids_are_normal()
     ensures gtid { (raw : ℕ) (s : List ℕ) (event : GtidEvent) (r : List ℕ) → (gtid raw).spells s event r
         → (gtid (raw_type_of event)).normal event ≡ event }
@@ -34,31 +34,32 @@ pub fn read_gtids_are_normal()
         → event.0.tag ≡ None → (anonymous 34).normal event ≡ event }
 {}
 
-/// A GTID whose fields are in the ranges of their types, and that isn't refused, fits the form of its own type: so what is
-/// written of it reads as its normal form.
+/// A GTID whose fields are in the ranges of their types, and that writing doesn't refuse, fits the format of its event
+/// type. So its written bytes read back as its normal form.
 pub fn writable_gtids_fit()
     ensures { (event : GtidEvent) → InRange event → HasTag event.tag → unwritable event ≡ None → (gtid (raw_type_of event)).Fits event }
 {}
 
-/// An anonymous GTID whose fields are in the ranges of their types, and that isn't refused, fits the form of its type: so what
-/// is written of it reads as its normal form.
+/// An anonymous GTID whose fields are in the ranges of their types, and that writing doesn't refuse, fits the format
+/// of its event type. So its written bytes read back as its normal form.
 pub fn writable_anonymous_gtids_fit()
     ensures { (version : BinlogVersion) (event : AnonymousGtidEvent) → InRange event.0 → unwritable_anonymous event.0 ≡ None
         → (⟦<AnonymousGtidEvent as BinlogEvent<'static>>⟧.format (default_description version) (⟦<AnonymousGtidEvent as BinlogEvent<'static>>⟧.raw_type event)).Fits event }
 {}
 
-/// The payload size that is written counts n other bytes and its own; no smaller one does, however it is spelled.
+/// The written payload size counts n other bytes and its own encoding; no smaller number does, in any encoding.
 pub fn payload_sizes()
     ensures solves { (n : ℕ) → n + 2 < 16384 → Solves n (least_size n) }
     ensures least { (n : ℕ) (s : List ℕ) (size : ℕ) → IsVarlen s size [] → size ≡ n + length s → least_size n ≤ size }
 {}
 
-/// Entries of previous GTIDs whose parts are in the ranges of their types, and that aren't refused, fit their form.
+/// Entries of previous GTIDs whose parts are in the ranges of their types, and that writing doesn't refuse, fit their
+/// format.
 pub fn writable_sids_fit()
     ensures { (sids : List PreviousGtidsSid) → EachFits FitsSid sids → unwritable_sids sids ≡ None → sids_format.Fits sids }
 {}
 
-/// The raw types under which events are written: 42 for a GTID with a tag, and 33 for one without.
+/// The raw types under which events are written: 42 for a GTID with a tag, 33 for one without.
 pub fn raw_types()
     ensures tagged { (event : GtidEvent) (tag : List ℕ) → event.tag ≡ Some tag → ⟦<GtidEvent as BinlogEvent<'static>>⟧.raw_type event ≡ 42 }
     ensures untagged { (event : GtidEvent) → event.tag ≡ None → ⟦<GtidEvent as BinlogEvent<'static>>⟧.raw_type event ≡ 33 }
@@ -66,7 +67,7 @@ pub fn raw_types()
     ensures previous { (event : PreviousGtidsEvent) → ⟦<PreviousGtidsEvent<'static> as BinlogEvent<'static>>⟧.raw_type event ≡ 35 }
 {}
 
-/// The sizes of what always takes as many bytes: none of these does.
+/// No type of this crate has a fixed size.
 pub fn sizes()
     ensures gtid { ⟦<GtidEvent as MyDeserialize<'static>>⟧.size ≡ None }
     ensures anonymous { ⟦<AnonymousGtidEvent as MyDeserialize<'static>>⟧.size ≡ None }
@@ -79,14 +80,14 @@ pub fn sizes()
     prove!(matches!(PreviousGtidsSid::SIZE, None));
 }
 
-/// Previous GTIDs whose entries' parts are in the ranges of their types, and that aren't refused, fit the form of their type:
-/// so what is written of them reads as their normal form.
+/// Previous GTIDs whose entries' parts are in the ranges of their types, and that writing doesn't refuse, fit the
+/// format of their event type. So their written bytes read back as their normal form.
 pub fn writable_previous_gtids_fit()
     ensures { (version : BinlogVersion) (event : PreviousGtidsEvent) → EachFits FitsSid event.sids → unwritable_sids event.sids ≡ None
         → (⟦<PreviousGtidsEvent<'static> as BinlogEvent<'static>>⟧.format (default_description version) (⟦<PreviousGtidsEvent<'static> as BinlogEvent<'static>>⟧.raw_type event)).Fits event }
 {}
 
-/// The types of events.
+/// The event type of each body.
 pub fn event_types() {
     prove!(matches!(GtidEvent::EVENT_TYPE, EventType::GTID_EVENT));
     prove!(matches!(
@@ -117,7 +118,7 @@ pub fn flags() {
     prove!(GtidFlags::MAY_HAVE_SBR.bits() == 1);
 }
 
-/// The ids of the fields of a GTID with a tag.
+/// The field ids of a GTID with a tag.
 pub fn field_ids() {
     prove!(field_id::GTID_FLAGS == 0);
     prove!(field_id::SID == 1);

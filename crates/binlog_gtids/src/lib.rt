@@ -1,7 +1,8 @@
-//! The events of a MySQL binary log that say which transaction follows, by its global transaction identifier (GTID).
+//! The events with global transaction identifiers (GTIDs): GTID, ANONYMOUS_GTID and PREVIOUS_GTIDS; and sets of
+//! transaction numbers.
 //!
-//! Their bodies stand in `specs/`: `Gtids` for the body by its raw type, `Untagged` and `Tagged` for its two forms,
-//! `PreviousGtids` for the GTIDs of earlier files, and `Writable` for what can't be written.
+//! The formats are defined in `specs/`: `Gtids` (the body by its raw type), `Untagged` and `Tagged` (its two forms),
+//! `PreviousGtids`, and `Writable` (what can't be written).
 #![tactic(auto)]
 
 mod anonymous_gtid_event;

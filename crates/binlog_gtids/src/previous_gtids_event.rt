@@ -1,4 +1,4 @@
-//! The event of the GTIDs that earlier files hold.
+//! PREVIOUS_GTIDS_EVENT: the GTIDs of earlier files.
 ghost use Rattle.std.specs.Prelude.{◌≡◌, ◌++◌, ◌+◌, ◌≤◌, ⊤, min, length, refl, IfOk, IsOkUnless, OnOk, MatchOption, Ok, Err, ◌∷◌, [], vec_len, vec_capacity};
 ghost use Rattle.binlog_wire.specs.declared.error.Error.TheVariants.{Memory};
 ghost use Rattle.binlog_numbers.specs.Repeated.{each_written};
@@ -11,20 +11,25 @@ use binlog_numbers::Items;
 use binlog_wire::{Error, Field, IntRepr, LeU64, MyDeserialize, MySerialize, ParseBuf, reserve};
 use std::alloc::Global;
 
-/// The GTIDs of all transactions before this file, an entry for each source and tag.
+/// A PREVIOUS_GTIDS event, type 35: the GTIDs of all transactions in earlier files, with an entry for each source UUID
+/// and tag.
 ///
-/// Its body is a number of 8 bytes that says the form and how many entries there are, and these: a source's id, 16 bytes;
-/// in the form with tags a tag behind its length, of which 0 is none; how many intervals there are, 8 bytes; and these.
-/// A top byte of 0 in the first number is the form without tags, with the count in its other 56 bits; any other is the form
-/// with tags, with the count in bits 8 to 55. The form with tags is written only if an entry has a tag. See
-/// `Gtid_set::encode` in MySQL's source documentation.
+/// The body starts with a number (8) that encodes the form and the number of entries:
+///
+/// - A top byte of 0 is the form without tags; the other 56 bits are the number of entries.
+/// - Any other top byte is the form with tags; bits 8 to 55 are the number of entries.
+///
+/// Each entry is the source's UUID (16); in the form with tags a tag after its length, where a length of 0 is no tag;
+/// the number of intervals (8), and the intervals (16 each). The form with tags is written only if an entry has a tag.
+///
+/// Source: MySQL's source documentation, `Gtid_set::encode`.
 #[derive(Debug, PartialEq, Eq, Hash, Drop)]
 pub struct PreviousGtidsEvent<'a> {
     sids: Items<PreviousGtidsSid<'a>>,
 }
 
 impl<'a> PreviousGtidsEvent<'a> {
-    /// The event of these entries.
+    /// An event with these entries.
     pub fn new(sids: Vec<PreviousGtidsSid<'a>>) -> Self
         ensures { result ≡ record { sids = sids.entry.items } }
     {
@@ -33,14 +38,14 @@ impl<'a> PreviousGtidsEvent<'a> {
         }
     }
 
-    /// The entries, in their order.
+    /// The entries, in the order of the body.
     pub fn sids(&self) -> &[PreviousGtidsSid<'a>]
         ensures { result.now ≡ self.now.sids }
     {
         self.sids.as_slice()
     }
 
-    /// The same event, with its tags owned; refused by [`Error::Memory`] alone.
+    /// The same event with owned tags. The only error is [`Error::Memory`].
     pub fn into_owned(self, alloc: Global) -> Result<PreviousGtidsEvent<'static>, Error>
         ensures ok { IfOk result (λ owned. owned ≡ self.entry) }
         ensures memory { IsOkUnless result Memory }
@@ -55,7 +60,8 @@ impl<'a> PreviousGtidsEvent<'a> {
         })
     }
 
-    /// The same event once more: lent tags stay lent, and all else is copied. Refused by [`Error::Memory`] alone.
+    /// A copy of the event: borrowed tags stay borrowed, everything else is copied. The only error is
+    /// [`Error::Memory`].
     pub fn clone(&self, alloc: Global) -> Result<Self, Error>
         ensures ok { IfOk result (λ copy. copy ≡ self.now) }
         ensures memory { IsOkUnless result Memory }
@@ -71,7 +77,7 @@ impl<'a> PreviousGtidsEvent<'a> {
     }
 }
 
-/// Appends an entry; refused by [`Error::Memory`] alone.
+/// Appends an entry. The only error is [`Error::Memory`].
 fn push<'a>(sids: &mut Vec<PreviousGtidsSid<'a>>, sid: PreviousGtidsSid<'a>) -> Result<(), Error>
     ensures ok { OnOk result (sids.new.items ≡ sids.old.items ++ sid.entry ∷ []) }
     ensures memory { IsOkUnless result Memory }
@@ -89,7 +95,7 @@ fn has_tags(head: u64) -> bool
     head >= 1 << 56
 }
 
-/// How many entries a body has that begins with this number.
+/// The number of entries of a body that begins with this number.
 fn count_in(head: u64) -> u64
     ensures { result ≡ count_in head }
 {
@@ -100,8 +106,13 @@ fn count_in(head: u64) -> u64
     }
 }
 
-/// [`Error::EndOfBody`] where the bytes end within a field, [`Invalid::Tag`](binlog_wire::Invalid::Tag) for a text that is no
-/// tag, and [`Error::Memory`]: memory grows with the entries that are there, and not by their count.
+/// Memory grows with the entries that were read, not by the stated count.
+///
+/// # Errors
+///
+/// - [`Error::EndOfBody`] if the bytes end within a field.
+/// - [`Invalid::Tag`](binlog_wire::Invalid::Tag) if a text isn't a valid tag.
+/// - [`Error::Memory`] if an allocation fails.
 impl<'de> MyDeserialize<'de> for PreviousGtidsEvent<'de> {
     const SIZE: Option<usize> = None;
 
@@ -122,7 +133,7 @@ impl<'de> MyDeserialize<'de> for PreviousGtidsEvent<'de> {
     }
 }
 
-/// How many bytes the entries take in the form with tags or in the one without, and `usize::MAX` where it would be more.
+/// The number of bytes written for the entries, with or without tags; `usize::MAX` if it would be more.
 fn sids_len(sids: &[PreviousGtidsSid<'_>], with_tags: bool) -> usize
     ensures { result ≡ min (length (each_written (sid_written with_tags) sids.now)) 18446744073709551615 }
 {
@@ -133,7 +144,7 @@ fn sids_len(sids: &[PreviousGtidsSid<'_>], with_tags: bool) -> usize
     len
 }
 
-/// Appends the entries in the form with tags or in the one without, where `buf` has room for them.
+/// Appends the entries, with or without tags. `buf` has room for them.
 fn put_sids(sids: &[PreviousGtidsSid<'_>], with_tags: bool, buf: &mut Vec<u8>)
     requires { vec_len buf.old + length (each_written (sid_written with_tags) sids.now) ≤ vec_capacity buf.old }
     ensures items { buf.new.items ≡ buf.old.items ++ each_written (sid_written with_tags) sids.now }
@@ -146,15 +157,15 @@ fn put_sids(sids: &[PreviousGtidsSid<'_>], with_tags: bool, buf: &mut Vec<u8>)
 }
 
 impl PreviousGtidsEvent<'_> {
-    /// Whether an entry has a tag.
+    /// Whether any entry has a tag.
     fn is_tagged(&self) -> bool
         ensures { result ≡ any_tagged self.now.sids }
     {
         self.sids.as_slice().iter().any(|sid| sid.tag().is_some())
     }
 
-    /// The first number of the body: [`Error::Unwritable`] for 2^48 entries or more of which one has a tag, and for 2^56 or
-    /// more without.
+    /// The first number of the body. [`Error::Unwritable`] if there are 2^48 or more entries and one has a tag, or
+    /// 2^56 or more without tags.
     fn head(&self) -> Result<u64, Error>
         ensures { MatchOption (unwritable_sids self.now.sids) (result ≡ Ok (first_number (any_tagged self.now.sids) (length self.now.sids))) (λ why. result ≡ Err why) }
     {
@@ -171,7 +182,7 @@ impl PreviousGtidsEvent<'_> {
         Ok(count)
     }
 
-    /// How many bytes the body takes, and `usize::MAX` where it would be more.
+    /// The length of the body; `usize::MAX` if it would be more.
     fn written_len(&self) -> usize
         ensures { result ≡ min (length (sids_written self.now.sids)) 18446744073709551615 }
     {

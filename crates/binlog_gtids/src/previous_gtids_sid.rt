@@ -1,4 +1,4 @@
-//! An entry of the GTIDs that earlier files hold.
+//! An entry of the GTIDs of earlier files.
 ghost use Rattle.std.specs.Prelude.{◌≡◌, ◌++◌, ◌+◌, ◌≤◌, ⊤, true, min, length, option_copied, IfOk, IsOkUnless, vec_len, vec_capacity};
 ghost use Rattle.binlog_wire.specs.declared.error.Error.TheVariants.{Memory};
 ghost use Rattle.binlog_wire.specs.Reading.{Gives};
@@ -11,14 +11,14 @@ use binlog_numbers::{GnoInterval, Items, Tag, Varlen, read_varlen_text, varlen_u
 use binlog_wire::{Error, IntRepr, LeU64, MyDeserialize, ParseBuf, Put};
 use std::alloc::Global;
 
-/// How many bytes an entry takes beside its tag and its intervals.
+/// The number of bytes of an entry without its tag and its intervals.
 const PLAIN_LEN: usize = 24;
 
-/// How many bytes an interval takes.
+/// The number of bytes of an interval.
 const INTERVAL_LEN: usize = 16;
 
-/// The GTIDs of one source: its id, its UUID as 16 bytes; a tag, or none; and the numbers of its transactions, in
-/// intervals. Nothing is demanded of the intervals.
+/// The GTIDs of one source and tag: the source's UUID (16 bytes), an optional tag, and the transaction numbers as
+/// intervals. The intervals may be in any order, and may overlap or be empty.
 #[derive(Debug, PartialEq, Eq, Hash, Drop)]
 pub struct PreviousGtidsSid<'a> {
     uuid: [u8; 16],
@@ -27,7 +27,7 @@ pub struct PreviousGtidsSid<'a> {
 }
 
 impl<'a> PreviousGtidsSid<'a> {
-    /// An entry of these parts.
+    /// An entry with these parts.
     pub fn new(uuid: [u8; 16], tag: Option<Tag<'a>>, intervals: Vec<GnoInterval>) -> Self
         ensures { result ≡ record { uuid = uuid; tag = tag.entry; intervals = intervals.items } }
     {
@@ -38,28 +38,28 @@ impl<'a> PreviousGtidsSid<'a> {
         }
     }
 
-    /// The source's id.
+    /// The source's UUID.
     pub fn uuid(&self) -> [u8; 16]
         ensures { result ≡ self.now.uuid }
     {
         self.uuid
     }
 
-    /// The tag, if there is one.
+    /// The tag, if any.
     pub fn tag(&self) -> Option<&Tag<'a>>
         ensures { option_copied result ≡ self.now.tag }
     {
         self.tag.as_ref()
     }
 
-    /// The intervals, in their order.
+    /// The intervals, in the order of the body.
     pub fn intervals(&self) -> &[GnoInterval]
         ensures { result.now ≡ self.now.intervals }
     {
         self.intervals.as_slice()
     }
 
-    /// The same entry, with its tag owned; refused by [`Error::Memory`] alone.
+    /// The same entry with an owned tag. The only error is [`Error::Memory`].
     pub fn into_owned(self, alloc: Global) -> Result<PreviousGtidsSid<'static>, Error>
         ensures ok { IfOk result (λ owned. owned ≡ self.entry) }
         ensures memory { IsOkUnless result Memory }
@@ -80,7 +80,8 @@ impl<'a> PreviousGtidsSid<'a> {
         })
     }
 
-    /// The same entry once more: a lent tag stays lent, and all else is copied. Refused by [`Error::Memory`] alone.
+    /// A copy of the entry: a borrowed tag stays borrowed, everything else is copied. The only error is
+    /// [`Error::Memory`].
     pub fn clone(&self, alloc: Global) -> Result<Self, Error>
         ensures ok { IfOk result (λ copy. copy ≡ self.now) }
         ensures memory { IsOkUnless result Memory }
@@ -98,7 +99,7 @@ impl<'a> PreviousGtidsSid<'a> {
     }
 }
 
-/// Takes a tag behind its length off the front of `buf`; none where the length is 0.
+/// Reads a tag after its length from the start of `buf`; None if the length is 0.
 fn read_tag<'a>(buf: &mut ParseBuf<'a>) -> Result<Option<Tag<'a>>, Error>
     ensures { Gives ⊥ buf.new result (tag_if_any.reads buf.old) }
 {
@@ -109,14 +110,14 @@ fn read_tag<'a>(buf: &mut ParseBuf<'a>) -> Result<Option<Tag<'a>>, Error>
     Ok(Some(Tag::from_bytes(text)?))
 }
 
-/// Takes a tag, or none, off the front of `buf`, in the form with tags; in the one without, nothing.
+/// Reads an optional tag from the start of `buf` in the form with tags; reads nothing in the form without.
 fn read_tag_in<'a>(with_tags: bool, buf: &mut ParseBuf<'a>) -> Result<Option<Tag<'a>>, Error>
     ensures { Gives ⊥ buf.new result ((tag_in with_tags).reads buf.old) }
 {
     if with_tags { read_tag(buf) } else { Ok(None) }
 }
 
-/// Takes a count and as many intervals off the front of `buf`.
+/// Reads the number of intervals and the intervals from the start of `buf`.
 fn read_intervals(alloc: Global, buf: &mut ParseBuf<'_>) -> Result<Items<GnoInterval>, Error>
     ensures { Gives ⊤ buf.new result (intervals.reads buf.old) }
 {
@@ -124,9 +125,13 @@ fn read_intervals(alloc: Global, buf: &mut ParseBuf<'_>) -> Result<Items<GnoInte
     Items::deserialize(alloc, (count, ()), buf)
 }
 
-/// An entry of the form with tags, or of the one without, as the context says. [`Error::EndOfBody`] where the bytes end
-/// within a field or an interval, [`Invalid::Tag`](binlog_wire::Invalid::Tag) for a text that is no tag, and
-/// [`Error::Memory`].
+/// The context says whether the entry is of the form with tags.
+///
+/// # Errors
+///
+/// - [`Error::EndOfBody`] if the bytes end within a field or an interval.
+/// - [`Invalid::Tag`](binlog_wire::Invalid::Tag) if a text isn't a valid tag.
+/// - [`Error::Memory`] if an allocation fails.
 impl<'de> MyDeserialize<'de> for PreviousGtidsSid<'de> {
     const SIZE: Option<usize> = None;
 
@@ -148,7 +153,7 @@ impl<'de> MyDeserialize<'de> for PreviousGtidsSid<'de> {
     }
 }
 
-/// How many bytes a tag takes in the form with tags, or in the one without.
+/// The number of bytes written for an optional tag, in the form with tags or without.
 fn tag_len(tag: &Option<Tag<'_>>, with_tags: bool) -> usize
     ensures count { result ≡ length (tag_written with_tags tag.now) }
     ensures small { result ≤ 41 }
@@ -163,7 +168,7 @@ fn tag_len(tag: &Option<Tag<'_>>, with_tags: bool) -> usize
     }
 }
 
-/// Appends a tag behind its length, where `buf` has room for them; the length is 0 where there is none.
+/// Appends a tag after its length; the length is 0 for no tag. `buf` has room for them.
 fn put_tag(tag: &Option<Tag<'_>>, buf: &mut Vec<u8>)
     requires { vec_len buf.old + length (tag_written true tag.now) ≤ vec_capacity buf.old }
     ensures items { buf.new.items ≡ buf.old.items ++ tag_written true tag.now }
@@ -180,7 +185,7 @@ fn put_tag(tag: &Option<Tag<'_>>, buf: &mut Vec<u8>)
     }
 }
 
-/// Appends intervals, where `buf` has room for them.
+/// Appends the intervals. `buf` has room for them.
 fn put_intervals(intervals: &[GnoInterval], buf: &mut Vec<u8>)
     requires { vec_len buf.old + length (each_written gno_interval.written intervals.now) ≤ vec_capacity buf.old }
     ensures items { buf.new.items ≡ buf.old.items ++ each_written gno_interval.written intervals.now }
@@ -193,7 +198,7 @@ fn put_intervals(intervals: &[GnoInterval], buf: &mut Vec<u8>)
 }
 
 impl PreviousGtidsSid<'_> {
-    /// How many bytes the entry takes in the form with tags or in the one without, and `usize::MAX` where it would be more.
+    /// The number of bytes written for the entry, with or without tags; `usize::MAX` if it would be more.
     pub(crate) fn written_len(&self, with_tags: bool) -> usize
         ensures { result ≡ min (length (sid_written with_tags self.now)) 18446744073709551615 }
     {
@@ -201,7 +206,7 @@ impl PreviousGtidsSid<'_> {
         intervals.saturating_add(PLAIN_LEN + tag_len(&self.tag, with_tags))
     }
 
-    /// Appends the entry in the form with tags or in the one without, where `buf` has room for it.
+    /// Appends the entry, with or without tags. `buf` has room for it.
     pub(crate) fn put(&self, with_tags: bool, buf: &mut Vec<u8>)
         requires { vec_len buf.old + length (sid_written with_tags self.now) ≤ vec_capacity buf.old }
         ensures items { buf.new.items ≡ buf.old.items ++ sid_written with_tags self.now }

@@ -12,8 +12,7 @@ use binlog_numbers::Varlen;
 use binlog_wire::{Error, IntRepr, Invalid, ParseBuf};
 use std::alloc::Global;
 
-/// Takes the serialization version, which is 2, the size of the whole body, and the greatest id of a field that may not be
-/// ignored.
+/// Reads the serialization version, which is 2, the size of the whole body, and the last non-ignorable field id.
 fn read_head(buf: &mut ParseBuf<'_>) -> Result<(u64, u64), Error>
     ensures { MatchResult result (λ sizes. head.reads buf.old ≡ Ok ((2, sizes), buf.new)) (λ e. Refuses ⊥ e (head.reads buf.old)) }
 {
@@ -26,7 +25,7 @@ fn read_head(buf: &mut ParseBuf<'_>) -> Result<(u64, u64), Error>
     Ok((size, last_id))
 }
 
-/// Takes what the size in the head of a body counts: the greatest id that may not be ignored, and the bytes behind it.
+/// Reads what the payload size counts: the last non-ignorable field id, and the bytes after it.
 fn read_payload<'a>(buf: &mut ParseBuf<'a>) -> Result<(u64, &'a [u8]), Error>
     ensures { MatchResult result (λ found. (h : Head) × (payload_at buf.old ≡ Ok ((h, found.1.now), buf.new)) × (h.1.1 ≡ found.0)) (λ e. Refuses ⊥ e (payload_at buf.old)) }
 {
@@ -45,7 +44,8 @@ fn read_payload<'a>(buf: &mut ParseBuf<'a>) -> Result<(u64, &'a [u8]), Error>
     Ok((last_id, body))
 }
 
-/// The event of these fields; [`Invalid::MissingTag`] where there is no tag, and [`Error::Memory`].
+/// The event with these fields. [`Invalid::MissingTag`] if there is no tag; [`Error::Memory`] if the allocation for it
+/// fails.
 fn event_of(alloc: Global, fields: TaggedFields<'_>) -> Result<GtidEvent, Error>
     ensures { Gives ⊤ [] result (meant (event_known fields.entry) []) }
 {
@@ -86,7 +86,7 @@ fn event_of(alloc: Global, fields: TaggedFields<'_>) -> Result<GtidEvent, Error>
     })
 }
 
-/// Takes a GTID with a tag.
+/// Reads a GTID with a tag.
 pub(crate) fn read_tagged(alloc: Global, buf: &mut ParseBuf<'_>) -> Result<GtidEvent, Error>
     ensures { Gives ⊤ buf.new result (tagged.reads buf.old) }
 {

@@ -1,4 +1,4 @@
-//! The fields of a GTID with a tag, as they are read.
+//! The fields of a GTID with a tag, while they are read.
 ghost use Rattle.std.specs.Prelude.{◌≡◌, ◌≤◌, ◌<◌, refl, ◌⊎◌, List, [], Ok, true, false, length, MatchOption, MatchResult, IfOk};
 ghost use Rattle.binlog_wire.specs.declared.error.Error.TheVariants.{InvalidData};
 ghost use Rattle.binlog_wire.specs.Reading.{Gives, Refuses};
@@ -15,10 +15,10 @@ use crate::field_id;
 use binlog_numbers::{Tag, Varlen, read_varlen_text};
 use binlog_wire::{Error, IntRepr, Invalid, ParseBuf};
 
-/// The greatest version of a server.
+/// The greatest server version.
 const MAX_VERSION: u64 = 4_294_967_295;
 
-/// The fields that are read so far; of a repeated one the last.
+/// The fields that were read so far. If a field is repeated, the last one counts.
 #[derive(Drop)]
 pub(crate) struct TaggedFields<'a> {
     pub(crate) flags: Option<u8>,
@@ -35,7 +35,7 @@ pub(crate) struct TaggedFields<'a> {
     pub(crate) commit_group_ticket: Option<u64>,
 }
 
-/// Takes a number of at most `max`, the value of the field of this id.
+/// Reads a number of at most `max`: the value of the field with this id.
 fn read_limited(id: u64, max: u64, buf: &mut ParseBuf<'_>) -> Result<u64, Error>
     ensures number { Gives ⊥ buf.new result ((at_most id max).reads buf.old) }
     ensures limit { IfOk result (λ number. number ≤ max) }
@@ -47,7 +47,7 @@ fn read_limited(id: u64, max: u64, buf: &mut ParseBuf<'_>) -> Result<u64, Error>
     Ok(number)
 }
 
-/// Takes a signed number that isn't negative, the value of the field of this id.
+/// Reads a signed number that isn't negative: the value of the field with this id.
 fn read_not_negative(id: u64, buf: &mut ParseBuf<'_>) -> Result<u64, Error>
     ensures { Gives ⊥ buf.new result ((not_negative id).reads buf.old) }
 {
@@ -58,14 +58,14 @@ fn read_not_negative(id: u64, buf: &mut ParseBuf<'_>) -> Result<u64, Error>
     Ok(number / 2)
 }
 
-/// Takes a byte of a source's id.
+/// Reads a byte of a source's UUID.
 fn read_sid_byte(buf: &mut ParseBuf<'_>) -> Result<u8, Error>
     ensures { Gives ⊥ buf.new result ((at_most 1 255).reads buf.old) }
 {
     Ok(read_limited(field_id::SID, 255, buf)? as u8)
 }
 
-/// Takes a source's id, each byte a number.
+/// Reads a source's UUID, whose bytes are encoded as one number each.
 fn read_sid_bytes(buf: &mut ParseBuf<'_>) -> Result<[u8; 16], Error>
     ensures { Gives ⊥ buf.new result (times_at 16 (at_most 1 255).reads buf.old) }
 {
@@ -76,7 +76,7 @@ fn read_sid_bytes(buf: &mut ParseBuf<'_>) -> Result<[u8; 16], Error>
     Ok(sid)
 }
 
-/// Takes a tag behind its length.
+/// Reads a tag after its length.
 fn read_tag<'a>(buf: &mut ParseBuf<'a>) -> Result<Tag<'a>, Error>
     ensures { Gives ⊥ buf.new result ((tested varlen_text (λ _. refl) is_tag kinds.Tag).reads buf.old) }
 {
@@ -84,8 +84,8 @@ fn read_tag<'a>(buf: &mut ParseBuf<'a>) -> Result<Tag<'a>, Error>
     Tag::from_bytes(text)
 }
 
-/// Takes the id of the next field, or none where the fields end: no byte is left, or the id of a field that isn't known and
-/// may be ignored comes next.
+/// Reads the id of the next field. None at the end of the fields: no byte is left, or the next id is unknown and may
+/// be ignored.
 #[inline]
 fn next_id(last_id: u64, buf: &mut ParseBuf<'_>) -> Result<Option<u64>, Error>
     ensures { MatchResult result
@@ -102,7 +102,7 @@ fn next_id(last_id: u64, buf: &mut ParseBuf<'_>) -> Result<Option<u64>, Error>
     Ok(Some(id))
 }
 
-/// Takes the value of the field of this id, 0 to 11.
+/// Reads the value of the field with this id, 0 to 11.
 fn read_value<'a>(
     id: u64,
     fields: &mut TaggedFields<'a>,
@@ -151,7 +151,7 @@ fn read_value<'a>(
 }
 
 impl<'a> TaggedFields<'a> {
-    /// No field.
+    /// No fields.
     fn none() -> Self
         ensures { result ≡ no_fields }
     {
@@ -171,7 +171,7 @@ impl<'a> TaggedFields<'a> {
         }
     }
 
-    /// The fields in these bytes, up to their end, of a body that states this last id.
+    /// Reads the fields up to the end of these bytes, for a body with this last non-ignorable field id.
     pub(crate) fn read(last_id: u64, body: &'a [u8]) -> Result<Self, Error>
         ensures { MatchResult result
             (λ known. (es : List Entry) × ((fields last_id).reads body.now ≡ Ok (es, [])) × (known ≡ taken es no_fields))

@@ -12,10 +12,10 @@ use crate::gtid_event::GtidEvent;
 use binlog_numbers::{Tag, Varlen, varlen_uint_size};
 use binlog_wire::{Error, Field, IntRepr};
 
-/// The greatest id of a field that may not be ignored, as it is written.
+/// The last non-ignorable field id that is written.
 const LAST_ID: u64 = 0;
 
-/// The least size that counts these bytes, the version, the last id, and its own bytes.
+/// The least payload size that counts these bytes, the version, the last non-ignorable field id, and its own bytes.
 fn payload_size(fields_len: usize) -> u64
     requires { fields_len ≤ 900 }
     ensures size { result ≡ least_size (2 + fields_len) }
@@ -29,7 +29,7 @@ fn payload_size(fields_len: usize) -> u64
     }
 }
 
-/// How many bytes a field takes whose value is a number.
+/// The number of bytes written for a field with a number.
 fn number_len(id: u64, number: u64) -> usize
     ensures count { result ≡ length (number_field id number) }
     ensures small { result ≤ 18 }
@@ -37,7 +37,7 @@ fn number_len(id: u64, number: u64) -> usize
     varlen_uint_size(id) + varlen_uint_size(number)
 }
 
-/// How many bytes a field takes whose value is a signed number.
+/// The number of bytes written for a field with a signed number.
 fn signed_len(id: u64, number: u64) -> usize
     ensures count { result ≡ length (number_field id (2 * number)) }
     ensures small { result ≤ 18 }
@@ -49,7 +49,7 @@ fn signed_len(id: u64, number: u64) -> usize
     }
 }
 
-/// How many bytes a field takes that is written only where its number isn't the usual one.
+/// The number of bytes written for a field that is left out if it has the default number.
 fn changed_len(id: u64, usual: u64, number: u64) -> usize
     ensures count { result ≡ length (changed_field id usual number) }
     ensures small { result ≤ 18 }
@@ -61,7 +61,7 @@ fn changed_len(id: u64, usual: u64, number: u64) -> usize
     }
 }
 
-/// How many bytes a source's id takes, a number for each byte.
+/// The number of bytes written for a source's UUID, one number for each byte.
 fn sid_len(sid: &[u8]) -> usize
     requires { length sid.now ≡ 16 }
     ensures count { result ≡ length (sid_field sid.now) }
@@ -74,7 +74,7 @@ fn sid_len(sid: &[u8]) -> usize
     len
 }
 
-/// How many bytes a tag takes.
+/// The number of bytes written for a tag.
 fn tag_len(tag: &Tag<'_>) -> usize
     ensures count { result ≡ length (tag_field tag.now) }
     ensures small { result ≤ 50 }
@@ -83,7 +83,7 @@ fn tag_len(tag: &Tag<'_>) -> usize
     number_len(field_id::TAG, len as u64) + len
 }
 
-/// Appends a field whose value is a number, where `buf` has room for it.
+/// Appends a field with a number. `buf` has room for it.
 fn put_number(id: u64, number: u64, buf: &mut Vec<u8>)
     requires { vec_len buf.old + length (number_field id number) ≤ vec_capacity buf.old }
     ensures items { buf.new.items ≡ buf.old.items ++ number_field id number }
@@ -94,7 +94,7 @@ fn put_number(id: u64, number: u64, buf: &mut Vec<u8>)
     Varlen::put(number, buf);
 }
 
-/// Appends a field unless its number is the usual one, where `buf` has room for it.
+/// Appends a field unless it has the default number. `buf` has room for it.
 fn put_changed(id: u64, usual: u64, number: u64, buf: &mut Vec<u8>)
     requires { vec_len buf.old + length (changed_field id usual number) ≤ vec_capacity buf.old }
     ensures items { buf.new.items ≡ buf.old.items ++ changed_field id usual number }
@@ -106,7 +106,7 @@ fn put_changed(id: u64, usual: u64, number: u64, buf: &mut Vec<u8>)
     }
 }
 
-/// Appends each byte as a number, where `buf` has room for them.
+/// Appends each byte as a number. `buf` has room for them.
 fn put_bytes(bytes: &[u8], buf: &mut Vec<u8>)
     requires { vec_len buf.old + length (each_written varlen_written bytes.now) ≤ vec_capacity buf.old }
     ensures items { buf.new.items ≡ buf.old.items ++ each_written varlen_written bytes.now }
@@ -118,7 +118,7 @@ fn put_bytes(bytes: &[u8], buf: &mut Vec<u8>)
     }
 }
 
-/// Appends a source's id, where `buf` has room for it.
+/// Appends a source's UUID. `buf` has room for it.
 fn put_sid(sid: &[u8], buf: &mut Vec<u8>)
     requires { vec_len buf.old + length (sid_field sid.now) ≤ vec_capacity buf.old }
     ensures items { buf.new.items ≡ buf.old.items ++ sid_field sid.now }
@@ -129,7 +129,7 @@ fn put_sid(sid: &[u8], buf: &mut Vec<u8>)
     put_bytes(sid, buf);
 }
 
-/// Appends a tag, where `buf` has room for it.
+/// Appends a tag. `buf` has room for it.
 fn put_tag(tag: &Tag<'_>, buf: &mut Vec<u8>)
     requires { vec_len buf.old + length (tag_field tag.now) ≤ vec_capacity buf.old }
     ensures items { buf.new.items ≡ buf.old.items ++ tag_field tag.now }
@@ -142,7 +142,8 @@ fn put_tag(tag: &Tag<'_>, buf: &mut Vec<u8>)
 }
 
 impl GtidEvent {
-    /// [`Error::Unwritable`] for the first in this order of a number, a `last_committed` and a `sequence_number` from 2^63.
+    /// [`Error::Unwritable`] for the first, in this order, of a GNO, a `last_committed` and a `sequence_number` of
+    /// 2^63 or more.
     pub(crate) fn check_tagged(&self) -> Result<(), Error>
         ensures { MatchOption (unwritable_tagged self.now) (IsOk result) (λ why. result ≡ Err why) }
     {
@@ -158,7 +159,7 @@ impl GtidEvent {
         Ok(())
     }
 
-    /// How many bytes the fields up to the logical times take.
+    /// The number of bytes written for the fields up to the logical timestamps.
     fn first_len(&self, tag: &Tag<'_>) -> usize
         ensures count { result ≡ length (first_fields self.now tag.now) }
         ensures small { result ≤ 275 }
@@ -171,7 +172,7 @@ impl GtidEvent {
             + signed_len(field_id::SEQUENCE_NUMBER, self.sequence_number)
     }
 
-    /// How many bytes the fields from the commit times on take.
+    /// The number of bytes written for the fields from the commit timestamps on.
     fn last_len(&self) -> usize
         ensures count { result ≡ length (last_fields self.now) }
         ensures small { result ≤ 108 }
@@ -200,7 +201,7 @@ impl GtidEvent {
             )
     }
 
-    /// Appends the fields up to the logical times, where `buf` has room for them.
+    /// Appends the fields up to the logical timestamps. `buf` has room for them.
     fn put_first(&self, tag: &Tag<'_>, buf: &mut Vec<u8>)
         requires gno { self.now.gno < 9223372036854775808 }
         requires last_committed { self.now.last_committed < 9223372036854775808 }
@@ -218,7 +219,7 @@ impl GtidEvent {
         put_number(field_id::SEQUENCE_NUMBER, 2 * self.sequence_number, buf);
     }
 
-    /// Appends the fields from the commit times on, where `buf` has room for them.
+    /// Appends the fields from the commit timestamps on. `buf` has room for them.
     fn put_last(&self, buf: &mut Vec<u8>)
         requires room { vec_len buf.old + length (last_fields self.now) ≤ vec_capacity buf.old }
         ensures items { buf.new.items ≡ buf.old.items ++ last_fields self.now }
@@ -252,7 +253,7 @@ impl GtidEvent {
         );
     }
 
-    /// How many bytes the body takes with this tag: the payload size that is stated.
+    /// The length of the body with this tag, which is the payload size that it states.
     pub(crate) fn tagged_len(&self, tag: &Tag<'_>) -> u64
         requires { self.now.tag ≡ Some tag.now }
         ensures size { result ≡ written_size self.now }
@@ -262,7 +263,7 @@ impl GtidEvent {
         payload_size(self.first_len(tag) + self.last_len())
     }
 
-    /// Appends the body with this tag, where `buf` has room for it.
+    /// Appends the body with this tag. `buf` has room for it.
     pub(crate) fn put_tagged(&self, tag: &Tag<'_>, buf: &mut Vec<u8>)
         requires tag { self.now.tag ≡ Some tag.now }
         requires gno { self.now.gno < 9223372036854775808 }

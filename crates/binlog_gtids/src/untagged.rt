@@ -13,10 +13,10 @@ use crate::sid::read_sid;
 use binlog_numbers::LenEnc;
 use binlog_wire::{Error, Field, IntRepr, LeU64, ParseBuf};
 
-/// How many bytes stand before the clock code.
+/// The number of bytes before the clock code.
 const HEAD_LEN: usize = 25;
 
-/// Takes a GTID without its clock.
+/// Reads a GTID up to its clock code.
 fn read_head(buf: &mut ParseBuf<'_>) -> Result<GtidEvent, Error>
     ensures { Gives ⊥ buf.new result (read_as without_clock (head.reads buf.old)) }
 {
@@ -43,7 +43,7 @@ fn read_head(buf: &mut ParseBuf<'_>) -> Result<GtidEvent, Error>
     })
 }
 
-/// Takes what stands behind the clock code of this GTID.
+/// Reads the fields after the clock code of this GTID.
 fn read_clock(event: GtidEvent, buf: &mut ParseBuf<'_>) -> Result<GtidEvent, Error>
     ensures { Gives ⊥ buf.new result (read_as (with_clock event) (clock.reads buf.old)) }
 {
@@ -69,7 +69,7 @@ fn read_clock(event: GtidEvent, buf: &mut ParseBuf<'_>) -> Result<GtidEvent, Err
     })
 }
 
-/// Takes a GTID without a tag.
+/// Reads a GTID without a tag.
 pub(crate) fn read_untagged(buf: &mut ParseBuf<'_>) -> Result<GtidEvent, Error>
     ensures { Gives ⊥ buf.new result (untagged.reads buf.old) }
 {
@@ -84,7 +84,7 @@ pub(crate) fn read_untagged(buf: &mut ParseBuf<'_>) -> Result<GtidEvent, Error>
 }
 
 impl GtidEvent {
-    /// Appends flags, source and number, where `buf` has room for them.
+    /// Appends flags, source UUID and GNO. `buf` has room for them.
     fn put_head(&self, buf: &mut Vec<u8>)
         requires { vec_len buf.old + 25 ≤ vec_capacity buf.old }
         ensures items { buf.new.items ≡ buf.old.items ++ head.written (self.now.flags, (self.now.sid, self.now.gno)) }
@@ -96,7 +96,7 @@ impl GtidEvent {
         LeU64::put(self.gno, buf);
     }
 
-    /// How many bytes the clock takes.
+    /// The number of bytes written for the clock code and the fields after it.
     fn clock_len(&self) -> usize
         ensures count { result ≡ length (clock.written (clock_of self.now)) }
         ensures small { result ≤ 47 }
@@ -108,7 +108,7 @@ impl GtidEvent {
             + versions_len(self.immediate_server_version, self.original_server_version)
     }
 
-    /// Appends the clock, which can be written, where `buf` has room for it.
+    /// Appends the clock code and the fields after it, which can be written. `buf` has room for them.
     fn put_clock(&self, buf: &mut Vec<u8>)
         requires time { self.now.immediate_commit_timestamp < 36028797018963968 }
         requires version { self.now.immediate_server_version < 2147483648 }
@@ -131,8 +131,8 @@ impl GtidEvent {
         );
     }
 
-    /// [`Error::Unwritable`], with a clock code only: the first in this order of an immediate time from 2^55, an original
-    /// time that differs from 2^56, an immediate version from 2^31.
+    /// [`Error::Unwritable`], only with a clock code, for the first of these in this order: an immediate timestamp of
+    /// 2^55 or more, an original timestamp of 2^56 or more that differs from it, an immediate version of 2^31 or more.
     pub(crate) fn check_untagged(&self) -> Result<(), Error>
         ensures { MatchOption (unwritable_untagged self.now) (IsOk result) (λ why. result ≡ Err why) }
     {
@@ -153,7 +153,7 @@ impl GtidEvent {
         Ok(())
     }
 
-    /// How many bytes the body takes without a tag.
+    /// The length of the body without a tag.
     pub(crate) fn untagged_len(&self) -> usize
         ensures { result ≡ length (untagged.written self.now) }
     {
@@ -164,7 +164,7 @@ impl GtidEvent {
         }
     }
 
-    /// Appends the body without a tag, where `buf` has room for it.
+    /// Appends the body without a tag. `buf` has room for it.
     pub(crate) fn put_untagged(&self, buf: &mut Vec<u8>)
         requires writable { unwritable_untagged self.now ≡ None }
         requires room { vec_len buf.old + length (untagged.written self.now) ≤ vec_capacity buf.old }

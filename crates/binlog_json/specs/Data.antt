@@ -1,4 +1,4 @@
--- The data of an event.
+-- The `data` member of an event.
 use Rattle.std.specs.Prelude.{ℕ, List, [], ◌∷◌, codes, Result, Ok, Err}
 use Rattle.json.specs.Token.{Token, begin_object, end_object, null, string}
 use Rattle.binlog_wire.specs.Reading.{Read, Refusal, ends, invalid, other_type}
@@ -15,19 +15,19 @@ use Rattle.binlog_json.specs.Statements.{query_object, execute_load_query_object
 use Rattle.binlog_json.specs.Gtids.{gtid_object, previous_gtids_object}
 use Rattle.binlog_json.specs.Rows.{table_map_object, rows_object}
 
--- data without anything
+-- The object of data without a body.
 abbrev pub empty_object : List Token
 empty_object = begin_object ∷ end_object ∷ []
 
--- bytes that are kept as they stand
+-- The object of a body that isn't parsed.
 abbrev pub raw_object : List ℕ → List Token
 raw_object bytes = object (member (codes "raw") (bytes_value bytes))
 
--- the number of an error in the place of a value
+-- An object with an error number, in place of a value.
 abbrev pub error_object : ℕ → List Token
 error_object n = object (member (codes "error") (number_value n))
 
--- the object of event data
+-- The object of event data.
 abbrev pub data_object : EventData → List Token
 data_object variants.UnknownEvent = empty_object
 data_object (variants.StartEventV3 s) = raw_object s
@@ -65,24 +65,24 @@ data_object (variants.ViewChangeEvent s) = raw_object s
 data_object (variants.XaPrepareLogEvent s) = raw_object s
 data_object (variants.TransactionPayloadEvent s) = raw_object s
 
--- the number of the error for a refusal
+-- The error number of a refusal.
 abbrev pub refusal_number : Refusal → ℕ
 refusal_number ends = 5
 refusal_number (invalid why) = 6
 refusal_number (other_type number) = 8
 
--- the object of a value that all bytes are, or the number of the error
+-- The object of a value that all the bytes encode, or the error number.
 abbrev pub read_value : Read EventData → List Token
 read_value (Ok (v, [])) = data_object v
 read_value (Ok (v, b ∷ rest)) = error_object 7
 read_value (Err why) = error_object (refusal_number why)
 
--- the name of a type, and null for one that isn't known
+-- The name of an event type; null for an unknown type.
 abbrev pub name_value : Result EventType UnknownEventType → List Token
 name_value (Err unknown) = null ∷ []
 name_value (Ok type) = string (type_name type) ∷ []
 
--- data of this type, under a description; null where the type isn't known
+-- The data of this type, under a description; null for an unknown type.
 abbrev pub data_value : FormatDescriptionEvent → List ℕ → Result EventType UnknownEventType → List Token
 data_value d s (Err unknown) = null ∷ []
 data_value d s (Ok type) = read_value (data_read d s type)

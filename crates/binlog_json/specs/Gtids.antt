@@ -7,11 +7,11 @@ use Rattle.binlog_gtids.specs.declared.previous_gtids_event.PreviousGtidsEvent.{
 use Rattle.binlog_gtids.specs.declared.previous_gtids_sid.PreviousGtidsSid.{PreviousGtidsSid}
 use Rattle.json_line.specs.Tokens.{number_value, uuid_value, or_null, member, object, array}
 
--- a tag, or null
+-- A tag, or null.
 abbrev pub tag_value : Option (List ℕ) → List Token
 tag_value tag = or_null (λ text. string text ∷ []) tag
 
--- the id of the transaction
+-- The flags and the GTID.
 abbrev pub gtid_id : GtidEvent → List Token
 gtid_id e =
     member (codes "flags") (number_value e.flags)
@@ -19,14 +19,14 @@ gtid_id e =
     ++ member (codes "gno") (number_value e.gno)
     ++ member (codes "tag") (tag_value e.tag)
 
--- the logical clock
+-- The clock code and the logical timestamps.
 abbrev pub gtid_clock : GtidEvent → List Token
 gtid_clock e =
     member (codes "lc_typecode") (or_null number_value (if e.has_clock then Some 2 else None))
     ++ member (codes "last_committed") (number_value e.last_committed)
     ++ member (codes "sequence_number") (number_value e.sequence_number)
 
--- times, length, versions and ticket
+-- The commit timestamps, the transaction length, the server versions and the commit group ticket.
 abbrev pub gtid_commit : GtidEvent → List Token
 gtid_commit e =
     member (codes "immediate_commit_timestamp") (number_value e.immediate_commit_timestamp)
@@ -36,18 +36,21 @@ gtid_commit e =
     ++ member (codes "original_server_version") (number_value e.original_server_version)
     ++ member (codes "commit_group_ticket") (number_value e.commit_group_ticket)
 
+-- The object of a GTID, with a tag or without, or of an anonymous GTID.
 abbrev pub gtid_object : GtidEvent → List Token
 gtid_object e = object (gtid_id e ++ gtid_clock e ++ gtid_commit e)
 
 -- ---- previous GTIDs
 
--- the first number, and the one behind the last
+-- The start of the interval, and its end, which is excluded.
 abbrev pub interval_value : GnoInterval → List Token
 interval_value i = array (number_value i.start ++ number_value i.end)
 
+-- The object of an entry: source UUID, tag, intervals.
 abbrev pub sid_object : PreviousGtidsSid → List Token
 sid_object s = object
     (member (codes "uuid") (uuid_value s.uuid) ++ member (codes "tag") (tag_value s.tag) ++ member (codes "intervals") (array (flat_map interval_value s.intervals)))
 
+-- The object of previous GTIDs.
 abbrev pub previous_gtids_object : PreviousGtidsEvent → List Token
 previous_gtids_object e = object (member (codes "sids") (array (flat_map sid_object e.sids)))

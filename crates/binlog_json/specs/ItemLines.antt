@@ -1,4 +1,4 @@
--- The line of an item: an object of JSON.
+-- The line of an item: a JSON object.
 use Rattle.std.specs.Prelude.{ℕ, List, ◌++◌, codes, Result, Ok, Err, ⊤}
 use Rattle.json.specs.Print.{print}
 use Rattle.json.specs.Token.{Token}
@@ -12,11 +12,11 @@ use Rattle.binlog_events.specs.Parts.{data_of, checksum_of}
 use Rattle.json_line.specs.Tokens.{number_value, bytes_value, or_null, member, object}
 use Rattle.binlog_json.specs.Data.{name_value, data_value}
 
--- the type and its name
+-- The raw type and the type's name.
 unfoldable pub type_members : ℕ → List Token
 type_members type = member (codes "type") (number_value type) ++ member (codes "name") (name_value (event_type_of type))
 
--- the other fields of a header
+-- The other fields of the header.
 unfoldable pub header_members : BinlogEventHeader → List Token
 header_members header =
     member (codes "timestamp") (number_value header.timestamp)
@@ -25,28 +25,30 @@ header_members header =
     ++ member (codes "log_pos") (number_value header.log_pos)
     ++ member (codes "flags") (number_value header.flags)
 
--- the stored checksum, and the data
+-- The stored checksum, and the data.
 unfoldable pub body_members : EventView → List Token
 body_members event =
     member (codes "checksum") (or_null bytes_value (checksum_of event.fde.footer event.frame))
     ++ member (codes "data") (data_value event.fde (data_of event.fde.footer event.frame) (event_type_of (header_of event.frame).event_type))
 
+-- The object of an event.
 unfoldable pub event_object : ℕ → EventView → List Token
 event_object index event = object
     (member (codes "index") (number_value index) ++ type_members (header_of event.frame).event_type ++ header_members (header_of event.frame) ++ body_members event)
 
+-- The object of an error.
 unfoldable pub error_object : ℕ → Error → List Token
 error_object index error = object (member (codes "index") (number_value index) ++ member (codes "error") (number_value (error_number error)))
 
--- the object of an item
+-- The object of an item.
 abbrev pub item_object : ℕ → Result EventView Error → List Token
 item_object index (Ok event) = event_object index event
 item_object index (Err error) = error_object index error
 
--- its text, and the end of the line
+-- The line of an item: its object as text, and a line feed.
 abbrev pub item_line : ℕ → Result EventView Error → List ℕ
 item_line index item = print (item_object index item) ++ codes "\n"
 
--- the line of each item may take memory
+-- The line of any item may need an allocation.
 abbrev pub MayGrow : Result EventView Error → Type 0
 MayGrow item = ⊤

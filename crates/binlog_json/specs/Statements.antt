@@ -16,24 +16,25 @@ use Rattle.binlog_json.specs.StatusVars.{status_vars_members}
 
 -- ---- statements
 
--- which thread ran the statement, how long, and its error
+-- The thread id, the execution time and the error code.
 abbrev pub statement_head : Statement → List Token
 statement_head s =
     member (codes "thread_id") (number_value s.thread_id)
     ++ member (codes "execution_time") (number_value s.execution_time)
     ++ member (codes "error_code") (number_value s.error_code)
 
--- the status variables and the bytes behind them, the schema and the statement
+-- The status variables and the bytes after them, the schema name and the statement.
 abbrev pub statement_texts : Statement → List Token
 statement_texts s =
     status_vars_members (take 65535 s.texts.status_vars.0)
     ++ member (codes "schema") (text_value (take 255 s.texts.schema))
     ++ member (codes "query") (text_value s.texts.query)
 
+-- The object of a QUERY event.
 abbrev pub query_object : QueryEvent → List Token
 query_object e = object (statement_head e.statement ++ statement_texts e.statement)
 
--- the file that is loaded
+-- The fields of the file that is loaded.
 abbrev pub loaded_file : ExecuteLoadQueryEvent → List Token
 loaded_file e =
     member (codes "file_id") (number_value e.file_id)
@@ -41,17 +42,18 @@ loaded_file e =
     ++ member (codes "end_pos") (number_value e.end_pos)
     ++ member (codes "dup_handling") (number_value (dup_handling_number e.dup_handling))
 
+-- The object of an EXECUTE_LOAD_QUERY event.
 abbrev pub execute_load_query_object : ExecuteLoadQueryEvent → List Token
 execute_load_query_object e = object (statement_head e.statement ++ loaded_file e ++ statement_texts e.statement)
 
 -- ---- user variables
 
--- the number of a type of values, known or not
+-- The number of a value type, known or not.
 abbrev pub value_type_number : Result ItemResult UnknownItemResultType → ℤ
 value_type_number (Ok type) = pos (item_result_number type)
 value_type_number (Err unknown) = unknown.0
 
--- the value of a user variable, which for a null is the empty text
+-- The value of a user variable; a null is an empty text.
 abbrev pub user_var_value : UserVarEvent → List Token
 user_var_value e =
     member (codes "value_type") (number (signed_decimal (value_type_number (item_result_of (cast_signed w8 (type_of e.value))))) ∷ [])
@@ -59,6 +61,7 @@ user_var_value e =
     ++ member (codes "value") (bytes_value (bytes_of e.value))
     ++ member (codes "flags") (number_value (flags_of e.value))
 
+-- The object of a USER_VAR event.
 abbrev pub user_var_object : UserVarEvent → List Token
 user_var_object e =
     object (member (codes "name") (text_value (take 4294967295 e.name)) ++ member (codes "is_null") (boolean (is_none e.value) ∷ []) ++ user_var_value e)

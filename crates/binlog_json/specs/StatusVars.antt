@@ -7,7 +7,7 @@ use Rattle.binlog_consts.specs.declared.status_var_key.StatusVarKey.TheVariants.
 use Rattle.binlog_statements.specs.StatusVariables.{Variable, variable_bytes, variables}
 use Rattle.json_line.specs.Tokens.{number_value, text_value, bytes_value, member, bytes_member_if_any, object, array}
 
--- the name of a key
+-- The name of a key.
 abbrev pub key_name : StatusVarKey → List ℕ
 key_name Flags2 = codes "Flags2"
 key_name SqlMode = codes "SqlMode"
@@ -33,40 +33,41 @@ key_name DefaultTableEncryption = codes "DefaultTableEncryption"
 
 -- ---- the parts of a value
 
--- a number of so many bytes at this place
+-- A number of this width at this offset.
 abbrev pub number_in : ℕ → ℕ → List ℕ → List Token
 number_in width place value = number_value (little_number width (drop place value))
 
--- at most 255 bytes
+-- At most 255 bytes.
 abbrev pub short_text : List ℕ → List Token
 short_text text = text_value (take 255 text)
 
--- the bytes of the first text of a value, which stands behind its length
+-- The first text of a value, after its length byte.
 abbrev pub first_text : List ℕ → List ℕ
 first_text value = take (slice_index value 0) (drop 1 value)
 
--- what stands behind the first text
+-- The bytes after the first text.
 abbrev pub behind_text : List ℕ → List ℕ
 behind_text value = drop (slice_index value 0) (drop 1 value)
 
--- so many names, each ended by a zero byte, from `name` on
+-- The null-terminated names in these bytes; `name` has the bytes of the current one so far.
 abbrev pub names_from : List ℕ → List ℕ → List (List ℕ)
 names_from name [] = []
 names_from name (zero ∷ s) = name ∷ names_from [] s
 names_from name (suc b ∷ s) = names_from (name ++ suc b ∷ []) s
 
--- the names of databases behind their count; none where there were too many
+-- The database names after their count; none if there were too many.
 abbrev pub names_in : List ℕ → List (List ℕ)
 names_in [] = []
 names_in (count ∷ s) = cond (nat_eq count 254) [] (names_from [] s)
 
--- whether a flag is set: whether its byte isn't zero
+-- A flag is set if its byte isn't zero.
 abbrev pub is_set_in : List ℕ → Bool
 is_set_in (zero ∷ []) = false
 is_set_in value = true
 
 -- ---- values, by key
 
+-- The value of a variable with this key.
 abbrev pub value_of_key : StatusVarKey → List ℕ → List Token
 value_of_key Flags2 v = number_in 4 0 v
 value_of_key SqlMode v = number_in 8 0 v
@@ -91,23 +92,23 @@ value_of_key DefaultCollationForUtf8mb4 v = number_in 2 0 v
 value_of_key SqlRequirePrimaryKey v = number_value (slice_index v 0)
 value_of_key DefaultTableEncryption v = number_value (slice_index v 0)
 
--- a key of this name, and a value
+-- A key and its value.
 abbrev pub entry : List ℕ → List Token → List Token
 entry name value = object (member (codes "key") (string name ∷ []) ++ member (codes "value") value)
 
--- a variable: its key and its value
+-- A variable: its key and its value.
 abbrev pub variable_object : Variable → List Token
 variable_object v = entry (key_name v.key) (value_of_key v.key v.value)
 
--- the variables of a text, in order
+-- The variables, in order.
 abbrev pub status_vars_value : List ℕ → List Token
 status_vars_value text = array (flat_map variable_object (variables text))
 
--- the bytes behind the variables of a text
+-- The bytes after the variables.
 abbrev pub behind_variables : List ℕ → List ℕ
 behind_variables text = drop (length (flat_map variable_bytes (variables text))) text
 
--- the variables of a text, and the bytes behind them
+-- The variables, and the bytes after them.
 abbrev pub status_vars_members : List ℕ → List Token
 status_vars_members text =
     member (codes "status_vars") (status_vars_value text)

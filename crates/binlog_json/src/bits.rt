@@ -1,4 +1,4 @@
-//! Bits as lists of booleans.
+//! Bits as arrays of booleans.
 ghost use Rattle.json_line.specs.Tokens.{Adds};
 ghost use Rattle.binlog_json.specs.Bits.{bits_value};
 
@@ -6,7 +6,7 @@ use binlog_file::BitView;
 use json_line::Line;
 use std::alloc::AllocError;
 
-/// Writes a list of the bits.
+/// Writes an array of the bits.
 #[tactic(auto, unfolding(crate::specs::Bits::bits_value))]
 pub(crate) fn write_bits(line: &mut Line, bits: BitView<'_>) -> Result<(), AllocError>
     ensures { Adds result line.old line.new (bits_value (bits.entry.len, bits.entry.bytes.now)) }

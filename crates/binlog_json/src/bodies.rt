@@ -1,4 +1,4 @@
-//! The objects of smaller events.
+//! The objects of the smaller events.
 #![tactic(auto, using(std::proofs::Common::append_assoc))]
 
 ghost use Rattle.std.specs.Prelude.{◌≡◌};
@@ -13,6 +13,7 @@ use json_line::Line;
 use memchr::memchr;
 use std::alloc::AllocError;
 
+/// Writes the object of a ROTATE event.
 pub(crate) fn write_rotate(line: &mut Line, event: &RotateEvent<'_>) -> Result<(), AllocError>
     ensures { Adds result line.old line.new (rotate_object event.now) }
 {
@@ -23,6 +24,7 @@ pub(crate) fn write_rotate(line: &mut Line, event: &RotateEvent<'_>) -> Result<(
     Ok(())
 }
 
+/// Writes the object of an INTVAR event.
 pub(crate) fn write_intvar(line: &mut Line, event: &IntvarEvent) -> Result<(), AllocError>
     ensures { Adds result line.old line.new (intvar_object event.now) }
 {
@@ -33,6 +35,7 @@ pub(crate) fn write_intvar(line: &mut Line, event: &IntvarEvent) -> Result<(), A
     Ok(())
 }
 
+/// Writes the object of a RAND event.
 pub(crate) fn write_rand(line: &mut Line, event: &RandEvent) -> Result<(), AllocError>
     ensures { Adds result line.old line.new (rand_object event.now) }
 {
@@ -43,6 +46,7 @@ pub(crate) fn write_rand(line: &mut Line, event: &RandEvent) -> Result<(), Alloc
     Ok(())
 }
 
+/// Writes the object of an XID event.
 pub(crate) fn write_xid(line: &mut Line, event: &XidEvent) -> Result<(), AllocError>
     ensures { Adds result line.old line.new (xid_object event.now) }
 {
@@ -52,6 +56,7 @@ pub(crate) fn write_xid(line: &mut Line, event: &XidEvent) -> Result<(), AllocEr
     Ok(())
 }
 
+/// Writes the object of a BEGIN_LOAD_QUERY event.
 pub(crate) fn write_begin_load_query(
     line: &mut Line,
     event: &BeginLoadQueryEvent<'_>,
@@ -65,7 +70,7 @@ pub(crate) fn write_begin_load_query(
     Ok(())
 }
 
-// The number of what happened, known or not.
+// The incident's number, known or not.
 fn incident_number(incident: Result<IncidentType, UnknownIncidentType>) -> u16
     ensures { result ≡ incident_number incident }
 {
@@ -75,6 +80,7 @@ fn incident_number(incident: Result<IncidentType, UnknownIncidentType>) -> u16
     }
 }
 
+/// Writes the object of an INCIDENT event.
 pub(crate) fn write_incident(line: &mut Line, event: &IncidentEvent<'_>) -> Result<(), AllocError>
     ensures { Adds result line.old line.new (incident_object event.now) }
 {
@@ -88,6 +94,7 @@ pub(crate) fn write_incident(line: &mut Line, event: &IncidentEvent<'_>) -> Resu
     Ok(())
 }
 
+/// Writes the object of a ROWS_QUERY event.
 pub(crate) fn write_rows_query(
     line: &mut Line,
     event: &RowsQueryEvent<'_>,
@@ -100,7 +107,7 @@ pub(crate) fn write_rows_query(
     Ok(())
 }
 
-// The bytes in front of the first that is zero, or all.
+// The bytes before the first zero byte, or all if there is none.
 fn before_zero(text: &[u8]) -> &[u8]
     ensures { result.now ≡ up_to_zero text.now }
 {
@@ -110,6 +117,7 @@ fn before_zero(text: &[u8]) -> &[u8]
     }
 }
 
+/// Writes the object of a format description.
 pub(crate) fn write_description(
     line: &mut Line,
     event: &FormatDescriptionEvent<'_>,
@@ -132,7 +140,7 @@ pub(crate) fn write_description(
     Ok(())
 }
 
-// Writes the version and the time of a description.
+// Writes the binlog version, the server version and the creation timestamp of a format description.
 fn write_description_head(
     line: &mut Line,
     event: &FormatDescriptionEvent<'_>,

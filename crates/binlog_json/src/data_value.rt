@@ -1,4 +1,4 @@
-//! The data of an event, by its type.
+//! The `data` member of an event, by the event's type.
 #![tactic(auto, using(std::proofs::Common::append_assoc))]
 
 ghost use Rattle.std.specs.Prelude.{◌≡◌, false, Ok, OnOk};
@@ -23,7 +23,7 @@ use binlog_file::{Error, EventData, EventRef, EventType, QueryEvent, UnknownEven
 use json_line::Line;
 use std::alloc::{AllocError, Global};
 
-/// Writes the name of a type, and null for one that isn't known.
+/// Writes the name of an event type; null for an unknown type.
 pub(crate) fn write_name(
     line: &mut Line,
     event_type: Result<EventType, UnknownEventType>,
@@ -36,8 +36,8 @@ pub(crate) fn write_name(
     }
 }
 
-/// Writes the data of an event: null where its type isn't known, and the number of the error in the place of data that
-/// isn't a body of its type.
+/// Writes the data of an event: null for an unknown type, and an object with the error number if the body isn't one of
+/// the type.
 pub(crate) fn write_data(
     line: &mut Line,
     alloc: Global,
@@ -69,7 +69,8 @@ fn write_other_data(line: &mut Line, alloc: Global, event: &EventRef<'_>) -> Res
     }
 }
 
-// Writes the data of a statement. Most events are statements, and a value of every type of event costs more to fill.
+// Writes the data of a QUERY event. Most events are of this type, and reading it directly is cheaper than filling an
+// `EventData`.
 fn write_statement(line: &mut Line, alloc: Global, event: &EventRef<'_>) -> Result<(), AllocError>
     ensures { Adds result line.old line.new (data_value (view_of event.now).fde
         (data_of (view_of event.now).fde.footer (view_of event.now).frame) (Ok QUERY_EVENT)) }
@@ -80,7 +81,7 @@ fn write_statement(line: &mut Line, alloc: Global, event: &EventRef<'_>) -> Resu
     }
 }
 
-// Writes the number of an error in an object, unless it says that memory ran out.
+// Writes an object with the number of an error. A failed allocation isn't written; it is the result.
 fn write_refusal(line: &mut Line, error: &Error) -> Result<(), AllocError>
     ensures number { Adds result line.old line.new (error_object (error_number error.now)) }
     ensures inside { OnOk result (is_outside error.now ≡ false) }
@@ -102,7 +103,7 @@ fn write_empty(line: &mut Line) -> Result<(), AllocError>
     Ok(())
 }
 
-// Writes bytes that are kept as they stand.
+// Writes the bytes of a body that isn't parsed.
 fn write_raw(line: &mut Line, bytes: &[u8]) -> Result<(), AllocError>
     ensures { Adds result line.old line.new (raw_object bytes.now) }
 {

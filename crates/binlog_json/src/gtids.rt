@@ -9,6 +9,7 @@ use binlog_file::{GnoInterval, GtidEvent, PreviousGtidsEvent, PreviousGtidsSid, 
 use json_line::Line;
 use std::alloc::AllocError;
 
+/// Writes the object of a GTID, with a tag or without, or of an anonymous GTID.
 pub(crate) fn write_gtid(line: &mut Line, event: &GtidEvent) -> Result<(), AllocError>
     ensures { Adds result line.old line.new (gtid_object event.now) }
 {
@@ -20,7 +21,7 @@ pub(crate) fn write_gtid(line: &mut Line, event: &GtidEvent) -> Result<(), Alloc
     Ok(())
 }
 
-// Writes the id of the transaction.
+// Writes the flags and the GTID.
 fn write_id(line: &mut Line, event: &GtidEvent) -> Result<(), AllocError>
     ensures { Adds result line.old line.new (gtid_id event.now) }
 {
@@ -43,7 +44,7 @@ fn write_tag(line: &mut Line, tag: Option<&Tag<'_>>) -> Result<(), AllocError>
     }
 }
 
-// Writes the logical clock.
+// Writes the clock code and the logical timestamps.
 fn write_clock(line: &mut Line, event: &GtidEvent) -> Result<(), AllocError>
     ensures { Adds result line.old line.new (gtid_clock event.now) }
 {
@@ -54,7 +55,7 @@ fn write_clock(line: &mut Line, event: &GtidEvent) -> Result<(), AllocError>
     Ok(())
 }
 
-// Writes times, the length, versions and the ticket.
+// Writes the commit timestamps, the transaction length, the server versions and the commit group ticket.
 fn write_commit(line: &mut Line, event: &GtidEvent) -> Result<(), AllocError>
     ensures { Adds result line.old line.new (gtid_commit event.now) }
 {
@@ -79,6 +80,7 @@ fn write_commit(line: &mut Line, event: &GtidEvent) -> Result<(), AllocError>
     Ok(())
 }
 
+/// Writes the object of previous GTIDs.
 pub(crate) fn write_previous_gtids(
     line: &mut Line,
     event: &PreviousGtidsEvent<'_>,

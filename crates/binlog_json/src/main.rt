@@ -1,4 +1,4 @@
-//! Prints the events of the binary log on standard input as lines of JSON.
+//! Prints the events of the binary log on standard input as JSON lines.
 #![tactic(auto)]
 
 mod bits;
@@ -19,7 +19,7 @@ use std::io;
 use std::io::{BufReader, BufWriter, Write};
 use std::process::ExitCode;
 
-/// The size of the buffers of the input and the output, in bytes.
+/// The size of the input buffer and of the output buffer, in bytes.
 const BUFFER_SIZE: usize = 65_536;
 
 fn run(rt: &(impl Input + Print + AllocGlobal)) -> Result<bool, Error> {

@@ -1,11 +1,11 @@
-//! The names of the types of events.
+//! The names of the event types.
 ghost use Rattle.std.specs.Prelude.{◌≡◌};
 ghost use Rattle.json_line.specs.Lines.{IsPlainText};
 ghost use Rattle.binlog_json.specs.Names.{type_name};
 
 use binlog_file::EventType;
 
-/// The name of a type, as MySQL has it.
+/// The name of an event type, as in MySQL's `Log_event_type`.
 pub(crate) fn name_of(event_type: EventType) -> &'static str
     ensures name { result.now ≡ type_name event_type }
     ensures plain { IsPlainText result.now }

@@ -1,4 +1,4 @@
-//! The lines of a log.
+//! The JSON lines of a binary log.
 ghost use Rattle.std.specs.Prelude.{◌<◌, ◌^◌, length, IfSome};
 ghost use Rattle.binlog_lines.specs.Lines.{Lists};
 ghost use Rattle.binlog_json.specs.ItemLines.{item_line, MayGrow};
@@ -9,8 +9,8 @@ use binlog_lines::list;
 use std::alloc::Global;
 use std::io::{BufRead, Write};
 
-/// Writes a line of JSON for each item of a binlog file, indexed from 0, and answers whether an item was an error. It doesn't
-/// flush the output.
+/// Writes a JSON line for each item of a binlog file, with an index from 0. The result says whether any item was an
+/// error. The output isn't flushed.
 ///
 /// # Errors
 ///

@@ -12,6 +12,7 @@ use binlog_file::{BitView, RowsEvent, RowsEventData, TableMapEvent};
 use json_line::Line;
 use std::alloc::AllocError;
 
+/// Writes the object of a table map.
 pub(crate) fn write_table_map(line: &mut Line, event: &TableMapEvent<'_>) -> Result<(), AllocError>
     ensures { Adds result line.old line.new (table_map_object event.now) }
 {
@@ -44,6 +45,7 @@ fn write_columns(line: &mut Line, event: &TableMapEvent<'_>) -> Result<(), Alloc
     Ok(())
 }
 
+/// Writes the object of a row event.
 pub(crate) fn write_rows(line: &mut Line, event: &RowsEventData<'_>) -> Result<(), AllocError>
     ensures { Adds result line.old line.new (rows_object event.now) }
 {
@@ -65,7 +67,7 @@ fn write_rows_table(line: &mut Line, event: &RowsEvent<'_>) -> Result<(), AllocE
     Ok(())
 }
 
-// Writes the extra bytes, if there are some.
+// Writes the extra bytes, if any.
 fn write_extra_data(line: &mut Line, event: &RowsEvent<'_>) -> Result<(), AllocError>
     ensures { Adds result line.old line.new (extra_data_member event.now.head.extra) }
 {
@@ -75,7 +77,7 @@ fn write_extra_data(line: &mut Line, event: &RowsEvent<'_>) -> Result<(), AllocE
     }
 }
 
-// Writes which columns are in the images of a row.
+// Writes the columns-present bitmaps of the row images.
 fn write_rows_columns(line: &mut Line, event: &RowsEvent<'_>) -> Result<(), AllocError>
     ensures { Adds result line.old line.new (rows_columns event.now) }
 {
@@ -87,7 +89,7 @@ fn write_rows_columns(line: &mut Line, event: &RowsEvent<'_>) -> Result<(), Allo
     Ok(())
 }
 
-// Writes bits, or null.
+// Writes a bitmap, or null.
 fn write_image(line: &mut Line, image: Option<BitView<'_>>) -> Result<(), AllocError>
     ensures { Adds result line.old line.new (or_null bits_value (option_map bitmap_of image.entry)) }
 {

@@ -14,6 +14,7 @@ use binlog_file::{
 use json_line::Line;
 use std::alloc::{AllocError, Global};
 
+/// Writes the object of a QUERY event.
 #[inline(always)]
 pub(crate) fn write_query(
     line: &mut Line,
@@ -53,6 +54,7 @@ fn write_query_texts(
     Ok(())
 }
 
+/// Writes the object of an EXECUTE_LOAD_QUERY event.
 pub(crate) fn write_execute_load_query(
     line: &mut Line,
     alloc: Global,
@@ -103,6 +105,7 @@ fn write_load_query_texts(
     Ok(())
 }
 
+/// Writes the object of a USER_VAR event.
 pub(crate) fn write_user_var(line: &mut Line, event: &UserVarEvent<'_>) -> Result<(), AllocError>
     ensures { Adds result line.old line.new (user_var_object event.now) }
 {
@@ -126,7 +129,7 @@ fn write_user_var_value(line: &mut Line, event: &UserVarEvent<'_>) -> Result<(),
     Ok(())
 }
 
-// Writes the number of a type of values, known or not.
+// Writes the number of a value type, known or not.
 fn write_value_type(
     line: &mut Line,
     value_type: Result<ItemResult, UnknownItemResultType>,

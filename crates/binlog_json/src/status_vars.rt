@@ -15,7 +15,7 @@ use binlog_wire::{NullBytes, RawBytes};
 use json_line::Line;
 use std::alloc::{AllocError, Global};
 
-/// Writes the member of the variables of a text, and that of the bytes behind them, if there are some.
+/// Writes the member with the status variables, and the member with the bytes after them, if any.
 pub(crate) fn write_status_vars(
     line: &mut Line,
     alloc: Global,
@@ -29,7 +29,7 @@ pub(crate) fn write_status_vars(
     Ok(())
 }
 
-// Writes a list of the variables of a text, in order, and answers how many bytes they take.
+// Writes an array of the variables, in order, and returns how many bytes they have.
 #[inline(always)]
 fn write_variables(line: &mut Line, alloc: Global, text: &[u8]) -> Result<usize, AllocError>
     ensures list { Adds result line.old line.new (status_vars_value text.now) }
@@ -46,7 +46,7 @@ fn write_variables(line: &mut Line, alloc: Global, text: &[u8]) -> Result<usize,
     Ok(len)
 }
 
-// Writes a variable, where there is memory to parse its value.
+// Writes a variable. It fails if the allocation for its value fails.
 fn write_variable(
     line: &mut Line,
     alloc: Global,
@@ -60,7 +60,7 @@ fn write_variable(
     }
 }
 
-// Writes a variable. The names are constants of the calls, which makes them short to write.
+// Writes a variable. Each call passes a constant name, which is cheap to write once inlined.
 fn write_entry(line: &mut Line, value: &StatusVarVal<'_>) -> Result<(), AllocError>
     ensures { (variable : Variable) → Has variable value.now → Adds result line.old line.new (variable_object variable) }
 {
@@ -207,7 +207,7 @@ fn write_invoker(line: &mut Line, username: &[u8], hostname: &[u8]) -> Result<()
     Ok(())
 }
 
-// Writes a list of texts.
+// Writes an array of texts.
 fn write_names(line: &mut Line, names: &Vec<RawBytes<'_, NullBytes>>) -> Result<(), AllocError>
     ensures { Adds result line.old line.new (entry (codes "UpdatedDbNames") (array (flat_map text_value names.now.items))) }
 {

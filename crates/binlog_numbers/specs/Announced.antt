@@ -1,4 +1,4 @@
--- Parts that an earlier part announces.
+-- Optional parts that an earlier part announces, by its top bit or by a mark byte.
 use Rattle.std.proofs.Common.{◌≡◌, ℕ, suc, ◌+◌, ◌-◌, ◌^◌, ◌<◌, ◌≤◌, Bool, true, false, cond, ltb, eqb, Option, None, Some, List, [], ◌∷◌, ◌++◌, length, Result, Ok, refl, sym, ap, subst, ◌∙◌, arith}
 use Rattle.std.proofs.lemmas.List.{append-nil}
 use Rattle.byteorder.specs.Endian.{little_bytes}
@@ -10,19 +10,21 @@ use Rattle.binlog_wire.specs.Laws.{KeepsTo, bind_ok}
 use Rattle.binlog_wire.specs.Formats.{Place, last, Format, number, silent, then}
 use Rattle.binlog_numbers.specs.Chosen.{IsChoice, chosen, choose}
 
--- ---- a number whose top bit announces that an original follows
+-- ---- a top bit that announces an original value
 
+-- A number of k bytes, and another one exactly where the top bit of the first is set.
 abbrev pub announced_fields : {place : Place} (k half : ℕ) → Format place (ℕ × ℕ)
 announced_fields k half = then (number k) (λ n. choose (ltb n half) (silent n) (number k))
 
--- the bit is not part of the value
+-- The bit isn't part of the value.
 abbrev pub announced_of : ℕ → ℕ × ℕ → Result (ℕ × ℕ) Invalid
 announced_of half x = Ok (cond (ltb x.0 half) x.0 (x.0 - half), x.1)
 
--- an original only where it differs
+-- The original is written only where it differs from the immediate value.
 abbrev pub announced_code : ℕ → ℕ × ℕ → ℕ × ℕ
 announced_code half v = (cond (eqb v.0 v.1) v.0 (v.0 + half), v.1)
 
+-- The values can be written: the immediate one leaves the top bit free, and the original one fits in k bytes.
 abbrev pub FitsAnnounced : ℕ → ℕ → ℕ × ℕ → Type 0
 FitsAnnounced k half v = (v.0 < half) × (v.1 < 256 ^ k)
 
@@ -68,8 +70,8 @@ announced_same place k half v fits = written_by place k half v.0 v.1 fits.0 (eqb
 abbrev pub announced_plain : {place : Place} (k half : ℕ) → half + half ≡ 256 ^ k → Format place (ℕ × ℕ)
 announced_plain {place} k half e = chosen (announced_of half) (announced_code half) (λ v. v) (FitsAnnounced k half) (announced_fields k half) (announced_choice {place = place} k half e)
 
--- An immediate and an original, k bytes each: the original follows exactly where the top bit of the first is set, and
--- equals the immediate where it doesn't. It is written only where it differs.
+-- An immediate and an original value of k bytes each. The original follows exactly where the top bit of the first is
+-- set; where it is absent, it equals the immediate one. It is written only where it differs.
 abbrev pub announced : {place : Place} (k half : ℕ) → half + half ≡ 256 ^ k → Format place (ℕ × ℕ)
 announced {place} k half e = record (announced_plain {place = place} k half e) {
   written = announced_written k half;
@@ -79,12 +81,14 @@ announced {place} k half e = record (announced_plain {place = place} k half e) {
   again = λ v fits. refl;
 }
 
--- ---- what stands behind a mark, if the mark is there
+-- ---- a part after a mark byte
 
+-- The bytes are the mark byte and an encoding of a value, or don't begin with the mark.
 abbrev pub IsBehind : {V : Type 0} → ℕ → (List ℕ → V → List ℕ → Type 0) → List ℕ → Option V → List ℕ → Type 0
 IsBehind mark F s (Some v) r = (m : List ℕ) × (s ≡ mark ∷ m) × F m v r
 IsBehind mark F s None r = ((m : List ℕ) → s ≡ mark ∷ m → ⊥) × (r ≡ s)
 
+-- Reading a value after a mark byte, or none.
 abbrev pub behind_at : {V : Type 0} → ℕ → (List ℕ → Read V) → List ℕ → Read (Option V)
 behind_at mark f [] = Ok (None, [])
 behind_at mark f (b ∷ s) = cond (eqb b mark) (read_as (λ v. Some v) (f s)) (Ok (None, b ∷ s))
@@ -125,14 +129,17 @@ behind_complete {f = f} mark k s None r h = rw h.1 (none_at f mark s h.0)
 pub keeps_behind : {V : Type 0} {F : List ℕ → V → List ℕ → Type 0} {f : List ℕ → Read V} (mark : ℕ) → KeepsTo F f → KeepsTo (IsBehind mark F) (behind_at mark f)
 keeps_behind mark k = record { sound = behind_sound mark k; complete = behind_complete mark k }
 
+-- The bytes written for an optional value after a mark byte.
 abbrev pub behind_written : {V : Type 0} → ℕ → (V → List ℕ) → Option V → List ℕ
 behind_written mark f (Some v) = mark ∷ f v
 behind_written mark f None = []
 
+-- The normal form of an optional value.
 abbrev pub behind_normal : {V : Type 0} → (V → V) → Option V → Option V
 behind_normal f (Some v) = Some (f v)
 behind_normal f None = None
 
+-- An optional value can be written.
 abbrev pub FitsBehind : {V : Type 0} → (V → Type 0) → Option V → Type 0
 FitsBehind f (Some v) = f v
 FitsBehind f None = Unit {0}
@@ -158,8 +165,8 @@ pub behind_long : {V : Type 0} (mark : ℕ) (f : Format last V) (s : List ℕ) (
 behind_long mark f s (Some v) r h = rw h.1 (omega (arith, f.long h.0 v r h.2))
 behind_long mark f s None r h = rw h.1 (omega arith)
 
--- A format behind a mark of one byte, where the next byte is that mark. Nothing may follow: what is absent would not be
--- told from what follows.
+-- A format after a mark byte, present where the next byte is that mark. It has to be at the end, since an absent part
+-- couldn't be told from bytes after it.
 abbrev pub behind : {V : Type 0} → ℕ → Format last V → Format last (Option V)
 behind mark f = record {
   spells = IsBehind mark f.spells;

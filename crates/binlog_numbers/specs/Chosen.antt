@@ -1,4 +1,4 @@
--- A value that several fields stand for: any of them is read, one is chosen to be written.
+-- A value with several encodings as other fields: any of them is read, and one is chosen to be written.
 use Rattle.std.proofs.Common.{◌≡◌, ℕ, List, Bool, true, false, cond, Result, Ok, Err, refl, ap, subst}
 use Rattle.binlog_wire.specs.declared.error.Invalid.{Invalid}
 use Rattle.binlog_wire.specs.Reading.{Read}
@@ -6,12 +6,12 @@ use Rattle.binlog_wire.specs.Fields.{IsBytes, meant, read_decoded}
 use Rattle.binlog_wire.specs.Laws.{KeepsTo, bind_ok}
 use Rattle.binlog_wire.specs.Formats.{Place, Format}
 
--- the bytes of fields that stand for the value
+-- The bytes encode fields that decode to the value.
 abbrev pub IsChosen : {A B : Type 0} → (A → Result B Invalid) → (List ℕ → A → List ℕ → Type 0) → List ℕ → B → List ℕ → Type 0
 IsChosen {A} decode F s b r = (a : A) × (decode a ≡ Ok b) × F s a r
 
--- The fields that are chosen for a value that can be written stand for its normal form. What fields stand for is its own
--- normal form, and the normal form is written as the value is.
+-- The fields chosen for a value that can be written decode to its normal form. A value that was decoded is its own
+-- normal form, and a value and its normal form are written as the same bytes.
 pub record IsChoice {place : Place} {A B : Type 0} (f : Format place A) (decode : A → Result B Invalid) (code : B → A) (normal : B → B) (Fits : B → Type 0) : Type 0 where
   pub fits : (b : B) → Fits b → f.Fits (code b)
   pub shows : (b : B) → Fits b → decode (f.normal (code b)) ≡ Ok (normal b)
@@ -34,6 +34,7 @@ keeps_chosen {A} {B} {F} {f} decode k = record {
   complete = λ s b r h. rw (k.complete s h.0 r h.2, h.1) refl;
 }
 
+-- The format of a value that is decoded from fields; `code` chooses the fields to be written.
 abbrev pub chosen : {place : Place} {A B : Type 0} (decode : A → Result B Invalid) (code : B → A) (normal : B → B) (Fits : B → Type 0) (f : Format place A)
     → IsChoice f decode code normal Fits → Format place B
 chosen {place} {A} {B} decode code normal Fits f law = record {
@@ -51,12 +52,12 @@ chosen {place} {A} {B} decode code normal Fits f law = record {
   long = λ s b r h. f.long s h.0 r h.2;
 }
 
--- one of two formats
+-- One of two formats, by a test.
 abbrev pub choose : {place : Place} {V : Type 0} → Bool → Format place V → Format place V → Format place V
 choose true f g = f
 choose false f g = g
 
--- ---- a value that passes a test
+-- ---- a value that has to pass a test
 
 abbrev pub passes : {V : Type 0} → (V → Bool) → Invalid → V → Result V Invalid
 passes test why v = cond (test v) (Ok v) (Err why)
@@ -75,6 +76,6 @@ passes_choice {V = V} f same test why = record {
   again = λ v fits. refl;
 }
 
--- a value that passes a test, of a format that writes a value as it is
+-- A value that has to pass a test, in a format whose normal form is the value itself.
 abbrev pub tested : {place : Place} {V : Type 0} (f : Format place V) → ((v : V) → f.normal v ≡ v) → (V → Bool) → Invalid → Format place V
 tested f same test why = chosen (passes test why) (λ v. v) (λ v. v) (λ v. f.Fits v × (test v ≡ true)) f (passes_choice f same test why)

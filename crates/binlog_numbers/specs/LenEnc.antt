@@ -1,4 +1,4 @@
--- Length-encoded numbers: below 251 the byte itself; 252, 253, 254 and the number in 2, 3, 8 bytes.
+-- Length-encoded integers: a value below 251 as that byte; else 252, 253 or 254 and the value in 2, 3 or 8 bytes.
 use Rattle.std.proofs.Common.{◌≡◌, ℕ, suc, ◌+◌, ◌^◌, ◌<◌, ◌≤◌, ◌⊎◌, inl, inr, Bool, true, false, cond, ltb, eqb, List, [], ◌∷◌, ◌++◌, length, Ok, Err, refl, ap, subst, arith}
 use Rattle.std.proofs.lemmas.Bool.{ltb-true, lt-ltb, eqb-true}
 use Rattle.byteorder.specs.Endian.{little_bytes}
@@ -9,13 +9,15 @@ use Rattle.binlog_wire.specs.Laws.{KeepsTo}
 use Rattle.binlog_wire.specs.Laws.Numbers.{keeps_number, length-number, length-little_bytes}
 use Rattle.binlog_wire.specs.Formats.{Place, Format}
 
--- a mark, one byte, and then a number of k bytes
+-- A mark byte and then a number of k bytes.
 abbrev pub IsMarked : ℕ → ℕ → List ℕ → ℕ → List ℕ → Type 0
 IsMarked mark k s n r = (m : List ℕ) × (s ≡ mark ∷ m) × IsNumber k m n r
 
+-- The bytes are a length-encoded integer, in any of its encodings.
 abbrev pub IsLenEnc : List ℕ → ℕ → List ℕ → Type 0
 IsLenEnc s n r = ((s ≡ n ∷ r) × (n < 251)) ⊎ (IsMarked 252 2 s n r ⊎ (IsMarked 253 3 s n r ⊎ IsMarked 254 8 s n r))
 
+-- Reading a length-encoded integer.
 abbrev pub lenenc_at : List ℕ → Read ℕ
 lenenc_at [] = Err ends
 lenenc_at (b ∷ s) =
@@ -24,7 +26,7 @@ lenenc_at (b ∷ s) =
     (cond (eqb b 253) (number_at 3 s)
     (cond (eqb b 254) (number_at 8 s) (Err (invalid (kinds.LenEnc b))))))
 
--- the shortest
+-- The shortest encoding.
 unfoldable pub lenenc_written : ℕ → List ℕ
 lenenc_written n =
     cond (ltb n 251) (n ∷ [])
@@ -96,7 +98,7 @@ pub lenenc_most : (n : ℕ) → length (lenenc_written n) ≤ 9
 unfolding lenenc_written
 lenenc_most n = most_nine n (ltb n 251) (ltb n (256 ^ 2)) (ltb n (256 ^ 3))
 
--- No spelling is shorter than the one that is written.
+-- No encoding is shorter than the written one.
 pub lenenc_shortest : (s : List ℕ) (n : ℕ) (r : List ℕ) → IsLenEnc s n r → length (lenenc_written n) + length r ≤ length s
 unfolding lenenc_written
 lenenc_shortest s n r (inl h) = rw (h.0, lt-ltb n 251 h.1) (omega arith)
@@ -114,6 +116,7 @@ lenenc_shortest s n r (inr (inr (inr h))) =
     let whole : length s ≡ suc (length h.0) = ap length h.1 in
     omega (arith, most_nine n (ltb n 251) (ltb n (256 ^ 2)) (ltb n (256 ^ 3)), whole, length-number 8 h.0 n r h.2)
 
+-- The format of a length-encoded integer.
 abbrev pub lenenc : {place : Place} → Format place ℕ
 lenenc = record {
   spells = IsLenEnc;

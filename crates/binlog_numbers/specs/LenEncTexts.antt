@@ -1,4 +1,4 @@
--- Texts behind their length, a length-encoded integer.
+-- Strings after a length-encoded length.
 -- Source: MySQL's documentation, "Protocol::LengthEncodedString".
 use Rattle.std.proofs.Common.{◌≡◌, ℕ, ◌+◌, ◌≤◌, Bool, true, false, cond, ltb, eqb, List, [], ◌∷◌, length, take, drop, Ok, Err, refl, ap, subst, ◌∙◌, arith}
 use Rattle.std.proofs.lemmas.List.{length-take, length-drop, length-append}
@@ -9,15 +9,15 @@ use Rattle.binlog_wire.specs.Laws.{bind_ok, guard_ok}
 use Rattle.binlog_wire.specs.Formats.{Format, anywhere, block, then, made}
 use Rattle.binlog_numbers.specs.LenEnc.{lenenc, lenenc_at, lenenc_written, lenenc_most}
 
--- a length, and then as many bytes
+-- A length and then as many bytes.
 abbrev pub lenenc_text : Format anywhere (List ℕ)
 lenenc_text = made {A = ℕ × List ℕ} (λ x. x.1) (λ t. (length t, t)) (then lenenc (λ n. block n)) (λ s x r h. ap (λ (n : ℕ). (n, x.1)) h.2.0) (λ t. refl)
 
--- a text takes at most nine bytes more than it has
+-- The encoding of a string has at most nine bytes more than the string.
 pub lenenc_text_most : (text : List ℕ) → length (lenenc_text.written text) ≤ length text + 9
 lenenc_text_most text = omega (arith, length-append (lenenc_written (length text)) text, lenenc_most (length text))
 
--- ---- what is read is no longer than what was there
+-- ---- what was read isn't longer than the input
 
 number_left : (k : ℕ) (s : List ℕ) (x : ℕ × List ℕ) → number_at k s ≡ Ok x → length x.1 ≤ length s
 number_left k s x e =
@@ -36,14 +36,14 @@ lenenc_left_by b s x false false true w e = number_left 3 s x e
 lenenc_left_by b s x false false false true e = number_left 8 s x e
 lenenc_left_by b s x false false false false e = absurd cc
 
--- a number that was read leaves no more than was there
+-- Reading a number leaves at most as many bytes as there were.
 pub lenenc_left : (s : List ℕ) (x : ℕ × List ℕ) → lenenc_at s ≡ Ok x → length x.1 ≤ length s
 lenenc_left [] x e = absurd cc
 lenenc_left (b ∷ s) x e =
     let h : length x.1 ≤ length s = lenenc_left_by b s x (ltb b 251) (eqb b 252) (eqb b 253) (eqb b 254) e in
     omega (arith, h)
 
--- a text that was read and what it leaves are together no more than was there
+-- The string that was read and the bytes left are together at most as many as there were.
 pub lenenc_text_left : (s : List ℕ) (x : List ℕ × List ℕ) → lenenc_text.reads s ≡ Ok x → length x.0 + length x.1 ≤ length s
 lenenc_text_left s x e =
     let whole = bind_ok (then_at lenenc_at block_at s) (λ y. Ok (y.0.1, y.1)) x e in

@@ -1,4 +1,4 @@
--- What a loop over values until an end needs.
+-- Lemmas for a loop that reads values up to an end.
 use Rattle.std.proofs.Common.{◌≡◌, ℕ, zero, suc, ◌≤◌, Bool, true, false, cond, List, [], ◌∷◌, ◌++◌, length, Ok, Err, refl, sym, ap, ◌∙◌, arith}
 use Rattle.std.proofs.lemmas.List.{append-nil, nil_from_length}
 use Rattle.binlog_wire.specs.Reading.{Read, Refusal, ◌>>=◌}
@@ -12,15 +12,15 @@ module _ {V : Type 0} (f : Format anywhere V) (End : List ℕ → Type 0) (test 
   at_nil zero s le = let e : s ≡ [] = nil_from_length s (omega arith) in rw (e, law.holds [] law.nothing) refl
   at_nil (suc k) s le = let e : s ≡ [] = nil_from_length s (omega arith) in rw (e, law.holds [] law.nothing) refl
 
-  -- a value takes a byte at least
+  -- A value takes at least one byte.
   pub shorter : (s : List ℕ) (a : V × List ℕ) → IsBytes s → f.reads s ≡ Ok a → suc (length a.1) ≤ length s
   shorter s a fits e = let p = f.keeps.sound s a fits e in omega (arith, f.long s a.0 a.1 p.0, law.moves)
 
-  -- what follows a value
+  -- The result of reading one value and then the remaining ones.
   abbrev pub turn : ℕ → V × List ℕ → Read (List V)
   turn k a = until_in k test f.reads a.1 >>= λ b. Ok (a.0 ∷ b.0, b.1)
 
-  -- the same steps from what one value leaves
+  -- The results agree from what one value leaves.
   same_from : (s : List ℕ) → IsBytes s → (j k l : ℕ) → length s ≤ suc l
       → ((t : List ℕ) → IsBytes t → length t ≤ l → until_in j test f.reads t ≡ until_in k test f.reads t)
       → (x : Read V) → f.reads s ≡ x → (x >>= turn j) ≡ (x >>= turn k)
@@ -30,7 +30,7 @@ module _ {V : Type 0} (f : Format anywhere V) (End : List ℕ → Type 0) (test 
       rw same refl
   same_from s fits j k l le ih (Err d) e = refl
 
-  -- the steps don't depend on how many are allowed, where there are as many as bytes
+  -- The result doesn't depend on the bound on steps, where the bound is at least the number of bytes.
   enough_steps : (l j k : ℕ) (s : List ℕ) → IsBytes s → length s ≤ l → l ≤ j → l ≤ k → until_in j test f.reads s ≡ until_in k test f.reads s
   enough_steps zero j k s fits le lj lk = at_nil j s le ∙ sym (at_nil k s le)
   enough_steps (suc l) zero k s fits le lj lk = absurd (omega arith)
@@ -39,7 +39,7 @@ module _ {V : Type 0} (f : Format anywhere V) (End : List ℕ → Type 0) (test 
       ap (λ (x : Read (List V)). cond (test s) (Ok ([], [])) x)
       (same_from s fits j k l le (λ t bytes less. enough_steps l j k t bytes less (omega arith) (omega arith)) (f.reads s) refl)
 
-  -- one turn of a loop: the value v, and then what is left
+  -- One turn of the loop: the value v, and then the remaining ones.
   until_turn : (s : List ℕ) → IsBytes s → (v : V) (m : List ℕ) → test s ≡ false → f.reads s ≡ Ok (v, m)
       → until_at test f.reads s ≡ turn (length m) (v, m)
   until_turn s fits v m goes e =
@@ -51,13 +51,13 @@ module _ {V : Type 0} (f : Format anywhere V) (End : List ℕ → Type 0) (test 
       enough_steps (length m) (length s) (length m) m left (omega arith) (omega arith) (omega arith) in
       steps ∙ rw (goes, e, inner) refl
 
-  -- the values so far, and behind them those that are left: one value more
+  -- The values so far, followed by the remaining ones: one value more.
   pub until_more : (whole : Read (List V)) (vs : List V) (s : List ℕ) → IsBytes s → (v : V) (m : List ℕ) → test s ≡ false → f.reads s ≡ Ok (v, m)
       → whole ≡ behind_values vs (until_at test f.reads s) → whole ≡ behind_values (vs ++ v ∷ []) (until_at test f.reads m)
   until_more whole vs s fits v m goes e is =
       is ∙ ap (behind_values vs) (until_turn s fits v m goes e) ∙ one_more vs v (until_at test f.reads m)
 
-  -- the last turn
+  -- The last turn.
   until_ends : (k : ℕ) (s : List ℕ) → test s ≡ true → until_in k test f.reads s ≡ Ok ([], [])
   until_ends zero s h = rw h refl
   until_ends (suc k) s h = rw h refl
@@ -66,7 +66,7 @@ module _ {V : Type 0} (f : Format anywhere V) (End : List ℕ → Type 0) (test 
       → whole ≡ behind_values vs (until_at test f.reads s) → whole ≡ Ok (vs, [])
   until_stops whole vs s h is = is ∙ ap (behind_values vs) (until_ends (length s) s h) ∙ ap (λ (ws : List V). Ok (ws, [])) (append-nil vs)
 
-  -- a value is refused
+  -- A value is refused.
   refused : (vs : List V) (s : List ℕ) (d : Refusal) → test s ≡ false → f.reads s ≡ Err d → behind_values vs (until_at test f.reads s) ≡ Err d
   refused vs [] d goes e = absurd (let no_end : true ≡ false = sym (law.holds [] law.nothing) ∙ goes in cc)
   refused vs (b ∷ s) d goes e = rw (goes, e) refl

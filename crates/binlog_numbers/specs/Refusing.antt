@@ -1,4 +1,4 @@
--- Refusals that are passed on: a reading that is refused wherever a first one is.
+-- Refusals that are passed on, from a part to the whole that contains it.
 use Rattle.std.proofs.Common.{◌≡◌, Err}
 use Rattle.binlog_wire.specs.declared.error.Error.{Error}
 use Rattle.binlog_wire.specs.declared.error.Error.TheVariants as errors

@@ -1,31 +1,35 @@
--- A format several times.
+-- Repetitions of a format.
 use Rattle.std.proofs.Common.{◌≡◌, ℕ, zero, suc, ◌+◌, ◌*◌, ◌≤◌, List, [], ◌∷◌, ◌++◌, length, Ok, refl, sym, ap, subst, ◌∙◌, append_assoc, arith}
 use Rattle.binlog_wire.specs.Reading.{Read, ◌>>=◌}
 use Rattle.binlog_wire.specs.Fields.{IsBytes}
 use Rattle.binlog_wire.specs.Laws.{KeepsTo, bind_ok}
 use Rattle.binlog_wire.specs.Formats.{Place, anywhere, Format, then, made}
 
--- the values stand one after the other
+-- The encodings of the values, in sequence.
 abbrev pub IsEach : {V : Type 0} → (List ℕ → V → List ℕ → Type 0) → List ℕ → List V → List ℕ → Type 0
 IsEach F s [] r = r ≡ s
 IsEach F s (v ∷ vs) r = (m : List ℕ) × F s v m × IsEach F m vs r
 
--- n values, one after the other
+-- The encodings of n values, in sequence.
 abbrev pub IsTimes : {V : Type 0} → ℕ → (List ℕ → V → List ℕ → Type 0) → List ℕ → List V → List ℕ → Type 0
 IsTimes n F s vs r = (length vs ≡ n) × IsEach F s vs r
 
+-- Reading n values in sequence.
 abbrev pub times_at : {V : Type 0} → ℕ → (List ℕ → Read V) → List ℕ → Read (List V)
 times_at zero f s = Ok ([], s)
 times_at (suc n) f s = f s >>= λ a. times_at n f a.1 >>= λ b. Ok (a.0 ∷ b.0, b.1)
 
+-- The bytes written for values in sequence.
 abbrev pub each_written : {V : Type 0} → (V → List ℕ) → List V → List ℕ
 each_written f [] = []
 each_written f (v ∷ vs) = f v ++ each_written f vs
 
+-- The normal forms of the values.
 abbrev pub each_normal : {V : Type 0} → (V → V) → List V → List V
 each_normal f [] = []
 each_normal f (v ∷ vs) = f v ∷ each_normal f vs
 
+-- Each value can be written.
 abbrev pub EachFits : {V : Type 0} → (V → Type 0) → List V → Type 0
 EachFits f [] = Unit {0}
 EachFits f (v ∷ vs) = f v × EachFits f vs
@@ -84,7 +88,7 @@ pub length-each_normal : {V : Type 0} (f : V → V) (vs : List V) → length (ea
 length-each_normal f [] = refl
 length-each_normal f (v ∷ vs) = ap suc (length-each_normal f vs)
 
--- n values of a format, one after the other. By `long`, no more are read than the bytes carry.
+-- n values of a format in sequence. By `long`, no more values are read than there are bytes for.
 abbrev pub times : {place : Place} {V : Type 0} → ℕ → Format anywhere V → Format place (List V)
 times n f = record {
   spells = IsTimes n f.spells;
@@ -101,7 +105,7 @@ times n f = record {
   long = λ s vs r h. subst (λ (k : ℕ). k * f.least + length r ≤ length s) h.0 (each_long f s vs r h.1);
 }
 
--- a count, which is written as it is, and then as many values
+-- A count, whose format keeps it unchanged, and then as many values.
 abbrev pub counted : {place : Place} {V : Type 0} (count : Format anywhere ℕ) → ((n : ℕ) → count.normal n ≡ n) → Format anywhere V → Format place (List V)
 counted {place} {V} count same f = made {A = ℕ × List V} (λ x. x.1) (λ vs. (length vs, vs)) (then count (λ n. times n f))
     (λ s x r h. ap (λ (n : ℕ). (n, x.1)) h.2.0)

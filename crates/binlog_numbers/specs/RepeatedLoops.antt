@@ -1,13 +1,13 @@
--- What loops over values need.
+-- Lemmas for loops over values.
 use Rattle.std.proofs.Common.{◌≡◌, ℕ, suc, ◌+◌, ◌-◌, ◌<◌, List, [], ◌∷◌, ◌++◌, length, get_or, drop, Ok, Err, refl, sym, ap, ◌∙◌, append_assoc, add-one, arith}
 use Rattle.std.proofs.Math.Seq.{drop-cons}
 use Rattle.std.proofs.lemmas.List.{append-nil, length-append}
 use Rattle.binlog_wire.specs.Reading.{Read, Refusal, ◌>>=◌}
 use Rattle.binlog_numbers.specs.Repeated.{times_at, each_written}
 
--- ---- reading so many
+-- ---- reading a number of values
 
--- these values, and behind them those that are read
+-- The values vs, followed by the values that are read.
 abbrev pub behind_values : {V : Type 0} → List V → Read (List V) → Read (List V)
 behind_values vs x = x >>= λ y. Ok (vs ++ y.0, y.1)
 
@@ -19,7 +19,7 @@ turn : {V : Type 0} (f : List ℕ → Read V) (vs : List V) (n : ℕ) (s m : Lis
     → behind_values vs (times_at (suc n) f s) ≡ behind_values (vs ++ v ∷ []) (times_at n f m)
 turn f vs n s m v e = rw e (one_more vs v (times_at n f m))
 
--- what is read of k values, of which i are read
+-- One turn of reading k values, of which i have been read.
 pub times_turn : {V : Type 0} (f : List ℕ → Read V) (whole : Read (List V)) (vs : List V) (k i : ℕ) (s m : List ℕ) (v : V) → i < k
     → whole ≡ behind_values vs (times_at (k - i) f s) → f s ≡ Ok (v, m) → whole ≡ behind_values (vs ++ v ∷ []) (times_at (k - (i + 1)) f m)
 times_turn {V} f whole vs k i s m v less is e =
@@ -40,20 +40,20 @@ times_refused {V} f whole vs k i s d less is e =
     let left : k - i ≡ suc (k - (i + 1)) = omega arith in
     is ∙ ap (λ (n : ℕ). behind_values vs (times_at n f s)) left ∙ refused f vs (k - (i + 1)) s d e
 
--- ---- writing each
+-- ---- writing each value
 
--- what is left from a value on is that value and what is left behind it
+-- The values from an index on are the value at that index and the values after it.
 pub drop_item : {V : Type 0} (xs : List V) (i : ℕ) (x d : V) → i < length xs → x ≡ get_or xs i d → drop i xs ≡ x ∷ drop (i + 1) xs
 drop_item {V} xs i x d less is =
     drop-cons xs i d less ∙ ap (λ (y : V). y ∷ drop (suc i) xs) (sym is) ∙ ap (λ (n : ℕ). x ∷ drop n xs) (sym (add-one i))
 
--- one more value is written
+-- One more value is written.
 pub written_step : {V : Type 0} (w : V → List ℕ) (xs : List V) (i : ℕ) (x d : V) (whole before after : List ℕ) → i < length xs → x ≡ get_or xs i d
     → before ++ each_written w (drop i xs) ≡ whole → after ≡ before ++ w x → after ++ each_written w (drop (i + 1) xs) ≡ whole
 written_step {V} w xs i x d whole before after less is so more =
     rw more (append_assoc before (w x) (each_written w (drop (i + 1) xs)) ∙ ap (λ (ys : List V). before ++ each_written w ys) (sym (drop_item xs i x d less is)) ∙ so)
 
--- as many bytes fewer are left
+-- The bytes that are left to write become fewer by those of the value.
 pub written_left : {V : Type 0} (w : V → List ℕ) (xs : List V) (i : ℕ) (x d : V) → i < length xs → x ≡ get_or xs i d
     → length (each_written w (drop i xs)) ≡ length (w x) + length (each_written w (drop (i + 1) xs))
 written_left {V} w xs i x d less is =

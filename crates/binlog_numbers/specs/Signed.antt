@@ -1,5 +1,6 @@
--- Signed variable-length integers: the number x as 2x where it is not negative, and else as 2(-x-1)+1, so that numbers
--- near zero are short. Source: MySQL's documentation of its serialization library, "Signed integers encoding".
+-- Signed variable-length integers: x is encoded as 2x where it isn't negative, and else as 2(-x-1)+1, so that numbers
+-- near zero are short.
+-- Source: MySQL's documentation of its serialization library, "Signed integers encoding".
 use Rattle.std.proofs.Common.{◌≡◌, ℕ, ◌+◌, ◌*◌, ◌/◌, ◌%◌, Bool, true, false, cond, eqb, List, refl, arith}
 use Rattle.std.specs.Prelude.{ℤ, pos, negsuc}
 use Rattle.std.proofs.lemmas.Bool.{eqb-true, eqb-false}
@@ -8,10 +9,12 @@ use Rattle.binlog_wire.specs.Formats.{Place, Format, seen_as}
 use Rattle.binlog_numbers.specs.Varlen.{IsVarlen, varlen_at}
 use Rattle.binlog_numbers.specs.VarlenWriting.{varlen, varlen_written}
 
+-- The zigzag encoding of a signed number.
 abbrev pub zigzag : ℤ → ℕ
 zigzag (pos n) = 2 * n
 zigzag (negsuc n) = 2 * n + 1
 
+-- The signed number with this zigzag encoding.
 abbrev pub unzigzag : ℕ → ℤ
 unzigzag n = cond (eqb (n % 2) 0) (pos (n / 2)) (negsuc (n / 2))
 
@@ -32,15 +35,18 @@ zigzag_forth (negsuc n) =
     let half : (2 * n + 1) / 2 ≡ n = omega arith in
     rw (odd, half) refl
 
+-- Reading a signed variable-length integer.
 abbrev pub varlen_signed_at : List ℕ → Read ℤ
 varlen_signed_at s = read_as unzigzag (varlen_at s)
 
+-- The bytes written for a signed number.
 abbrev pub signed_written : ℤ → List ℕ
 signed_written x = varlen_written (zigzag x)
 
--- the bytes spell the signed number: they spell what stands for it
+-- The bytes encode the zigzag encoding of the signed number.
 abbrev pub IsVarlenSigned : List ℕ → ℤ → List ℕ → Type 0
 IsVarlenSigned s x r = IsVarlen s (zigzag x) r
 
+-- The format of a signed variable-length integer.
 abbrev pub varlen_signed : {place : Place} → Format place ℤ
 varlen_signed = seen_as unzigzag zigzag zigzag_back zigzag_forth varlen

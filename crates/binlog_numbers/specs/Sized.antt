@@ -1,4 +1,4 @@
--- The least size of a whole that holds its own size.
+-- The least size of a whole that includes its own size field.
 use Rattle.std.proofs.Common.{◌≡◌, ℕ, suc, ◌+◌, ◌-◌, ◌*◌, ◌^◌, ◌<◌, ◌≤◌, inl, inr, Bool, true, false, cond, ltb, List, [], length, refl, sym, ap, subst, ◌∙◌, arith}
 use Rattle.std.proofs.lemmas.Bool.{ltb-true, ltb-false, lt-ltb, le-ltb}
 use Rattle.std.proofs.lemmas.List.{length-append}
@@ -7,11 +7,11 @@ use Rattle.binlog_wire.specs.Laws.Numbers.{length-number, length-little_bytes}
 use Rattle.binlog_numbers.specs.Varlen.{IsVarlen}
 use Rattle.binlog_numbers.specs.VarlenWriting.{varlen_written, varlen_long}
 
--- The size solves its own equation: it counts n other bytes and its own spelling.
+-- The size is that of n other bytes and of its own encoding.
 abbrev pub Solves : ℕ → ℕ → Type 0
 Solves n size = size ≡ n + length (varlen_written size)
 
--- the least size that counts n other bytes and itself, where n is small
+-- The least such size, where n is small.
 abbrev pub least_size : ℕ → ℕ
 least_size n = cond (ltb (n + 1) 128) (n + 1) (n + 2)
 
@@ -35,7 +35,7 @@ solves_by n small false h = let le : 128 ≤ n + 1 = ltb-false _ _ h in omega (a
 pub least_size_solves : (n : ℕ) → n + 2 < 16384 → Solves n (least_size n)
 least_size_solves n small = solves_by n small _ refl
 
--- one byte spells less than 128
+-- A size in one byte is below 128.
 one_byte_spells : (s : List ℕ) (size : ℕ) → IsVarlen s size [] → length s ≡ 1 → size < 128
 one_byte_spells s size (inl (k, low, high, small, e)) one =
     let whole : length s ≡ k = ap length e ∙ length-append (little_bytes k (size * 2 ^ k + 2 ^ (k - 1) - 1)) [] ∙ omega (arith, length-little_bytes k (size * 2 ^ k + 2 ^ (k - 1) - 1)) in
@@ -56,6 +56,6 @@ least_by n s size h e false ht true hu =
     let big : 128 ≤ n + 1 = ltb-false _ _ ht in
     absurd (omega (arith, e))
 
--- No size is less, however it is spelled.
+-- No size is less, in whatever encoding.
 pub least_size_is_least : (n : ℕ) (s : List ℕ) (size : ℕ) → IsVarlen s size [] → size ≡ n + length s → least_size n ≤ size
 least_size_is_least n s size h e = least_by n s size h e _ refl _ refl

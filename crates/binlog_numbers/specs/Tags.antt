@@ -13,18 +13,19 @@ use Rattle.binlog_wire.specs.declared.error.Error.{Error}
 use Rattle.binlog_wire.specs.declared.error.Error.TheVariants.{InvalidData}
 use Rattle.binlog_wire.specs.declared.error.Invalid.TheVariants as kinds
 
--- the refusal of a text that isn't a tag
+-- The error for a text that isn't a tag.
 abbrev pub not_a_tag : Error
 not_a_tag = InvalidData kinds.Tag
 
--- a letter or `_`
+-- The byte is a letter or `_`.
 abbrev pub is_first : ℕ → Bool
 is_first b = cond (is_ascii_alphabetic b) true (eqb b 95)
 
--- a letter, a digit or `_`
+-- The byte is a letter, a digit or `_`.
 abbrev pub is_later : ℕ → Bool
 is_later b = cond (is_ascii_alphanumeric b) true (eqb b 95)
 
+-- Whether the bytes are a tag.
 abbrev pub is_tag : List ℕ → Bool
 is_tag [] = false
 is_tag (b ∷ s) = cond (is_first b) (cond (ltb (length s) 32) (eqb (prefix_len is_later s) (length s)) false) false
@@ -34,7 +35,7 @@ short_by b s true true v e h = ltb-true _ _ e
 short_by b s true false v e h = absurd cc
 short_by b s false u v e h = absurd cc
 
--- a tag has 1 to 32 bytes
+-- A tag has 1 to 32 bytes.
 pub tag_short : (s : List ℕ) → is_tag s ≡ true → length s ≤ 32
 tag_short [] h = absurd cc
 tag_short (b ∷ s) h = let l : length s < 32 = short_by b s (is_first b) _ _ refl h in omega (arith, l)
@@ -43,7 +44,7 @@ pub tag_some : (s : List ℕ) → is_tag s ≡ true → 1 ≤ length s
 tag_some [] h = absurd cc
 tag_some (b ∷ s) h = omega arith
 
--- ---- a tag is text
+-- ---- a tag is UTF-8
 
 first_small : (b : ℕ) → is_first b ≡ true → b < 128
 first_small b h = grind (arith, nat_tests)
@@ -73,6 +74,6 @@ no_tag_by : (s : List ℕ) → (IsUtf8 s → ⊥) → (b : Bool) → is_tag s �
 no_tag_by s other true h = absurd (other (tag_is_utf8 s h))
 no_tag_by s other false h = refl
 
--- what isn't text is no tag
+-- Bytes that aren't UTF-8 aren't a tag.
 pub no_tag : (s : List ℕ) → (IsUtf8 s → ⊥) → is_tag s ≡ false
 no_tag s other = no_tag_by s other (is_tag s) refl

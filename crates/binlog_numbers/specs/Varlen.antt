@@ -1,4 +1,4 @@
--- Variable-length numbers: k bytes, 1 to 8, whose number is n * 2 ^ k + 2 ^ (k - 1) - 1; or 255 and 8 bytes.
+-- Variable-length integers: k bytes, 1 to 8, whose number is n * 2 ^ k + 2 ^ (k - 1) - 1; or 255 and n in 8 bytes.
 use Rattle.std.proofs.Common.{◌≡◌, ℕ, zero, suc, ◌+◌, ◌-◌, ◌*◌, ◌/◌, ◌%◌, ◌^◌, ◌<◌, ◌≤◌, ◌⊎◌, Bool, true, false, cond, ltb, eqb, List, [], ◌∷◌, ◌++◌, Ok, Err, refl, sym, ap, subst, ◌∙◌, arith, inl, inr}
 use Rattle.std.specs.Int.{w8, trailing_ones}
 use Rattle.std.proofs.lemmas.Bool.{cases_lt, ltb-true, lt-ltb, le-ltb, eqb-true, eq-eqb}
@@ -13,17 +13,21 @@ use Rattle.binlog_wire.specs.Laws.Numbers.{keeps_number}
 
 -- ---- the grammar
 
+-- A variable-length integer in 1 to 8 bytes.
 abbrev pub IsShort : List ℕ → ℕ → List ℕ → Type 0
 IsShort s n r = (k : ℕ) × (1 ≤ k) × (k ≤ 8) × (n < 2 ^ (7 * k)) × (s ≡ little_bytes k (n * 2 ^ k + 2 ^ (k - 1) - 1) ++ r)
 
+-- A variable-length integer in 9 bytes.
 abbrev pub IsLong : List ℕ → ℕ → List ℕ → Type 0
 IsLong s n r = (m : List ℕ) × (s ≡ 255 ∷ m) × IsNumber 8 m n r
 
+-- The bytes are a variable-length integer, in any of its encodings.
 abbrev pub IsVarlen : List ℕ → ℕ → List ℕ → Type 0
 IsVarlen s n r = IsShort s n r ⊎ IsLong s n r
 
--- ---- reading: the ones at the low end of the first byte say how many bytes follow it
+-- ---- reading: the trailing one bits of the first byte are counted
 
+-- Reading a variable-length integer.
 abbrev pub varlen_at : List ℕ → Read ℕ
 varlen_at [] = Err ends
 varlen_at (b ∷ s) =
@@ -49,7 +53,7 @@ all_below-at (suc n) p h i lt =
       | inr above ↦ let e : i ≡ n = omega arith in rw e here.0
     ]
 
--- the low j + 1 bits are a zero and j ones
+-- The low j + 1 bits are a zero and j ones.
 abbrev has_low : ℕ → ℕ → Bool
 has_low b j = eqb (b % 2 ^ suc j) (2 ^ j - 1)
 
@@ -70,7 +74,7 @@ agree true false h = absurd cc
 agree false true h = absurd cc
 agree false false h = refl
 
--- a byte has a zero and j ones at its low end exactly where j is its count of ones there
+-- A byte has a zero and j ones as its low bits exactly where it has j trailing ones.
 low_bits : (b j : ℕ) → b < 256 → j < 8 → has_low b j ≡ eqb (trailing_ones w8 b) j
 low_bits b j hb hj =
     agree (has_low b j) (eqb (trailing_ones w8 b) j)
@@ -88,7 +92,7 @@ pub eight_ones : trailing_ones w8 255 ≡ 8
 unfolding count_trailing_zeros
 eight_ones = refl
 
--- only 255 has as many ones as bits
+-- Only 255 has as many trailing ones as bits.
 pub ones_most : (b : ℕ) → b < 256 → trailing_ones w8 b ≤ 8
 ones_most b fits =
     elim (cases_lt (trailing_ones w8 b) 8) [
@@ -110,20 +114,20 @@ pow256 (suc n) =
     let e : 7 * suc n + suc n ≡ 8 + (7 * n + n) = omega arith in
     rw (pow-succ' 256 n, pow256 n, e, pow-add 2 8 (7 * n + n)) refl
 
--- the low bits of a number are those of its low byte
+-- The low bits of a number are those of its low byte.
 low_of_byte : (x j : ℕ) → j < 8 → x % 256 % 2 ^ suc j ≡ x % 2 ^ suc j
 low_of_byte x j h =
     let k : 8 ≡ (7 - j) + suc j = omega arith in
     let split : x % 2 ^ 8 ≡ (x / 2 ^ suc j % 2 ^ (7 - j)) * 2 ^ suc j + x % 2 ^ suc j = ap (λ (e : ℕ). x % 2 ^ e) k ∙ mod-pow-add x (7 - j) (suc j) in
     ap (λ (y : ℕ). y % 2 ^ suc j) split ∙ mod_low (x / 2 ^ suc j % 2 ^ (7 - j)) (suc j) (x % 2 ^ suc j) (mod_below x (2 ^ suc j) (pow_pos (suc j)))
 
--- the number that k bytes hold, from the one that is meant, and back
+-- The number that k bytes hold, from the encoded value, and back.
 pub held : (n j : ℕ) → n < 2 ^ (7 * suc j) → n * 2 ^ suc j + 2 ^ suc j ≤ 256 ^ suc j
 held n j h =
     let step : suc n * 2 ^ suc j ≤ 2 ^ (7 * suc j) * 2 ^ suc j = mul-le-mul_right (2 ^ suc j) (omega arith) in
     rw (pow256 (suc j), pow-add 2 (7 * suc j) (suc j)) (omega arith)
 
--- the number that j + 1 bytes hold
+-- The number that j + 1 bytes hold.
 abbrev held_number : ℕ → ℕ → ℕ
 held_number n j = n * 2 ^ suc j + 2 ^ (suc j - 1) - 1
 

@@ -1,4 +1,4 @@
--- What a reader of variable-length numbers needs.
+-- Lemmas for reading variable-length integers.
 use Rattle.std.proofs.Common.{◌≡◌, ℕ, suc, ◌+◌, ◌-◌, ◌*◌, ◌/◌, ◌%◌, ◌^◌, ◌<◌, ◌≤◌, inl, inr, true, false, cond, ltb, List, [], ◌∷◌, length, get_or, drop, take, Ok, refl, sym, ap, ◌∙◌, arith}
 use Rattle.std.specs.Int.{w8, trailing_ones}
 use Rattle.std.proofs.lemmas.Bool.{cases_lt, lt-ltb, le-ltb}
@@ -12,12 +12,13 @@ use Rattle.binlog_wire.specs.Laws.Numbers.{little_bytes-little_number}
 use Rattle.binlog_numbers.specs.Varlen.{varlen_at, eight_ones, pow256}
 use Rattle.binlog_numbers.specs.VarlenWriting.{take_little_bytes}
 
--- ---- the number of so many bytes
+-- ---- the number in a given width
 
+-- The number in an encoding of this width in bytes.
 abbrev pub number_of : ℕ → List ℕ → ℕ
 number_of width s = cond (ltb width 9) (little_number width s / 2 ^ width) (little_number 8 (drop 1 s))
 
--- the first byte says how many there are; nine begin with 255
+-- The trailing ones of the first byte give the width; nine bytes begin with 255.
 pub varlen_whole : (s : List ℕ) (width : ℕ) → 1 ≤ length s → width ≡ trailing_ones w8 (get_or s 0 0) + 1 → (9 ≤ width → get_or s 0 0 ≡ 255) → width ≤ length s
     → varlen_at s ≡ Ok (number_of width s, drop width s)
 varlen_whole [] width some is nine long = absurd (omega arith)
@@ -36,7 +37,7 @@ varlen_whole (a ∷ m) width some is nine long =
           rw (same, all, eight_ones, there) refl
     ]
 
--- one byte, and two
+-- Encodings of one byte, and of two.
 pub varlen_one : (s : List ℕ) → 1 ≤ length s → trailing_ones w8 (get_or s 0 0) ≡ 0 → varlen_at s ≡ Ok (get_or s 0 0 / 2, drop 1 s)
 varlen_one [] some is = absurd (omega arith)
 varlen_one (a ∷ m) some is =
@@ -47,7 +48,7 @@ varlen_one (a ∷ m) some is =
 pub varlen_two : (s : List ℕ) → 2 ≤ length s → trailing_ones w8 (get_or s 0 0) ≡ 1 → varlen_at s ≡ Ok (little_number 2 s / 4, drop 2 s)
 varlen_two s some is = varlen_whole s 2 (omega arith) (omega (arith, is)) (λ more. absurd (omega arith)) some
 
--- what is read, where the rest is cut off by its length
+-- The result of reading, where the rest is taken by its length.
 pub varlen_rest : (s t : List ℕ) (x : ℕ × ℕ) (number width : ℕ) → t ≡ s → x ≡ (number, width) → varlen_at s ≡ Ok (number, drop width s)
     → varlen_at s ≡ Ok (x.0, take (length t - x.1) (drop x.1 t))
 varlen_rest s t x number width same is e =
@@ -67,7 +68,7 @@ low_number width s fits enough most =
     ∙ little_from-bytes width 0 x []
     ∙ ap (λ (y : ℕ). y % 256 ^ width) (div-one x)
 
--- bits above the number are shifted out, and then those of its mark
+-- The bits above the number are shifted out, and then those of its mark.
 shifted : (width x : ℕ) → 1 ≤ width → width ≤ 8 → x * 2 ^ (64 - 8 * width) % 2 ^ 64 / 2 ^ (64 - 7 * width) ≡ x % 256 ^ width / 2 ^ width
 shifted width x some most =
     let above : ℕ = 64 - 8 * width in

@@ -1,4 +1,4 @@
--- Variable-length numbers as a format: the shortest spelling is written.
+-- Variable-length integers as a format: the shortest encoding is written.
 use Rattle.std.proofs.Common.{◌≡◌, ℕ, zero, suc, ◌+◌, ◌-◌, ◌*◌, ◌^◌, ◌<◌, ◌≤◌, ◌⊎◌, inl, inr, Bool, true, false, cond, ltb, List, ◌∷◌, ◌++◌, length, take, refl, sym, ap, subst, ◌∙◌, arith}
 use Rattle.std.proofs.lemmas.Bool.{cases_lt, ltb-true, ltb-false, lt-ltb, le-ltb}
 use Rattle.std.proofs.lemmas.Nat.{pow_below}
@@ -10,11 +10,12 @@ use Rattle.binlog_wire.specs.Laws.Numbers.{length-number, length-little_bytes}
 use Rattle.binlog_wire.specs.Formats.{Place, Format}
 use Rattle.binlog_numbers.specs.Varlen.{IsVarlen, varlen_at, keeps_varlen, held}
 
--- the shortest spelling of at least k bytes, with t more widths to try
+-- The shortest encoding of at least k bytes, with t more widths to try.
 abbrev pub written_from : ℕ → ℕ → ℕ → List ℕ
 written_from zero k n = 255 ∷ little_bytes 8 n
 written_from (suc t) k n = cond (ltb n (2 ^ (7 * k))) (little_bytes k (n * 2 ^ k + 2 ^ (k - 1) - 1)) (written_from t (suc k) n)
 
+-- The shortest encoding.
 unfoldable pub varlen_written : ℕ → List ℕ
 varlen_written n = written_from 8 1 n
 
@@ -36,6 +37,7 @@ pub varlen_writes : (n : ℕ) (r : List ℕ) → n < 256 ^ 8 → IsVarlen (varle
 unfolding varlen_written
 varlen_writes n r fits = varlen_spelled 8 1 n r (omega arith) refl fits
 
+-- The format of a variable-length integer.
 abbrev pub varlen : {place : Place} → Format place ℕ
 varlen = record {
   spells = IsVarlen;
@@ -52,7 +54,7 @@ varlen = record {
   long = varlen_long;
 }
 
--- ---- no spelling is shorter
+-- ---- no encoding is shorter
 
 width_by : (t k n : ℕ) (b : Bool) → ltb n (2 ^ (7 * k)) ≡ b → (j : ℕ) → k ≤ j → n < 2 ^ (7 * j)
     → (suc k ≤ j → length (written_from t (suc k) n) ≤ j)
@@ -76,7 +78,7 @@ pub nine : (t k n : ℕ) → k + t ≡ 9 → length (written_from t k n) ≤ 9
 nine zero k n all = omega (arith, length-little_bytes 8 n)
 nine (suc t) k n all = nine_by t k n (ltb n (2 ^ (7 * k))) (omega (arith, all)) (nine t (suc k) n (omega (arith, all)))
 
--- No spelling is shorter than the one that is written.
+-- No encoding is shorter than the written one.
 pub varlen_shortest : (s : List ℕ) (n : ℕ) (r : List ℕ) → IsVarlen s n r → length (varlen_written n) + length r ≤ length s
 unfolding varlen_written
 varlen_shortest s n r (inl (k, low, high, small, e)) =
@@ -89,14 +91,14 @@ varlen_shortest s n r (inr (m, e, h)) =
     let whole : length s ≡ suc (length m) = ap length e in
     omega (arith, w, whole, length-number 8 m n r h)
 
--- it takes 9 bytes at most
+-- The written encoding has at most 9 bytes.
 pub varlen_most : (n : ℕ) → length (varlen_written n) ≤ 9
 unfolding varlen_written
 varlen_most n = nine 8 1 n refl
 
--- ---- how many bytes are written
+-- ---- the number of bytes written
 
--- the least number that doesn't fit j - 1 bytes
+-- The number doesn't fit j - 1 bytes, or j is 1.
 abbrev pub NeedsBytes : ℕ → ℕ → Type 0
 NeedsBytes j n = (j ≡ 1) ⊎ (2 ^ (7 * (j - 1)) ≤ n)
 
@@ -129,12 +131,12 @@ written_nine (suc t) k n some all big =
     let goes : ltb n (2 ^ (7 * k)) ≡ false = le-ltb _ _ small in
     rw goes (written_nine t (suc k) n (omega arith) (omega (arith, all)) big)
 
--- a number that needs j bytes and fits them is written in j
+-- A number that fits j bytes and no fewer is written in j.
 pub varlen_in : (j n : ℕ) → 1 ≤ j → j ≤ 8 → NeedsBytes j n → n < 2 ^ (7 * j) → varlen_written n ≡ little_bytes j (n * 2 ^ j + 2 ^ (j - 1) - 1)
 unfolding varlen_written
 varlen_in j n some high low small = written_at 8 1 n j (omega arith) refl some high low small
 
--- a number from 2^56 is written in nine
+-- A number of 2^56 or more is written in nine bytes.
 pub varlen_in_nine : (n : ℕ) → 2 ^ 56 ≤ n → varlen_written n ≡ 255 ∷ little_bytes 8 n
 unfolding varlen_written
 varlen_in_nine n big = written_nine 8 1 n (omega arith) refl big
@@ -146,10 +148,11 @@ varlen_size j n some high low small =
 pub varlen_size_nine : (n : ℕ) → 2 ^ 56 ≤ n → 9 ≡ length (varlen_written n)
 varlen_size_nine n big = sym (ap length (varlen_in_nine n big) ∙ ap suc (length-little_bytes 8 n))
 
--- in few bytes, or in nine
+-- The encoding in j bytes, 1 to 8.
 abbrev pub IsWrittenIn : ℕ → ℕ → List ℕ → Type 0
 IsWrittenIn j n s = (1 ≤ j) × (j ≤ 8) × (n < 2 ^ (7 * j)) × (s ≡ little_bytes j (n * 2 ^ j + 2 ^ (j - 1) - 1))
 
+-- The encoding in nine bytes.
 abbrev pub IsWrittenInNine : ℕ → List ℕ → Type 0
 IsWrittenInNine n s = s ≡ 255 ∷ little_bytes 8 n
 
@@ -179,7 +182,7 @@ nine_of n width s is more (inl (j, (low, high, small, e))) =
     absurd (omega (arith, is, l))
 nine_of n width s is more (inr e) = e
 
--- what is written in this many bytes
+-- The encoding in fewer than nine bytes.
 pub varlen_few : (n width : ℕ) → width ≡ length (varlen_written n) → width < 9 → IsWrittenIn width n (varlen_written n)
 unfolding varlen_written
 varlen_few n width is less = few_of n width (varlen_written n) is less (cases 8 1 n (omega arith) refl)
@@ -188,7 +191,7 @@ pub varlen_many : (n width : ℕ) → width ≡ length (varlen_written n) → 9 
 unfolding varlen_written
 varlen_many n width is more = nine_of n width (varlen_written n) is more (cases 8 1 n (omega arith) refl)
 
--- the low bytes of a number are its bytes in fewer
+-- The low bytes of a number are its encoding in fewer bytes.
 take_low : (i k n x : ℕ) → k ≤ n → take k (bytes_low_first i n x) ≡ bytes_low_first i k x
 take_low i zero n x le = refl
 take_low i (suc k) zero x le = absurd (omega arith)
@@ -197,7 +200,7 @@ take_low i (suc k) (suc n) x le = ap (λ (s : List ℕ). byte_at i x ∷ s) (tak
 pub take_little_bytes : (k n x : ℕ) → k ≤ n → take k (little_bytes n x) ≡ little_bytes k x
 take_little_bytes k n x le = take_low 0 k n x le
 
--- a number that fits j bytes so leaves room for its mark
+-- A number that fits j bytes leaves space for its mark.
 pub varlen_room : (n j : ℕ) → 1 ≤ j → j ≤ 8 → n < 2 ^ (7 * j) → n * 2 ^ j + 2 ^ j ≤ 2 ^ 64
 varlen_room n zero some high small = absurd (omega arith)
 varlen_room n (suc i) some high small =

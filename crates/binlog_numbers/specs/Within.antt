@@ -1,4 +1,4 @@
--- Bytes that say how many they are, and values until what ends them.
+-- Parts that state their own size, and values up to an end.
 use Rattle.std.proofs.Common.{◌≡◌, ℕ, zero, suc, ◌+◌, ◌-◌, ◌≤◌, Bool, true, false, cond, ltb, List, [], ◌∷◌, ◌++◌, length, take, drop, Ok, Err, refl, sym, ap, subst, append_assoc, arith}
 use Rattle.std.proofs.lemmas.Bool.{ltb-false, le-ltb}
 use Rattle.std.proofs.lemmas.List.{append-nil, length-append, length-drop, take-append-drop, take_at, drop_at}
@@ -9,16 +9,17 @@ use Rattle.binlog_wire.specs.Laws.{KeepsTo, bind_ok, guard_ok, IsBytes-take, IsB
 use Rattle.binlog_wire.specs.Formats.{Place, anywhere, last, Format}
 use Rattle.binlog_numbers.specs.Repeated.{IsEach, each_written, each_normal, EachFits, each_writes, each_settled, each_twice, each_again}
 
--- ---- a size that counts all bytes of what it stands in
+-- ---- a size that counts the whole that it is in
 
--- A head that says the size of the whole, its own bytes included, and what stands within that size.
+-- A head that states the size of the whole, its own bytes included, and a part that ends with that size.
 abbrev pub IsWithin : {H V : Type 0} → (List ℕ → H → List ℕ → Type 0) → (H → ℕ) → (H → List ℕ → V → List ℕ → Type 0) → List ℕ → H × V → List ℕ → Type 0
 IsWithin HEAD size F s x r = (m : List ℕ) × HEAD s x.0 (m ++ r) × (size x.0 + length r ≡ length s) × F x.0 m x.1 []
 
--- what is left of the size behind a head
+-- The number of bytes after the head that belong to the whole.
 abbrev pub left_within : ℕ → ℕ → ℕ → ℕ
 left_within size rest whole = size + rest - whole
 
+-- Reading a head and the part that ends with the size that the head states.
 abbrev pub within_at : {H V : Type 0} → (List ℕ → Read H) → (H → ℕ) → (ℕ → Invalid) → (H → List ℕ → Read V) → List ℕ → Read (H × V)
 within_at head size why f s =
     head s >>= λ h.
@@ -64,6 +65,7 @@ within_complete head size why f s x r h =
     let there : ltb (length s) (size x.0) ≡ false = le-ltb _ _ (omega (arith, h.2)) in
     rw (head.keeps.complete s x.0 (m ++ r) h.1, enough, there, k, take_at m r (length m) refl, drop_at m r (length m) refl, (f x.0).keeps.complete m x.1 [] h.3) refl
 
+-- The format of a head that states the size of the whole, and a part that ends with that size.
 abbrev pub within : {place : Place} {H V : Type 0} (head : Format anywhere H) (size : H → ℕ) (why : ℕ → Invalid) (f : H → Format last V)
     → ((h : H) (s : List ℕ) (v : V) (r : List ℕ) → (f h).spells s v r → r ≡ []) → Format place (H × V)
 within {place} {H} {V} head size why f whole = record {
@@ -90,9 +92,9 @@ within {place} {H} {V} head size why f whole = record {
   long = λ s x r h. omega (arith, head.long s x.0 (h.0 ++ r) h.1, length-append h.0 r);
 }
 
--- ---- values until nothing is left, or until what ends them
+-- ---- values up to the end of the bytes, or up to bytes that end them
 
--- a test for what may stand behind the last value: nothing, or what no value stands at
+-- A test for what may follow the last value: nothing, or bytes at which no value begins.
 pub record IsEnd {V : Type 0} (f : Format anywhere V) (End : List ℕ → Type 0) (test : List ℕ → Bool) : Type 0 where
   pub nothing : End []
   pub holds : (s : List ℕ) → End s → test s ≡ true
@@ -100,15 +102,16 @@ pub record IsEnd {V : Type 0} (f : Format anywhere V) (End : List ℕ → Type 0
   pub no_value : (s : List ℕ) (v : V) (r : List ℕ) → f.spells s v r → test s ≡ false
   pub moves : 1 ≤ f.least
 
--- values one after the other, and then an end; all bytes are theirs
+-- Values in sequence, and then an end; they take all bytes.
 abbrev pub IsUntil : {V : Type 0} → (List ℕ → V → List ℕ → Type 0) → (List ℕ → Type 0) → List ℕ → List V → List ℕ → Type 0
 IsUntil F End s vs r = (x : List ℕ) × IsEach F s vs x × End x × (r ≡ [])
 
--- each value takes a byte at least, so there are at most as many steps as bytes
+-- Each value takes at least one byte, so there are at most as many steps as bytes.
 abbrev pub until_in : {V : Type 0} → ℕ → (List ℕ → Bool) → (List ℕ → Read V) → List ℕ → Read (List V)
 until_in zero test f s = cond (test s) (Ok ([], [])) (Err ends)
 until_in (suc k) test f s = cond (test s) (Ok ([], [])) (f s >>= λ a. until_in k test f a.1 >>= λ b. Ok (a.0 ∷ b.0, b.1))
 
+-- Reading values up to an end.
 abbrev pub until_at : {V : Type 0} → (List ℕ → Bool) → (List ℕ → Read V) → List ℕ → Read (List V)
 until_at test f s = until_in (length s) test f s
 
@@ -159,7 +162,7 @@ keeps_until f End test law = record {
   complete = λ s vs r h. until_complete f End test law (length s) s vs r (omega arith) h;
 }
 
--- values one after the other, until nothing is left or an end stands there; nothing is written behind them
+-- Values in sequence, until no bytes are left or bytes end them; such bytes aren't written.
 abbrev pub until : {V : Type 0} (f : Format anywhere V) (End : List ℕ → Type 0) (test : List ℕ → Bool) → IsEnd f End test → Format last (List V)
 until f End test law = record {
   spells = IsUntil f.spells End;

@@ -1,17 +1,18 @@
-//! Intervals of transaction numbers.
+//! Intervals of GNOs.
 ghost use Rattle.std.specs.Prelude.{◌≡◌, Some};
 ghost use Rattle.binlog_numbers.specs.GnoIntervals.{gno_interval};
 
 use binlog_wire::{Error, IntRepr, LeU64, MyDeserialize, ParseBuf, Put};
 use std::alloc::Global;
 
-/// How many bytes an interval takes.
+/// The size of an interval in bytes.
 const INTERVAL_LEN: usize = 16;
 
-/// The numbers of one source's transactions from `start` up to, not including, `end`.
+/// An interval of GNOs (the transaction numbers of one source): from `start`, to `end`, which isn't included.
 ///
-/// In bytes, it is these two numbers of 8 bytes. Nothing is demanded of them: a start above the end, or a 0, is read as
-/// it stands. See `Gtid_set::encode` in MySQL's documentation.
+/// It is encoded as two u64, little-endian. Any values are accepted: `start` may be 0 or above `end`.
+///
+/// Source: `Gtid_set::encode` in MySQL's source documentation.
 #[derive(Clone, Copy, Debug, PartialEq, Eq, Hash)]
 pub struct GnoInterval {
     start: u64,
@@ -19,21 +20,21 @@ pub struct GnoInterval {
 }
 
 impl GnoInterval {
-    /// The numbers from `start` up to, not including, `end`.
+    /// The interval from `start`, to `end`, which isn't included.
     pub fn new(start: u64, end: u64) -> Self
         ensures { result ≡ record { start = start; end = end } }
     {
         GnoInterval { start, end }
     }
 
-    /// The first number.
+    /// The first GNO.
     pub fn start(&self) -> u64
         ensures { result ≡ self.now.start }
     {
         self.start
     }
 
-    /// The number behind the last.
+    /// The GNO after the last.
     pub fn end(&self) -> u64
         ensures { result ≡ self.now.end }
     {
@@ -41,7 +42,7 @@ impl GnoInterval {
     }
 }
 
-/// [`Error::EndOfBody`] where fewer than 16 bytes are there.
+/// The only error is [`Error::EndOfBody`], where there are fewer than 16 bytes.
 impl<'de> MyDeserialize<'de> for GnoInterval {
     const SIZE: Option<usize> = Some(INTERVAL_LEN);
 

@@ -1,4 +1,4 @@
-//! Values one after the other.
+//! A list of values in sequence.
 ghost use Rattle.std.specs.Prelude.{◌≡◌, ◌++◌, ◌∷◌, [], ⊤, List, Option, None, OnOk, OnErr, IsOkUnless};
 ghost use Rattle.binlog_wire.specs.declared.error.Error.TheVariants.{Memory};
 ghost use Rattle.binlog_wire.specs.Reading.{Read, Gives};
@@ -9,9 +9,9 @@ use std::alloc::Global;
 use std::hash::{Hash, Hasher};
 use std::marker::Model;
 
-/// Values one after the other, in memory of their own.
+/// A list of values in sequence, owned.
 ///
-/// Contracts see the list of them.
+/// Contracts see it as the list of its values.
 #[derive(Debug, Drop)]
 pub struct Items<T> {
     items: Vec<T>,
@@ -26,21 +26,21 @@ impl<T> Model for Items<T> {
 }
 
 impl<T> Items<T> {
-    /// These values.
+    /// Wraps the values.
     pub fn new(items: Vec<T>) -> Self
         ensures { result ≡ items.items }
     {
         Items { items }
     }
 
-    /// The values.
+    /// The values as a slice.
     pub fn as_slice(&self) -> &[T]
         ensures { result.now ≡ self.now }
     {
         self.items.as_slice()
     }
 
-    /// The values, in their vector.
+    /// The values as a vector.
     pub fn into_vec(self) -> Vec<T>
         ensures { result.items ≡ self }
     {
@@ -82,8 +82,13 @@ impl<T: Hash> Hash for Items<T> {
     }
 }
 
-/// As many values as the context says, each read under the context's second part. Memory grows with the values that are
-/// there, and not by their count; [`Error::Memory`] where it runs out.
+/// The context is the count of values, and the context of each. Memory grows with the values that are there, and not
+/// by the count.
+///
+/// # Errors
+///
+/// - Those of the values, from the first value that fails.
+/// - [`Error::Memory`] where an allocation fails.
 impl<'de, T: MyDeserialize<'de> + Drop> MyDeserialize<'de> for Items<T>
 where
     T::Ctx: Copy,
@@ -111,7 +116,7 @@ where
     }
 }
 
-/// Appends a value; refused by [`Error::Memory`] alone.
+/// Appends a value. The only error is [`Error::Memory`].
 fn push<T: Drop>(items: &mut Vec<T>, item: T) -> Result<(), Error>
     ensures ok { OnOk result (items.new.items ≡ items.old.items ++ item ∷ []) }
     ensures err { OnErr result (items.new.items ≡ items.old.items) }

@@ -1,4 +1,4 @@
-//! Laws of the definitions, each a function whose contract says it.
+//! Laws of the definitions. Each is a function that does nothing and whose contract states the law.
 ghost use Rattle.std.specs.Prelude.{◌≡◌, ◌++◌, ◌+◌, ◌^◌, ◌<◌, ◌≤◌, ℕ, List, None, Some, length};
 ghost use Rattle.binlog_wire.specs.Laws.{KeepsTo};
 ghost use Rattle.binlog_numbers.specs.LenEnc.{IsLenEnc, lenenc_at, lenenc_written};
@@ -14,32 +14,32 @@ use crate::lenenc::LenEnc;
 use crate::varlen::{Varlen, VarlenSigned};
 use binlog_wire::{IntRepr, MyDeserialize};
 
-/// A number is read exactly where a front of the bytes spells it, with the rest behind that spelling; so no spelling
-/// begins another.
+/// A number is read exactly where a prefix of the bytes encodes it, with the bytes after that prefix. So no encoding
+/// is a proper prefix of another.
 pub fn numbers_are_spelled()
     ensures lenenc { KeepsTo IsLenEnc lenenc_at }
     ensures varlen { KeepsTo IsVarlen varlen_at }
     ensures signed { KeepsTo IsVarlenSigned varlen_signed_at }
 {}
 
-/// What is written of a number spells it.
+/// The written bytes of a number encode it.
 pub fn written_numbers_are_spelled()
     ensures lenenc { (n : ℕ) (r : List ℕ) → n < 256 ^ 8 → IsLenEnc (lenenc_written n ++ r) n r }
     ensures varlen { (n : ℕ) (r : List ℕ) → n < 256 ^ 8 → IsVarlen (varlen_written n ++ r) n r }
 {}
 
-/// No spelling of a number is shorter than the one that is written.
+/// No encoding of a number is shorter than the written one.
 pub fn written_numbers_are_shortest()
     ensures lenenc { (s : List ℕ) (n : ℕ) (r : List ℕ) → IsLenEnc s n r → length (lenenc_written n) + length r ≤ length s }
     ensures varlen { (s : List ℕ) (n : ℕ) (r : List ℕ) → IsVarlen s n r → length (varlen_written n) + length r ≤ length s }
 {}
 
-/// An interval takes 16 bytes, whatever follows it.
+/// The encoding of an interval has 16 bytes, whatever follows it.
 pub fn intervals_take_16_bytes()
     ensures { (s : List ℕ) (interval : GnoInterval) (r : List ℕ) → gno_interval.spells s interval r → length s ≡ 16 + length r }
 {}
 
-/// The sizes of what always takes as many bytes, and of what doesn't.
+/// The size of each type, where it is fixed.
 pub fn sizes()
     ensures interval { ⟦<GnoInterval as MyDeserialize<'static>>⟧.size ≡ Some 16 }
     ensures items { ⟦<Items<GnoInterval> as MyDeserialize<'static>>⟧.size ≡ None }

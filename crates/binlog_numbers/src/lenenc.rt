@@ -7,15 +7,16 @@ ghost use Rattle.binlog_numbers.specs.LenEnc.{lenenc_at, lenenc_written};
 use binlog_wire::{Error, IntRepr, Invalid, LeU16, LeU64, ParseBuf};
 use byteorder::{ByteOrder, LittleEndian};
 
-/// A number in 1, 3, 4 or 9 bytes: one below 251 is its own byte; else `fc`, `fd` or `fe` and the number in 2, 3 or 8
-/// bytes, least byte first.
+/// A length-encoded integer, in 1, 3, 4 or 9 bytes: a value below 251 as that byte; else `fc`, `fd` or `fe` and the
+/// value in 2, 3 or 8 bytes, little-endian.
 ///
-/// A number in more bytes than it needs is read, too; the shortest form is written. `fb` and `ff` begin no number. See
-/// "Protocol::LengthEncodedInteger" in MySQL's documentation.
+/// Any encoding of a value is read, and the shortest is written. The first bytes `fb` and `ff` aren't allowed.
+///
+/// Source: "Protocol::LengthEncodedInteger" in MySQL's documentation.
 #[derive(Drop)]
 pub struct LenEnc;
 
-/// Takes a number of three bytes off the front of `buf`.
+/// Takes a little-endian integer of three bytes from the start of `buf`; [`Error::EndOfBody`] where there are fewer.
 fn read_u24(buf: &mut ParseBuf<'_>) -> Result<u64, Error>
     ensures { Gives ⊥ buf.new result (number_at 3 buf.old) }
 {
@@ -38,8 +39,12 @@ impl IntRepr for LenEnc {
 
     ghost written = { lenenc_written };
 
-    /// Takes a number off the front of `buf`: [`Error::EndOfBody`] where the bytes end within it,
-    /// [`Invalid::LenEnc`] for a first byte of `fb` or `ff`.
+    /// Takes an integer from the start of `buf`.
+    ///
+    /// # Errors
+    ///
+    /// - [`Error::EndOfBody`] where the bytes end within it.
+    /// - [`Error::InvalidData`] where the first byte is `fb` or `ff` ([`Invalid::LenEnc`]).
     fn read(buf: &mut ParseBuf<'_>) -> Result<u64, Error> {
         let (first, rest) = buf.0.split_first().ok_or(Error::EndOfBody)?;
         buf.0 = rest;
@@ -84,7 +89,7 @@ impl IntRepr for LenEnc {
     }
 }
 
-/// How many bytes the shortest length-encoded form of a number takes: 1, 3, 4 or 9.
+/// The length in bytes of the shortest encoding of a number: 1, 3, 4 or 9.
 pub fn lenenc_int_len(number: u64) -> u64
     ensures { result ≡ length (lenenc_written number) }
 {

@@ -1,12 +1,14 @@
-//! Texts behind their length, a length-encoded integer.
+//! Strings after a length-encoded length.
 ghost use Rattle.std.specs.Prelude.{◌+◌, ◌^◌};
 ghost use Rattle.binlog_numbers.specs.LenEncTexts.{lenenc_text};
 
 use crate::lenenc::LenEnc;
 use binlog_wire::{BytesRepr, Error, IntRepr, ParseBuf, WritableBytes};
 
-/// Behind their length, a length-encoded integer, of which all spellings are read and the shortest is written. See
-/// "Protocol::LengthEncodedString" in MySQL's documentation.
+/// Bytes after their length, a length-encoded integer. Any encoding of the length is read, and the shortest is
+/// written.
+///
+/// Source: "Protocol::LengthEncodedString" in MySQL's documentation.
 #[derive(Drop)]
 pub struct LenEncBytes;
 
@@ -17,8 +19,13 @@ impl BytesRepr for LenEncBytes {
 
     ghost kept = { λ s. s };
 
-    /// [`Error::EndOfBody`] where the bytes end within the length or the text,
-    /// [`Invalid::LenEnc`](binlog_wire::Invalid::LenEnc) for a first byte of `fb` or `ff`.
+    /// Takes the length and the bytes from the start of `buf`, and answers the bytes.
+    ///
+    /// # Errors
+    ///
+    /// - [`Error::EndOfBody`] where the bytes end within the length or the string.
+    /// - [`Error::InvalidData`] where the first byte is `fb` or `ff`
+    ///   ([`Invalid::LenEnc`](binlog_wire::Invalid::LenEnc)).
     #[inline(always)]
     fn read<'a>(_ctx: (), buf: &mut ParseBuf<'a>) -> Result<&'a [u8], Error> {
         let len = LenEnc::read(buf)?;

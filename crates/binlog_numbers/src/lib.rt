@@ -1,13 +1,13 @@
-//! The numbers of a MySQL binary log that take as many bytes as they need: length-encoded integers ([`LenEnc`]) and the
-//! variable-length integers of MySQL's serialization library ([`Varlen`]).
+//! The variable-width integers of a MySQL binary log: length-encoded integers ([`LenEnc`]), and the variable-length
+//! integers of MySQL's serialization library ([`Varlen`]).
 //!
-//! Each has several spellings, all of which are read; the shortest is written. Their grammar, and the laws that tie
-//! reading and writing to it, stand in `specs/`: `LenEnc`, `Varlen`, `VarlenWriting`, `Signed`. [`LenEncBytes`] are behind a
-//! length of the first kind (`LenEncTexts`).
+//! A value may have several encodings; each is read, and the shortest is written. Their grammar, and the laws that tie
+//! reading and writing to it, are in `specs/`: `LenEnc`, `Varlen`, `VarlenWriting` and `Signed`. [`LenEncBytes`] are
+//! strings after a length-encoded length (`LenEncTexts`).
 //!
-//! Beside them stand tags ([`Tag`]), intervals of transaction numbers ([`GnoInterval`]), and values of which a count before
-//! them says how many there are ([`Items`]); the formats of repeated, chosen and announced parts, and of a body that says
-//! its own size, are in `specs/`: `Repeated`, `Chosen`, `Announced`, `Within`, `Sized`.
+//! There are also tags ([`Tag`]), intervals of GNOs ([`GnoInterval`]) and counted lists ([`Items`]). The formats of
+//! repeated, alternative and announced parts, and of a body that states its own size, are in `specs/`: `Repeated`,
+//! `Chosen`, `Announced`, `Within` and `Sized`.
 #![tactic(auto)]
 
 mod gno_interval;

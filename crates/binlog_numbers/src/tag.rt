@@ -1,4 +1,4 @@
-//! Tags of GTIDs.
+//! The tags of GTIDs.
 ghost use Rattle.std.specs.Prelude.{◌≡◌, ◌+◌, ◌≤◌, List, ℕ, true, false, length, IfOk, IsOkUnless, MatchResult};
 ghost use Rattle.std.specs.List.{prefix_len};
 ghost use Rattle.std.specs.Cow.{cow_str_bytes};
@@ -13,7 +13,7 @@ use std::hash::{Hash, Hasher};
 use std::marker::Model;
 use std::string::String;
 
-/// The longest tag, in bytes.
+/// The largest length of a tag in bytes.
 const MAX_TAG_LEN: usize = 32;
 
 /// Whether a tag can begin with this byte: a letter or `_`.
@@ -23,14 +23,14 @@ fn is_first(byte: u8) -> bool
     byte.is_ascii_alphabetic() || byte == b'_'
 }
 
-/// Whether this byte can stand behind the first of a tag: a letter, a digit or `_`.
+/// Whether a later byte of a tag can be this one: a letter, a digit or `_`.
 fn is_later(byte: u8) -> bool
     ensures { result ≡ is_later byte }
 {
     byte.is_ascii_alphanumeric() || byte == b'_'
 }
 
-/// How many bytes at the front can stand behind the first of a tag.
+/// The number of leading bytes that can be later bytes of a tag.
 fn later_len(bytes: &[u8]) -> usize
     ensures { result ≡ prefix_len is_later bytes.now }
 {
@@ -49,10 +49,11 @@ fn is_tag(bytes: &[u8]) -> bool
     }
 }
 
-/// What tells apart the GTIDs of one source: 1 to 32 ASCII letters, digits and `_`, the first not a digit. Its case is
-/// kept.
+/// The tag of a GTID: 1 to 32 ASCII letters, digits and `_`, the first not a digit. Its case is kept.
 ///
-/// Contracts see a tag as the list of its bytes. See "GTID format" in MySQL's reference manual.
+/// Contracts see a tag as the list of its bytes.
+///
+/// Source: "GTID format" in MySQL's reference manual.
 #[derive(Drop)]
 pub struct Tag<'a> {
     text: CowStr<'a, Global>,
@@ -71,7 +72,10 @@ impl<'a> Model for Tag<'a> {
 }
 
 impl<'a> Tag<'a> {
-    /// The text as a tag; [`Invalid::Tag`] where it isn't 1 to 32 ASCII letters, digits and `_`, or begins with a digit.
+    /// The text as a tag.
+    ///
+    /// The only error is [`Error::InvalidData`] with [`Invalid::Tag`], where the text isn't 1 to 32 ASCII letters,
+    /// digits and `_`, or begins with a digit.
     pub fn new(text: CowStr<'a, Global>) -> Result<Self, Error>
         ensures { MatchResult result (λ tag. (tag ≡ cow_str_bytes text.entry) × (is_tag (cow_str_bytes text.entry) ≡ true)) (λ e. (e ≡ not_a_tag) × (is_tag (cow_str_bytes text.entry) ≡ false)) }
     {
@@ -82,7 +86,7 @@ impl<'a> Tag<'a> {
         }
     }
 
-    /// These bytes as a tag; [`Invalid::Tag`] where they aren't one, as [`Tag::new`] says.
+    /// The bytes as a tag; the error is that of [`Tag::new`].
     pub fn from_bytes(bytes: &'a [u8]) -> Result<Self, Error>
         ensures { MatchResult result (λ tag. (tag ≡ bytes.now) × (is_tag bytes.now ≡ true)) (λ e. (e ≡ not_a_tag) × (is_tag bytes.now ≡ false)) }
     {
@@ -92,7 +96,7 @@ impl<'a> Tag<'a> {
         }
     }
 
-    /// The tag as text.
+    /// The tag as text, 1 to 32 bytes.
     pub fn as_str(&self) -> &str
         ensures text { result.now ≡ self.now }
         ensures tag { is_tag self.now ≡ true }
@@ -101,7 +105,7 @@ impl<'a> Tag<'a> {
         self.text.as_str()
     }
 
-    /// The same tag, with its text owned; refused by [`Error::Memory`] alone.
+    /// The same tag with owned text. The only error is [`Error::Memory`].
     pub fn into_owned(self, alloc: Global) -> Result<Tag<'static>, Error>
         ensures ok { IfOk result (λ owned. owned ≡ self.entry) }
         ensures memory { IsOkUnless result Memory }
@@ -112,7 +116,7 @@ impl<'a> Tag<'a> {
         })
     }
 
-    /// The same tag once more: lent text stays lent, and owned text is copied. Refused by [`Error::Memory`] alone.
+    /// A copy: borrowed text stays borrowed, and owned text is copied. The only error is [`Error::Memory`].
     pub fn clone(&self, alloc: Global) -> Result<Self, Error>
         ensures ok { IfOk result (λ copy. copy ≡ self.now) }
         ensures memory { IsOkUnless result Memory }

@@ -1,4 +1,4 @@
-//! Variable-length integers of MySQL's serialization library.
+//! The variable-length integers of MySQL's serialization library.
 ghost use Rattle.std.specs.Prelude.{◌≡◌, ◌++◌, ◌+◌, ◌-◌, ◌*◌, ◌^◌, ◌<◌, ◌≤◌, ℕ, List, Option, None, length, vec_len, vec_capacity, IsTrue, OnOk, OnErr, IsOkUnless};
 ghost use Rattle.std.specs.Int.{w8, trailing_ones};
 ghost use Rattle.byteorder.specs.Endian.{little_bytes};
@@ -12,15 +12,17 @@ ghost use Rattle.binlog_numbers.specs.Signed.{zigzag, unzigzag, varlen_signed_at
 use binlog_wire::{Error, IntRepr, LeU64, ParseBuf, reserve};
 use byteorder::{ByteOrder, LittleEndian};
 
-/// A number in 1 to 9 bytes: in k bytes, 1 to 8, as `n * 2^k + 2^(k-1) - 1`, least byte first, so that the low ones of the
-/// first byte say how many bytes follow it; or in 8 bytes behind `ff`.
+/// A variable-length integer, in 1 to 9 bytes. In k bytes, 1 to 8, the value n is encoded as `n * 2^k + 2^(k-1) - 1`,
+/// little-endian, so that the number of trailing one bits of the first byte is the number of bytes after it. In 9
+/// bytes it is `ff` and n in 8 bytes.
 ///
-/// A number in more bytes than it needs is read, too; the shortest form is written. See "Variable-length integers" of
-/// `mysql::serialization` in MySQL's documentation.
+/// Any encoding of a value is read, and the shortest is written.
+///
+/// Source: "Variable-length integers" of `mysql::serialization` in MySQL's documentation.
 #[derive(Drop)]
 pub struct Varlen;
 
-/// Whether a number that begins with this byte takes no other.
+/// Whether an encoding with this first byte has no other byte.
 #[inline]
 fn is_whole(first: u8) -> bool
     ensures { IsTrue result → trailing_ones w8 first ≡ 0 }
@@ -28,7 +30,7 @@ fn is_whole(first: u8) -> bool
     first % 2 == 0
 }
 
-/// Whether a number that begins with this byte takes one byte more.
+/// Whether an encoding with this first byte has exactly one more byte.
 #[inline]
 fn has_second(first: u8) -> bool
     ensures { IsTrue result → trailing_ones w8 first ≡ 1 }
@@ -36,7 +38,7 @@ fn has_second(first: u8) -> bool
     first % 4 == 1
 }
 
-/// How many bytes a number takes that begins with this byte.
+/// The length in bytes of an encoding with this first byte.
 #[inline]
 fn width_from(first: u8) -> usize
     ensures count { result ≡ trailing_ones w8 first + 1 }
@@ -46,7 +48,8 @@ fn width_from(first: u8) -> usize
     first.trailing_ones() as usize + 1
 }
 
-/// The number in the first `width` bytes, 1 to 9. Not inlined: most numbers take a byte or two, which are read without it.
+/// The number in the first `width` bytes, 1 to 9. Not inlined, since most numbers have one or two bytes, which are
+/// read without it.
 #[inline(never)]
 fn number_in(bytes: &[u8], width: usize) -> u64
     requires some { 1 ≤ width }
@@ -126,7 +129,7 @@ impl IntRepr for Varlen {
     }
 }
 
-/// A number behind the mark that says that it takes `width` bytes.
+/// The number with the mark for an encoding of `width` bytes.
 fn marked(number: u64, width: usize) -> u64
     requires some { 1 ≤ width }
     requires few { width ≤ 8 }
@@ -136,7 +139,7 @@ fn marked(number: u64, width: usize) -> u64
     (number << width) + ((1 << (width - 1)) - 1)
 }
 
-/// Appends the lowest `width` bytes of a number, the least first, where `buf` has room for them.
+/// Appends the lowest `width` bytes of a number, little-endian; `buf` has the capacity.
 fn put_low_bytes(number: u64, width: usize, buf: &mut Vec<u8>)
     requires few { width ≤ 8 }
     requires room { vec_len buf.old + width ≤ vec_capacity buf.old }
@@ -148,11 +151,11 @@ fn put_low_bytes(number: u64, width: usize, buf: &mut Vec<u8>)
         .unwrap();
 }
 
-/// A signed number: the variable-length integer 2x for an x that isn't negative, and 2(-x-1)+1 for one that is.
+/// A signed variable-length integer: x is encoded as 2x where it isn't negative, and else as 2(-x-1)+1 (zigzag).
 #[derive(Drop)]
 pub struct VarlenSigned;
 
-/// The variable-length integer of a signed number.
+/// The zigzag encoding of a signed number.
 fn to_unsigned(number: i64) -> u64
     ensures { result ≡ zigzag number }
 {
@@ -163,7 +166,7 @@ fn to_unsigned(number: i64) -> u64
     }
 }
 
-/// The signed number of a variable-length integer.
+/// The signed number with this zigzag encoding.
 fn to_signed(number: u64) -> i64
     ensures { result ≡ unzigzag number }
 {
@@ -196,15 +199,15 @@ impl IntRepr for VarlenSigned {
     }
 }
 
-/// Takes a variable-length integer off the front of `buf`, in any of its spellings; [`Error::EndOfBody`] where the bytes
-/// end within it.
+/// Takes a variable-length integer, in any of its encodings, from the start of `buf`. The only error is
+/// [`Error::EndOfBody`], where the bytes end within it.
 pub fn read_varlen_uint(buf: &mut ParseBuf<'_>) -> Result<u64, Error>
     ensures { Gives ⊥ buf.new result (varlen_at buf.old) }
 {
     Varlen::read(buf)
 }
 
-/// How many bytes the shortest spelling of a number takes, 1 to 9.
+/// The length in bytes of the shortest encoding of a number, 1 to 9.
 pub fn varlen_uint_size(number: u64) -> usize
     ensures count { result ≡ length (varlen_written number) }
     ensures small { result ≤ 9 }
@@ -212,8 +215,8 @@ pub fn varlen_uint_size(number: u64) -> usize
     Varlen::written_len(number)
 }
 
-/// Appends the shortest spelling of a number to `buf`; refused by [`Error::Memory`] alone, with the contents of `buf` as
-/// they were.
+/// Appends the shortest encoding of a number to `buf`. The only error is [`Error::Memory`], which leaves the contents
+/// of `buf` unchanged.
 pub fn write_varlen_uint(buf: &mut Vec<u8>, number: u64) -> Result<(), Error>
     ensures ok { OnOk result (buf.new.items ≡ buf.old.items ++ varlen_written number) }
     ensures err { OnErr result (buf.new.items ≡ buf.old.items) }
@@ -224,16 +227,16 @@ pub fn write_varlen_uint(buf: &mut Vec<u8>, number: u64) -> Result<(), Error>
     Ok(())
 }
 
-/// Takes a signed variable-length integer off the front of `buf`, in any of its spellings; [`Error::EndOfBody`] where
-/// the bytes end within it.
+/// Takes a signed variable-length integer, in any of its encodings, from the start of `buf`. The only error is
+/// [`Error::EndOfBody`], where the bytes end within it.
 pub fn read_varlen_int(buf: &mut ParseBuf<'_>) -> Result<i64, Error>
     ensures { Gives ⊥ buf.new result (varlen_signed_at buf.old) }
 {
     VarlenSigned::read(buf)
 }
 
-/// Appends the shortest spelling of a signed number to `buf`; refused by [`Error::Memory`] alone, with the contents of
-/// `buf` as they were.
+/// Appends the shortest encoding of a signed number to `buf`. The only error is [`Error::Memory`], which leaves the
+/// contents of `buf` unchanged.
 pub fn write_varlen_int(buf: &mut Vec<u8>, number: i64) -> Result<(), Error>
     ensures ok { OnOk result (buf.new.items ≡ buf.old.items ++ signed_written number) }
     ensures err { OnErr result (buf.new.items ≡ buf.old.items) }

@@ -9,11 +9,11 @@ use Rattle.binlog_rows.specs.declared.rows_form.RowsForm.{RowsForm}
 use Rattle.binlog_rows.specs.declared.rows_event.RowsEvent.{RowsEvent}
 use Rattle.binlog_rows.specs.declared.table_map_event.TableMapEvent.{TableMapEvent}
 
--- the length of the post-header says only how many bytes the table's id takes
+-- The post-header's length matters only for the length of the table id.
 pub map_normal : (post_header : ℕ) (s : List ℕ) (event : TableMapEvent) (r : List ℕ) → (table_map post_header).spells s event r → (table_map 8).normal event ≡ event
 map_normal post_header s event r h = (table_map post_header).settled s event r h
 
--- the extra bytes, where the post-header has a length of 10 or not
+-- The extra bytes, for a post-header length of 10 or another one.
 extra_normal : (has_extra is_ten : Bool) (o : Option (List ℕ))
     → (choose {place = anywhere} is_ten (choose has_extra (present [] extra) (forgotten None [] extra)) (silent (no_extra has_extra))).normal o ≡ o
     → (extra_in has_extra (cond has_extra 10 8)).normal o ≡ o
@@ -22,7 +22,7 @@ extra_normal true false o h = subst (λ (x : Option (List ℕ)). (extra_in true 
 extra_normal false true o h = h
 extra_normal false false o h = h
 
--- the normal form of a row event but for its extra bytes
+-- The normal form of a row event without its extra bytes.
 abbrev with_extra : RowsForm → RowsEvent → Option (List ℕ) → RowsEvent
 with_extra form e x = record {
   head = record { table_id = e.head.table_id; flags = e.head.flags; extra = x };

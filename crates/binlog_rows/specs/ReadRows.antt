@@ -7,7 +7,7 @@ use Rattle.binlog_rows.specs.Rows.{extra_in, image, rows}
 use Rattle.binlog_rows.specs.declared.rows_form.RowsForm.{RowsForm}
 use Rattle.binlog_rows.specs.declared.rows_event.RowsEvent.{RowsEvent}
 
--- the ids of tables take 6 bytes where a description states no length of the post-header
+-- Table ids have 6 bytes if a description states no post-header length.
 pub id_fits : (has_extra : Bool) (id : ℕ) → id < 256 ^ 6 → id < 256 ^ id_width (cond has_extra 10 8)
 id_fits true id small = small
 id_fits false id small = small
@@ -20,7 +20,7 @@ image_fits : (has_image : Bool) (count : ℕ) (s : List ℕ) (o : Option Bitmap)
 image_fits true count s o r h = rw h.1 (ap (λ (b : Bitmap). length b.1) h.2.1 ∙ h.2.2.0)
 image_fits false count s o r h = tt
 
--- a row event that was read, under any description, fits the format in which it is written
+-- A row event that was read under any description fits the format in which it is written.
 pub read_rows_fit : (form : RowsForm) (post_header : ℕ) (s : List ℕ) (e : RowsEvent) (r : List ℕ) → (rows form post_header).spells s e r → (rows form (default_length form)).Fits e
 unfolding rows
 read_rows_fit form post_header s e r h =

@@ -28,7 +28,7 @@ fields_fit s x r h =
     let bitmap : length x.1.1.1.0.1 ≡ bytes_of_bits x.0 = ap (λ (b : Bitmap). length b.1) bits.1 ∙ bits.2.0 in
     (omega (arith, types, count), (refl, ((omega (arith, metadata, len), refl), (bitmap ∙ ap bytes_of_bits (sym types), tt))))
 
--- a table map that was read, under any description, fits the format in which it is written
+-- A table map that was read under any description fits the format in which it is written.
 pub read_map_fits : (post_header : ℕ) (s : List ℕ) (event : TableMapEvent) (r : List ℕ) → (table_map post_header).spells s event r → (table_map 8).Fits event
 read_map_fits post_header s event r h =
     let made = h.2.3 in (

@@ -1,7 +1,7 @@
--- The row events, types 23 to 25, 30 to 32 and 39: a table's rows that were written, updated or deleted. A table's id; flags,
--- 2 bytes; where the post-header has a length of 10, extra bytes behind a count of 2 bytes that counts itself; the number of
--- columns, length-encoded; for each of the images that the type has, one bit for each column, set where the column is in that
--- image; the rows, to the end. Of the types, 23 to 25 are the older ones, which keep no extra bytes.
+-- The row events, types 23 to 25, 30 to 32 and 39: rows of a table that were written, updated or deleted. Table id;
+-- flags (2); if the post-header has a length of 10, extra bytes after a 2-byte length that includes itself; number of
+-- columns, length-encoded; for each row image of the type a bitmap, whose bit is set if the column is in that image;
+-- the rows, to the end. Types 23 to 25 are the older ones (V1), which keep no extra bytes.
 -- Source: MySQL's documentation of its source code, `mysql::binlog::event::Rows_event`.
 use Rattle.std.specs.Prelude.{◌≡◌, ℕ, ◌+◌, ◌-◌, ◌==◌, Bool, true, false, Option, Some, None, is_some, unwrap_or, IfSome, List, [], ◌++◌, length, take, Ok, refl}
 use Rattle.std.proofs.Common.{ap, arith}
@@ -18,11 +18,11 @@ use Rattle.binlog_rows.specs.declared.rows_event.RowsEvent.{RowsEvent}
 
 -- ---- extra bytes
 
--- what counts of extra bytes: as many as their count can say besides itself
+-- The extra bytes that are used: at most 65,533, since their 2-byte length includes itself.
 abbrev pub kept_extra : List ℕ → List ℕ
 kept_extra = take 65533
 
--- a count, and as many bytes as it counts besides itself: none for the counts 0 and 1 too
+-- A length that includes itself, and the bytes; the lengths 0 and 1 also mean no bytes.
 abbrev pub counted : {place : Place} → Format place (ℕ × List ℕ)
 counted = then (number 2) (λ count. block (count - 2))
 
@@ -37,7 +37,7 @@ extra_choice = record {
   again = λ s fits. ap (λ (t : List ℕ). little_bytes 2 (2 + length t) ++ t) (take_all 65533 (kept_extra s) (omega (arith, length-take 65533 s)));
 }
 
--- Extra bytes behind a count that counts itself.
+-- Extra bytes after a length that includes itself.
 abbrev pub extra : {place : Place} → Format place (List ℕ)
 extra = chosen (λ x. Ok x.1) (λ s. (2 + length (kept_extra s), kept_extra s)) kept_extra (λ s. Unit {0}) counted extra_choice
 
@@ -50,79 +50,86 @@ forgotten_choice {V = V} {W = W} x v f = record {
   again = λ w fits. refl;
 }
 
--- A value that is forgotten: whatever bytes spell, it is read as x; it is written as v.
+-- A value that isn't kept: it is read as x whatever its bytes, and written as v.
 abbrev pub forgotten : {place : Place} {V W : Type 0} → W → V → Format place V → Format place W
 forgotten x v f = chosen (λ u. Ok x) (λ w. v) (λ w. x) (λ w. f.Fits v) f (forgotten_choice x v f)
 
--- a value that is there; none is written as v
+-- A value that is present; None is written as v.
 abbrev pub present : {place : Place} {V : Type 0} → V → Format place V → Format place (Option V)
 present v f = made (λ x. Some x) (λ o. unwrap_or o v) f (λ s a r h. refl) (λ o. refl)
 
--- what an event has where no extra bytes stand: none of them, or no place for them
+-- The extra bytes of an event without a length field for them: empty if its type keeps them, else None.
 abbrev pub no_extra : Bool → Option (List ℕ)
 no_extra true = Some []
 no_extra false = None
 
--- The extra bytes of an event of a type that keeps them or not, where the post-header has this length: they stand where it is
--- 10. A type that doesn't keep them forgets them.
+-- The extra bytes of an event whose type keeps them or not. They are encoded only if the post-header has a length of
+-- 10; a type that doesn't keep them drops them.
 abbrev pub extra_in : Bool → ℕ → Format anywhere (Option (List ℕ))
 extra_in has_extra post_header =
     choose (post_header == 10)
     (choose has_extra (present [] extra) (forgotten None [] extra))
     (silent (no_extra has_extra))
 
--- ---- a part at a time
+-- ---- part by part
 
+-- The table id, the flags and the extra bytes.
 abbrev pub head : RowsForm → ℕ → Format anywhere RowsHead
 head form post_header = seen_as
     (λ x. record { table_id = x.0; flags = x.1.0; extra = x.1.1 })
     (λ h. (h.table_id, (h.flags, h.extra))) (λ _. refl) (λ _. refl)
     (table_id post_header ⨾ number 2 ⨾ extra_in form.has_extra post_header)
 
--- which of so many columns are in an image, in an event that has this image or not
+-- The columns-present bitmap of this many columns, in an event that has this image or not.
 abbrev pub image : Bool → ℕ → Format anywhere (Option Bitmap)
 image has_image count = choose has_image (present (count, []) (bitmap count)) (silent None)
 
+-- The number of columns, and the columns-present bitmap of each image.
 abbrev pub columns : RowsForm → Format anywhere RowsColumns
 columns form = seen_as
     (λ x. record { count = x.0; before = x.1.0; after = x.1.1 })
     (λ c. (c.count, (c.before, c.after))) (λ _. refl) (λ _. refl)
     (then lenenc (λ count. image form.has_before count ⨾ image form.has_after count))
 
--- The body of a row event of this form, whose post-header has this length.
+-- The body of a row event of this form, for a post-header of this length.
 unfoldable pub rows : RowsForm → ℕ → Format last RowsEvent
 rows form post_header = seen_as
     (λ x. record { head = x.0; columns = x.1.0; rows = x.1.1 })
     (λ e. (e.head, (e.columns, e.rows))) (λ _. refl) (λ _. refl)
     (head form post_header ⨾ columns form ⨾ rest)
 
--- ---- the parts that an event has
+-- ---- the parts of an event
 
--- an image is there, of so many columns, or it isn't
+-- The bitmap of an image for this many columns is present, or absent.
 abbrev pub IsImage : Bool → ℕ → Option Bitmap → Type 0
 IsImage has_image count o = (is_some o ≡ has_image) × IfSome o (λ columns. columns.0 ≡ count)
 
--- the event has exactly the parts of this form
+-- The event has exactly the parts of this form.
 pub record IsOfForm (form : RowsForm) (e : RowsEvent) : Type 0 where
   pub extra : is_some e.head.extra ≡ form.has_extra
   pub before : IsImage form.has_before e.columns.count e.columns.before
   pub after : IsImage form.has_after e.columns.count e.columns.after
 
--- ---- what is written of an event, by the parts that it has
+-- ---- the written bytes of an event, by its parts
 
+-- The extra bytes after their length; no bytes if the type keeps none.
 abbrev pub extra_written : Option (List ℕ) → List ℕ
 extra_written (Some s) = little_bytes 2 (2 + length (kept_extra s)) ++ kept_extra s
 extra_written None = []
 
+-- The table id in 6 bytes, the flags and the extra bytes.
 abbrev pub head_written : RowsHead → List ℕ
 head_written h = little_bytes 6 h.table_id ++ (little_bytes 2 h.flags ++ extra_written h.extra)
 
+-- The columns-present bitmap, if the event has this image.
 abbrev pub image_written : Option Bitmap → List ℕ
 image_written (Some columns) = columns.1
 image_written None = []
 
+-- The number of columns, and the bitmaps.
 abbrev pub columns_written : RowsColumns → List ℕ
 columns_written c = lenenc_written c.count ++ (image_written c.before ++ image_written c.after)
 
+-- The encoding of a row event, by its parts.
 abbrev pub rows_written : RowsEvent → List ℕ
 rows_written e = head_written e.head ++ (columns_written e.columns ++ e.rows)

@@ -1,4 +1,4 @@
--- What is written of a row event by its parts is that of its form.
+-- The written bytes of a row event, by its parts, are those of its form.
 use Rattle.std.specs.Prelude.{◌≡◌, ℕ, Bool, true, false, Option, Some, None, is_some, List, ◌++◌, refl, if◌then◌else◌}
 use Rattle.std.proofs.Common.{ap, sym, ◌∙◌}
 use Rattle.binlog_wire.specs.Fields.{little_bytes}
@@ -21,12 +21,12 @@ image_as true count None e = absurd cc
 image_as false count (Some columns) e = absurd cc
 image_as false count None e = refl
 
--- the ids of tables take 6 bytes where a description states no length of the post-header
+-- Table ids have 6 bytes if a description states no post-header length.
 width_as : (has_extra : Bool) → 6 ≡ id_width (if has_extra then 10 else 8)
 width_as true = refl
 width_as false = refl
 
--- the bytes of an event whose table's id takes so many, and whose parts are written so
+-- The encoding of an event with a table id of this length and these parts.
 abbrev parts : RowsEvent → ℕ → List ℕ → List ℕ → List ℕ → List ℕ
 parts e width extra before after =
     (little_bytes width e.head.table_id ++ (little_bytes 2 e.head.flags ++ extra)) ++ ((lenenc_written e.columns.count ++ (before ++ after)) ++ e.rows)
@@ -42,6 +42,6 @@ rows_written_is form e h =
     ∙ ap (λ (s : List ℕ). parts e width extra s (image_written e.columns.after)) (image_as form.has_before e.columns.count e.columns.before h.before.0)
     ∙ ap (λ (s : List ℕ). parts e width extra before s) (image_as form.has_after e.columns.count e.columns.after h.after.0)
 
--- the same under a post-header of that length
+-- The same for a post-header of that length.
 pub rows_written_under : (form : RowsForm) (e : RowsEvent) (k : ℕ) → k ≡ default_length form → (rows form (default_length form)).written e ≡ (rows form k).written e
 rows_written_under form e k same = ap (λ (n : ℕ). (rows form n).written e) (sym same)

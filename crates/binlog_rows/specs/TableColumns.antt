@@ -1,18 +1,19 @@
--- What a table map says of the columns of its table.
+-- The column definitions of a table map.
 use Rattle.std.specs.Prelude.{◌≡◌, ℕ, ◌+◌, ◌^◌, ◌<◌, List, length}
 use Rattle.binlog_rows.specs.Columns.{Bitmap}
 
+-- The column definitions of a table map, without the number of columns.
 pub record TableColumns : Type 0 where
-  -- the type of each column
+  -- The column types.
   pub types : List ℕ
-  -- what the types leave open, as lengths
+  -- The column metadata, such as lengths.
   pub metadata : List ℕ
-  -- which columns may hold nulls
+  -- The null bitmap.
   pub null_bits : Bitmap
-  -- what else is said
+  -- The optional metadata, encoded.
   pub optional_metadata : List ℕ
 
--- There is one bit for each type, and all bytes together are no more than memory holds.
+-- There is one bit for each column type, and all bytes together fit into memory.
 abbrev pub AreColumns : TableColumns → Type 0
 AreColumns c = (c.null_bits.0 ≡ length c.types)
     × (length c.types + length c.metadata + length c.null_bits.1 + length c.optional_metadata < 2 ^ 63)

@@ -1,5 +1,4 @@
--- Why a table map is refused: for the end of its bytes, or where one of its two length-encoded numbers should stand and
--- doesn't.
+-- The errors of a table map: the end of its bytes, or an invalid length-encoded integer in one of its two places.
 use Rattle.std.proofs.Common.{◌≡◌, ◌↔◌, ℕ, zero, suc, ◌+◌, ◌-◌, ◌<◌, ◌≤◌, ◌⊎◌, inl, inr, Bool, true, false, cond, ltb, eqb, List, [], ◌∷◌, length, take, drop, Result, Ok, Err, refl, sym, ap, subst, arith}
 use Rattle.std.proofs.lemmas.Bool.{ltb-false}
 use Rattle.binlog_wire.specs.declared.error.Invalid.TheVariants as kinds
@@ -13,27 +12,27 @@ use Rattle.binlog_rows.specs.Columns.{bitmap, id_width}
 use Rattle.binlog_rows.specs.TableMaps.{table, fields, columns_of, columns, table_map}
 use Rattle.binlog_rows.specs.declared.mapped_table.MappedTable.{MappedTable}
 
--- a front of the bytes spells a value, and this byte is next
+-- A prefix of the bytes encodes a value, and this byte is next.
 abbrev pub IsBefore : {V : Type 0} → Format anywhere V → ℕ → List ℕ → Type 0
 IsBefore {V} f b s = (v : V) × (r : List ℕ) × f.spells s v (b ∷ r)
 
--- the fields before the count of columns
+-- The fields before the number of columns.
 abbrev pub before_count : ℕ → Format anywhere (MappedTable × Unit {0})
 before_count post_header = table post_header ⨾ skip_then 1 (silent tt)
 
--- the fields before the length of the metadata
+-- The fields before the metadata length.
 abbrev pub before_metadata : ℕ → Format anywhere (MappedTable × (ℕ × List ℕ))
 before_metadata post_header = table post_header ⨾ skip_then 1 (then lenenc (λ n. block n))
 
--- the two bytes that begin no length-encoded number
+-- The two bytes that begin no length-encoded integer.
 abbrev pub BeginsNone : ℕ → Type 0
 BeginsNone b = (b ≡ 251) ⊎ (b ≡ 255)
 
--- such a byte stands in the place of one of the two length-encoded numbers
+-- Such a byte is in the place of one of the two length-encoded integers.
 abbrev pub IsInNumbersPlace : ℕ → ℕ → List ℕ → Type 0
 IsInNumbersPlace post_header b s = BeginsNone b × (IsBefore (before_count post_header) b s ⊎ IsBefore (before_metadata post_header) b s)
 
--- ---- readings that are refused
+-- ---- readings that fail
 
 bind_err : {A B : Type 0} (r : Result A Refusal) (f : A → Result B Refusal) (d : Refusal) → (r >>= f) ≡ Err d → (r ≡ Err d) ⊎ ((x : A) × (r ≡ Ok x) × (f x ≡ Err d))
 bind_err (Ok x) f d e = inr (x, refl, e)
@@ -57,7 +56,7 @@ then_err {A} {B} f g s d e =
     by_cases (bind_err (f s) (λ a. ◌>>=◌ {B = (A × B) × List ℕ} (g a.0 a.1) (λ b. Ok ((a.0, b.0), b.1))) d e)
     (λ h. inl h) (λ h. inr (h.0, h.1, pair_err h.0.0 (g h.0.0 h.0.1) d h.2))
 
--- the reading has no refusal but the end of the bytes
+-- The reading fails only at the end of the bytes.
 abbrev pub OnlyEnds : {V : Type 0} → Read V → Type 0
 OnlyEnds read = (d : Refusal) → read ≡ Err d → d ≡ ends
 
@@ -94,11 +93,11 @@ table_ends post_header s d e =
     (λ _. ends_then (number_at 2) (λ _. then_at (text_at 1) (λ _. skipped_at 1 (text_at 1))) (ends_number 2)
     (λ _. ends_then (text_at 1) (λ _. skipped_at 1 (text_at 1)) (ends_text 1) (λ _. ends_skipped 1 (text_at 1) (ends_text 1)))) s d (as_err _ _ d e)
 
--- behind the metadata only the bitmap can be refused
+-- After the metadata only the bitmap can fail.
 last_ends : (n : ℕ) (s : List ℕ) → OnlyEnds (then_at (bitmap n).reads (λ _. rest_at) s)
 last_ends n s = ends_then (bitmap n).reads (λ _. rest_at) (λ s d e. ends_block _ s d (as_err _ _ d e)) (λ _ s d e. absurd cc) s
 
--- ---- length-encoded numbers that are refused
+-- ---- invalid length-encoded integers
 
 none_from : (k : ℕ) → 251 + k < 256 → eqb (251 + k) 252 ≡ false → eqb (251 + k) 253 ≡ false → eqb (251 + k) 254 ≡ false → BeginsNone (251 + k)
 none_from zero small h2 h3 h4 = inl refl
@@ -137,14 +136,14 @@ lenenc_none : (b : ℕ) (r : List ℕ) → BeginsNone b → lenenc_at (b ∷ r) 
 lenenc_none b r (inl e) = rw e refl
 lenenc_none b r (inr e) = rw e refl
 
--- ---- a table map that is refused
+-- ---- a table map that fails
 
 text_reason : (u : List ℕ) (d : Refusal) → IsBytes u → lenenc_text.reads u ≡ Err d → (d ≡ ends) ⊎ IsRefusedNumber u d
 text_reason u d fits e =
     by_cases (then_err lenenc_at block_at u d (as_err (λ x. x.1) (then_at lenenc_at block_at u) d e))
     (λ h. lenenc_err u d fits h) (λ h. inl (ends_block h.0.0 h.0.1 d h.2))
 
--- a number is refused behind n types
+-- A number is invalid after n types.
 abbrev AfterTypes : ℕ → List ℕ → Refusal → Type 0
 AfterTypes n r d = (types : List ℕ) × (u : List ℕ) × IsBlock n r types u × IsRefusedNumber u d
 
@@ -159,7 +158,7 @@ types_reason n r d fits e =
     (λ h. by_cases (text_reason x.0.1 d p.1 h) (λ end. inl end) (λ number. inr (x.0.0, x.0.1, p.0, number)))
     (λ h. inl (last_ends n h.0.1 d h.2)))
 
--- the count is refused, or a number behind it and its types
+-- The column count is invalid, or the number after it and its types is.
 abbrev AfterTable : List ℕ → Refusal → Type 0
 AfterTable q d = IsRefusedNumber q d ⊎ ((n : ℕ) × (r : List ℕ) × IsLenEnc q n r × AfterTypes n r d)
 
@@ -171,7 +170,7 @@ columns_reason q d fits e =
     let p = keeps_lenenc.sound q x.0 fits x.1 in
     by_cases (types_reason x.0.0 x.0.1 d p.1 x.2) (λ end. inl end) (λ after. inr (inr (x.0.0, x.0.1, p.0, after))))
 
--- a number is refused behind the table and one byte
+-- A number is invalid after the table and one byte.
 abbrev AfterSkipped : ℕ → List ℕ → Refusal → Type 0
 AfterSkipped post_header s d = (t : MappedTable) × (m : List ℕ) × (table post_header).spells s t m × (skipped : List ℕ) × (q : List ℕ) × IsBlock 1 m skipped q × AfterTable q d
 
@@ -194,12 +193,12 @@ in_place post_header s d (t, m, ht, skipped, q, hq, inr (n, r, hn, after)) =
     let types : IsBlock n r after.0 (number.0 ∷ number.1) = subst (λ (u : List ℕ). IsBlock n r after.0 u) number.2 after.2 in
     (number.0, (number.3, inr ((t, (n, after.0)), number.1, (m, ht, (skipped, q, hq, (r, hn, types))))), number.4)
 
--- why a table map is refused
+-- Why a table map is refused.
 pub refused_reason : (post_header : ℕ) (s : List ℕ) (d : Refusal) → IsBytes s → (table_map post_header).reads s ≡ Err d
     → (d ≡ ends) ⊎ ((b : ℕ) × IsInNumbersPlace post_header b s × (d ≡ invalid (kinds.LenEnc b)))
 refused_reason post_header s d fits e = by_cases (map_reason post_header s d fits e) (λ end. inl end) (λ after. inr (in_place post_header s d after))
 
--- a byte that begins no number, in a number's place, is the refusal
+-- A byte that begins no number, in a number's place, is the error.
 refused_there : (post_header : ℕ) (s : List ℕ) (b : ℕ) → BeginsNone b → IsBefore (before_count post_header) b s ⊎ IsBefore (before_metadata post_header) b s
     → (table_map post_header).reads s ≡ Err (invalid (kinds.LenEnc b))
 refused_there post_header s b none (inl (t, r, (m, ht, (skipped, q, hq, h)))) =
@@ -218,13 +217,13 @@ from_reason : (post_header : ℕ) (s : List ℕ) (b : ℕ) → (invalid (kinds.L
 from_reason post_header s b (inl e) = absurd cc
 from_reason post_header s b (inr h) = let same : h.0 ≡ b = cc in subst (λ (c : ℕ). IsInNumbersPlace post_header c s) same h.1
 
--- A table map is refused for a number exactly where a byte that begins none stands in a number's place.
+-- A table map is refused for a number exactly if a byte that begins none is in a number's place.
 pub refused_numbers : (post_header : ℕ) (s : List ℕ) (b : ℕ) → IsBytes s
     → ((table_map post_header).reads s ≡ Err (invalid (kinds.LenEnc b))) ↔ IsInNumbersPlace post_header b s
 refused_numbers post_header s b fits =
     (λ e. from_reason post_header s b (refused_reason post_header s (invalid (kinds.LenEnc b)) fits e), λ h. refused_there post_header s b h.0 h.1)
 
--- and for nothing else but the end of its bytes
+-- The only other error is the end of its bytes.
 pub refused_else : (post_header : ℕ) (s : List ℕ) (why : Refusal) → IsBytes s → (table_map post_header).reads s ≡ Err why
     → (why ≡ ends) ⊎ ((b : ℕ) × (why ≡ invalid (kinds.LenEnc b)))
 refused_else post_header s why fits e = by_cases (refused_reason post_header s why fits e) (λ end. inl end) (λ h. inr (h.0, h.2))

@@ -1,4 +1,4 @@
--- Which table maps and row events fit the format in which they are written: those whose fields are in their ranges.
+-- The table maps and row events that fit the format in which they are written: those whose fields are in their ranges.
 use Rattle.std.proofs.Common.{◌≡◌, ℕ, ◌^◌, ◌<◌, Bool, true, false, Option, Some, None, length, refl, sym, ap, subst, ◌∙◌, arith}
 use Rattle.std.specs.Prelude.{IfSome}
 use Rattle.binlog_wire.specs.Bits.{bytes_of_bits}
@@ -12,7 +12,7 @@ use Rattle.binlog_rows.specs.declared.rows_form.RowsForm.{RowsForm}
 use Rattle.binlog_rows.specs.declared.rows_event.RowsEvent.{RowsEvent}
 use Rattle.binlog_rows.specs.declared.table_map_event.TableMapEvent.{TableMapEvent}
 
--- what the types of a table map's fields say
+-- The ranges given by the types of a table map's fields.
 pub record TableMapInRange (event : TableMapEvent) : Type 0 where
   pub id : event.table.id < 2 ^ 48
   pub flags : event.table.flags < 2 ^ 16
@@ -29,7 +29,7 @@ table_map_fits event range =
     let bits : length event.columns.null_bits.1 ≡ bytes_of_bits (length event.columns.types) = range.null_bits ∙ ap bytes_of_bits range.columns.0 in
     ((id, (flags, (tt, tt))), (types, (refl, ((metadata, refl), (bits, tt)))))
 
--- what the types of a row event's fields say
+-- The ranges given by the types of a row event's fields.
 pub record RowsInRange (event : RowsEvent) : Type 0 where
   pub table_id : event.head.table_id < 2 ^ 48
   pub flags : event.head.flags < 2 ^ 16
@@ -42,7 +42,8 @@ image_fits true count (Some columns) is bits = bits ∙ ap bytes_of_bits is.1
 image_fits true count None is bits = absurd cc
 image_fits false count o is bits = tt
 
--- A row event that has the parts of a form, and whose fields are in their ranges, fits the format in which it is written.
+-- A row event that has the parts of a form, and whose fields are in their ranges, fits the format in which it is
+-- written.
 pub rows_fit : (form : RowsForm) (event : RowsEvent) → RowsInRange event → IsOfForm form event → (rows form (default_length form)).Fits event
 unfolding rows
 rows_fit form event range has =
@@ -53,6 +54,6 @@ rows_fit form event range has =
     let after = image_fits form.has_after event.columns.count event.columns.after has.after range.after in
     ((id, (flags, extra_fits form.has_extra event.head.extra)), ((count, (before, after)), tt))
 
--- the same under a post-header of that length
+-- The same for a post-header of that length.
 pub rows_fit_under : (form : RowsForm) (k : ℕ) → k ≡ default_length form → (event : RowsEvent) → RowsInRange event → IsOfForm form event → (rows form k).Fits event
 rows_fit_under form k same event range has = subst (λ (n : ℕ). (rows form n).Fits event) (sym same) (rows_fit form event range has)

@@ -1,4 +1,4 @@
-//! One bit for each column of a table.
+//! Column bitmaps.
 ghost use Rattle.std.specs.Prelude.{◌≡◌, ◌≤◌, ◌^◌, ℕ, List, length, IfOk, IsOkUnless};
 ghost use Rattle.binlog_wire.specs.declared.error.Error.TheVariants.{Memory};
 ghost use Rattle.binlog_wire.specs.Reading.{Gives};
@@ -10,8 +10,8 @@ use std::borrow::CowSlice;
 use std::hash::{Hash, Hasher};
 use std::marker::Model;
 
-/// One bit for each of so many columns, the first column's the least bit of the first byte, in as few bytes as hold them.
-/// Bits behind the last column's are kept.
+/// A column bitmap: one bit for each column of a table. The first column's bit is the least significant bit of the
+/// first byte. It has (n + 7) / 8 bytes for n columns; the unused bits of the last byte are kept.
 ///
 /// Contracts see the number of columns and the list of the bytes.
 #[derive(Debug, PartialEq, Eq, Hash, Drop)]
@@ -34,7 +34,7 @@ impl<'a> Model for ColumnBitmap<'a> {
 }
 
 impl<'a> ColumnBitmap<'a> {
-    /// Takes the bits of so many columns off the front of `buf`, as `deserialize` does.
+    /// Reads the bitmap of this many columns from the start of `buf`, as `deserialize` does.
     #[inline(always)]
     pub fn read(len: u64, buf: &mut ParseBuf<'a>) -> Result<Self, Error>
         ensures { Gives ⊥ buf.new result ((bitmap len).reads buf.old) }
@@ -48,7 +48,7 @@ impl<'a> ColumnBitmap<'a> {
         })
     }
 
-    /// How many columns there are.
+    /// The number of columns.
     pub fn len(&self) -> u64
         ensures { result ≡ self.now.0 }
     {
@@ -63,7 +63,7 @@ impl<'a> ColumnBitmap<'a> {
         BitView::new(self.bits.as_bytes(), self.len).unwrap()
     }
 
-    /// The same bits, with their bytes owned; refused by [`Error::Memory`] alone.
+    /// The same bitmap with owned bytes. The only error is [`Error::Memory`].
     pub fn into_owned(self, alloc: Global) -> Result<ColumnBitmap<'static>, Error>
         ensures ok { IfOk result (λ owned. owned ≡ self.entry) }
         ensures memory { IsOkUnless result Memory }
@@ -73,7 +73,8 @@ impl<'a> ColumnBitmap<'a> {
         Ok(ColumnBitmap { len, bits })
     }
 
-    /// The same bits once more: lent bytes stay lent, and owned ones are copied. Refused by [`Error::Memory`] alone.
+    /// A copy of the bitmap: borrowed bytes stay borrowed, owned bytes are copied. The only error is
+    /// [`Error::Memory`].
     pub fn clone(&self, alloc: Global) -> Result<Self, Error>
         ensures ok { IfOk result (λ copy. copy ≡ self.now) }
         ensures memory { IsOkUnless result Memory }
@@ -86,7 +87,8 @@ impl<'a> ColumnBitmap<'a> {
     }
 }
 
-/// The bits of as many columns as the context says; [`Error::EndOfBody`] where fewer bytes are left than they need.
+/// The bitmap of as many columns as the context says. The only error is [`Error::EndOfBody`], if too few bytes are
+/// left.
 impl<'de> MyDeserialize<'de> for ColumnBitmap<'de> {
     const SIZE: Option<usize> = None;
 
@@ -99,7 +101,7 @@ impl<'de> MyDeserialize<'de> for ColumnBitmap<'de> {
     }
 }
 
-/// The bytes of the bits.
+/// The bytes of the bitmap.
 impl Put for ColumnBitmap<'_> {
     ghost bytes = { λ columns. columns.1 };
 

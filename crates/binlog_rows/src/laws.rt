@@ -1,4 +1,4 @@
-//! Laws of the definitions, each a function whose contract says it.
+//! Laws of the definitions. Each is a function without effect whose contract states it.
 ghost use Rattle.std.specs.Prelude.{◌≡◌, ◌↔◌, ◌⊎◌, ℕ, List, None, Err};
 ghost use Rattle.binlog_wire.specs.Fields.{IsBytes};
 ghost use Rattle.binlog_wire.specs.Reading.{Refusal, ends, invalid};
@@ -33,8 +33,8 @@ use binlog_description::BinlogEvent;
 use binlog_wire::MyDeserialize;
 use bitflags::Flags;
 
-/// A table map is refused for a length-encoded number exactly where a front of the bytes spells the fields before the count
-/// of columns, or before the length of the metadata, and the next byte is `fb` or `ff`; and for nothing else but the end of
+/// A table map is refused for a length-encoded integer exactly if a prefix of the bytes encodes the fields before the
+/// column count, or before the metadata length, and the next byte is `fb` or `ff`. The only other error is the end of
 /// its bytes.
 pub fn refused_table_maps()
     ensures numbers { (post_header : ℕ) (s : List ℕ) (b : ℕ) → IsBytes s
@@ -43,49 +43,49 @@ pub fn refused_table_maps()
         → (why ≡ ends) ⊎ ((b : ℕ) × (why ≡ invalid (LenEnc b))) }
 {}
 
-/// A table map that was read, under whichever description, fits the format in which it is written: so what is written of it
-/// reads as itself.
+/// A table map that was read under any description fits the format in which it is written. So its written bytes read
+/// back as the same table map.
 pub fn read_table_maps_fit()
     ensures { (post_header : ℕ) (s : List ℕ) (event : TableMapEvent) (r : List ℕ) → (table_map post_header).spells s event r
         → (table_map 8).Fits event }
 {}
 
-/// A row event that was read, under whichever description, fits the format in which it is written: so what is written of it
-/// reads as its normal form.
+/// A row event that was read under any description fits the format in which it is written. So its written bytes read
+/// back as its normal form.
 pub fn read_row_events_fit()
     ensures { (form : RowsForm) (post_header : ℕ) (s : List ℕ) (event : RowsEvent) (r : List ℕ) → (rows form post_header).spells s event r
         → (rows form (default_length form)).Fits event }
 {}
 
-/// A table map that was read, under whichever description, is its own normal form in the format in which it is written: so
-/// nothing of it is lost by writing it.
+/// A table map that was read under any description is its own normal form in the format in which it is written. So
+/// writing loses nothing of it.
 pub fn read_table_maps_are_normal()
     ensures { (post_header : ℕ) (s : List ℕ) (event : TableMapEvent) (r : List ℕ) → (table_map post_header).spells s event r
         → (table_map 8).normal event ≡ event }
 {}
 
-/// A row event that was read, under whichever description, is its own normal form in the format in which it is written: so
-/// nothing of it is lost by writing it.
+/// A row event that was read under any description is its own normal form in the format in which it is written. So
+/// writing loses nothing of it.
 pub fn read_row_events_are_normal()
     ensures { (form : RowsForm) (post_header : ℕ) (s : List ℕ) (event : RowsEvent) (r : List ℕ) → (rows form post_header).spells s event r
         → (rows form (default_length form)).normal event ≡ event }
 {}
 
-/// A table map whose fields are in the ranges of their types fits the format in which it is written: so what is written of
-/// it reads as its normal form.
+/// A table map whose fields are in the ranges of their types fits the format in which it is written. So its written
+/// bytes read back as its normal form.
 pub fn writable_table_maps_fit()
     ensures { (version : BinlogVersion) (event : TableMapEvent) → TableMapInRange event
         → (⟦<TableMapEvent<'static> as BinlogEvent<'static>>⟧.format (default_description version) (⟦<TableMapEvent<'static> as BinlogEvent<'static>>⟧.raw_type event)).Fits event }
 {}
 
-/// A row event that has the parts of its type, and whose fields are in the ranges of their types, fits the format in which it
-/// is written: so what is written of it reads as its normal form.
+/// A row event that has the parts of its type, and whose fields are in the ranges of their types, fits the format in
+/// which it is written. So its written bytes read back as its normal form.
 pub fn writable_row_events_fit<K: RowsKind>()
     ensures { (version : BinlogVersion) (event : RowsEvent) → RowsInRange event → IsOfForm K.FORM event
         → (⟦<RowsEventOf<'static, K> as BinlogEvent<'static>>⟧.format (default_description version) (⟦<RowsEventOf<'static, K> as BinlogEvent<'static>>⟧.raw_type event)).Fits event }
 {}
 
-/// The raw types under which events are written.
+/// The raw types with which events are written.
 pub fn raw_types()
     ensures table_map { (event : TableMapEvent) → ⟦<TableMapEvent<'static> as BinlogEvent<'static>>⟧.raw_type event ≡ 19 }
     ensures write_v1 { (event : RowsEvent) → ⟦<WriteRowsEventV1<'static> as BinlogEvent<'static>>⟧.raw_type event ≡ 23 }
@@ -97,7 +97,7 @@ pub fn raw_types()
     ensures partial { (event : RowsEvent) → ⟦<PartialUpdateRowsEvent<'static> as BinlogEvent<'static>>⟧.raw_type event ≡ 39 }
 {}
 
-/// The types of events.
+/// The event type of each body.
 pub fn event_types() {
     prove!(matches!(TableMapEvent::EVENT_TYPE, EventType::TABLE_MAP_EVENT));
     prove!(matches!(WriteRowsV1::EVENT_TYPE, EventType::WRITE_ROWS_EVENT_V1));
@@ -112,7 +112,7 @@ pub fn event_types() {
     ));
 }
 
-/// The sizes of what always takes as many bytes: none of these does.
+/// No type of this crate has a fixed size.
 pub fn sizes()
     ensures table_map { ⟦<TableMapEvent<'static> as MyDeserialize<'static>>⟧.size ≡ None }
     ensures table { ⟦<MappedTable<'static> as MyDeserialize<'static>>⟧.size ≡ None }
@@ -128,7 +128,7 @@ pub fn sizes()
     prove!(matches!(TableId::SIZE, None));
 }
 
-/// The constants of row events: how many bytes a table's id takes, the most extra bytes, and the flags.
+/// The constants of row events: the length of a table id, the greatest number of extra bytes, and the flags.
 pub fn constants() {
     prove!(TableId::LEN == 6);
     prove!(MAX_EXTRA_LEN == 65_533);

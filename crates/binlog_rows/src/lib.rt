@@ -1,8 +1,7 @@
-//! The events of rows: table maps, which say how the rows of a table stand in the events behind them, and the events that
-//! write, update and delete rows.
+//! Row-based events: TABLE_MAP events, which describe a table's columns, and the events that write, update and delete
+//! its rows.
 //!
-//! Their bodies stand in `specs/`: `Columns` for what they share, `TableMaps` for table maps and `Rows` for the events of
-//! rows.
+//! Their formats are defined in `specs/`: `Columns` (what they share), `TableMaps` and `Rows`.
 #![tactic(auto)]
 
 mod column_bitmap;

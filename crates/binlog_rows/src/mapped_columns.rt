@@ -1,4 +1,4 @@
-//! What a table map says of the columns of its table.
+//! The column definitions of a table map.
 ghost use Rattle.std.specs.Prelude.{◌≡◌, ◌+◌, ◌^◌, ◌<◌, ◌++◌, length, IfOk, IsOkUnless};
 ghost use Rattle.binlog_wire.specs.declared.error.Error.TheVariants.{Memory};
 ghost use Rattle.binlog_wire.specs.Fields.{block_at};
@@ -14,10 +14,9 @@ use std::alloc::Global;
 use std::borrow::CowSlice;
 use std::marker::Model;
 
-/// The columns of a table: the type of each, a byte; what the types leave open; which columns may hold nulls, a bit for
-/// each; and what else is said.
+/// The column definitions of a table map: column types, column metadata, the null bitmap, and the optional metadata.
 ///
-/// Contracts see these four, without how many columns there are.
+/// Contracts see these four, without the number of columns.
 #[derive(Debug, PartialEq, Eq, Hash, Drop)]
 pub struct MappedColumns<'a> {
     types: RawBytes<'a, EofBytes>,
@@ -39,12 +38,12 @@ impl<'a> Model for MappedColumns<'a> {
 }
 
 impl<'a> MappedColumns<'a> {
-    /// Takes columns off the front of `buf`, as `deserialize` does.
+    /// Reads column definitions from the start of `buf`, as `deserialize` does.
     #[inline(always)]
     pub fn read(buf: &mut ParseBuf<'a>) -> Result<Self, Error>
         ensures { Gives ⊥ buf.new result (columns.reads buf.old) }
     {
-        // All parts are of one slice, which bounds their sum.
+        // All parts are of one slice, which bounds the sum of their lengths.
         let _ = &buf.0;
         let count = LenEnc::read(buf)?;
         let types = take(count as usize, buf)?;
@@ -59,28 +58,28 @@ impl<'a> MappedColumns<'a> {
         })
     }
 
-    /// How many columns there are.
+    /// The number of columns.
     pub fn count(&self) -> u64
         ensures { result ≡ length self.now.types }
     {
         self.null_bits.len()
     }
 
-    /// The type of each column.
+    /// The column types, one byte each.
     pub fn types(&self) -> &[u8]
         ensures { result.now ≡ self.now.types }
     {
         self.types.as_bytes()
     }
 
-    /// What the types leave open.
+    /// The column metadata, such as lengths and precisions.
     pub fn metadata(&self) -> &[u8]
         ensures { result.now ≡ self.now.metadata }
     {
         self.metadata.as_bytes()
     }
 
-    /// Which columns may hold nulls.
+    /// The null bitmap: which columns can be NULL.
     pub fn null_bits(&self) -> BitView<'_>
         ensures len { result.len ≡ length self.now.types }
         ensures columns { self.now.null_bits.0 ≡ length self.now.types }
@@ -89,14 +88,14 @@ impl<'a> MappedColumns<'a> {
         self.null_bits.view()
     }
 
-    /// What else is said.
+    /// The optional metadata, encoded.
     pub fn optional_metadata(&self) -> &[u8]
         ensures { result.now ≡ self.now.optional_metadata }
     {
         self.optional_metadata.as_bytes()
     }
 
-    /// The same columns, with their bytes owned; refused by [`Error::Memory`] alone.
+    /// The same columns with owned bytes. The only error is [`Error::Memory`].
     pub fn into_owned(self, alloc: Global) -> Result<MappedColumns<'static>, Error>
         ensures ok { IfOk result (λ owned. owned ≡ self.entry) }
         ensures memory { IsOkUnless result Memory }
@@ -119,7 +118,8 @@ impl<'a> MappedColumns<'a> {
         })
     }
 
-    /// The same columns once more: lent bytes stay lent, and owned ones are copied. Refused by [`Error::Memory`] alone.
+    /// A copy of the columns: borrowed bytes stay borrowed, owned bytes are copied. The only error is
+    /// [`Error::Memory`].
     pub fn clone(&self, alloc: Global) -> Result<Self, Error>
         ensures ok { IfOk result (λ copy. copy ≡ self.now) }
         ensures memory { IsOkUnless result Memory }
@@ -137,9 +137,11 @@ impl<'a> MappedColumns<'a> {
     }
 }
 
-/// [`Error::EndOfBody`] where the bytes end before the optional metadata, and
-/// [`Invalid::LenEnc`](binlog_wire::Invalid::LenEnc) where `fb` or `ff` stands in the place of the count of columns, or of the
-/// length of the metadata.
+/// # Errors
+///
+/// - [`Error::EndOfBody`] if the bytes end before the optional metadata.
+/// - [`Invalid::LenEnc`](binlog_wire::Invalid::LenEnc) if the column count or the metadata length begins with `fb` or
+///   `ff`.
 impl<'de> MyDeserialize<'de> for MappedColumns<'de> {
     const SIZE: Option<usize> = None;
 
@@ -181,7 +183,7 @@ impl Put for MappedColumns<'_> {
     }
 }
 
-// Takes as many bytes off the front of `buf`.
+// Reads this many bytes from the start of `buf`.
 #[inline(always)]
 fn take<'a>(count: usize, buf: &mut ParseBuf<'a>) -> Result<&'a [u8], Error>
     ensures { Gives ⊥ buf.new (result_now result) (block_at count buf.old) }

@@ -1,4 +1,4 @@
-//! Which table a table map is of.
+//! The table of a table map.
 ghost use Rattle.std.specs.Prelude.{◌≡◌, ◌^◌, ◌≤◌, length, IfOk, IsOkUnless};
 ghost use Rattle.binlog_wire.specs.declared.error.Error.TheVariants.{Memory};
 ghost use Rattle.binlog_wire.specs.Fields.{block_at};
@@ -12,17 +12,21 @@ use binlog_wire::{
 use std::alloc::Global;
 use std::borrow::CowSlice;
 
-/// A table: its id, flags, and the names of its database and of the table itself.
+/// A table: its id, its flags, the database name and the table name.
 #[derive(Debug, PartialEq, Eq, Hash, Drop)]
 pub struct MappedTable<'a> {
+    /// The table id.
     pub id: TableId,
+    /// All bits of the flags.
     pub flags: u16,
+    /// The database name.
     pub database_name: RawBytes<'a, U8Bytes>,
+    /// The table name.
     pub table_name: RawBytes<'a, U8Bytes>,
 }
 
 impl<'a> MappedTable<'a> {
-    /// Takes a table off the front of `buf`, as `deserialize` does.
+    /// Reads a table from the start of `buf`, as `deserialize` does.
     #[inline(always)]
     pub fn read(post_header: u8, buf: &mut ParseBuf<'a>) -> Result<Self, Error>
         ensures { Gives ⊥ buf.new result ((table post_header).reads buf.old) }
@@ -40,7 +44,7 @@ impl<'a> MappedTable<'a> {
         })
     }
 
-    /// The same table, with its names owned; refused by [`Error::Memory`] alone.
+    /// The same table with owned names. The only error is [`Error::Memory`].
     pub fn into_owned(self, alloc: Global) -> Result<MappedTable<'static>, Error>
         ensures ok { IfOk result (λ owned. owned ≡ self.entry) }
         ensures memory { IsOkUnless result Memory }
@@ -55,7 +59,7 @@ impl<'a> MappedTable<'a> {
         })
     }
 
-    /// The same table once more: lent names stay lent, and owned ones are copied. Refused by [`Error::Memory`] alone.
+    /// A copy of the table: borrowed names stay borrowed, owned names are copied. The only error is [`Error::Memory`].
     pub fn clone(&self, alloc: Global) -> Result<Self, Error>
         ensures ok { IfOk result (λ copy. copy ≡ self.now) }
         ensures memory { IsOkUnless result Memory }
@@ -71,8 +75,8 @@ impl<'a> MappedTable<'a> {
     }
 }
 
-/// Behind a post-header of the length that the context says; [`Error::EndOfBody`] where the bytes end within it, and no other
-/// error.
+/// The context is the length of the post-header. The only error is [`Error::EndOfBody`], if the bytes end within the
+/// table.
 impl<'de> MyDeserialize<'de> for MappedTable<'de> {
     const SIZE: Option<usize> = None;
 
@@ -113,7 +117,7 @@ impl Put for MappedTable<'_> {
     }
 }
 
-/// Takes the byte that stands behind a name and says nothing off the front of `buf`.
+/// Skips the reserved byte after a name at the start of `buf`.
 #[inline(always)]
 pub(crate) fn skip_byte(buf: &mut ParseBuf<'_>) -> Result<(), Error>
     ensures { Gives ⊥ buf.new result (read_as (λ _. tt) (block_at 1 buf.old)) }

@@ -10,15 +10,18 @@ use binlog_numbers::LenEnc;
 use binlog_wire::{Error, IntRepr, ParseBuf, Put};
 use std::alloc::Global;
 
-/// How many columns the table has, and which of them are in each image of a row.
+/// The number of the table's columns, and the columns-present bitmap of each row image.
 #[derive(Debug, PartialEq, Eq, Hash, Drop)]
 pub struct RowsColumns<'a> {
+    /// The number of the table's columns.
     pub count: u64,
+    /// The columns that are present in the before-image, if the event has one.
     pub before: Option<ColumnBitmap<'a>>,
+    /// The columns that are present in the after-image, if the event has one.
     pub after: Option<ColumnBitmap<'a>>,
 }
 
-/// Which of so many columns are in an image, in an event that has this image or not.
+/// The columns-present bitmap of an image, for this many columns; None if the event has no such image.
 #[inline(always)]
 fn read_image<'a>(
     alloc: Global,
@@ -36,7 +39,7 @@ fn read_image<'a>(
     }
 }
 
-/// The same columns, owned, if there are any; refused by [`Error::Memory`] alone.
+/// The same bitmap with owned bytes, if there is one. The only error is [`Error::Memory`].
 fn own_image<'a>(
     alloc: Global,
     image: Option<ColumnBitmap<'a>>,
@@ -50,7 +53,7 @@ fn own_image<'a>(
     }
 }
 
-/// The same columns once more, if there are any; refused by [`Error::Memory`] alone.
+/// A copy of the bitmap, if there is one. The only error is [`Error::Memory`].
 fn copy_image<'a>(
     alloc: Global,
     image: &Option<ColumnBitmap<'a>>,
@@ -64,7 +67,7 @@ fn copy_image<'a>(
     }
 }
 
-/// How many bytes are written for an image.
+/// The number of bytes written for an image's bitmap.
 fn image_len(image: &Option<ColumnBitmap<'_>>) -> usize
     ensures count { result ≡ length (image_written image.now) }
     ensures small { result ≤ 2 ^ 61 }
@@ -76,8 +79,12 @@ fn image_len(image: &Option<ColumnBitmap<'_>>) -> usize
 }
 
 impl<'a> RowsColumns<'a> {
-    /// Takes the columns of an event of this form off the front of `buf`. [`Error::EndOfBody`] where it ends within them,
-    /// [`Invalid::LenEnc`](binlog_wire::Invalid::LenEnc) for a count that begins with `fb` or `ff`.
+    /// Reads the columns of an event of this form from the start of `buf`.
+    ///
+    /// # Errors
+    ///
+    /// - [`Error::EndOfBody`] if the bytes end within them.
+    /// - [`Invalid::LenEnc`](binlog_wire::Invalid::LenEnc) if the column count begins with `fb` or `ff`.
     #[inline(always)]
     pub fn read(alloc: Global, form: RowsForm, buf: &mut ParseBuf<'a>) -> Result<Self, Error>
         ensures reads { Gives ⊥ buf.new result ((columns form).reads buf.old) }
@@ -94,7 +101,7 @@ impl<'a> RowsColumns<'a> {
         })
     }
 
-    /// The same columns, with their bytes owned; refused by [`Error::Memory`] alone.
+    /// The same columns with owned bytes. The only error is [`Error::Memory`].
     pub fn into_owned(self, alloc: Global) -> Result<RowsColumns<'static>, Error>
         ensures ok { IfOk result (λ owned. owned ≡ self.entry) }
         ensures memory { IsOkUnless result Memory }
@@ -113,7 +120,8 @@ impl<'a> RowsColumns<'a> {
         })
     }
 
-    /// The same columns once more: lent bytes stay lent, and owned ones are copied. Refused by [`Error::Memory`] alone.
+    /// A copy of the columns: borrowed bytes stay borrowed, owned bytes are copied. The only error is
+    /// [`Error::Memory`].
     pub fn clone(&self, alloc: Global) -> Result<Self, Error>
         ensures ok { IfOk result (λ copy. copy ≡ self.now) }
         ensures memory { IsOkUnless result Memory }

@@ -15,10 +15,10 @@ use binlog_description::MAX_BODY_LEN;
 use binlog_wire::{BitView, EofBytes, Error, LeU16, ParseBuf, Put, RawBytes, RawFlags};
 use std::alloc::Global;
 
-/// Rows of a table that were written, updated or deleted, whatever the type of the event.
+/// The rows of a table that an event writes, updates or deletes, for any event type.
 ///
-/// It stands in an event of one type, as a [`WriteRowsEvent`](crate::WriteRowsEvent), and only reading such an event makes
-/// one.
+/// It is the content of an event of one type, such as a [`WriteRowsEvent`](crate::WriteRowsEvent). Only reading such
+/// an event makes one.
 #[derive(Debug, PartialEq, Eq, Hash, Drop)]
 pub struct RowsEvent<'a> {
     head: RowsHead<'a>,
@@ -27,9 +27,12 @@ pub struct RowsEvent<'a> {
 }
 
 impl<'a> RowsEvent<'a> {
-    /// Takes the body of an event of this form off `buf`, to its end, where the post-header has this length.
-    /// [`Error::EndOfBody`] where the bytes end before the rows,
-    /// [`Invalid::LenEnc`](binlog_wire::Invalid::LenEnc) for a count of columns that begins with `fb` or `ff`.
+    /// Reads the body of an event of this form from `buf`, to its end, for a post-header of this length.
+    ///
+    /// # Errors
+    ///
+    /// - [`Error::EndOfBody`] if the bytes end before the rows.
+    /// - [`Invalid::LenEnc`](binlog_wire::Invalid::LenEnc) if the column count begins with `fb` or `ff`.
     #[tactic(auto, unfolding(crate::specs::Rows::rows))]
     #[inline(always)]
     pub(crate) fn read(
@@ -51,7 +54,7 @@ impl<'a> RowsEvent<'a> {
         })
     }
 
-    /// The id of the table, which the table map before the event says more of.
+    /// The table id, below 2^48. The latest table map with this id describes the table.
     pub fn table_id(&self) -> u64
         ensures number { result ≡ self.now.head.table_id }
         ensures small { result < 2 ^ 48 }
@@ -59,14 +62,14 @@ impl<'a> RowsEvent<'a> {
         self.head.table_id.get()
     }
 
-    /// How many columns the table has.
+    /// The number of the table's columns.
     pub fn num_columns(&self) -> u64
         ensures { result ≡ self.now.columns.count }
     {
         self.columns.count
     }
 
-    /// Which columns are in the rows as they were before the event; None for rows that were inserted.
+    /// The columns that are present in the before-image; None for inserted rows, which have no before-image.
     pub fn columns_before_image(&self) -> Option<BitView<'_>>
         ensures { option_map bitmap_of result ≡ self.now.columns.before }
     {
@@ -76,7 +79,7 @@ impl<'a> RowsEvent<'a> {
         }
     }
 
-    /// Which columns are in the rows as they are after the event; None for rows that were deleted.
+    /// The columns that are present in the after-image; None for deleted rows, which have no after-image.
     pub fn columns_after_image(&self) -> Option<BitView<'_>>
         ensures { option_map bitmap_of result ≡ self.now.columns.after }
     {
@@ -86,7 +89,7 @@ impl<'a> RowsEvent<'a> {
         }
     }
 
-    /// The rows.
+    /// The encoded rows.
     pub fn rows_data(&self) -> &[u8]
         ensures { result.now ≡ self.now.rows }
     {
@@ -100,14 +103,14 @@ impl<'a> RowsEvent<'a> {
         RawFlags::<RowsEventFlags, LeU16>::new(self.head.flags).get()
     }
 
-    /// The flags, known or not.
+    /// All bits of the flags.
     pub fn flags_raw(&self) -> u16
         ensures { result ≡ self.now.head.flags }
     {
         self.head.flags
     }
 
-    /// The extra bytes, at most 65,533; None in the older types of events, which keep none.
+    /// The extra bytes, at most 65,533; None for an older (V1) event type, which keeps none.
     pub fn extra_data(&self) -> Option<&[u8]>
         ensures { option_map (λ bytes. bytes.now) result ≡ option_map (take 65533) self.now.head.extra }
     {
@@ -117,14 +120,14 @@ impl<'a> RowsEvent<'a> {
         }
     }
 
-    /// How many bytes are written for the event, and [`MAX_BODY_LEN`] where it would be more.
+    /// The number of bytes written for the event, or [`MAX_BODY_LEN`] if it would be more.
     pub fn len(&self, _version: BinlogVersion) -> usize
         ensures { result ≡ min (length (rows_written self.now)) 4294967276 }
     {
         MAX_BODY_LEN.min(self.written_len())
     }
 
-    /// The same event, with its bytes owned; refused by [`Error::Memory`] alone.
+    /// The same event with owned bytes. The only error is [`Error::Memory`].
     pub fn into_owned(self, alloc: Global) -> Result<RowsEvent<'static>, Error>
         ensures ok { IfOk result (λ owned. owned ≡ self.entry) }
         ensures memory { IsOkUnless result Memory }
@@ -144,7 +147,7 @@ impl<'a> RowsEvent<'a> {
         })
     }
 
-    /// The same event once more: lent bytes stay lent, and owned ones are copied. Refused by [`Error::Memory`] alone.
+    /// A copy of the event: borrowed bytes stay borrowed, owned bytes are copied. The only error is [`Error::Memory`].
     pub fn clone(&self, alloc: Global) -> Result<Self, Error>
         ensures ok { IfOk result (λ copy. copy ≡ self.now) }
         ensures memory { IsOkUnless result Memory }
@@ -160,7 +163,7 @@ impl<'a> RowsEvent<'a> {
     }
 }
 
-/// The table's id in 6 bytes, and a count of extra bytes exactly where the event's type keeps them.
+/// Writes the table id in 6 bytes, and the extra-data length exactly if the event's type keeps extra bytes.
 impl Put for RowsEvent<'_> {
     ghost bytes = { rows_written };
 

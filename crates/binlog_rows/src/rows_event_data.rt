@@ -19,24 +19,24 @@ use std::alloc::Global;
 /// A row event of any type.
 #[derive(Debug, PartialEq, Eq, Hash, Drop)]
 pub enum RowsEventData<'a> {
-    /// Rows that were inserted, in the older type of event.
+    /// Inserted rows: WRITE_ROWS V1, type 23.
     WriteRowsEventV1(WriteRowsEventV1<'a>),
-    /// Rows that were changed, in the older type of event.
+    /// Updated rows: UPDATE_ROWS V1, type 24.
     UpdateRowsEventV1(UpdateRowsEventV1<'a>),
-    /// Rows that were deleted, in the older type of event.
+    /// Deleted rows: DELETE_ROWS V1, type 25.
     DeleteRowsEventV1(DeleteRowsEventV1<'a>),
-    /// Rows that were inserted.
+    /// Inserted rows: WRITE_ROWS, type 30.
     WriteRowsEvent(WriteRowsEvent<'a>),
-    /// Rows that were changed.
+    /// Updated rows: UPDATE_ROWS, type 31.
     UpdateRowsEvent(UpdateRowsEvent<'a>),
-    /// Rows that were deleted.
+    /// Deleted rows: DELETE_ROWS, type 32.
     DeleteRowsEvent(DeleteRowsEvent<'a>),
-    /// Rows that were changed, of which some columns are logged as changes of JSON documents.
+    /// Updated rows: PARTIAL_UPDATE_ROWS, type 39. Some JSON columns may be logged as partial updates.
     PartialUpdateRowsEvent(PartialUpdateRowsEvent<'a>),
 }
 
 impl<'a> RowsEventData<'a> {
-    /// The event, whatever its type.
+    /// The event, of whatever type.
     pub fn event(&self) -> &RowsEvent<'a>
         ensures same { result.now ≡ event_in self.now }
         ensures form { IsOfForm (form_in self.now) (event_in self.now) }
@@ -52,7 +52,7 @@ impl<'a> RowsEventData<'a> {
         }
     }
 
-    /// The id of the table, which the table map before the event says more of.
+    /// The table id, below 2^48. The latest table map with this id describes the table.
     pub fn table_id(&self) -> u64
         ensures number { result ≡ (event_in self.now).head.table_id }
         ensures small { result < 2 ^ 48 }
@@ -60,14 +60,14 @@ impl<'a> RowsEventData<'a> {
         self.event().table_id()
     }
 
-    /// How many columns the table has.
+    /// The number of the table's columns.
     pub fn num_columns(&self) -> u64
         ensures { result ≡ (event_in self.now).columns.count }
     {
         self.event().num_columns()
     }
 
-    /// Which columns are in the rows as they were before the event; None for rows that were inserted.
+    /// The columns that are present in the before-image; None for inserted rows, which have no before-image.
     pub fn columns_before_image(&self) -> Option<BitView<'_>>
         ensures image { option_map bitmap_of result ≡ (event_in self.now).columns.before }
         ensures there { is_some result ≡ (form_in self.now).has_before }
@@ -75,7 +75,7 @@ impl<'a> RowsEventData<'a> {
         self.event().columns_before_image()
     }
 
-    /// Which columns are in the rows as they are after the event; None for rows that were deleted.
+    /// The columns that are present in the after-image; None for deleted rows, which have no after-image.
     pub fn columns_after_image(&self) -> Option<BitView<'_>>
         ensures image { option_map bitmap_of result ≡ (event_in self.now).columns.after }
         ensures there { is_some result ≡ (form_in self.now).has_after }
@@ -83,7 +83,7 @@ impl<'a> RowsEventData<'a> {
         self.event().columns_after_image()
     }
 
-    /// The rows.
+    /// The encoded rows.
     pub fn rows_data(&self) -> &[u8]
         ensures { result.now ≡ (event_in self.now).rows }
     {
@@ -97,7 +97,7 @@ impl<'a> RowsEventData<'a> {
         self.event().flags()
     }
 
-    /// The same event, with its bytes owned; refused by [`Error::Memory`] alone.
+    /// The same event with owned bytes. The only error is [`Error::Memory`].
     pub fn into_owned(self, alloc: Global) -> Result<RowsEventData<'static>, Error>
         ensures ok { IfOk result (λ owned. owned ≡ self.entry) }
         ensures memory { IsOkUnless result Memory }
@@ -125,7 +125,7 @@ impl<'a> RowsEventData<'a> {
         })
     }
 
-    /// The same event once more: lent bytes stay lent, and owned ones are copied. Refused by [`Error::Memory`] alone.
+    /// A copy of the event: borrowed bytes stay borrowed, owned bytes are copied. The only error is [`Error::Memory`].
     pub fn clone(&self, alloc: Global) -> Result<Self, Error>
         ensures ok { IfOk result (λ copy. copy ≡ self.now) }
         ensures memory { IsOkUnless result Memory }
@@ -144,7 +144,7 @@ impl<'a> RowsEventData<'a> {
     }
 }
 
-/// The body of its type.
+/// Writes the body as its type does.
 impl Put for RowsEventData<'_> {
     ghost bytes = { data_written };
 

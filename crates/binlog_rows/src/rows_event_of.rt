@@ -17,14 +17,22 @@ use binlog_wire::{BitView, Error, MyDeserialize, ParseBuf, Put};
 use std::alloc::Global;
 use std::marker::{Model, PhantomData};
 
-/// A row event of the type that its kind `K` says, which also says which images the event has.
+/// A row event of the type given by its kind `K`, which also says which row images the event has.
 ///
-/// Its body is the table's id, 6 bytes, or 4 where the stated length of the post-header is 6; flags, 2 bytes; where the
-/// stated length is 10, extra bytes behind a count of 2 bytes that counts itself; the number of columns, length-encoded;
-/// for each image one bit for each column, the least bit first; and the rows, to the end. The older types keep no extra
-/// bytes. See `Rows_event` in MySQL's source documentation.
+/// The body, with little-endian numbers:
 ///
-/// Contracts see the [`RowsEvent`], which has exactly the parts that the kind says.
+/// - table id: 6 bytes, or 4 if the stated length of the post-header is 6;
+/// - flags: 2 bytes;
+/// - extra bytes, after a 2-byte length that includes itself: only if the stated length of the post-header is 10;
+/// - number of columns: length-encoded;
+/// - for each image a columns-present bitmap, least significant bit first;
+/// - rows: to the end.
+///
+/// The older (V1) types keep no extra bytes.
+///
+/// Source: MySQL's documentation of its source code, `mysql::binlog::event::Rows_event`.
+///
+/// Contracts see the [`RowsEvent`], which has exactly the parts of the kind.
 #[derive(Drop)]
 #[derive_where(Debug, PartialEq, Eq, Hash)]
 pub struct RowsEventOf<'a, K: RowsKind> {
@@ -46,29 +54,29 @@ impl<'a, K: RowsKind> Model for RowsEventOf<'a, K> {
     ghost inverse = { λ event. record { event = event; kind = record {} } };
 }
 
-/// Rows that were inserted.
+/// Inserted rows: WRITE_ROWS, type 30.
 pub type WriteRowsEvent<'a> = RowsEventOf<'a, WriteRows>;
 
-/// Rows that were changed.
+/// Updated rows: UPDATE_ROWS, type 31.
 pub type UpdateRowsEvent<'a> = RowsEventOf<'a, UpdateRows>;
 
-/// Rows that were deleted.
+/// Deleted rows: DELETE_ROWS, type 32.
 pub type DeleteRowsEvent<'a> = RowsEventOf<'a, DeleteRows>;
 
-/// Rows that were changed, of which some columns are logged as changes of JSON documents.
+/// Updated rows: PARTIAL_UPDATE_ROWS, type 39. Some JSON columns may be logged as partial updates.
 pub type PartialUpdateRowsEvent<'a> = RowsEventOf<'a, PartialUpdateRows>;
 
-/// Rows that were inserted, as servers before 5.6 log them.
+/// Inserted rows, as servers before 5.6 log them.
 pub type WriteRowsEventV1<'a> = RowsEventOf<'a, WriteRowsV1>;
 
-/// Rows that were changed, as servers before 5.6 log them.
+/// Updated rows, as servers before 5.6 log them.
 pub type UpdateRowsEventV1<'a> = RowsEventOf<'a, UpdateRowsV1>;
 
-/// Rows that were deleted, as servers before 5.6 log them.
+/// Deleted rows, as servers before 5.6 log them.
 pub type DeleteRowsEventV1<'a> = RowsEventOf<'a, DeleteRowsV1>;
 
 impl<'a, K: RowsKind> RowsEventOf<'a, K> {
-    /// The event, whatever its type.
+    /// The event, of whatever type.
     pub fn event(&self) -> &RowsEvent<'a>
         ensures same { result.now ≡ self.now }
         ensures form { IsOfForm K.FORM self.now }
@@ -76,7 +84,7 @@ impl<'a, K: RowsKind> RowsEventOf<'a, K> {
         &self.event
     }
 
-    /// The id of the table, which the table map before the event says more of.
+    /// The table id, below 2^48. The latest table map with this id describes the table.
     pub fn table_id(&self) -> u64
         ensures number { result ≡ self.now.head.table_id }
         ensures small { result < 2 ^ 48 }
@@ -84,14 +92,14 @@ impl<'a, K: RowsKind> RowsEventOf<'a, K> {
         self.event.table_id()
     }
 
-    /// How many columns the table has.
+    /// The number of the table's columns.
     pub fn num_columns(&self) -> u64
         ensures { result ≡ self.now.columns.count }
     {
         self.event.num_columns()
     }
 
-    /// The rows.
+    /// The encoded rows.
     pub fn rows_data(&self) -> &[u8]
         ensures { result.now ≡ self.now.rows }
     {
@@ -105,14 +113,14 @@ impl<'a, K: RowsKind> RowsEventOf<'a, K> {
         self.event.flags()
     }
 
-    /// The flags, known or not.
+    /// All bits of the flags.
     pub fn flags_raw(&self) -> u16
         ensures { result ≡ self.now.head.flags }
     {
         self.event.flags_raw()
     }
 
-    /// The same event, with its bytes owned; refused by [`Error::Memory`] alone.
+    /// The same event with owned bytes. The only error is [`Error::Memory`].
     pub fn into_owned(self, alloc: Global) -> Result<RowsEventOf<'static, K>, Error>
         ensures ok { IfOk result (λ owned. owned ≡ self.entry) }
         ensures memory { IsOkUnless result Memory }
@@ -125,7 +133,7 @@ impl<'a, K: RowsKind> RowsEventOf<'a, K> {
         })
     }
 
-    /// The same event once more: lent bytes stay lent, and owned ones are copied. Refused by [`Error::Memory`] alone.
+    /// A copy of the event: borrowed bytes stay borrowed, owned bytes are copied. The only error is [`Error::Memory`].
     pub fn clone(&self, alloc: Global) -> Result<Self, Error>
         ensures ok { IfOk result (λ copy. copy ≡ self.now) }
         ensures memory { IsOkUnless result Memory }
@@ -139,7 +147,7 @@ impl<'a, K: RowsKind> RowsEventOf<'a, K> {
 }
 
 impl<'a, K: HasBeforeImage> RowsEventOf<'a, K> {
-    /// Which columns are in the rows as they were before the event.
+    /// The columns that are present in the before-image.
     pub fn columns_before_image(&self) -> BitView<'_>
         ensures image { Some (bitmap_of result) ≡ self.now.columns.before }
         ensures len { result.len ≡ self.now.columns.count }
@@ -149,7 +157,7 @@ impl<'a, K: HasBeforeImage> RowsEventOf<'a, K> {
 }
 
 impl<'a, K: HasAfterImage> RowsEventOf<'a, K> {
-    /// Which columns are in the rows as they are after the event.
+    /// The columns that are present in the after-image.
     pub fn columns_after_image(&self) -> BitView<'_>
         ensures image { Some (bitmap_of result) ≡ self.now.columns.after }
         ensures len { result.len ≡ self.now.columns.count }
@@ -158,8 +166,10 @@ impl<'a, K: HasAfterImage> RowsEventOf<'a, K> {
     }
 }
 
-/// [`Error::EndOfBody`] where the bytes end before the rows, [`Invalid::LenEnc`](binlog_wire::Invalid::LenEnc) for a count
-/// of columns that begins with `fb` or `ff`, and no other error.
+/// # Errors
+///
+/// - [`Error::EndOfBody`] if the bytes end before the rows.
+/// - [`Invalid::LenEnc`](binlog_wire::Invalid::LenEnc) if the column count begins with `fb` or `ff`.
 impl<'de, K: RowsKind> MyDeserialize<'de> for RowsEventOf<'de, K> {
     ghost use Rattle.binlog_description.specs.DescriptionRefs.{description_of};
     ghost use Rattle.binlog_description.specs.PostHeaders.{post_header};
@@ -187,7 +197,7 @@ impl<'de, K: RowsKind> MyDeserialize<'de> for RowsEventOf<'de, K> {
     }
 }
 
-/// The table's id in 6 bytes, and a count of extra bytes in all but the older types.
+/// Writes the table id in 6 bytes, and the extra-data length for all but the older (V1) types.
 impl<K: RowsKind> Put for RowsEventOf<'_, K> {
     ghost use Rattle.binlog_rows.specs.Forms.{default_length};
     ghost use Rattle.binlog_rows.specs.Rows.{rows};

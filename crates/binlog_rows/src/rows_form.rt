@@ -1,12 +1,12 @@
-//! Which parts the row events of a type have.
+//! The parts of each type of row event.
 
-/// Which parts the row events of a type have.
+/// The parts that the row events of a type have.
 #[derive(Clone, Copy, Debug, PartialEq, Eq, Hash)]
 pub struct RowsForm {
-    /// They keep extra bytes, and a count of these is written.
+    /// They have extra bytes, and are written with the extra-data length.
     pub has_extra: bool,
-    /// They say which columns are in the rows as they were before the event.
+    /// They have a before-image, and its columns-present bitmap.
     pub has_before: bool,
-    /// They say which columns are in the rows as they are after the event.
+    /// They have an after-image, and its columns-present bitmap.
     pub has_after: bool,
 }

@@ -1,4 +1,4 @@
-//! The table, the flags and the extra bytes of a row event.
+//! The table id, the flags and the extra bytes of a row event.
 ghost use Rattle.std.specs.Prelude.{◌≡◌, ◌+◌, ◌++◌, ◌≤◌, length, is_some, vec_len, vec_capacity, IfOk, IsOkUnless};
 ghost use Rattle.binlog_wire.specs.declared.error.Error.TheVariants.{Memory};
 ghost use Rattle.binlog_wire.specs.Reading.{Gives, result_now};
@@ -11,24 +11,28 @@ use binlog_wire::{BareBytes, Error, IntRepr, LeU16, ParseBuf, Put, RawBytes};
 use std::alloc::Global;
 use std::borrow::CowSlice;
 
-/// The most extra bytes, 65,533: with them, their count is 65,535.
+/// The greatest number of extra bytes, 65,533: the extra-data length is 65,535 then.
 pub const MAX_EXTRA_LEN: usize = 65533;
 
-/// The post-header length of an event that has extra bytes.
+/// The length of the post-header of an event with extra bytes.
 const WITH_EXTRA: u8 = 10;
 
-/// How many bytes the count of extra bytes takes; it counts itself.
+/// The number of bytes of the extra-data length. The length includes these bytes.
 const COUNT_LEN: usize = 2;
 
-/// What stands before the columns of a row event.
+/// The post-header of a row event.
 #[derive(Debug, PartialEq, Eq, Hash, Drop)]
 pub struct RowsHead<'a> {
+    /// The table id.
     pub table_id: TableId,
+    /// All bits of the flags.
     pub flags: u16,
+    /// The extra bytes; None for an older (V1) event type, which keeps none.
     pub extra: Option<RawBytes<'a, BareBytes<MAX_EXTRA_LEN>>>,
 }
 
-/// Takes extra bytes and their count off the front of `buf`; [`Error::EndOfBody`] where it ends within them.
+/// Reads the extra-data length and the extra bytes from the start of `buf`. The only error is [`Error::EndOfBody`], if
+/// the bytes end within them.
 #[inline(always)]
 fn read_extra<'a>(buf: &mut ParseBuf<'a>) -> Result<&'a [u8], Error>
     ensures { Gives ⊥ buf.new (result_now result) ((extra {place = anywhere}).reads buf.old) }
@@ -38,7 +42,7 @@ fn read_extra<'a>(buf: &mut ParseBuf<'a>) -> Result<&'a [u8], Error>
         .ok_or(Error::EndOfBody)
 }
 
-/// The extra bytes of an event whose type keeps them or not, where its post-header has this length.
+/// The extra bytes of an event whose type keeps them or not, for a post-header of this length.
 #[inline(always)]
 fn read_extra_in<'a>(
     has_extra: bool,
@@ -60,7 +64,7 @@ fn read_extra_in<'a>(
     }
 }
 
-/// How many bytes are written for extra bytes, with their count.
+/// The number of bytes written for the extra bytes, including their length field.
 fn extra_len(extra: &Option<RawBytes<'_, BareBytes<MAX_EXTRA_LEN>>>) -> usize
     ensures count { result ≡ length (extra_written extra.now) }
     ensures small { result ≤ 65535 }
@@ -71,7 +75,7 @@ fn extra_len(extra: &Option<RawBytes<'_, BareBytes<MAX_EXTRA_LEN>>>) -> usize
     }
 }
 
-/// Appends extra bytes behind their count, where `buf` has room for them.
+/// Appends the extra-data length and the extra bytes. `buf` has room for them.
 #[tactic(auto, using(std::proofs::Common::append_assoc))]
 fn put_extra(extra: &Option<RawBytes<'_, BareBytes<MAX_EXTRA_LEN>>>, buf: &mut Vec<u8>)
     requires { vec_len buf.old + length (extra_written extra.now) ≤ vec_capacity buf.old }
@@ -87,8 +91,8 @@ fn put_extra(extra: &Option<RawBytes<'_, BareBytes<MAX_EXTRA_LEN>>>, buf: &mut V
 }
 
 impl<'a> RowsHead<'a> {
-    /// Takes a head off the front of `buf`, in an event of this form whose post-header has this length;
-    /// [`Error::EndOfBody`] where it ends within the head.
+    /// Reads the post-header of an event of this form from the start of `buf`, for this stated length. The only error
+    /// is [`Error::EndOfBody`], if the bytes end within it.
     #[inline(always)]
     pub fn read(
         alloc: Global,
@@ -109,7 +113,7 @@ impl<'a> RowsHead<'a> {
         })
     }
 
-    /// The same head, with its bytes owned; refused by [`Error::Memory`] alone.
+    /// The same post-header with owned bytes. The only error is [`Error::Memory`].
     pub fn into_owned(self, alloc: Global) -> Result<RowsHead<'static>, Error>
         ensures ok { IfOk result (λ owned. owned ≡ self.entry) }
         ensures memory { IsOkUnless result Memory }
@@ -130,7 +134,8 @@ impl<'a> RowsHead<'a> {
         })
     }
 
-    /// The same head once more: lent bytes stay lent, and owned ones are copied. Refused by [`Error::Memory`] alone.
+    /// A copy of the post-header: borrowed bytes stay borrowed, owned bytes are copied. The only error is
+    /// [`Error::Memory`].
     pub fn clone(&self, alloc: Global) -> Result<Self, Error>
         ensures ok { IfOk result (λ copy. copy ≡ self.now) }
         ensures memory { IsOkUnless result Memory }
@@ -147,7 +152,7 @@ impl<'a> RowsHead<'a> {
     }
 }
 
-/// With a count of extra bytes exactly where there are some to be kept, even none.
+/// Writes the extra-data length exactly if the event's type keeps extra bytes, even if there are none.
 impl Put for RowsHead<'_> {
     ghost bytes = { head_written };
 

@@ -1,4 +1,4 @@
-//! The kinds of row events: which type each is of, and which parts it has.
+//! The kinds of row events: the event type and the parts of each.
 ghost use Rattle.std.specs.Prelude.{◌≡◌, refl, true, false};
 ghost use Rattle.binlog_consts.specs.declared.version.BinlogVersion.{BinlogVersion};
 ghost use Rattle.binlog_consts.specs.declared.event_type.EventType.{EventType};
@@ -11,11 +11,11 @@ ghost use Rattle.binlog_rows.specs.declared.rows_form.RowsForm.{RowsForm};
 use crate::rows_form::RowsForm;
 use binlog_consts::EventType;
 
-/// A kind of row events: their type, and the parts that events of this type have.
+/// A kind of row events: their event type, and the parts that events of this type have.
 pub trait RowsKind {
-    /// The type of the events.
+    /// The event type.
     const EVENT_TYPE: EventType;
-    /// The parts that they have.
+    /// The parts of its events.
     const FORM: RowsForm;
 
     ghost EVENT_TYPE: { EventType };
@@ -25,17 +25,17 @@ pub trait RowsKind {
     ghost by_default: { (version : BinlogVersion) → post_header (default_description version) EVENT_TYPE ≡ default_length FORM };
 }
 
-/// The kinds of rows that were there before the event: updated and deleted ones.
+/// The kinds whose events have a before-image: updates and deletes.
 pub trait HasBeforeImage: RowsKind {
     ghost has_before: { Self.FORM.has_before ≡ true };
 }
 
-/// The kinds of rows that are there after the event: inserted and updated ones.
+/// The kinds whose events have an after-image: inserts and updates.
 pub trait HasAfterImage: RowsKind {
     ghost has_after: { Self.FORM.has_after ≡ true };
 }
 
-/// Rows that were inserted.
+/// Inserted rows: WRITE_ROWS, type 30.
 #[derive(Drop)]
 pub struct WriteRows;
 
@@ -59,7 +59,7 @@ impl HasAfterImage for WriteRows {
     ghost has_after = { refl };
 }
 
-/// Rows that were changed.
+/// Updated rows: UPDATE_ROWS, type 31.
 #[derive(Drop)]
 pub struct UpdateRows;
 
@@ -87,7 +87,7 @@ impl HasAfterImage for UpdateRows {
     ghost has_after = { refl };
 }
 
-/// Rows that were deleted.
+/// Deleted rows: DELETE_ROWS, type 32.
 #[derive(Drop)]
 pub struct DeleteRows;
 
@@ -111,7 +111,7 @@ impl HasBeforeImage for DeleteRows {
     ghost has_before = { refl };
 }
 
-/// Rows that were changed, of which some columns are logged as changes of JSON documents.
+/// Updated rows: PARTIAL_UPDATE_ROWS, type 39. Some JSON columns may be logged as partial updates.
 #[derive(Drop)]
 pub struct PartialUpdateRows;
 
@@ -139,7 +139,7 @@ impl HasAfterImage for PartialUpdateRows {
     ghost has_after = { refl };
 }
 
-/// Rows that were inserted, in the older type of event.
+/// Inserted rows: WRITE_ROWS V1, type 23.
 #[derive(Drop)]
 pub struct WriteRowsV1;
 
@@ -163,7 +163,7 @@ impl HasAfterImage for WriteRowsV1 {
     ghost has_after = { refl };
 }
 
-/// Rows that were changed, in the older type of event.
+/// Updated rows: UPDATE_ROWS V1, type 24.
 #[derive(Drop)]
 pub struct UpdateRowsV1;
 
@@ -191,7 +191,7 @@ impl HasAfterImage for UpdateRowsV1 {
     ghost has_after = { refl };
 }
 
-/// Rows that were deleted, in the older type of event.
+/// Deleted rows: DELETE_ROWS V1, type 25.
 #[derive(Drop)]
 pub struct DeleteRowsV1;
 

@@ -1,4 +1,4 @@
-//! The ids of tables.
+//! Table ids.
 ghost use Rattle.std.specs.Prelude.{◌≡◌, ◌^◌, ◌<◌};
 ghost use Rattle.binlog_wire.specs.Fields.{little_bytes};
 ghost use Rattle.binlog_wire.specs.Reading.{Gives};
@@ -8,7 +8,7 @@ use binlog_wire::{Error, IntRepr, LeU32, LeU48, MyDeserialize, ParseBuf, Put};
 use std::alloc::Global;
 use std::marker::Model;
 
-/// The id by which events name a table: a number below 2^48.
+/// The id by which events refer to a table: a number below 2^48.
 ///
 /// Contracts see the number.
 #[derive(Clone, Copy, Debug, PartialEq, Eq, Hash)]
@@ -29,10 +29,10 @@ impl Model for TableId {
 }
 
 impl TableId {
-    /// How many bytes are written for an id.
+    /// The number of bytes written for an id.
     pub const LEN: usize = 6;
 
-    /// Takes an id off the front of `buf`, as `deserialize` does.
+    /// Reads an id from the start of `buf`, as `deserialize` does.
     pub fn read(post_header: u8, buf: &mut ParseBuf<'_>) -> Result<Self, Error>
         ensures { Gives ⊥ buf.new result ((table_id post_header).reads buf.old) }
     {
@@ -53,8 +53,8 @@ impl TableId {
     }
 }
 
-/// In an event whose post-header has the length that the context says: 4 bytes where that is 6, and else 6 bytes.
-/// [`Error::EndOfBody`] where fewer are left.
+/// The context is the length of the event's post-header: the id has 4 bytes if that is 6, else 6 bytes. The only error
+/// is [`Error::EndOfBody`], if fewer are left.
 impl<'de> MyDeserialize<'de> for TableId {
     const SIZE: Option<usize> = None;
 
@@ -71,7 +71,7 @@ impl<'de> MyDeserialize<'de> for TableId {
     }
 }
 
-/// Six bytes.
+/// Always writes 6 bytes.
 impl Put for TableId {
     ghost bytes = { little_bytes 6 };
 

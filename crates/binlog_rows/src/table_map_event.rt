@@ -1,4 +1,4 @@
-//! The event that names a table and its columns.
+//! TABLE_MAP_EVENT: a table and its columns.
 ghost use Rattle.std.specs.Prelude.{◌≡◌, ◌^◌, ◌<◌, length, take, IfOk, IsOkUnless};
 ghost use Rattle.std.specs.Cow.{cow_str_bytes};
 ghost use Rattle.std.specs.Str.Lossy.{utf8_lossy};
@@ -12,14 +12,23 @@ use binlog_wire::{BitView, Error, MyDeserialize, ParseBuf, Put, Skip};
 use std::alloc::Global;
 use std::borrow::CowStr;
 
-/// A table and its columns: the row events behind it name the table by the id that this event gives it.
+/// A TABLE_MAP event, type 19: assigns an id to a table and describes its columns. The row events after it refer to
+/// the table by this id.
 ///
-/// Its body is the table's id, 6 bytes, or 4 where the format description states a post-header of 6 bytes for the type;
-/// flags, 2 bytes; the database's name behind its length in one byte, and one byte that says nothing; the table's name in the
-/// same form, and one such byte; how many columns there are, a length-encoded number; the type of each column, 1 byte; the
-/// types' metadata behind its length-encoded length; a bit for each column, the least bit of a byte first; and optional
-/// metadata, to the end. See "TABLE_MAP_EVENT" in MySQL's internals documentation, and
-/// `mysql::binlog::event::Table_map_event` in that of its source code.
+/// The body, with little-endian numbers:
+///
+/// - table id: 6 bytes, or 4 if the format description states a post-header of 6 bytes for the type;
+/// - flags: 2 bytes;
+/// - database name after its length (1 byte), and one reserved byte;
+/// - table name after its length (1 byte), and one reserved byte;
+/// - number of columns: length-encoded;
+/// - column types: 1 byte each;
+/// - column metadata after its length (length-encoded);
+/// - null bitmap: one bit for each column, least significant bit first;
+/// - optional metadata: to the end.
+///
+/// Source: MySQL's internals documentation, "TABLE_MAP_EVENT", and the documentation of its source code,
+/// `mysql::binlog::event::Table_map_event`.
 #[derive(Debug, PartialEq, Eq, Hash, Drop)]
 pub struct TableMapEvent<'a> {
     table: MappedTable<'a>,
@@ -33,14 +42,14 @@ impl<'a> TableMapEvent<'a> {
     ghost use Rattle.binlog_description.specs.PostHeaders.{post_header};
     ghost use Rattle.binlog_rows.specs.TableMaps.{table_map};
 
-    /// Takes a table map off the front of `buf` under a format description, as `deserialize` does, which takes no memory
-    /// either: for a reader that has no allocator.
+    /// Reads a table map from the start of `buf` under a format description, as `deserialize` does. Needs no
+    /// allocator.
     ///
     /// # Errors
     ///
-    /// - [`Error::EndOfBody`] where the bytes end before the optional metadata.
-    /// - [`Invalid::LenEnc`](binlog_wire::Invalid::LenEnc) where `fb` or `ff` stands in the place of the count of columns,
-    ///   or of the length of the metadata.
+    /// - [`Error::EndOfBody`] if the bytes end before the optional metadata.
+    /// - [`Invalid::LenEnc`](binlog_wire::Invalid::LenEnc) if the column count or the metadata length begins with `fb`
+    ///   or `ff`.
     #[inline(always)]
     pub fn read(fde: DescriptionRef<'_>, buf: &mut ParseBuf<'a>) -> Result<Self, Error>
         ensures { Gives ⊥ buf.new result ((table_map (post_header (description_of fde.entry) TABLE_MAP_EVENT)).reads buf.old) }
@@ -52,7 +61,7 @@ impl<'a> TableMapEvent<'a> {
         Ok(TableMapEvent { table, columns })
     }
 
-    /// The id of the table, below 2^48.
+    /// The table id, below 2^48.
     pub fn table_id(&self) -> u64
         ensures id { result ≡ self.now.table.id }
         ensures small { result < 2 ^ 48 }
@@ -60,30 +69,30 @@ impl<'a> TableMapEvent<'a> {
         self.table.id.get()
     }
 
-    /// The flags, as they stand: bit 0 says that the lengths of bit columns are exact. See `Table_map_event::enum_flag` in MySQL's
-    /// source documentation.
+    /// All bits of the flags. Bit 0 (`TM_BIT_LEN_EXACT_F`) says that the lengths of BIT columns are exact. See
+    /// `Table_map_event::enum_flag` in MySQL's source documentation.
     pub fn flags_raw(&self) -> u16
         ensures { result ≡ self.now.table.flags }
     {
         self.table.flags
     }
 
-    /// How many columns the table has.
+    /// The number of the table's columns.
     pub fn columns_count(&self) -> u64
         ensures { result ≡ length self.now.columns.types }
     {
         self.columns.count()
     }
 
-    /// The name of the database: at most 255 bytes.
+    /// The database name: at most 255 bytes.
     pub fn database_name_raw(&self) -> &[u8]
         ensures { result.now ≡ take 255 self.now.table.database_name }
     {
         self.table.database_name.as_bytes()
     }
 
-    /// The bytes of [`TableMapEvent::database_name_raw`] as UTF-8 text, with U+FFFD in place of what isn't; refused by
-    /// [`Error::Memory`] alone.
+    /// [`TableMapEvent::database_name_raw`] as UTF-8, with U+FFFD for invalid sequences. The only error is
+    /// [`Error::Memory`].
     pub fn database_name(&self, alloc: Global) -> Result<CowStr<'_, Global>, Error>
         ensures ok { IfOk result (λ text. cow_str_bytes text ≡ utf8_lossy (take 255 self.now.table.database_name)) }
         ensures memory { IsOkUnless result Memory }
@@ -91,15 +100,15 @@ impl<'a> TableMapEvent<'a> {
         self.table.database_name.as_str(alloc)
     }
 
-    /// The name of the table: at most 255 bytes.
+    /// The table name: at most 255 bytes.
     pub fn table_name_raw(&self) -> &[u8]
         ensures { result.now ≡ take 255 self.now.table.table_name }
     {
         self.table.table_name.as_bytes()
     }
 
-    /// The bytes of [`TableMapEvent::table_name_raw`] as UTF-8 text, with U+FFFD in place of what isn't; refused by
-    /// [`Error::Memory`] alone.
+    /// [`TableMapEvent::table_name_raw`] as UTF-8, with U+FFFD for invalid sequences. The only error is
+    /// [`Error::Memory`].
     pub fn table_name(&self, alloc: Global) -> Result<CowStr<'_, Global>, Error>
         ensures ok { IfOk result (λ text. cow_str_bytes text ≡ utf8_lossy (take 255 self.now.table.table_name)) }
         ensures memory { IsOkUnless result Memory }
@@ -107,21 +116,21 @@ impl<'a> TableMapEvent<'a> {
         self.table.table_name.as_str(alloc)
     }
 
-    /// The type of each column, a byte for each.
+    /// The column types, one byte each.
     pub fn columns_type_raw(&self) -> &[u8]
         ensures { result.now ≡ self.now.columns.types }
     {
         self.columns.types()
     }
 
-    /// What the types of the columns leave open, such as lengths: as many bytes for each column as its type says.
+    /// The column metadata, such as lengths and precisions: for each column as many bytes as its type has.
     pub fn columns_metadata_raw(&self) -> &[u8]
         ensures { result.now ≡ self.now.columns.metadata }
     {
         self.columns.metadata()
     }
 
-    /// Which columns may hold nulls: a bit for each column, in the order of the columns.
+    /// The null bitmap: which columns can be NULL, in the order of the columns.
     pub fn null_bitmask(&self) -> BitView<'_>
         ensures len { result.len ≡ length self.now.columns.types }
         ensures columns { self.now.columns.null_bits.0 ≡ length self.now.columns.types }
@@ -130,14 +139,14 @@ impl<'a> TableMapEvent<'a> {
         self.columns.null_bits()
     }
 
-    /// What else is said of the columns, such as signs, character sets and names, as it stands.
+    /// The optional metadata, such as signedness, character sets and column names; encoded.
     pub fn optional_metadata_raw(&self) -> &[u8]
         ensures { result.now ≡ self.now.columns.optional_metadata }
     {
         self.columns.optional_metadata()
     }
 
-    /// The same event, with its bytes owned; refused by [`Error::Memory`] alone.
+    /// The same event with owned bytes. The only error is [`Error::Memory`].
     pub fn into_owned(self, alloc: Global) -> Result<TableMapEvent<'static>, Error>
         ensures ok { IfOk result (λ owned. owned ≡ self.entry) }
         ensures memory { IsOkUnless result Memory }
@@ -147,7 +156,7 @@ impl<'a> TableMapEvent<'a> {
         Ok(TableMapEvent { table, columns })
     }
 
-    /// The same event once more: lent bytes stay lent, and owned ones are copied. Refused by [`Error::Memory`] alone.
+    /// A copy of the event: borrowed bytes stay borrowed, owned bytes are copied. The only error is [`Error::Memory`].
     pub fn clone(&self, alloc: Global) -> Result<Self, Error>
         ensures ok { IfOk result (λ copy. copy ≡ self.now) }
         ensures memory { IsOkUnless result Memory }
@@ -158,9 +167,13 @@ impl<'a> TableMapEvent<'a> {
     }
 }
 
-/// [`Error::EndOfBody`] where the bytes end before the optional metadata, and
-/// [`Invalid::LenEnc`](binlog_wire::Invalid::LenEnc) where `fb` or `ff` stands in the place of the count of columns, or of the
-/// length of the metadata. No memory is taken.
+/// No memory is allocated.
+///
+/// # Errors
+///
+/// - [`Error::EndOfBody`] if the bytes end before the optional metadata.
+/// - [`Invalid::LenEnc`](binlog_wire::Invalid::LenEnc) if the column count or the metadata length begins with `fb` or
+///   `ff`.
 impl<'de> MyDeserialize<'de> for TableMapEvent<'de> {
     ghost use Rattle.binlog_consts.specs.declared.event_type.EventType.TheVariants.{TABLE_MAP_EVENT};
     ghost use Rattle.binlog_description.specs.DescriptionRefs.{description_of};

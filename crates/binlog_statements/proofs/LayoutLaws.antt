@@ -1,4 +1,4 @@
--- Lengths of values: where a front of bytes is a value, and which.
+-- Lengths of values: which prefix of some bytes is a value, and whether there is one.
 use Rattle.std.proofs.Common.{◌≡◌, ◌≢◌, ℕ, zero, suc, ◌+◌, ◌-◌, ◌≤◌, ◌<◌, inl, inr, Bool, true, false, cond, List, [], ◌∷◌, ◌++◌, length, take, drop, Option, Some, None, Result, Ok, Err, All, refl, sym, ap, subst, ◌∙◌, append_assoc, arith, length-append, length-take, length-drop}
 use Rattle.std.specs.List.{flat_map}
 use Rattle.std.specs.Prelude.{nat_le, nat_eq}
@@ -17,11 +17,11 @@ use Rattle.binlog_statements.specs.declared.layout.Layout.{Layout}
 use Rattle.binlog_statements.specs.declared.layout.Layout.TheVariants.{Bytes, TextAnd, TwoTexts, Names}
 use Rattle.binlog_statements.specs.Layouts.{HasLength, IsCounted, Both, ended, AreNames, IsLaidOut, fixed_len, text_len, plus, behind, both_len, names_len, counted_names_len, value_len, IsWholeLen}
 
--- Counting the bytes at the front keeps to what the bytes are, in both directions.
+-- A length function agrees with the definition of the bytes, in both directions.
 pub record Measures (Is : List ℕ → Type 0) (len : List ℕ → Option ℕ) : Type 0 where
-  -- a front that was counted is there, and is such bytes
+  -- a counted prefix exists, and is defined so
   pub sound : (s : List ℕ) (n : ℕ) → len s ≡ Some n → (n ≤ length s) × Is (take n s)
-  -- such bytes are counted, whatever is behind them
+  -- bytes that are defined so are counted, whatever follows them
   pub complete : (v r : List ℕ) → Is v → len (v ++ r) ≡ Some (length v)
 
 pub take-length : (a r : List ℕ) → take (length a) (a ++ r) ≡ a
@@ -32,7 +32,7 @@ pub drop-length : (a r : List ℕ) → drop (length a) (a ++ r) ≡ r
 drop-length [] r = refl
 drop-length (x ∷ a) r = drop-length a r
 
--- ---- so many bytes, and a text behind its length
+-- ---- a fixed number of bytes, and a text after its length
 
 chosen : (b : Bool) (m n : ℕ) → cond b (Some m) None ≡ Some n → (b ≡ true) × (m ≡ n)
 chosen true m n e = (refl, cc)
@@ -114,7 +114,7 @@ measures_both {F} {G} {f} {g} first second = record {
 
 -- ---- names
 
--- how the count and the bytes of names stand to each other
+-- how the count and the bytes of the names are related
 pub record HasNames (count : ℕ) (s : List ℕ) (names : List (List ℕ)) : Type 0 where
   pub counted : length names ≡ count
   pub is : s ≡ flat_map ended names
@@ -124,7 +124,7 @@ plus_plus : (n m : ℕ) (o : Option ℕ) → plus n (plus m o) ≡ plus (n + m) 
 plus_plus n m None = refl
 plus_plus n m (Some k) = ap (λ (j : ℕ). Some j) (omega arith)
 
--- counting a name goes on behind it
+-- counting continues after a name
 one_name : (name t : List ℕ) (n : ℕ) → HasNoZero name → names_len (suc n) (name ++ (0 ∷ t)) ≡ plus (suc (length name)) (names_len n t)
 one_name [] t n whole = refl
 one_name (zero ∷ name) t n whole = absurd whole
@@ -147,7 +147,7 @@ names_complete (name ∷ names) r whole =
     ∙ ap (plus (suc (length name))) ih
     ∙ ap (λ (k : ℕ). Some k) long
 
--- one more byte in front of the first name
+-- one more byte before the first name
 longer : (b : ℕ) (count : ℕ) (s : List ℕ) (names : List (List ℕ)) → HasNames (suc count) s names
     → (others : List (List ℕ)) × HasNames (suc count) (suc b ∷ s) others
 longer b count s [] h = absurd (omega (arith, h.counted))
@@ -162,7 +162,7 @@ longer b count s (name ∷ names) h = (
   },
 )
 
--- an empty name in front
+-- an empty name first
 one_more : (count : ℕ) (s : List ℕ) (names : List (List ℕ)) → HasNames count s names → HasNames (suc count) (0 ∷ s) ([] ∷ names)
 one_more count s names h = record {
   counted = ap (λ (k : ℕ). suc k) h.counted;
@@ -252,19 +252,19 @@ measures Names = measures_names
 pub counted_is_there : (layout : Layout) (s : List ℕ) (n : ℕ) → value_len layout s ≡ Some n → n ≤ length s
 counted_is_there layout s n e = ((measures layout).sound s n e).0
 
--- a front that was counted is whole
+-- a counted prefix is a whole value
 pub counted_is_whole : (layout : Layout) (s : List ℕ) (n : ℕ) → value_len layout s ≡ Some n → IsWholeLen layout (take n s)
 counted_is_whole layout s n e =
     let front : List ℕ = take n s in
     ap (value_len layout) (sym (append-nil front)) ∙ (measures layout).complete front [] ((measures layout).sound s n e).1
 
--- whole bytes are laid out so
+-- a whole value has its layout
 pub whole_is : (layout : Layout) (s : List ℕ) → IsWholeLen layout s → IsLaidOut layout s
 whole_is layout s e = subst (λ (t : List ℕ). IsLaidOut layout t) (take_all (length s) s (omega arith)) ((measures layout).sound s (length s) e).1
 
 -- ---- a name that is read
 
--- a name that was read stands at the front, ended by a zero byte
+-- a name that was read is at the start, with its terminator
 pub name_is : (s : List ℕ) (x : List ℕ × List ℕ) → terminated_at s ≡ Ok x → HasNoZero x.0 × (s ≡ x.0 ++ (0 ∷ x.1))
 name_is [] x e = absurd cc
 name_is (zero ∷ s) x e =
@@ -276,7 +276,7 @@ name_is (suc b ∷ s) x e =
     let same : ◌≡◌ {A = List ℕ × List ℕ} (suc b ∷ a.0.0, a.0.1) x = cc in
     subst (λ (y : List ℕ × List ℕ). HasNoZero y.0 × (suc b ∷ s ≡ y.0 ++ (0 ∷ y.1))) same (p.0, ap (λ (t : List ℕ). suc b ∷ t) p.1)
 
--- where one is read, counting goes on behind it
+-- if a name is read, counting continues after it
 pub name_counts : (s : List ℕ) (x : List ℕ × List ℕ) (n : ℕ) → terminated_at s ≡ Ok x
     → (names_len (suc n) s ≡ plus (length s - length x.1) (names_len n x.1)) × (suc (length x.1) ≤ length s)
 name_counts s x n e =
@@ -292,7 +292,7 @@ refused_behind : (b : ℕ) (r : Read (List ℕ)) (why : Refusal) → (r >>= one_
 refused_behind b (Ok y) why e = absurd cc
 refused_behind b (Err other) why e = (other, refl)
 
--- where none is, so many aren't there
+-- if none is read, there aren't as many names
 pub none_counts : (s : List ℕ) (why : Refusal) (n : ℕ) → terminated_at s ≡ Err why → names_len (suc n) s ≡ None
 none_counts [] why n e = refl
 none_counts (zero ∷ s) why n e = absurd cc
@@ -300,18 +300,18 @@ none_counts (suc b ∷ s) why n e =
     let r = refused_behind b (terminated_at s) why e in
     ap (plus 1) (none_counts s r.0 n r.1)
 
--- a reading that takes no memory was refused where its call was
+-- a reading that allocates nothing fails exactly where its call did
 refused_name : (e : Error) (s : List ℕ) (n : ℕ) → Refuses ⊥ e (terminated_at s) → names_len (suc n) s ≡ None
 refused_name errors.EndOfBody s n h = none_counts s ends n h
 refused_name (errors.InvalidData why) s n h = none_counts s (invalid why) n h
 refused_name (errors.WrongEventType number) s n h = none_counts s (other_type number) n h
 refused_name _ s n h = absurd h
 
--- what is left to count, with what was counted
+-- the names still to count, with those counted
 abbrev pub Counts : ℕ → List ℕ → ℕ → List ℕ → Type 0
 Counts count bytes left unread = names_len count bytes ≡ plus (length bytes - length unread) (names_len left unread)
 
--- where a name can't be read, as many aren't there
+-- if a name can't be read, there aren't as many names
 pub refused_counts : (count left : ℕ) (bytes unread new : List ℕ) (r : Result (Bor (List ℕ)) Error)
     → Gives ⊥ new (result_now r) (terminated_at unread) → result_ok r ≡ None → Counts count bytes left unread → 0 < left → None ≡ names_len count bytes
 refused_counts count zero bytes unread new r read none same more = absurd (omega (arith, more))
@@ -319,7 +319,7 @@ refused_counts count (suc left) bytes unread new (Ok x) read none same more = ab
 refused_counts count (suc left) bytes unread new (Err e) read none same more =
     sym (same ∙ ap (plus (length bytes - length unread)) (refused_name e unread left read))
 
--- where one was read, one fewer is left
+-- if a name was read, one fewer is left
 pub read_counts : (count left : ℕ) (bytes unread new : List ℕ) (r : Result (Bor (List ℕ)) Error) (x : Bor (List ℕ))
     → Gives ⊥ new (result_now r) (terminated_at unread) → result_ok r ≡ Some x → length unread ≤ length bytes → Counts count bytes left unread → 0 < left
     → (length new ≤ length bytes) × Counts count bytes (left - 1) new
@@ -337,7 +337,7 @@ read_counts count (suc left) bytes unread new (Ok y) x read some long same more 
 
 -- ---- names that are read
 
--- names that were read, and those that are left
+-- the names that were read, and those that are left
 pub record ReadsNames (head : ℕ) (rest : List ℕ) (done : List (List ℕ)) (left : ℕ) (unread : List ℕ) : Type 0 where
   pub counted : length done + left ≡ head
   pub bytes : rest ≡ flat_map ended done ++ unread

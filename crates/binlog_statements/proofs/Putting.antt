@@ -1,4 +1,4 @@
--- Bytes that are put one after the other.
+-- Bytes appended one piece after the other.
 use Rattle.std.proofs.Common.{◌≡◌, ℕ, List, ◌++◌, ap, ◌∙◌, append_assoc}
 
 -- two pieces

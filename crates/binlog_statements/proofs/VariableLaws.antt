@@ -1,4 +1,4 @@
--- Each text has one list of status variables, and they are read one after the other.
+-- Each text has exactly one list of status variables, and reading them one after the other gives it.
 use Rattle.std.proofs.Common.{◌≡◌, ◌≢◌, ℕ, zero, suc, ◌+◌, ◌≤◌, ◌<◌, List, [], ◌∷◌, ◌++◌, length, take, drop, Option, Some, None, Result, Ok, Err, All, refl, sym, ap, subst, ◌∙◌, append_assoc, arith, length-append}
 use Rattle.std.specs.List.{flat_map}
 use Rattle.std.proofs.lemmas.List.{take-append-drop, append-nil}
@@ -21,7 +21,7 @@ at_some key s (Some n) x e =
     let same : ◌≡◌ {A = Variable × List ℕ} (v, drop n s) x = cc in
     (n, refl, sym (ap (λ (y : Variable × List ℕ). y.0) same), sym (ap (λ (y : Variable × List ℕ). y.1) same))
 
--- the first variable and what is behind it are the text
+-- the first variable and the bytes after it are the text
 pub record IsFirst (text : List ℕ) (x : Variable × List ℕ) : Type 0 where
   pub is : text ≡ variable_bytes x.0 ++ x.1
   pub whole : IsWhole x.0
@@ -53,13 +53,13 @@ first_complete v r whole =
     ∙ ap (λ (t : List ℕ). Some (record { key = v.key; value = t }, drop (length v.value) (v.value ++ r))) (take-length v.value r)
     ∙ ap (λ (t : List ℕ). Some (v, t)) (drop-length v.value r)
 
--- what is behind a first variable is shorter
+-- the bytes after a first variable are shorter than the text
 first_shorter : (text : List ℕ) (x : Variable × List ℕ) → first_variable text ≡ Some x → suc (length x.1) ≤ length text
 first_shorter text x e =
     let first = first_sound text x e in
     omega (arith, ap length first.is, length-append (variable_bytes x.0) x.1)
 
--- ---- how many are looked for
+-- ---- the bound on their number
 
 abbrev Enough : ℕ → List ℕ → Type 0
 Enough n text = length text ≤ n
@@ -72,7 +72,7 @@ same_behind n m text (Some x) e a b same =
     let short = first_shorter text x e in
     ap (λ (vs : List Variable). x.0 ∷ vs) (same x.1 (omega (arith, a, short)) (omega (arith, b, short)))
 
--- where as many are looked for as there are bytes, it doesn't matter how many
+-- with a bound of at least the text's length, the bound makes no difference
 same_within : (n m : ℕ) (text : List ℕ) → Enough n text → Enough m text → variables_within n text ≡ variables_within m text
 same_within zero zero text a b = refl
 same_within zero (suc m) [] a b = refl
@@ -81,7 +81,7 @@ same_within (suc n) zero [] a b = refl
 same_within (suc n) zero (c ∷ s) a b = absurd (omega (arith, b))
 same_within (suc n) (suc m) text a b = same_behind n m text (first_variable text) refl a b (same_within n m)
 
--- a text that begins with no whole variable has none
+-- a text that doesn't begin with a whole variable has none
 pub variables-none : (text : List ℕ) → first_variable text ≡ None → variables text ≡ []
 unfolding variables
 variables-none text e = none (length text)
@@ -90,7 +90,7 @@ variables-none text e = none (length text)
     none zero = refl
     none (suc n) = ap (λ (o : Option (Variable × List ℕ)). with_others o (variables_within n)) e
 
--- else they are the first and those of what is behind it
+-- otherwise they are the first and those of the bytes after it
 pub variables-some : (text : List ℕ) (x : Variable × List ℕ) → first_variable text ≡ Some x → variables text ≡ x.0 ∷ variables x.1
 unfolding variables
 variables-some text x e = within (length text) (first_shorter text x e)
@@ -110,7 +110,7 @@ variables-nil = refl
 abbrev pub bytes_of : List Variable → List ℕ
 bytes_of vars = flat_map variable_bytes vars
 
--- whole variables in front of a text come first
+-- whole variables at the start of a text come first
 pub variables-front : (vars : List Variable) (r : List ℕ) → All IsWhole vars → variables (bytes_of vars ++ r) ≡ vars ++ variables r
 variables-front [] r whole = refl
 variables-front (v ∷ vars) r whole =
@@ -143,12 +143,12 @@ begins_within : (n : ℕ) (text : List ℕ) → Begins text (variables_within n 
 begins_within zero text = (text, record { is = refl; whole = All-nil IsWhole })
 begins_within (suc n) text = begins_behind n text (first_variable text) refl (begins_within n)
 
--- and goes on with a rest
+-- followed by a rest
 pub variables_begin : (text : List ℕ) → (rest : List ℕ) × BeginsWith text (variables text) rest
 unfolding variables
 variables_begin text = begins_within (length text) text
 
--- no other whole variables at the front of it take more bytes
+-- no other list of whole variables at its start has more bytes
 pub variables_longest : (text : List ℕ) (others : List Variable) (left : List ℕ) → BeginsWith text others left
     → length (bytes_of others) ≤ length (bytes_of (variables text))
 variables_longest text others left other =
@@ -166,7 +166,7 @@ variables_are text = record {
   longest = variables_longest text;
 }
 
--- variables that take no byte are none
+-- variables of no bytes are no variables
 no_bytes : (vars : List Variable) → length (bytes_of vars) ≤ 0 → vars ≡ []
 no_bytes [] h = refl
 no_bytes (v ∷ vars) h = absurd (omega (arith, h, length-append (variable_bytes v) (bytes_of vars)))
@@ -205,6 +205,6 @@ none_later key vars w others is other h =
 pub none_here : (key : StatusVarKey) (vars : List Variable) → vars ≡ [] → HasNoKey key vars
 none_here key vars is = subst (λ (vs : List Variable). HasNoKey key vs) (sym is) (All-nil (λ (u : Variable). u.key ≢ key))
 
--- behind a first variable there are fewer
+-- after the first variable there are fewer
 pub fewer_behind : (s t : List ℕ) (v : Variable) → variables s ≡ v ∷ variables t → length (variables t) < length (variables s)
 fewer_behind s t v e = omega (arith, ap length e)

@@ -1,4 +1,4 @@
--- Values whose fields are in the ranges of their types: numbers of so many bytes, and texts of bytes. Each fits its form.
+-- Values whose fields are in the ranges of their types: numbers of their width, texts of bytes. Each fits its format.
 use Rattle.std.specs.Prelude.{ℕ, ◌<◌, ◌≤◌, ◌^◌, Option, Some, None, List, length, take}
 use Rattle.std.proofs.Common.{arith, refl}
 use Rattle.std.proofs.lemmas.List.{length-take}
@@ -16,6 +16,7 @@ use Rattle.binlog_statements.specs.declared.user_var.UserVarEvent.{UserVarEvent}
 
 -- ---- statements
 
+-- The fields of a statement are in the ranges of their types.
 pub record IsStatementInRange (e : Statement) : Type 0 where
   pub thread_id : e.thread_id < 256 ^ 4
   pub execution_time : e.execution_time < 256 ^ 4
@@ -24,16 +25,18 @@ pub record IsStatementInRange (e : Statement) : Type 0 where
   pub schema : IsBytes e.texts.schema
   pub query : IsBytes e.texts.query
 
+-- The fields of a QUERY event are in the ranges of their types.
 pub record IsQueryInRange (e : QueryEvent) : Type 0 where
   pub statement : IsStatementInRange e.statement
 
+-- The fields of an EXECUTE_LOAD_QUERY event are in the ranges of their types.
 pub record IsLoadQueryInRange (e : ExecuteLoadQueryEvent) : Type 0 where
   pub statement : IsStatementInRange e.statement
   pub file_id : e.file_id < 256 ^ 4
   pub start_pos : e.start_pos < 256 ^ 4
   pub end_pos : e.end_pos < 256 ^ 4
 
--- the length of a text that is cut fits its bytes
+-- A truncated text has at most the maximum length.
 cut_fits : (max : ℕ) (s : List ℕ) → length (take max s) ≤ max
 cut_fits max s = omega (arith, length-take max s)
 
@@ -52,17 +55,19 @@ load_query_fits e range =
 
 -- ---- user variables
 
+-- The fields of a user variable's value are in the ranges of their types.
 pub record IsValueInRange (v : UserVarValue) : Type 0 where
   pub value_type : v.value_type < 256
   pub charset : v.charset < 256 ^ 4
   pub value : IsBytes v.value
   pub flags : v.flags < 256
 
--- a null has no fields
+-- A null has no fields.
 abbrev pub IsHeldInRange : Option UserVarValue → Type 0
 IsHeldInRange (Some value) = IsValueInRange value
 IsHeldInRange None = Unit {0}
 
+-- The fields of a USER_VAR event are in the ranges of their types.
 pub record IsUserVarInRange (e : UserVarEvent) : Type 0 where
   pub name : IsBytes e.name
   pub value : IsHeldInRange e.value

@@ -1,4 +1,4 @@
--- What the value of each status variable means.
+-- The value of each status variable.
 -- Source: MySQL's internals documentation, "QUERY_EVENT", and the documentation of its source code,
 -- `mysql::binlog::event::Query_event`.
 use Rattle.std.specs.Prelude.{◌≡◌, ◌≢◌, ◌↔◌, [], ◌∷◌, ◌++◌, drop, IsTrue}
@@ -9,7 +9,7 @@ use Rattle.binlog_statements.specs.StatusVariables.{Variable}
 use Rattle.binlog_statements.specs.declared.status_var_val.StatusVarVal.{StatusVarVal}
 use Rattle.binlog_statements.specs.declared.status_var_val.StatusVarVal.TheVariants.{Flags2, SqlMode, Catalog, AutoIncrement, Charset, TimeZone, CatalogNz, LcTimeNames, CharsetDatabase, TableMapForUpdate, MasterDataWritten, Invoker, UpdatedDbNames, Microseconds, CommitTs, CommitTs2, ExplicitDefaultsForTimestamp, DdlLoggedWithXid, DefaultCollationForUtf8mb4, SqlRequirePrimaryKey, DefaultTableEncryption}
 
--- the variable has this key, and the bytes of its value are these
+-- The variable has this value's key, and its bytes encode this value.
 abbrev pub Has : Variable → StatusVarVal → Type 0
 Has v (Flags2 bits) = (v.key ≡ keys.Flags2) × (bits ≡ little_number 4 v.value)
 Has v (SqlMode bits) = (v.key ≡ keys.SqlMode) × (bits ≡ little_number 8 v.value)

@@ -1,4 +1,4 @@
-//! The event of a statement that loads a file.
+//! EXECUTE_LOAD_QUERY_EVENT: a `LOAD DATA` statement.
 ghost use Rattle.std.specs.Prelude.{◌≡◌, [], take, IfOk, IsOkUnless};
 ghost use Rattle.std.specs.Cow.{cow_slice_items, cow_str_bytes};
 ghost use Rattle.std.specs.Str.Lossy.{utf8_lossy};
@@ -12,10 +12,10 @@ use binlog_wire::{Const, Error, IntRepr, LeU32, MyDeserialize, ParseBuf, Put, Ra
 use std::alloc::Global;
 use std::borrow::{CowSlice, CowStr};
 
-/// The length of the fields of the post-header in bytes.
+/// The length of the post-header in bytes.
 const LOAD_HEAD_LEN: usize = 26;
 
-/// The fields of a load query's post-header.
+/// The post-header of an EXECUTE_LOAD_QUERY event.
 #[derive(Clone, Copy, Debug, PartialEq, Eq, Hash)]
 pub struct LoadHead {
     statement: StatementHead,
@@ -25,8 +25,10 @@ pub struct LoadHead {
     dup_handling: LoadDuplicateHandling,
 }
 
-/// [`Error::EndOfBody`] where fewer than 26 bytes are there, and else [`Error::InvalidData`] where the last of them is above
-/// 2.
+/// # Errors
+///
+/// - [`Error::EndOfBody`] if fewer than 26 bytes are left.
+/// - [`Error::InvalidData`] if the last of them, the duplicate handling, is above 2.
 impl<'de> MyDeserialize<'de> for LoadHead {
     ghost use Rattle.std.specs.Prelude.{Some};
     ghost use Rattle.binlog_statements.specs.ExecuteLoadQuery.{load_head};
@@ -81,12 +83,14 @@ impl Put for LoadHead {
     }
 }
 
-/// A statement `LOAD DATA` that ran on the source, after the blocks of its file were logged.
+/// An EXECUTE_LOAD_QUERY event, type 18: a `LOAD DATA` statement that ran on the source. The blocks of its file come
+/// in events before it.
 ///
-/// Its body is a head of 26 bytes: the 13 bytes of a query's head, the number of the file, 4 bytes, from where to where the
-/// statement names the file, 4 bytes each, and how duplicates are handled, 1 byte. Then come the status variables, the
-/// schema's name, one byte that says nothing, and the statement, to the end. See "EXECUTE_LOAD_QUERY_EVENT" in MySQL's
-/// internals documentation.
+/// The post-header has 26 bytes: the 13 bytes of a query's post-header, the file id (4), the start and the end position
+/// of the statement's file name part (4 each), and the duplicate handling (1). The body follows: status variables,
+/// schema name, one reserved byte, and the statement, to the end. All numbers are little-endian.
+///
+/// Source: MySQL's internals documentation, "EXECUTE_LOAD_QUERY_EVENT".
 #[derive(Debug, PartialEq, Eq, Hash, Drop)]
 pub struct ExecuteLoadQueryEvent<'a> {
     statement: Statement<'a>,
@@ -99,8 +103,8 @@ pub struct ExecuteLoadQueryEvent<'a> {
 impl<'a> ExecuteLoadQueryEvent<'a> {
     ghost use Rattle.binlog_statements.specs.Statements.{new_statement, with_status_vars, with_schema, with_query};
 
-    /// The empty statement that loads the file of this number, with this text of status variables, of which the first
-    /// 65,535 bytes count, and this schema's name, of which the first 255 bytes count; all other numbers are 0.
+    /// An event with an empty statement; all numbers not passed here are 0. Only the first 65,535 bytes of
+    /// `status_vars` and the first 255 bytes of `schema` are used.
     pub fn new(
         file_id: u32,
         dup_handling: LoadDuplicateHandling,
@@ -124,7 +128,7 @@ impl<'a> ExecuteLoadQueryEvent<'a> {
         }
     }
 
-    /// The event with this number of the file.
+    /// Sets the file id.
     pub fn with_file_id(mut self, file_id: u32) -> Self
         ensures { result ≡ record self.entry { file_id = file_id } }
     {
@@ -132,7 +136,7 @@ impl<'a> ExecuteLoadQueryEvent<'a> {
         self
     }
 
-    /// The event with this place, in bytes, at which the statement begins to name the file.
+    /// Sets the start position, in bytes, of the statement's file name part, which replicas substitute.
     pub fn with_start_pos(mut self, start_pos: u32) -> Self
         ensures { result ≡ record self.entry { start_pos = start_pos } }
     {
@@ -140,7 +144,7 @@ impl<'a> ExecuteLoadQueryEvent<'a> {
         self
     }
 
-    /// The event with this place, in bytes, behind what names the file in the statement.
+    /// Sets the end position, in bytes, of the statement's file name part: the position after its last byte.
     pub fn with_end_pos(mut self, end_pos: u32) -> Self
         ensures { result ≡ record self.entry { end_pos = end_pos } }
     {
@@ -148,7 +152,7 @@ impl<'a> ExecuteLoadQueryEvent<'a> {
         self
     }
 
-    /// The event with this handling of duplicates.
+    /// Sets the duplicate handling.
     pub fn with_dup_handling(mut self, dup_handling: LoadDuplicateHandling) -> Self
         ensures { result ≡ record self.entry { dup_handling = dup_handling } }
     {
@@ -156,35 +160,35 @@ impl<'a> ExecuteLoadQueryEvent<'a> {
         self
     }
 
-    /// The number of the file, which the events of its blocks have too.
+    /// The file id. The events with the file's blocks have the same one.
     pub fn file_id(&self) -> u32
         ensures { result ≡ self.now.file_id }
     {
         self.file_id
     }
 
-    /// The place, in bytes, at which the statement begins to name the file.
+    /// The start position, in bytes, of the statement's file name part, which replicas substitute.
     pub fn start_pos(&self) -> u32
         ensures { result ≡ self.now.start_pos }
     {
         self.start_pos
     }
 
-    /// The place, in bytes, behind what names the file in the statement.
+    /// The end position, in bytes, of the statement's file name part: the position after its last byte.
     pub fn end_pos(&self) -> u32
         ensures { result ≡ self.now.end_pos }
     {
         self.end_pos
     }
 
-    /// What happens to a row whose key is there already.
+    /// What happens to a row whose key exists already.
     pub fn dup_handling(&self) -> LoadDuplicateHandling
         ensures { result ≡ self.now.dup_handling }
     {
         self.dup_handling
     }
 
-    /// The event with this thread, which ran the statement.
+    /// Sets the id of the thread that ran the statement.
     pub fn with_thread_id(mut self, thread_id: u32) -> Self
         ensures { result ≡ record self.entry { statement = record self.entry.statement { thread_id = thread_id } } }
     {
@@ -192,7 +196,7 @@ impl<'a> ExecuteLoadQueryEvent<'a> {
         self
     }
 
-    /// The event with this time, in seconds, from when the statement began to when it was logged.
+    /// Sets the execution time: seconds from the start of the statement until it was logged.
     pub fn with_execution_time(mut self, execution_time: u32) -> Self
         ensures { result ≡ record self.entry { statement = record self.entry.statement { execution_time = execution_time } } }
     {
@@ -200,7 +204,7 @@ impl<'a> ExecuteLoadQueryEvent<'a> {
         self
     }
 
-    /// The event with this error, which the statement gave on the source.
+    /// Sets the error code that the statement returned on the source.
     pub fn with_error_code(mut self, error_code: u16) -> Self
         ensures { result ≡ record self.entry { statement = record self.entry.statement { error_code = error_code } } }
     {
@@ -208,7 +212,7 @@ impl<'a> ExecuteLoadQueryEvent<'a> {
         self
     }
 
-    /// The event with this text of status variables, of which the first 65,535 bytes count.
+    /// Sets the encoded status variables. Only the first 65,535 bytes are used.
     pub fn with_status_vars(mut self, status_vars: CowSlice<'a, u8>) -> Self
         ensures { result ≡ record self.entry { statement = with_status_vars self.entry.statement (cow_slice_items status_vars.entry) } }
     {
@@ -216,7 +220,7 @@ impl<'a> ExecuteLoadQueryEvent<'a> {
         self
     }
 
-    /// The event with this schema's name, of which the first 255 bytes count.
+    /// Sets the schema name. Only the first 255 bytes are used.
     pub fn with_schema(mut self, schema: CowSlice<'a, u8>) -> Self
         ensures { result ≡ record self.entry { statement = with_schema self.entry.statement (cow_slice_items schema.entry) } }
     {
@@ -224,7 +228,7 @@ impl<'a> ExecuteLoadQueryEvent<'a> {
         self
     }
 
-    /// The event with this statement.
+    /// Sets the statement.
     pub fn with_query(mut self, query: CowSlice<'a, u8>) -> Self
         ensures { result ≡ record self.entry { statement = with_query self.entry.statement (cow_slice_items query.entry) } }
     {
@@ -232,50 +236,50 @@ impl<'a> ExecuteLoadQueryEvent<'a> {
         self
     }
 
-    /// The thread that ran the statement; temporary tables are told apart by it.
+    /// The id of the thread that ran the statement. Replicas use it to tell temporary tables apart.
     pub fn thread_id(&self) -> u32
         ensures { result ≡ self.now.statement.thread_id }
     {
         self.statement.thread_id
     }
 
-    /// The time, in seconds, from when the statement began to when it was logged.
+    /// The execution time: seconds from the start of the statement until it was logged.
     pub fn execution_time(&self) -> u32
         ensures { result ≡ self.now.statement.execution_time }
     {
         self.statement.execution_time
     }
 
-    /// The error that the statement gave on the source, or 0.
+    /// The error code that the statement returned on the source; 0 if none.
     pub fn error_code(&self) -> u16
         ensures { result ≡ self.now.statement.error_code }
     {
         self.statement.error_code
     }
 
-    /// The status variables: what of the session counted when the statement ran.
+    /// The status variables: the session's settings that the statement depended on.
     pub fn status_vars(&self) -> &StatusVars<'a>
         ensures { result.now ≡ self.now.statement.texts.status_vars }
     {
         &self.statement.texts.status_vars
     }
 
-    /// The text of the status variables: at most 65,535 bytes.
+    /// The encoded status variables: at most 65,535 bytes.
     pub fn status_vars_raw(&self) -> &[u8]
         ensures { result.now ≡ take 65535 self.now.statement.texts.status_vars.0 }
     {
         self.statement.texts.status_vars.0.as_bytes()
     }
 
-    /// The name of the schema that was in use: at most 255 bytes.
+    /// The name of the default schema: at most 255 bytes.
     pub fn schema_raw(&self) -> &[u8]
         ensures { result.now ≡ take 255 self.now.statement.texts.schema }
     {
         self.statement.texts.schema.as_bytes()
     }
 
-    /// The bytes of [`ExecuteLoadQueryEvent::schema_raw`] as UTF-8 text, with U+FFFD in place of what isn't; refused by
-    /// [`Error::Memory`] alone.
+    /// [`ExecuteLoadQueryEvent::schema_raw`] as UTF-8, with U+FFFD for invalid sequences. The only error is
+    /// [`Error::Memory`].
     pub fn schema(&self, alloc: Global) -> Result<CowStr<'_, Global>, Error>
         ensures ok { IfOk result (λ text. cow_str_bytes text ≡ utf8_lossy (take 255 self.now.statement.texts.schema)) }
         ensures memory { IsOkUnless result Memory }
@@ -283,14 +287,14 @@ impl<'a> ExecuteLoadQueryEvent<'a> {
         self.statement.texts.schema.as_str(alloc)
     }
 
-    /// The statement.
+    /// The statement's bytes.
     pub fn query_raw(&self) -> &[u8]
         ensures { result.now ≡ self.now.statement.texts.query }
     {
         self.statement.texts.query.as_bytes()
     }
 
-    /// The statement as UTF-8 text, with U+FFFD in place of what isn't; refused by [`Error::Memory`] alone.
+    /// The statement as UTF-8, with U+FFFD for invalid sequences. The only error is [`Error::Memory`].
     pub fn query(&self, alloc: Global) -> Result<CowStr<'_, Global>, Error>
         ensures ok { IfOk result (λ text. cow_str_bytes text ≡ utf8_lossy self.now.statement.texts.query) }
         ensures memory { IsOkUnless result Memory }
@@ -298,7 +302,7 @@ impl<'a> ExecuteLoadQueryEvent<'a> {
         self.statement.texts.query.as_str(alloc)
     }
 
-    /// The same event, with its bytes owned; refused by [`Error::Memory`] alone.
+    /// The same event with owned bytes. The only error is [`Error::Memory`].
     pub fn into_owned(self, alloc: Global) -> Result<ExecuteLoadQueryEvent<'static>, Error>
         ensures ok { IfOk result (λ owned. owned ≡ self.entry) }
         ensures memory { IsOkUnless result Memory }
@@ -313,7 +317,7 @@ impl<'a> ExecuteLoadQueryEvent<'a> {
         })
     }
 
-    /// The same event once more: lent bytes stay lent, and owned ones are copied. Refused by [`Error::Memory`] alone.
+    /// A copy of the event: borrowed bytes stay borrowed, owned bytes are copied. The only error is [`Error::Memory`].
     pub fn clone(&self, alloc: Global) -> Result<Self, Error>
         ensures ok { IfOk result (λ copy. copy ≡ self.now) }
         ensures memory { IsOkUnless result Memory }
@@ -329,8 +333,10 @@ impl<'a> ExecuteLoadQueryEvent<'a> {
     }
 }
 
-/// [`Error::EndOfBody`] where the bytes end before the statement, and [`Error::InvalidData`] where the duplicate handling is
-/// above 2.
+/// # Errors
+///
+/// - [`Error::EndOfBody`] if the bytes end before the statement.
+/// - [`Error::InvalidData`] if the duplicate handling is above 2.
 impl<'de> MyDeserialize<'de> for ExecuteLoadQueryEvent<'de> {
     ghost use Rattle.binlog_statements.specs.ExecuteLoadQuery.{execute_load_query};
 
@@ -360,7 +366,6 @@ impl<'de> MyDeserialize<'de> for ExecuteLoadQueryEvent<'de> {
 impl ExecuteLoadQueryEvent<'_> {
     ghost use Rattle.binlog_statements.specs.ExecuteLoadQuery.{load_head_of};
 
-    // The fields of the post-header.
     fn head(&self) -> LoadHead
         ensures { result ≡ load_head_of self.now }
     {

@@ -1,4 +1,4 @@
-//! Laws of the definitions, each a function whose contract says it.
+//! Laws of the definitions. Each is a function without effect whose contract states it.
 ghost use Rattle.std.specs.Prelude.{◌≡◌, ℕ, List, [], ◌∷◌, map, Some, None};
 ghost use Rattle.binlog_consts.specs.StatusVarKeys.{status_var_keys};
 ghost use Rattle.binlog_description.specs.WrittenForms.{FitWritten, AreReadNormal};
@@ -21,14 +21,13 @@ use binlog_consts::EventType;
 use binlog_description::BinlogEvent;
 use binlog_wire::{MyDeserialize, MySerialize};
 
-/// Each text of status variables has one longest front that is a list of whole variables, and the variables of the text
-/// are that list.
+/// The encoded variables have exactly one longest prefix that is a list of whole variables; `variables` is that list.
 pub fn one_list_of_variables()
     ensures some { (text : List ℕ) → AreVariablesOf text (variables text) }
     ensures one { (text : List ℕ) (vars : List Variable) → AreVariablesOf text vars → vars ≡ variables text }
 {}
 
-/// The types of events.
+/// The event type of each body.
 pub fn event_types() {
     prove!(matches!(QueryEvent::EVENT_TYPE, EventType::QUERY_EVENT));
     prove!(matches!(
@@ -38,7 +37,7 @@ pub fn event_types() {
     prove!(matches!(UserVarEvent::EVENT_TYPE, EventType::USER_VAR_EVENT));
 }
 
-/// The sizes of what always takes as many bytes.
+/// The sizes of types with a fixed size; `None` for the others.
 pub fn sizes() {
     prove!(matches!(StatementHead::SIZE, Some(13)));
     prove!(matches!(LoadHead::SIZE, Some(26)));
@@ -50,7 +49,7 @@ pub fn sizes() {
     prove!(matches!(StatusVars::SIZE, None));
 }
 
-/// The ghost sizes are the constants of [`sizes`].
+/// The ghost sizes equal the constants of [`sizes`].
 pub fn ghost_sizes()
     ensures statement_head { ⟦<StatementHead as MyDeserialize<'static>>⟧.size ≡ Some 13 }
     ensures load_head { ⟦<LoadHead as MyDeserialize<'static>>⟧.size ≡ Some 26 }
@@ -62,7 +61,7 @@ pub fn ghost_sizes()
     ensures status_vars { ⟦<StatusVars<'static> as MyDeserialize<'static>>⟧.size ≡ None }
 {}
 
-/// The constants of statements, and what a null shows.
+/// The constants of this crate, and what the getters return for a null.
 pub fn constants()
     ensures null_type { type_of None ≡ 0 }
     ensures null_charset { charset_of None ≡ 63 }
@@ -73,7 +72,7 @@ pub fn constants()
     prove!(TOO_MANY_NAMES == 254);
 }
 
-/// How the values of the keys 0 to 20 are laid out.
+/// The layouts of the values of the keys 0 to 20.
 pub fn layouts()
     ensures { map layout_of status_var_keys
         ≡ Bytes 4 ∷ Bytes 8 ∷ TextAnd 1 ∷ Bytes 4 ∷ Bytes 6 ∷ TextAnd 0 ∷ TextAnd 0
@@ -81,29 +80,29 @@ pub fn layouts()
         ∷ Bytes 0 ∷ Bytes 0 ∷ Bytes 1 ∷ Bytes 8 ∷ Bytes 2 ∷ Bytes 1 ∷ Bytes 1 ∷ [] }
 {}
 
-/// The raw type of each event is the number of its type.
+/// The raw type of each body is the number of its event type.
 pub fn raw_types()
     ensures query { (event : QueryEvent) → ⟦<QueryEvent<'static> as BinlogEvent<'static>>⟧.raw_type event ≡ 2 }
     ensures load_query { (event : ExecuteLoadQueryEvent) → ⟦<ExecuteLoadQueryEvent<'static> as BinlogEvent<'static>>⟧.raw_type event ≡ 18 }
     ensures user_var { (event : UserVarEvent) → ⟦<UserVarEvent<'static> as BinlogEvent<'static>>⟧.raw_type event ≡ 14 }
 {}
 
-/// An event whose fields are in the ranges of their types fits the form in which it is written: so what is written of it
-/// reads as its normal form.
+/// An event whose fields are in the ranges of their types fits its written form. So its written bytes read back as its
+/// normal form.
 pub fn events_fit()
     ensures query { FitWritten IsQueryInRange ⟦<QueryEvent<'static> as BinlogEvent<'static>>⟧.format ⟦<QueryEvent<'static> as BinlogEvent<'static>>⟧.raw_type }
     ensures load_query { FitWritten IsLoadQueryInRange ⟦<ExecuteLoadQueryEvent<'static> as BinlogEvent<'static>>⟧.format ⟦<ExecuteLoadQueryEvent<'static> as BinlogEvent<'static>>⟧.raw_type }
     ensures user_var { FitWritten IsUserVarInRange ⟦<UserVarEvent<'static> as BinlogEvent<'static>>⟧.format ⟦<UserVarEvent<'static> as BinlogEvent<'static>>⟧.raw_type }
 {}
 
-/// No event is refused when it is written.
+/// Writing refuses no event.
 pub fn none_is_refused()
     ensures query { (event : QueryEvent) → ⟦<QueryEvent<'static> as MySerialize>⟧.refusal event ≡ None }
     ensures load_query { (event : ExecuteLoadQueryEvent) → ⟦<ExecuteLoadQueryEvent<'static> as MySerialize>⟧.refusal event ≡ None }
     ensures user_var { (event : UserVarEvent) → ⟦<UserVarEvent<'static> as MySerialize>⟧.refusal event ≡ None }
 {}
 
-/// An event that was read under any description is its own normal form in the form in which it is written.
+/// An event that was read under any description is its own normal form in its written form.
 pub fn read_events_are_normal()
     ensures query { AreReadNormal ⟦<QueryEvent<'static> as MyDeserialize<'static>>⟧.reads ⟦<QueryEvent<'static> as BinlogEvent<'static>>⟧.format ⟦<QueryEvent<'static> as BinlogEvent<'static>>⟧.raw_type }
     ensures load_query { AreReadNormal ⟦<ExecuteLoadQueryEvent<'static> as MyDeserialize<'static>>⟧.reads ⟦<ExecuteLoadQueryEvent<'static> as BinlogEvent<'static>>⟧.format ⟦<ExecuteLoadQueryEvent<'static> as BinlogEvent<'static>>⟧.raw_type }

@@ -1,28 +1,28 @@
-//! How the values of status variables are laid out.
+//! The layouts of status variables' values.
 ghost use Rattle.std.specs.Prelude.{◌≡◌, ◌≤◌, IfSome, length};
 ghost use Rattle.binlog_statements.specs.Layouts.{layout_of, value_len, fixed_len, text_len, names_len, counted_names_len};
 
 use binlog_consts::StatusVarKey;
 use binlog_wire::{BytesRepr, NullBytes, ParseBuf};
 
-/// How the value of a status variable is laid out.
+/// The layout of a status variable's value.
 #[derive(Clone, Copy, Debug, PartialEq, Eq)]
 pub enum Layout {
-    /// So many bytes.
+    /// A fixed number of bytes.
     Bytes(usize),
-    /// A text behind its length in one byte, and so many bytes more.
+    /// A text after its length (1 byte), then a fixed number of bytes.
     TextAnd(usize),
-    /// Two texts, each behind its length in one byte.
+    /// Two texts, each after its length (1 byte).
     TwoTexts,
-    /// Names behind their count in one byte, each ended by a zero byte; a count of 254 has no names.
+    /// Null-terminated names after their count (1 byte). No names follow a count of 254.
     Names,
 }
 
-/// The count of names that says that there were too many databases.
+/// The count that is written if the statement changes too many databases; no names follow it.
 pub const TOO_MANY_NAMES: u8 = 254;
 
 impl Layout {
-    /// The layout of the values of this key.
+    /// The layout of the value of a key.
     pub fn of(key: StatusVarKey) -> Layout
         ensures { result ≡ layout_of key }
     {
@@ -48,7 +48,7 @@ impl Layout {
         }
     }
 
-    /// How many bytes at the front are a value of this layout; None where no front is a whole one.
+    /// The length of the value at the start of the bytes; None if no prefix is a whole value.
     pub fn len(self, bytes: &[u8]) -> Option<usize>
         ensures { result ≡ value_len self bytes.now }
     {
@@ -69,7 +69,7 @@ impl Layout {
     }
 }
 
-/// The count, where as many bytes are there.
+/// The count, if that many bytes are left.
 fn fixed_len(count: usize, bytes: &[u8]) -> Option<usize>
     ensures { result ≡ fixed_len count bytes.now }
 {
@@ -80,7 +80,7 @@ fn fixed_len(count: usize, bytes: &[u8]) -> Option<usize>
     }
 }
 
-/// How long the text at the front is, its length byte counted.
+/// The length of the text at the start, including its length byte.
 fn text_len(bytes: &[u8]) -> Option<usize>
     ensures { result ≡ text_len bytes.now }
 {
@@ -93,7 +93,8 @@ fn text_len(bytes: &[u8]) -> Option<usize>
     }
 }
 
-/// How long the names at the front are, their count counted. Not inlined, so that other layouts keep their registers.
+/// The length of the names at the start, including their count.
+/// Not inlined: inlining costs the other layouts registers.
 #[inline(never)]
 fn counted_names_len(bytes: &[u8]) -> Option<usize>
     ensures { result ≡ counted_names_len bytes.now }
@@ -106,7 +107,7 @@ fn counted_names_len(bytes: &[u8]) -> Option<usize>
     Some(1 + len)
 }
 
-/// How long so many names at the front are, with the zero bytes that end them.
+/// The length of this many null-terminated names at the start.
 fn names_len(count: u8, bytes: &[u8]) -> Option<usize>
     ensures count { result ≡ names_len count bytes.now }
     ensures within { IfSome result (λ len. len ≤ length bytes.now) }

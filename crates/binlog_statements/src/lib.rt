@@ -1,8 +1,7 @@
-//! The events of statements: queries, load queries, user variables, and the status variables of statements.
+//! The events of statements: queries, load queries, user variables; and the status variables of statements.
 //!
-//! [`QueryEvent`], [`ExecuteLoadQueryEvent`] and [`UserVarEvent`] are bodies of events. The [`StatusVars`] of a statement
-//! are iterated over by [`StatusVarsIterator`], which gives each [`StatusVar`] of the text, and a variable's value is
-//! parsed by [`StatusVar::get_value`].
+//! [`QueryEvent`], [`ExecuteLoadQueryEvent`] and [`UserVarEvent`] are event bodies. [`StatusVarsIterator`] iterates
+//! over the [`StatusVars`] of a statement and returns each [`StatusVar`]; [`StatusVar::get_value`] parses its value.
 #![tactic(auto)]
 
 mod execute_load_query;

@@ -1,4 +1,4 @@
-//! The event of a statement.
+//! QUERY_EVENT: a statement.
 ghost use Rattle.std.specs.Prelude.{◌≡◌, [], take, IfOk, IsOkUnless};
 ghost use Rattle.std.specs.Cow.{cow_slice_items, cow_str_bytes};
 ghost use Rattle.std.specs.Str.Lossy.{utf8_lossy};
@@ -12,12 +12,14 @@ use binlog_wire::{Error, MyDeserialize, ParseBuf, Put};
 use std::alloc::Global;
 use std::borrow::{CowSlice, CowStr};
 
-/// A statement that ran on the source.
+/// A QUERY event, type 2: a statement that ran on the source.
 ///
-/// Its body is a head of 13 bytes: the thread, 4 bytes, the time, 4 bytes, the length of the schema's name, 1 byte, the
-/// error, 2 bytes, and the length of the status variables, 2 bytes. What a format description states of its post-header
-/// beyond these is skipped. Then come the status variables, the schema's name, one byte that says nothing, and the
-/// statement, to the end. See "QUERY_EVENT" in MySQL's internals documentation.
+/// The post-header has 13 bytes: thread id (4), execution time (4), length of the schema name (1), error code (2),
+/// length of the status variables (2). If the format description states a longer post-header, the rest of it is
+/// skipped. The body follows: status variables, schema name, one reserved byte, and the statement, to the end. All
+/// numbers are little-endian.
+///
+/// Source: MySQL's internals documentation, "QUERY_EVENT".
 #[derive(Debug, PartialEq, Eq, Hash, Drop)]
 pub struct QueryEvent<'a> {
     statement: Statement<'a>,
@@ -26,8 +28,8 @@ pub struct QueryEvent<'a> {
 impl<'a> QueryEvent<'a> {
     ghost use Rattle.binlog_statements.specs.Statements.{new_statement, with_status_vars, with_schema, with_query};
 
-    /// The empty statement with this text of status variables, of which the first 65,535 bytes count, and this schema's
-    /// name, of which the first 255 bytes count; all numbers are 0.
+    /// An event with an empty statement; all numbers are 0. Only the first 65,535 bytes of `status_vars` and the first
+    /// 255 bytes of `schema` are used.
     pub fn new(status_vars: CowSlice<'a, u8>, schema: CowSlice<'a, u8>) -> Self
         ensures { result ≡ record {
           statement = new_statement (cow_slice_items status_vars.entry) (cow_slice_items schema.entry);
@@ -38,7 +40,7 @@ impl<'a> QueryEvent<'a> {
         }
     }
 
-    /// The event with this thread, which ran the statement.
+    /// Sets the id of the thread that ran the statement.
     pub fn with_thread_id(mut self, thread_id: u32) -> Self
         ensures { result ≡ record self.entry { statement = record self.entry.statement { thread_id = thread_id } } }
     {
@@ -46,7 +48,7 @@ impl<'a> QueryEvent<'a> {
         self
     }
 
-    /// The event with this time, in seconds, from when the statement began to when it was logged.
+    /// Sets the execution time: seconds from the start of the statement until it was logged.
     pub fn with_execution_time(mut self, execution_time: u32) -> Self
         ensures { result ≡ record self.entry { statement = record self.entry.statement { execution_time = execution_time } } }
     {
@@ -54,7 +56,7 @@ impl<'a> QueryEvent<'a> {
         self
     }
 
-    /// The event with this error, which the statement gave on the source.
+    /// Sets the error code that the statement returned on the source.
     pub fn with_error_code(mut self, error_code: u16) -> Self
         ensures { result ≡ record self.entry { statement = record self.entry.statement { error_code = error_code } } }
     {
@@ -62,7 +64,7 @@ impl<'a> QueryEvent<'a> {
         self
     }
 
-    /// The event with this text of status variables, of which the first 65,535 bytes count.
+    /// Sets the encoded status variables. Only the first 65,535 bytes are used.
     pub fn with_status_vars(mut self, status_vars: CowSlice<'a, u8>) -> Self
         ensures { result ≡ record self.entry { statement = with_status_vars self.entry.statement (cow_slice_items status_vars.entry) } }
     {
@@ -70,7 +72,7 @@ impl<'a> QueryEvent<'a> {
         self
     }
 
-    /// The event with this schema's name, of which the first 255 bytes count.
+    /// Sets the schema name. Only the first 255 bytes are used.
     pub fn with_schema(mut self, schema: CowSlice<'a, u8>) -> Self
         ensures { result ≡ record self.entry { statement = with_schema self.entry.statement (cow_slice_items schema.entry) } }
     {
@@ -78,7 +80,7 @@ impl<'a> QueryEvent<'a> {
         self
     }
 
-    /// The event with this statement.
+    /// Sets the statement.
     pub fn with_query(mut self, query: CowSlice<'a, u8>) -> Self
         ensures { result ≡ record self.entry { statement = with_query self.entry.statement (cow_slice_items query.entry) } }
     {
@@ -86,50 +88,49 @@ impl<'a> QueryEvent<'a> {
         self
     }
 
-    /// The thread that ran the statement; temporary tables are told apart by it.
+    /// The id of the thread that ran the statement. Replicas use it to tell temporary tables apart.
     pub fn thread_id(&self) -> u32
         ensures { result ≡ self.now.statement.thread_id }
     {
         self.statement.thread_id
     }
 
-    /// The time, in seconds, from when the statement began to when it was logged.
+    /// The execution time: seconds from the start of the statement until it was logged.
     pub fn execution_time(&self) -> u32
         ensures { result ≡ self.now.statement.execution_time }
     {
         self.statement.execution_time
     }
 
-    /// The error that the statement gave on the source, or 0.
+    /// The error code that the statement returned on the source; 0 if none.
     pub fn error_code(&self) -> u16
         ensures { result ≡ self.now.statement.error_code }
     {
         self.statement.error_code
     }
 
-    /// The status variables: what of the session counted when the statement ran.
+    /// The status variables: the session's settings that the statement depended on.
     pub fn status_vars(&self) -> &StatusVars<'a>
         ensures { result.now ≡ self.now.statement.texts.status_vars }
     {
         &self.statement.texts.status_vars
     }
 
-    /// The text of the status variables: at most 65,535 bytes.
+    /// The encoded status variables: at most 65,535 bytes.
     pub fn status_vars_raw(&self) -> &[u8]
         ensures { result.now ≡ take 65535 self.now.statement.texts.status_vars.0 }
     {
         self.statement.texts.status_vars.0.as_bytes()
     }
 
-    /// The name of the schema that was in use: at most 255 bytes.
+    /// The name of the default schema: at most 255 bytes.
     pub fn schema_raw(&self) -> &[u8]
         ensures { result.now ≡ take 255 self.now.statement.texts.schema }
     {
         self.statement.texts.schema.as_bytes()
     }
 
-    /// The bytes of [`QueryEvent::schema_raw`] as UTF-8 text, with U+FFFD in place of what isn't; refused by
-    /// [`Error::Memory`] alone.
+    /// [`QueryEvent::schema_raw`] as UTF-8, with U+FFFD for invalid sequences. The only error is [`Error::Memory`].
     pub fn schema(&self, alloc: Global) -> Result<CowStr<'_, Global>, Error>
         ensures ok { IfOk result (λ text. cow_str_bytes text ≡ utf8_lossy (take 255 self.now.statement.texts.schema)) }
         ensures memory { IsOkUnless result Memory }
@@ -137,14 +138,14 @@ impl<'a> QueryEvent<'a> {
         self.statement.texts.schema.as_str(alloc)
     }
 
-    /// The statement.
+    /// The statement's bytes.
     pub fn query_raw(&self) -> &[u8]
         ensures { result.now ≡ self.now.statement.texts.query }
     {
         self.statement.texts.query.as_bytes()
     }
 
-    /// The statement as UTF-8 text, with U+FFFD in place of what isn't; refused by [`Error::Memory`] alone.
+    /// The statement as UTF-8, with U+FFFD for invalid sequences. The only error is [`Error::Memory`].
     pub fn query(&self, alloc: Global) -> Result<CowStr<'_, Global>, Error>
         ensures ok { IfOk result (λ text. cow_str_bytes text ≡ utf8_lossy self.now.statement.texts.query) }
         ensures memory { IsOkUnless result Memory }
@@ -152,7 +153,7 @@ impl<'a> QueryEvent<'a> {
         self.statement.texts.query.as_str(alloc)
     }
 
-    /// The same event, with its bytes owned; refused by [`Error::Memory`] alone.
+    /// The same event with owned bytes. The only error is [`Error::Memory`].
     pub fn into_owned(self, alloc: Global) -> Result<QueryEvent<'static>, Error>
         ensures ok { IfOk result (λ owned. owned ≡ self.entry) }
         ensures memory { IsOkUnless result Memory }
@@ -161,7 +162,7 @@ impl<'a> QueryEvent<'a> {
         Ok(QueryEvent { statement })
     }
 
-    /// The same event once more: lent bytes stay lent, and owned ones are copied. Refused by [`Error::Memory`] alone.
+    /// A copy of the event: borrowed bytes stay borrowed, owned bytes are copied. The only error is [`Error::Memory`].
     pub fn clone(&self, alloc: Global) -> Result<Self, Error>
         ensures ok { IfOk result (λ copy. copy ≡ self.now) }
         ensures memory { IsOkUnless result Memory }
@@ -171,7 +172,7 @@ impl<'a> QueryEvent<'a> {
     }
 }
 
-/// [`Error::EndOfBody`] where the bytes end before the statement, and no other error.
+/// The only error is [`Error::EndOfBody`], if the bytes end before the statement.
 impl<'de> MyDeserialize<'de> for QueryEvent<'de> {
     ghost use Rattle.binlog_consts.specs.declared.event_type.EventType.TheVariants.{QUERY_EVENT};
     ghost use Rattle.binlog_description.specs.DescriptionRefs.{description_of};

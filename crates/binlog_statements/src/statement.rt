@@ -1,4 +1,4 @@
-//! What a query and a load query have in common.
+//! What a QUERY and an EXECUTE_LOAD_QUERY event have in common.
 ghost use Rattle.std.specs.Prelude.{◌≡◌, ◌∷◌, ◌++◌, ◌+◌, ◌^◌, ◌<◌, ◌≤◌, [], length, take, vec_len, vec_capacity, IfOk, IsOkUnless};
 ghost use Rattle.std.specs.Cow.{cow_slice_items};
 ghost use Rattle.binlog_wire.specs.declared.error.Error.TheVariants.{Memory};
@@ -11,10 +11,10 @@ use binlog_wire::{
 use std::alloc::Global;
 use std::borrow::CowSlice;
 
-/// The length of the fields of a query's post-header in bytes.
+/// The length of a query's post-header in bytes.
 pub const STATEMENT_HEAD_LEN: usize = 13;
 
-/// The fields of a query's post-header.
+/// A query's post-header.
 #[derive(Clone, Copy, Debug, PartialEq, Eq, Hash)]
 pub struct StatementHead {
     thread_id: u32,
@@ -77,16 +77,19 @@ impl Put for StatementHead {
     }
 }
 
-/// The texts of a statement: its status variables, the schema's name, and the statement itself.
+/// The variable-length fields of a statement: status variables, schema name, and the statement itself.
 #[derive(Debug, PartialEq, Eq, Hash, Drop)]
 pub struct StatementTexts<'a> {
+    /// The encoded status variables.
     pub status_vars: StatusVars<'a>,
+    /// The schema name.
     pub schema: RawBytes<'a, BareU8Bytes>,
+    /// The statement itself.
     pub query: RawBytes<'a, EofBytes>,
 }
 
 impl<'a> StatementTexts<'a> {
-    /// The texts with these status variables.
+    /// Sets the encoded status variables.
     pub fn with_status_vars(self, status_vars: CowSlice<'a, u8>) -> Self
         ensures { result ≡ record self.entry { status_vars = record { 0 = cow_slice_items status_vars.entry } } }
     {
@@ -97,7 +100,7 @@ impl<'a> StatementTexts<'a> {
         }
     }
 
-    /// The texts with this schema's name.
+    /// Sets the schema name.
     pub fn with_schema(mut self, schema: CowSlice<'a, u8>) -> Self
         ensures { result ≡ record self.entry { schema = cow_slice_items schema.entry } }
     {
@@ -105,7 +108,7 @@ impl<'a> StatementTexts<'a> {
         self
     }
 
-    /// The texts with this statement.
+    /// Sets the statement.
     pub fn with_query(mut self, query: CowSlice<'a, u8>) -> Self
         ensures { result ≡ record self.entry { query = cow_slice_items query.entry } }
     {
@@ -113,7 +116,7 @@ impl<'a> StatementTexts<'a> {
         self
     }
 
-    /// The same texts, owned; refused by [`Error::Memory`] alone.
+    /// The same texts with owned bytes. The only error is [`Error::Memory`].
     pub fn into_owned(self, alloc: Global) -> Result<StatementTexts<'static>, Error>
         ensures ok { IfOk result (λ owned. owned ≡ self.entry) }
         ensures memory { IsOkUnless result Memory }
@@ -128,7 +131,7 @@ impl<'a> StatementTexts<'a> {
         })
     }
 
-    /// The same texts once more: lent bytes stay lent, and owned ones are copied. Refused by [`Error::Memory`] alone.
+    /// A copy of the texts: borrowed bytes stay borrowed, owned bytes are copied. The only error is [`Error::Memory`].
     pub fn clone(&self, alloc: Global) -> Result<Self, Error>
         ensures ok { IfOk result (λ copy. copy ≡ self.now) }
         ensures memory { IsOkUnless result Memory }
@@ -144,7 +147,7 @@ impl<'a> StatementTexts<'a> {
     }
 }
 
-/// [`Error::EndOfBody`] where the bytes end before the statement, and no other error.
+/// The only error is [`Error::EndOfBody`], if the bytes end before the statement.
 impl<'de> MyDeserialize<'de> for StatementTexts<'de> {
     ghost use Rattle.binlog_statements.specs.Statements.{texts};
 
@@ -171,7 +174,7 @@ impl<'de> MyDeserialize<'de> for StatementTexts<'de> {
     }
 }
 
-/// What counts of the texts, with one byte in front of the statement.
+/// The status variables (at most 65,535 bytes), the schema name (at most 255), one reserved byte, and the statement.
 impl Put for StatementTexts<'_> {
     ghost bytes = { λ t. take 65535 t.status_vars.0 ++ (take 255 t.schema ++ 0 ∷ t.query) };
 
@@ -195,19 +198,23 @@ impl Put for StatementTexts<'_> {
     }
 }
 
-/// A statement that ran on the source: which thread ran it, what came of it, and its texts.
+/// A statement that ran on the source: thread id, execution time, error code, and the texts.
 #[derive(Debug, PartialEq, Eq, Hash, Drop)]
 pub struct Statement<'a> {
+    /// The id of the thread that ran the statement.
     pub thread_id: u32,
+    /// Seconds from the start of the statement until it was logged.
     pub execution_time: u32,
+    /// The error code that the statement returned on the source; 0 if none.
     pub error_code: u16,
+    /// The variable-length fields.
     pub texts: StatementTexts<'a>,
 }
 
 impl<'a> Statement<'a> {
     ghost use Rattle.binlog_statements.specs.Statements.{head_of, new_statement, statement_with, with_status_vars, with_schema, with_query};
 
-    /// The empty statement with these status variables and this schema.
+    /// An empty statement with these status variables and this schema name.
     pub fn new(status_vars: CowSlice<'a, u8>, schema: CowSlice<'a, u8>) -> Self
         ensures { result ≡ new_statement (cow_slice_items status_vars.entry) (cow_slice_items schema.entry) }
     {
@@ -223,7 +230,7 @@ impl<'a> Statement<'a> {
         }
     }
 
-    /// The statement of this head, of whose lengths nothing is kept, and of these texts.
+    /// The statement with the numbers of this post-header and these texts. The post-header's lengths aren't kept.
     pub fn with_head(head: StatementHead, texts: StatementTexts<'a>) -> Self
         ensures { result ≡ statement_with head texts.entry }
     {
@@ -235,7 +242,7 @@ impl<'a> Statement<'a> {
         }
     }
 
-    /// The statement with these status variables.
+    /// Sets the encoded status variables.
     pub fn with_status_vars(mut self, status_vars: CowSlice<'a, u8>) -> Self
         ensures { result ≡ with_status_vars self.entry (cow_slice_items status_vars.entry) }
     {
@@ -243,7 +250,7 @@ impl<'a> Statement<'a> {
         self
     }
 
-    /// The statement with this schema's name.
+    /// Sets the schema name.
     pub fn with_schema(mut self, schema: CowSlice<'a, u8>) -> Self
         ensures { result ≡ with_schema self.entry (cow_slice_items schema.entry) }
     {
@@ -251,7 +258,7 @@ impl<'a> Statement<'a> {
         self
     }
 
-    /// The statement with this text.
+    /// Sets the statement's text.
     pub fn with_query(mut self, query: CowSlice<'a, u8>) -> Self
         ensures { result ≡ with_query self.entry (cow_slice_items query.entry) }
     {
@@ -259,7 +266,7 @@ impl<'a> Statement<'a> {
         self
     }
 
-    /// The fields of the post-header.
+    /// The post-header to write.
     pub fn head(&self) -> StatementHead
         ensures { result ≡ head_of self.now }
     {
@@ -272,7 +279,7 @@ impl<'a> Statement<'a> {
         }
     }
 
-    /// The same statement, with its bytes owned; refused by [`Error::Memory`] alone.
+    /// The same statement with owned bytes. The only error is [`Error::Memory`].
     pub fn into_owned(self, alloc: Global) -> Result<Statement<'static>, Error>
         ensures ok { IfOk result (λ owned. owned ≡ self.entry) }
         ensures memory { IsOkUnless result Memory }
@@ -286,7 +293,8 @@ impl<'a> Statement<'a> {
         })
     }
 
-    /// The same statement once more: lent bytes stay lent, and owned ones are copied. Refused by [`Error::Memory`] alone.
+    /// A copy of the statement: borrowed bytes stay borrowed, owned bytes are copied. The only error is
+    /// [`Error::Memory`].
     pub fn clone(&self, alloc: Global) -> Result<Self, Error>
         ensures ok { IfOk result (λ copy. copy ≡ self.now) }
         ensures memory { IsOkUnless result Memory }

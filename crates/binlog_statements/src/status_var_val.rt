@@ -1,4 +1,4 @@
-//! What the value of a status variable means.
+//! Parsed values of status variables.
 ghost use Rattle.std.specs.Prelude.{◌≡◌, ◌∷◌, ◌++◌, [], length, IfOk, IfErr, IsOkUnless, MatchOption, OnOk, OnErr};
 ghost use Rattle.binlog_consts.specs.declared.status_var_key.StatusVarKey.TheVariants.{UpdatedDbNames};
 ghost use Rattle.binlog_wire.specs.declared.error.Error.TheVariants.{Memory};
@@ -13,78 +13,77 @@ use byteorder::{ByteOrder, LittleEndian};
 use std::alloc::Global;
 use std::borrow::CowSlice;
 
-/// The value of a status variable: numbers, texts and bytes of the text of status variables, which they borrow.
+/// A parsed value of a status variable. Texts and bytes are borrowed from the encoded status variables.
 ///
 /// Source: MySQL's internals documentation, "QUERY_EVENT", and the documentation of its source code,
 /// `mysql::binlog::event::Query_event`.
 #[derive(Debug, PartialEq, Eq, Hash, Drop)]
 pub enum StatusVarVal<'a> {
-    /// Options of the session: a set of bits.
+    /// Session options (`OPTION_AUTO_IS_NULL` and others), a bit set.
     Flags2(u32),
-    /// The SQL mode: a set of bits.
+    /// `sql_mode`, a bit set.
     SqlMode(u64),
-    /// The catalog: all bytes of the value, its length and the byte behind it too.
+    /// The catalog with a terminator: all bytes of the value, including the length byte and the byte after the text.
     Catalog(&'a [u8]),
-    /// How auto-increment columns are numbered.
+    /// How AUTO_INCREMENT values are generated.
     AutoIncrement {
-        /// The step from one number to the next.
+        /// `auto_increment_increment`: the step from one value to the next.
         increment: u16,
-        /// The first number.
+        /// `auto_increment_offset`: the first value.
         offset: u16,
     },
-    /// The numbers of character sets and collations.
+    /// The ids of a character set and of collations.
     Charset {
-        /// The character set of statements.
+        /// `character_set_client`: the character set of statements.
         charset_client: u16,
-        /// The collation that statements are converted to.
+        /// `collation_connection`: the collation that statements are converted to.
         collation_connection: u16,
-        /// The server's collation.
+        /// `collation_server`: the server's collation.
         collation_server: u16,
     },
-    /// The time zone, a text.
+    /// `time_zone`, a text.
     TimeZone(RawBytes<'a, U8Bytes>),
-    /// The catalog, a text.
+    /// The catalog without a terminator, a text.
     CatalogNz(RawBytes<'a, U8Bytes>),
-    /// The number of the locale of names of days and months.
+    /// `lc_time_names`: the number of the locale for names of days and months.
     LcTimeNames(u16),
-    /// The number of the schema's collation.
+    /// `collation_database`: the id of the schema's collation.
     CharsetDatabase(u16),
-    /// The tables that a multi-table update changes: a set of bits.
+    /// The tables that a multi-table update changes, a bit set.
     TableMapForUpdate(u64),
-    /// How many bytes the event had on the source's source.
+    /// The length of the event in bytes in the original source's log, little-endian.
     MasterDataWritten([u8; 4]),
-    /// Who invoked the statement.
+    /// The account that invoked the statement.
     Invoker {
-        /// The name of the user.
+        /// The user name.
         username: RawBytes<'a, U8Bytes>,
-        /// The name of the host.
+        /// The host name.
         hostname: RawBytes<'a, U8Bytes>,
     },
-    /// The names of the databases that the statement changes; none where there were too many.
+    /// The names of the databases that the statement changes; empty if there were too many.
     UpdatedDbNames(Vec<RawBytes<'a, NullBytes>>),
-    /// The microseconds of the time at which the statement began, 0 to 16,777,215.
+    /// The microseconds of the statement's start time, 0 to 16,777,215.
     Microseconds(u32),
-    /// No bytes.
+    /// A value of no bytes.
     CommitTs(&'a [u8]),
-    /// No bytes.
+    /// A value of no bytes.
     CommitTs2(&'a [u8]),
-    /// Whether timestamp columns have no defaults but those that are stated.
+    /// `explicit_defaults_for_timestamp`: whether TIMESTAMP columns get no implicit defaults.
     ExplicitDefaultsForTimestamp(bool),
-    /// The number of the transaction of a statement that changes a schema.
+    /// The XID of an atomic DDL statement.
     DdlLoggedWithXid(u64),
-    /// The number of the default collation of `utf8mb4`.
+    /// `default_collation_for_utf8mb4`: the collation's id.
     DefaultCollationForUtf8mb4(u16),
-    /// Whether tables need a primary key: 0 or 1.
+    /// `sql_require_primary_key`: 0 or 1.
     SqlRequirePrimaryKey(u8),
-    /// Whether schemas and tablespaces are encrypted by default: 0 or 1.
+    /// `default_table_encryption`: 0 or 1.
     DefaultTableEncryption(u8),
 }
 
 impl<'a> StatusVarVal<'a> {
     ghost use Rattle.binlog_statements.specs.StatusVarValues.{IsCopyOf};
 
-    /// The same value once more: borrowed bytes stay borrowed, and owned ones are copied. Refused by [`Error::Memory`]
-    /// alone.
+    /// A copy of the value: borrowed bytes stay borrowed, owned bytes are copied. The only error is [`Error::Memory`].
     pub fn clone(&self, alloc: Global) -> Result<Self, Error>
         ensures ok { IfOk result (IsCopyOf self.now) }
         ensures memory { IsOkUnless result Memory }
@@ -139,7 +138,7 @@ impl<'a> StatusVarVal<'a> {
     }
 }
 
-/// The names once more; refused by [`Error::Memory`] alone.
+/// A copy of the names. The only error is [`Error::Memory`].
 fn copied<'a>(
     alloc: Global,
     names: &[RawBytes<'a, NullBytes>],
@@ -159,8 +158,8 @@ impl<'a> StatusVar<'a> {
     ghost use Rattle.binlog_statements.specs.StatusVarValues.{Has};
     ghost use Rattle.binlog_statements.specs.StatusVars.{variable_of};
 
-    /// The value, parsed; its texts and bytes are slices of the text of status variables. The names of databases alone take
-    /// memory, for their list, and where that isn't there the answer is the bytes of the value.
+    /// Parses the value. Its texts and bytes are slices of the encoded status variables. Only the list of database
+    /// names needs an allocation; if it fails, the result is `Err` with the value's bytes.
     pub fn get_value(&self, alloc: Global) -> Result<StatusVarVal<'a>, &'a [u8]>
         ensures value { IfOk result (Has (variable_of self.now)) }
         ensures raw { IfErr result (λ raw. raw.now ≡ self.now.value.now) }
@@ -175,7 +174,7 @@ impl<'a> StatusVar<'a> {
         }
     }
 
-    // The value of any key but that of the names of databases. It is handed no allocator, so it takes no memory.
+    // The value of every key except UpdatedDbNames. It has no allocator, so it allocates nothing.
     #[inline(always)]
     fn value_in_place(&self) -> Option<StatusVarVal<'a>>
         ensures { MatchOption result (self.now.key ≡ UpdatedDbNames) (Has (variable_of self.now)) }
@@ -227,7 +226,7 @@ impl<'a> StatusVar<'a> {
     }
 }
 
-/// The only byte.
+/// The only byte of the value.
 fn byte(raw: &[u8]) -> u8
     requires { length raw.now ≡ 1 }
     ensures { raw.now ≡ result ∷ [] }
@@ -235,7 +234,7 @@ fn byte(raw: &[u8]) -> u8
     raw[0]
 }
 
-/// The four bytes.
+/// The four bytes of the value.
 fn four(raw: &[u8]) -> [u8; 4]
     requires { length raw.now ≡ 4 }
     ensures { result ≡ raw.now }
@@ -243,7 +242,7 @@ fn four(raw: &[u8]) -> [u8; 4]
     [raw[0], raw[1], raw[2], raw[3]]
 }
 
-/// The text behind its length.
+/// The text after its length byte.
 fn text<'a>(raw: &'a [u8]) -> RawBytes<'a, U8Bytes>
     requires { IsCounted raw.now }
     ensures { raw.now ≡ counted result }
@@ -251,7 +250,8 @@ fn text<'a>(raw: &'a [u8]) -> RawBytes<'a, U8Bytes>
     RawBytes::new(CowSlice::Borrowed(&raw[1..]))
 }
 
-/// The two texts, each behind its length. Not inlined, so that other values keep their registers.
+/// The two texts, each after its length byte.
+/// Not inlined: inlining costs the other values registers.
 #[inline(never)]
 fn two_texts<'a>(raw: &'a [u8]) -> (RawBytes<'a, U8Bytes>, RawBytes<'a, U8Bytes>)
     requires { Both IsCounted IsCounted raw.now }
@@ -261,8 +261,8 @@ fn two_texts<'a>(raw: &'a [u8]) -> (RawBytes<'a, U8Bytes>, RawBytes<'a, U8Bytes>
     (text(first), text(second))
 }
 
-/// The names, each ended by a zero byte; refused by [`Error::Memory`] alone. Not inlined, so that other values keep their
-/// registers.
+/// The null-terminated names. The only error is [`Error::Memory`].
+/// Not inlined: inlining costs the other values registers.
 #[inline(never)]
 fn names<'a>(alloc: Global, raw: &'a [u8]) -> Result<Vec<RawBytes<'a, NullBytes>>, Error>
     requires { IsWholeLen Names raw.now }
@@ -282,7 +282,7 @@ fn names<'a>(alloc: Global, raw: &'a [u8]) -> Result<Vec<RawBytes<'a, NullBytes>
     Ok(names)
 }
 
-// Appends a name to the list; refused by [`Error::Memory`] alone.
+// Appends a name to the list. The only error is [`Error::Memory`].
 fn push_name<'a>(
     names: &mut Vec<RawBytes<'a, NullBytes>>,
     name: RawBytes<'a, NullBytes>,

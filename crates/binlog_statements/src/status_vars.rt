@@ -1,4 +1,4 @@
-//! The status variables of a statement: what of its session counted when it ran.
+//! The status variables of a statement: the session's settings that it depended on.
 ghost use Rattle.std.specs.Prelude.{◌≡◌, length, Some};
 ghost use Rattle.binlog_statements.specs.Layouts.{layout_of, value_len};
 
@@ -7,10 +7,10 @@ use binlog_consts::StatusVarKey;
 use binlog_wire::{BareU16Bytes, Error, MyDeserialize, ParseBuf, Put, RawBytes};
 use std::alloc::Global;
 
-/// The status variables of a statement: a text of keys and values, of which the first 65,535 bytes count.
+/// The encoded status variables of a statement: keys and values, of which the first 65,535 bytes are used.
 ///
-/// The variables of the text are its longest front that is a list of whole variables; what is behind them is kept and
-/// written, and not iterated over.
+/// The variables are those of the longest prefix that is a list of whole variables. Bytes after this prefix are kept
+/// and written, and aren't iterated over.
 #[derive(Debug, PartialEq, Eq, Hash, Drop)]
 pub struct StatusVars<'a>(pub RawBytes<'a, BareU16Bytes>);
 
@@ -27,7 +27,7 @@ impl<'a> StatusVars<'a> {
         StatusVarsIterator::new(self.0.as_bytes())
     }
 
-    /// The first variable of this key, if there is one.
+    /// The first variable with this key, if any.
     pub fn get_status_var(&self, key: StatusVarKey) -> Option<StatusVar<'_>>
         ensures { let vars = variables (take 65535 self.now.0) in
             MatchOption result (HasNoKey key vars) (λ var. IsFirstOfKey key vars (variable_of var)) }
@@ -40,7 +40,7 @@ impl<'a> StatusVars<'a> {
         None
     }
 
-    /// The same variables, with their bytes owned; refused by [`Error::Memory`] alone.
+    /// The same variables with owned bytes. The only error is [`Error::Memory`].
     pub fn into_owned(self, alloc: Global) -> Result<StatusVars<'static>, Error>
         ensures ok { IfOk result (λ owned. owned ≡ self.entry) }
         ensures memory { IsOkUnless result Memory }
@@ -48,7 +48,8 @@ impl<'a> StatusVars<'a> {
         Ok(StatusVars(self.0.into_owned(alloc)?))
     }
 
-    /// The same variables once more: lent bytes stay lent, and owned ones are copied. Refused by [`Error::Memory`] alone.
+    /// A copy of the variables: borrowed bytes stay borrowed, owned bytes are copied. The only error is
+    /// [`Error::Memory`].
     pub fn clone(&self, alloc: Global) -> Result<Self, Error>
         ensures ok { IfOk result (λ copy. copy ≡ self.now) }
         ensures memory { IsOkUnless result Memory }
@@ -57,7 +58,7 @@ impl<'a> StatusVars<'a> {
     }
 }
 
-/// As many bytes as the context says; [`Error::EndOfBody`] where fewer are left.
+/// Reads as many bytes as the context says. The only error is [`Error::EndOfBody`], if fewer are left.
 impl<'de> MyDeserialize<'de> for StatusVars<'de> {
     ghost use Rattle.binlog_statements.specs.Statements.{status_vars};
 
@@ -90,15 +91,15 @@ impl Put for StatusVars<'_> {
     }
 }
 
-/// An iterator over the status variables of a text: those of its longest front that is a list of whole variables, in
-/// order, and then None for good. It takes no memory.
+/// An iterator over encoded status variables: those of the longest prefix that is a list of whole variables, in order.
+/// After the last it returns None forever. No memory is allocated.
 #[derive(Clone, Debug, PartialEq, Eq, Hash, Drop)]
 pub struct StatusVarsIterator<'a> {
     unread: &'a [u8],
 }
 
 impl<'a> StatusVarsIterator<'a> {
-    /// Iterates over the variables of this text.
+    /// Iterates over these encoded variables.
     pub fn new(status_vars: &'a [u8]) -> Self
         ensures { result.unread.now ≡ status_vars.now }
     {
@@ -133,7 +134,7 @@ impl<'a> Iterator for StatusVarsIterator<'a> {
     }
 }
 
-/// A status variable: its key, and all bytes of its value, which is whole.
+/// A status variable: its key, and all bytes of its value. The value is always whole.
 #[derive(Clone, Copy, Debug, PartialEq, Eq, Hash)]
 pub struct StatusVar<'a> {
     pub(crate) key: StatusVarKey,
@@ -145,21 +146,21 @@ impl<'a> StatusVar<'a> {
     ghost use Rattle.binlog_statements.specs.StatusVariables.{first_variable};
     ghost use Rattle.binlog_statements.specs.StatusVars.{first_of};
 
-    /// What the variable is.
+    /// The key.
     pub fn key(&self) -> StatusVarKey
         ensures { result ≡ self.now.key }
     {
         self.key
     }
 
-    /// The bytes of the value.
+    /// The value's bytes.
     pub fn raw(&self) -> &'a [u8]
         ensures { result.now ≡ self.now.value.now }
     {
         self.value
     }
 
-    // The variable at the front of a text, and the bytes behind it.
+    // The first variable, and the bytes after it.
     fn first(text: &'a [u8]) -> Option<(StatusVar<'a>, &'a [u8])>
         ensures { first_of result ≡ first_variable text.entry.now }
     {

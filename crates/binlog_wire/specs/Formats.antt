@@ -1,6 +1,6 @@
--- Formats: all that is said of how a value stands in bytes, in one record, and the formats that bodies are put together
--- from. A body's format is written once; its grammar, its reading, its written bytes, its normal form and the laws that
--- tie them are members of that one term.
+-- Formats: one record for all that is stated of an encoding, and the formats that bodies are built from. The format of
+-- a body is written once; its grammar, its reading, its written bytes, its normal form and the laws that tie them are
+-- members of that one term.
 use Rattle.std.proofs.Common.{◌≡◌, ℕ, suc, ◌+◌, ◌^◌, ◌<◌, ◌≤◌, ◌⊎◌, inl, inr, Bool, true, List, [], ◌∷◌, ◌++◌, length, take, replicate, Result, Ok, Err, refl, sym, ap, subst, ◌∙◌, append_assoc, arith}
 use Rattle.std.proofs.lemmas.List.{append-nil, length-append, length-replicate, length-take, take_all}
 use Rattle.byteorder.specs.Endian.{little_bytes}
@@ -14,51 +14,51 @@ use Rattle.binlog_wire.specs.Laws.Terminated.{keeps_terminated, terminated_long}
 use Rattle.binlog_wire.specs.Laws.Sequences.{keeps_then, keeps_unit, keeps_skipped, keeps_seen_as, keeps_made}
 use Rattle.binlog_wire.specs.Laws.Choices.{keeps_silent, keeps_either, keeps_present_from}
 
--- Where a field may stand: anywhere, or only at the end of a body, as a field that takes all bytes.
+-- Where a field may be: anywhere in a body, or only at its end, as a field that takes all bytes that are left.
 pub data Place : Type 0 where
   anywhere : Place
   last : Place
 
--- these bytes may follow a field that stands there
+-- These bytes may follow a field in that place.
 abbrev pub Follows : Place → List ℕ → Type 0
 Follows anywhere r = Unit {0}
 Follows last r = r ≡ []
 
--- nothing may always follow
+-- The empty list may follow a field in any place.
 pub nothing_follows : (place : Place) → Follows place []
 nothing_follows anywhere = tt
 nothing_follows last = refl
 
--- How values stand in bytes.
+-- An encoding of the values of a type.
 pub record Format (place : Place) (V : Type 0) : Type 1 where
-  -- the bytes are a spelling of the value, followed by a rest
+  -- The bytes are an encoding of the value, followed by a rest.
   pub spells : List ℕ → V → List ℕ → Type 0
-  -- what reading bytes from the left gives
+  -- The result of reading bytes from the left.
   pub reads : List ℕ → Read V
-  -- the bytes that are written for a value
+  -- The bytes that are written for a value.
   pub written : V → List ℕ
-  -- the normal form: what is kept of a value by writing it
+  -- The normal form of a value: what reading gives after writing it.
   pub normal : V → V
-  -- the value can be written: each number fits its bytes
+  -- The value can be written: each number fits its bytes.
   pub Fits : V → Type 0
-  -- no spelling takes fewer bytes
+  -- A lower bound on the length of every encoding, in bytes.
   pub least : ℕ
-  -- what is read is spelled so, and what is spelled so is read
+  -- Reading is sound and complete for the encoding.
   pub keeps : KeepsTo spells reads
-  -- what is written spells the normal form
+  -- The written bytes encode the normal form.
   pub writes : (v : V) (r : List ℕ) → Fits v → Follows place r → spells (written v ++ r) (normal v) r
-  -- what is spelled is its own normal form
+  -- A value that is encoded by any bytes is its own normal form.
   pub settled : (s : List ℕ) (v : V) (r : List ℕ) → spells s v r → normal v ≡ v
-  -- a normal form is its own
+  -- A normal form is its own normal form.
   pub twice : (v : V) → normal (normal v) ≡ normal v
-  -- the normal form is written as the value is
+  -- A value and its normal form are written as the same bytes.
   pub again : (v : V) → Fits v → written (normal v) ≡ written v
-  -- each spelling takes as many bytes as no spelling takes fewer than
+  -- Each encoding has at least `least` bytes.
   pub long : (s : List ℕ) (v : V) (r : List ℕ) → spells s v r → least + length r ≤ length s
 
 -- ---- numbers
 
--- a number of k bytes
+-- A little-endian number of k bytes.
 abbrev pub number : {place : Place} (k : ℕ) → Format place ℕ
 number k = record {
   spells = IsNumber k;
@@ -75,7 +75,7 @@ number k = record {
   long = λ s n r h. omega (arith, length-number k s n r h);
 }
 
--- a number of k bytes that is allowed
+-- A number of k bytes whose value is allowed.
 abbrev pub allowed : {place : Place} (k : ℕ) → (ℕ → Bool) → (ℕ → Invalid) → Format place ℕ
 allowed k test why = record {
   spells = IsAllowed k test;
@@ -92,7 +92,7 @@ allowed k test why = record {
   long = λ s n r h. omega (arith, length-number k s n r h.0);
 }
 
--- a value that stands as its code, a number of k bytes
+-- A value that is encoded as its code, a number of k bytes.
 abbrev pub coded : {place : Place} {E : Type 0} (k : ℕ) (code : E → ℕ) (decoded : ℕ → Result E Invalid) → IsCode k code decoded → Format place E
 coded k code decoded law = record {
   spells = IsCoded k code;
@@ -114,7 +114,7 @@ coded k code decoded law = record {
 pub block_long : (k : ℕ) (s block r : List ℕ) → IsBlock k s block r → k + length r ≤ length s
 block_long k s block r h = rw h.1 (omega (arith, length-append block r, h.0))
 
--- k bytes, whatever they are
+-- A block of k bytes with any values.
 abbrev pub block : {place : Place} (k : ℕ) → Format place (List ℕ)
 block k = record {
   spells = IsBlock k;
@@ -131,7 +131,7 @@ block k = record {
   long = block_long k;
 }
 
--- k bytes, of a longer text its first ones, with zeros behind a shorter one
+-- A block of k bytes; on writing a longer one is cut and a shorter one padded with zeros.
 abbrev pub padded_block : {place : Place} (k : ℕ) → Format place (List ℕ)
 padded_block k = record {
   spells = IsBlock k;
@@ -151,7 +151,7 @@ padded_block k = record {
 pub rest_long : (s v r : List ℕ) → IsRest s v r → 0 + length r ≤ length s
 rest_long s v r h = rw h.1 (omega arith)
 
--- all bytes that are there
+-- All bytes that are left.
 abbrev pub rest : Format last (List ℕ)
 rest = record {
   spells = IsRest;
@@ -179,7 +179,7 @@ text_writes k max less s r =
 pub text_settled : (k max : ℕ) → suc max ≡ 256 ^ k → (s text r : List ℕ) → IsText k s text r → take max text ≡ text
 text_settled k max e s text r h = take_all max text (omega (arith, h.1.0))
 
--- a text behind its length in k bytes: as much of it, from the front, as its length can say
+-- A string after its length in k bytes; on writing it is cut to the largest length that fits.
 abbrev pub text : {place : Place} (k max : ℕ) → suc max ≡ 256 ^ k → Format place (List ℕ)
 text k max most = record {
   spells = IsText k;
@@ -196,7 +196,7 @@ text k max most = record {
   long = text_long k;
 }
 
--- a text before a zero byte that ends it
+-- A zero-terminated string.
 abbrev pub terminated : {place : Place} → Format place (List ℕ)
 terminated = record {
   spells = IsTerminated;
@@ -213,9 +213,9 @@ terminated = record {
   long = terminated_long;
 }
 
--- ---- fields one after the other
+-- ---- sequences of fields
 
--- one format and then another, which may depend on the value of the first
+-- One format and then another, which may depend on the value of the first.
 abbrev pub then : {place : Place} {A B : Type 0} → Format anywhere A → (A → Format place B) → Format place (A × B)
 then {place} {A} {B} f g = record {
   spells = Then f.spells (λ a. (g a).spells);
@@ -246,7 +246,7 @@ then {place} {A} {B} f g = record {
   long = λ s x r h. omega (arith, f.long s x.0 h.0 h.1, (g x.0).long h.0 x.1 r h.2);
 }
 
--- one format and then another
+-- One format and then another.
 infixr 20 ◌⨾◌
 abbrev pub ◌⨾◌ : {place : Place} {A B : Type 0} → Format anywhere A → Format place B → Format place (A × B)
 f ⨾ g = record (then f (λ _. g)) {
@@ -254,14 +254,14 @@ f ⨾ g = record (then f (λ _. g)) {
   long = λ s x r h. omega (arith, f.long s x.0 h.0 h.1, g.long h.0 x.1 r h.2);
 }
 
--- Fields in one unit: all the bytes that they take at least have to be there before the first of them is looked at.
+-- Fields in one unit: all of the bytes that they need at least have to be there before the first of them is looked at.
 abbrev pub unit : {place : Place} {V : Type 0} → Format place V → Format place V
 unit f = record f {
   reads = unit_at f.least f.reads;
   keeps = keeps_unit f.least (λ s v r h. omega (arith, f.long s v r h)) f.keeps;
 }
 
--- k bytes that may be anything, and are written as zeros, and then a format
+-- A format after k reserved bytes, which may have any values and are written as zeros.
 abbrev pub skip_then : {place : Place} {V : Type 0} (k : ℕ) → Format place V → Format place V
 skip_then {place} {V} k f = record {
   spells = Skipped k f.spells;
@@ -279,9 +279,9 @@ skip_then {place} {V} k f = record {
   long = λ s v r h. omega (arith, block_long k s h.0 h.1 h.2, f.long h.1 v r h.3);
 }
 
--- ---- fields that may be absent
+-- ---- optional fields
 
--- a value that takes no bytes
+-- A value whose encoding is empty.
 abbrev pub silent : {place : Place} {V : Type 0} → V → Format place V
 silent x = record {
   spells = IsSilent x;
@@ -298,19 +298,22 @@ silent x = record {
   long = λ s v r h. rw h.1 (omega arith);
 }
 
--- the byte of the first or of the second kind, and then what is of that kind
+-- The byte 0 and the first kind's encoding, or the byte 1 and the second kind's.
 abbrev pub written_either : {A B : Type 0} → (A → List ℕ) → (B → List ℕ) → A ⊎ B → List ℕ
 written_either f g (inl a) = 0 ∷ f a
 written_either f g (inr b) = 1 ∷ g b
 
+-- The normal form of a value of one of two kinds.
 abbrev pub normal_either : {A B : Type 0} → (A → A) → (B → B) → A ⊎ B → A ⊎ B
 normal_either f g (inl a) = inl (f a)
 normal_either f g (inr b) = inr (g b)
 
+-- A value of one of two kinds can be written.
 abbrev pub FitsEither : {A B : Type 0} → (A → Type 0) → (B → Type 0) → A ⊎ B → Type 0
 FitsEither f g (inl a) = f a
 FitsEither f g (inr b) = g b
 
+-- The bytes encode a value of one of two kinds.
 abbrev pub SpellsEither : {place : Place} {A B : Type 0} → Format place A → Format place B → List ℕ → A ⊎ B → List ℕ → Type 0
 SpellsEither f g = IsEither (IsMade (λ a. inl a) f.spells) (IsMade (λ b. inr b) g.spells)
 
@@ -339,7 +342,7 @@ pub either_long : {place : Place} {A B : Type 0} (f : Format place A) (g : Forma
 either_long f g s x r (inl h) = rw h.1 (omega (arith, f.long h.0 h.2.0 r h.2.2))
 either_long f g s x r (inr h) = rw h.2 (omega (arith, g.long h.1 h.4.0 r h.4.2))
 
--- a byte 0 and then one format, or any other byte, written as 1, and then another
+-- A byte 0 and then one format, or any other byte, which is written as 1, and then another.
 abbrev pub either : {place : Place} {A B : Type 0} → Format place A → Format place B → Format place (A ⊎ B)
 either f g = record {
   spells = SpellsEither f g;
@@ -366,7 +369,8 @@ pub if_left_long : {place : Place} {V : Type 0} (x : V) (f : Format place V) (s 
 if_left_long x f s v r (inl h) = rw h.1.1 (omega arith)
 if_left_long x f s v r (inr h) = omega (arith, f.long s v r h.1)
 
--- A format where as many bytes are left as it takes at least, and else the value x; it is always written.
+-- A format that is present where at least its least number of bytes is left, and whose value is x where it is absent;
+-- on writing it is always present.
 abbrev pub if_left : {place : Place} {V : Type 0} (x : V) (f : Format place V) → f.normal x ≡ x → Format place V
 if_left x f default = record {
   spells = IsPresentFrom f.least x f.spells;
@@ -388,7 +392,8 @@ if_left x f default = record {
 pub keeps_nowhere : {V : Type 0} (number : ℕ) → KeepsTo {V = V} (λ s v r. ⊥) (λ s. Err (other_type number))
 keeps_nowhere number = record { sound = λ s x fits e. absurd cc; complete = λ s v r h. absurd h }
 
--- a format under another type of event: no value stands, whatever the bytes
+-- The format under a raw event type that has no such body: every list of bytes is refused, and no value can be
+-- written.
 abbrev pub nowhere : {place : Place} {V : Type 0} → ℕ → Format place V
 nowhere number = record {
   spells = λ s v r. ⊥;
@@ -405,9 +410,9 @@ nowhere number = record {
   long = λ s v r h. absurd h;
 }
 
--- ---- a value seen as its fields
+-- ---- a value mapped to its fields
 
--- A value seen as its fields, of which it is made again.
+-- A value that corresponds one to one to its fields.
 abbrev pub seen_as : {place : Place} {A B : Type 0} (to : A → B) (from : B → A) → ((a : A) → from (to a) ≡ a) → ((b : B) → to (from b) ≡ b)
     → Format place A → Format place B
 seen_as {place} {A} {B} to from back forth f = record {
@@ -425,8 +430,7 @@ seen_as {place} {A} {B} to from back forth f = record {
   long = λ s b r h. f.long s (from b) r h;
 }
 
--- A value that is made of fields, and whose fields can be told from it wherever bytes spell them, and where they are
--- those of a normal form.
+-- A value that is made of fields, where the fields can be recovered from it if they were read or are a normal form.
 abbrev pub made : {place : Place} {A B : Type 0} (to : A → B) (from : B → A) (f : Format place A)
     → ((s : List ℕ) (a : A) (r : List ℕ) → f.spells s a r → from (to a) ≡ a)
     → ((b : B) → from (to (f.normal (from b))) ≡ f.normal (from b)) → Format place B
@@ -449,17 +453,18 @@ made {place} {A} {B} to from f back whole = record {
 
 -- ---- the canonical form
 
--- The written body of a value that fits spells its normal form, a normal form is its own, and another value that fits
--- has an equal written body exactly if it has an equal normal form.
+-- The written body of a value that fits encodes its normal form, a normal form is its own, and two values that fit
+-- have equal written bodies exactly where their normal forms are equal.
 pub record IsCanonicalIn {place : Place} {V : Type 0} (f : Format place V) (v : V) : Type 0 where
   pub reads_back : f.Fits v → f.spells (f.written v) (f.normal v) []
   pub twice : f.normal (f.normal v) ≡ f.normal v
   pub one_form : f.Fits v → (w : V) → f.Fits w → (f.written w ≡ f.written v → f.normal w ≡ f.normal v) × (f.normal w ≡ f.normal v → f.written w ≡ f.written v)
 
--- what is written of a value reads as its normal form
+-- The written bytes of a value are read as its normal form.
 written_whole : {place : Place} {V : Type 0} (f : Format place V) (v : V) → f.Fits v → f.spells (f.written v) (f.normal v) []
 written_whole {place} f v fits = subst (λ (s : List ℕ). f.spells s (f.normal v) []) (append-nil (f.written v)) (f.writes v [] fits (nothing_follows place))
 
+-- Every format is canonical.
 pub canonical_in : {place : Place} {V : Type 0} (f : Format place V) (v : V) → IsCanonicalIn f v
 canonical_in {place} {V} f v = record {
   reads_back = λ fits. written_whole f v fits;
@@ -475,6 +480,6 @@ canonical_in {place} {V} f v = record {
   );
 }
 
--- a reading that gives what a format's does keeps to its grammar
+-- A reading that equals the reading of a format is sound and complete for its grammar.
 pub keeps_as : {place : Place} {V : Type 0} {reads : List ℕ → Read V} (f : Format place V) → reads ≡ f.reads → KeepsTo f.spells reads
 keeps_as {V = V} f same = subst (λ (reading : List ℕ → Read V). KeepsTo f.spells reading) (sym same) f.keeps

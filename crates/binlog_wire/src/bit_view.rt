@@ -1,11 +1,12 @@
-//! Bits, one for each of so many things.
+//! A bitmap over bytes, one bit for each column.
 ghost use Rattle.std.specs.Prelude.{◌≡◌, ◌==◌, ◌↔◌, length, IsSome, IfSome};
 ghost use Rattle.binlog_wire.specs.Bits.{bytes_of_bits, bit_in};
 
-/// Bits of bytes that are lent, one for each column of a table: the first bit is the least one of the first byte.
+/// A bitmap over borrowed bytes, one bit for each column of a table: the first column's bit is the least significant
+/// bit of the first byte.
 ///
-/// There are as many bytes as the bits need, and no more. Bits of the last byte behind the last that counts are kept in
-/// the bytes, and never shown. It stands for the `BitSlice` of the Rust crate.
+/// It has exactly as many bytes as its bits need. Bits of the last byte after the last column's are kept in the bytes
+/// and never shown. In `mysql_common` this is a `BitSlice<u8>`.
 #[derive(Clone, Copy, Debug)]
 pub struct BitView<'a> {
     bytes: &'a [u8],
@@ -14,8 +15,7 @@ pub struct BitView<'a> {
 }
 
 impl<'a> BitView<'a> {
-    /// The first `len` bits of the bytes; None unless there are exactly as many bytes as these bits need, an eighth of
-    /// `len`, rounded up.
+    /// The first `len` bits of `bytes`; None unless there are exactly `len.div_ceil(8)` bytes.
     #[inline]
     pub fn new(bytes: &'a [u8], len: u64) -> Option<Self>
         ensures enough { IsSome result ↔ (length bytes.now ≡ bytes_of_bits len) }
@@ -28,7 +28,7 @@ impl<'a> BitView<'a> {
         Some(BitView { bytes, len })
     }
 
-    /// How many bits there are.
+    /// The number of bits.
     #[inline]
     pub fn len(&self) -> u64
         ensures { result ≡ self.now.len }
@@ -44,7 +44,7 @@ impl<'a> BitView<'a> {
         self.len == 0
     }
 
-    /// Whether the bit at this place, counted from 0, is set; None from [`BitView::len`] on.
+    /// Whether the bit at `index`, counted from 0, is set; None where `index` is [`BitView::len`] or more.
     pub fn bit(&self, index: u64) -> Option<bool>
         ensures { result ≡ bit_in self.now.len self.now.bytes.now index }
     {

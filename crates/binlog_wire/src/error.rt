@@ -1,71 +1,71 @@
-//! Why reading or writing is refused.
+//! The errors of reading and writing.
 ghost use Rattle.std.specs.Prelude.{◌≡◌};
 
 use std::alloc::AllocError;
 use thiserror::Error;
 
-/// The value of a unit that is whole in the bytes and that its field doesn't allow.
+/// The value of a field, or of fields read as one unit, that is complete in the input and isn't allowed.
 #[derive(Clone, Copy, Debug, PartialEq, Eq, Hash)]
 pub enum Invalid {
     /// A binlog version other than 1 to 4.
     BinlogVersion(u16),
     /// An event header length other than 19 in a format description.
     HeaderLength(u8),
-    /// A length-encoded integer that begins with `fb` or `ff`.
+    /// A length-encoded integer whose first byte is `fb` or `ff`.
     LenEnc(u8),
-    /// An integer variable's subtype above 2.
+    /// An INTVAR subtype above 2.
     Subtype(u8),
-    /// A duplicate handling above 2.
+    /// A duplicate-key handling of an EXECUTE_LOAD_QUERY event above 2.
     DupHandling(u8),
-    /// A serialization version other than 2.
+    /// A serialization version of a GTID_TAGGED_LOG event other than 2.
     SerializationVersion(u8),
-    /// A payload size that doesn't reach the fields.
+    /// A payload size that ends before the fields begin.
     PayloadSize(u64),
-    /// A field, by its id, whose value is beyond its range.
+    /// The field with this id has a value out of its range.
     FieldRange(u64),
-    /// A field, by its id, whose value is negative.
+    /// The field with this id has a negative value.
     Negative(u64),
-    /// A field, by its id, that isn't known and may not be ignored.
+    /// The field with this id is unknown, and its id is not above the last one that may not be ignored.
     UnknownField(u64),
-    /// A tag of other than 1 to 32 letters, digits and `_`, or one that begins with a digit.
+    /// A tag that isn't 1 to 32 ASCII letters, digits and `_`, or that begins with a digit.
     Tag,
-    /// A tagged GTID without its tag.
+    /// A GTID_TAGGED_LOG event without a tag.
     MissingTag,
 }
 
-/// The field whose value the form to be written can't hold.
+/// The field whose value doesn't fit its encoding.
 #[derive(Clone, Copy, Debug, PartialEq, Eq, Hash)]
 pub enum Field {
-    /// The number of a transaction within its source.
+    /// The transaction's number within its source (GNO).
     Gno,
-    /// The logical time of the last commit that the transaction depends on.
+    /// `last_committed`: the logical timestamp of the last commit that the transaction depends on.
     LastCommitted,
-    /// The logical time of the transaction's own commit.
+    /// `sequence_number`: the logical timestamp of the transaction's own commit.
     SequenceNumber,
-    /// The time of the commit on the immediate server.
+    /// The commit timestamp on the immediate server.
     ImmediateCommitTimestamp,
-    /// The time of the commit on the original server.
+    /// The commit timestamp on the original server.
     OriginalCommitTimestamp,
     /// The version of the immediate server.
     ImmediateServerVersion,
     /// The tag of a GTID.
     Tag,
-    /// The list of GTID sets.
+    /// The list of GTID sets of a PREVIOUS_GTIDS event.
     Sids,
 }
 
-/// Why a call was refused.
+/// Why a call failed.
 ///
-/// Each error has a number, [`Error::number`], which a listing shows behind an `E`.
+/// Each error has a number, [`Error::number`], which a listing prints after an `E`.
 #[derive(Clone, Copy, Debug, PartialEq, Eq, Error)]
 pub enum Error {
-    /// E1: the input ends within a file header or within a frame.
+    /// E1: the input ends within the file header or within a frame.
     #[error("the input ends within a file header or an event")]
     EndOfInput,
     /// E2: the first four bytes of a file aren't `fe 62 69 6e`.
     #[error("the file does not begin as a binlog")]
     InvalidFileHeader,
-    /// E3: an event header states this size, and the header alone takes 19 bytes.
+    /// E3: an event header states this event size, which is below the header's own 19 bytes.
     #[error("an event states the size {0}, and its header alone takes 19 bytes")]
     EventSizeTooSmall(u32),
     /// E4: the body has fewer bytes than the checksum that is due.
@@ -74,37 +74,37 @@ pub enum Error {
     /// E5: a body ends within a unit.
     #[error("an event's body ends within a field")]
     EndOfBody,
-    /// E6: a unit of a body is whole, and its value isn't allowed.
+    /// E6: a unit of a body is complete, and its value isn't allowed.
     #[error("an event's body has a value that is not allowed: {0:?}")]
     InvalidData(Invalid),
-    /// E7: a body was read, and this many bytes are left behind it.
+    /// E7: a body was read, and this many bytes are left after it.
     #[error("{0} bytes are left behind an event's body")]
     RemainingBytes(usize),
-    /// E8: a GTID was asked for under this raw event type.
+    /// E8: a GTID was asked for under this raw event type, which isn't a GTID event's.
     #[error("an event of type {0} holds no GTID")]
     WrongEventType(u8),
-    /// E9: an event was to be written under this checksum algorithm, which isn't known.
+    /// E9: an event was to be written under this unknown checksum algorithm.
     #[error("the checksum algorithm {0} is not known")]
     UnknownChecksumAlg(u8),
     /// E10: an event of more than 4,294,967,276 bytes was to be written.
     #[error("an event is too long to be written")]
     EventTooLong,
-    /// E11: a value was to be written that its form can't hold.
+    /// E11: a value to be written doesn't fit its encoding.
     #[error("the value of {0:?} can not be written")]
     Unwritable(Field),
-    /// E12: memory ran out; a frame that was being read is wholly taken from the input.
+    /// E12: an allocation failed; a frame that was being read has been taken whole from the input.
     #[error("out of memory")]
     Memory,
-    /// E13: memory ran out within a frame.
+    /// E13: an allocation failed within a frame.
     #[error("out of memory within an event")]
     FrameMemory,
-    /// E14: the reader failed in a file header or before a frame's first byte.
+    /// E14: the reader failed in the file header or before the first byte of a frame.
     #[error("the reader failed between events")]
     Reader,
     /// E15: the reader failed within a frame.
     #[error("the reader failed within an event")]
     ReaderInFrame,
-    /// E16: the writer failed, and how much went out isn't known.
+    /// E16: the writer failed, and it isn't known how much was written.
     #[error("the writer failed")]
     Writer,
 }
@@ -112,7 +112,7 @@ pub enum Error {
 impl Error {
     ghost use Rattle.binlog_wire.specs.Errors.{error_number, is_within_frame, is_outside};
 
-    /// The number of the error, 1 to 16.
+    /// The number of the error, 1 to 16, as listings print it.
     pub fn number(&self) -> u8
         ensures { result ≡ error_number self.now }
     {
@@ -136,8 +136,8 @@ impl Error {
         }
     }
 
-    /// Whether the input stands within a frame, so that nothing behind it can be framed: true of
-    /// E1, E3, E13 and E15 alone.
+    /// Whether the input is left within a frame, so that no later frame can be found: true of [`Error::EndOfInput`],
+    /// [`Error::EventSizeTooSmall`], [`Error::FrameMemory`] and [`Error::ReaderInFrame`] alone.
     pub fn within_frame(&self) -> bool
         ensures { result ≡ is_within_frame self.now }
     {
@@ -150,8 +150,9 @@ impl Error {
         )
     }
 
-    /// Whether memory, a reader or a writer failed, and not the bytes or the value: true of E12 to
-    /// E16 alone.
+    /// Whether an allocation, a reader or a writer failed, and the bytes or the value aren't at fault: true of
+    /// [`Error::Memory`], [`Error::FrameMemory`], [`Error::Reader`], [`Error::ReaderInFrame`] and [`Error::Writer`]
+    /// alone.
     pub fn is_outside(&self) -> bool
         ensures { result ≡ is_outside self.now }
     {
@@ -166,7 +167,7 @@ impl Error {
     }
 }
 
-/// Memory ran out.
+/// A failed allocation is [`Error::Memory`].
 impl From<AllocError> for Error {
     ghost use Rattle.binlog_wire.specs.declared.error.Error.TheVariants.{Memory};
 

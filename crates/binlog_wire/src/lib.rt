@@ -1,10 +1,12 @@
-//! The lowest layer of a MySQL binary log: why a call was refused, and what bodies are made of.
+//! The lowest layer of a MySQL binary log: the error type, and the fields that event bodies are made of.
 //!
-//! [`ParseBuf`] is what is still to be read. What can be read from it is [`MyDeserialize`], what can be written
-//! [`MySerialize`]: numbers ([`RawInt`]), byte strings ([`RawBytes`]), sets of flags ([`RawFlags`]), numbers that stand
-//! for something ([`Const`], [`RawConst`]) and bytes that say nothing ([`Skip`]). Their contracts, and the laws by
-//! which a body is put together from fields, stand in `specs/`: `Reading`, `Fields`, `Laws`; `Formats` puts
-//! all that is said of a body together. [`BitView`] shows bytes as bits.
+//! [`ParseBuf`] holds the bytes that are still to be read. A type that can be read from it implements
+//! [`MyDeserialize`], a type that can be written [`MySerialize`]: integers ([`RawInt`]), byte strings ([`RawBytes`]),
+//! flag sets ([`RawFlags`]), integer codes ([`Const`], [`RawConst`]) and reserved bytes ([`Skip`]). Their contracts,
+//! and the laws for combining fields into a body, are in `specs/`: `Reading`, `Fields` and `Laws`; `Formats` has one
+//! record for all that is stated of a body. [`BitView`] reads bytes as a bitmap.
+//!
+//! Names follow the Rust crate `mysql_common`, modules `io`, `proto` and `misc::raw`.
 #![tactic(auto)]
 
 mod bit_view;

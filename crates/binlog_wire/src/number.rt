@@ -3,7 +3,7 @@ ghost use Rattle.binlog_wire.specs.Numbers.{u16_at, u32_at};
 
 use byteorder::{ByteOrder, LittleEndian};
 
-/// The number of two bytes at a place of the bytes, least byte first.
+/// The little-endian u16 at offset `place`.
 pub fn read_u16_at(bytes: &[u8], place: usize) -> u16
     requires { place + 2 ≤ length bytes.now }
     ensures { result ≡ u16_at place bytes.now }
@@ -11,7 +11,7 @@ pub fn read_u16_at(bytes: &[u8], place: usize) -> u16
     LittleEndian::read_u16(&bytes[place..])
 }
 
-/// The number of four bytes at a place of the bytes, least byte first.
+/// The little-endian u32 at offset `place`.
 pub fn read_u32_at(bytes: &[u8], place: usize) -> u32
     requires { place + 4 ≤ length bytes.now }
     ensures { result ≡ u32_at place bytes.now }

@@ -1,4 +1,4 @@
-//! Fields as they stand in bodies: byte strings, numbers, sets of flags, and numbers that stand for something.
+//! The kinds of field in a body: byte strings, integers, flag sets and integer codes.
 pub mod bytes;
 pub mod constant;
 pub mod flags;

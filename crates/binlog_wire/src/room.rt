@@ -1,14 +1,13 @@
-//! Makes room in a buffer, or answers that memory ran out.
+//! Reserves capacity in a buffer; a failed allocation is [`Error::Memory`].
 ghost use Rattle.std.specs.Prelude.{◌≡◌, ◌+◌, ◌*◌, ◌≤◌, max, IsOk, OnOk, OnErr, IsOkUnless, vec_len, vec_capacity};
 ghost use Rattle.binlog_wire.specs.declared.error.Error.TheVariants.{Memory};
 
 use crate::error::Error;
 
-/// Makes room for `count` more bytes, so that as many can be put into `buf` without a further growth. A growth doubles
-/// the capacity, or makes it as large as is asked where that is more.
+/// Reserves capacity for `count` more bytes, so that `count` bytes can be appended to `buf` without another
+/// allocation. A growth doubles the capacity, or makes it exactly `buf.len() + count` where that is more.
 ///
-/// Refused by [`Error::Memory`] alone, and only where the room was missing; the contents of `buf` stay as they are either
-/// way.
+/// The only error is [`Error::Memory`], and only where the capacity was too small. The contents of `buf` never change.
 pub fn reserve(buf: &mut Vec<u8>, count: usize) -> Result<(), Error>
     ensures items { buf.new.items ≡ buf.old.items }
     ensures len { vec_len buf.new ≡ vec_len buf.old }

@@ -8,15 +8,15 @@ use crate::parse_buf::ParseBuf;
 use crate::room::reserve;
 use std::alloc::Global;
 
-/// What can be read from the front of bytes.
+/// A type that can be read from the start of a [`ParseBuf`]; as in `mysql_common::proto`.
 ///
-/// Its contract is `reads`, what reading a list of bytes gives under a context: the value and the bytes behind it, or
-/// the refusal. A type says by `grows` under which contexts reading it may take memory; by default under none. Its `size`
-/// is its `SIZE`; by default there is none.
+/// Its contract is `reads`: what reading a list of bytes under a context gives, the value and the bytes after it, or
+/// the refusal. `grows` says under which contexts reading may allocate; by default under none. `size` is `SIZE` as
+/// contracts see it; by default None.
 pub trait MyDeserialize<'de>: Sized {
-    /// How many bytes a value takes, where that is always the same.
+    /// The size in bytes of every value of this type, where it is fixed.
     const SIZE: Option<usize>;
-    /// What has to be known to read a value.
+    /// The context that has to be known to read a value.
     type Ctx;
 
     ghost reads: { Self.Ctx → List ℕ → Read Self };
@@ -25,16 +25,21 @@ pub trait MyDeserialize<'de>: Sized {
 
     ghost grows: { Self.Ctx → Type 0 } = { λ _. ⊥ };
 
-    /// Reads a value from the front of `buf`, and leaves what is behind it.
+    /// Reads a value from the start of `buf`, and leaves the bytes after it.
     ///
-    /// [`Error::EndOfBody`] where the bytes end within the value, [`Error::InvalidData`] where one of its fields is
-    /// whole and not allowed, and [`Error::Memory`] only where the type takes memory. After a refusal nothing is said
-    /// of the place in `buf`.
+    /// After an error nothing is stated of the position in `buf`.
+    ///
+    /// # Errors
+    ///
+    /// - [`Error::EndOfBody`] where the bytes end within the value;
+    /// - [`Error::InvalidData`] where a field of it is complete and not allowed;
+    /// - [`Error::WrongEventType`] where this type doesn't belong to the raw event type in `ctx`;
+    /// - [`Error::Memory`] only under a context for which the type allocates.
     fn deserialize(alloc: Global, ctx: Self::Ctx, buf: &mut ParseBuf<'de>) -> Result<Self, Error>
         ensures { Gives (grows ctx) buf.new result (reads ctx buf.old) };
 }
 
-/// What can be written as bytes.
+/// A type that can be written as bytes; as in `mysql_common::proto`.
 ///
 /// Its contract is `written`, the bytes of a value, and `refusal`, why a value can't be written; by default each can.
 pub trait MySerialize {
@@ -42,34 +47,38 @@ pub trait MySerialize {
 
     ghost refusal: { Self → Option Error } = { λ _. None };
 
-    /// Appends the bytes of the value to `buf`.
+    /// Appends the encoding of the value to `buf`.
     ///
-    /// [`Error::Unwritable`] for a value that its form can't hold, and else [`Error::Memory`] alone; a refusal leaves
-    /// the contents of `buf` as they were.
+    /// An error leaves the contents of `buf` unchanged.
+    ///
+    /// # Errors
+    ///
+    /// - the type's own refusal: [`Error::Unwritable`] for a value that doesn't fit its encoding;
+    /// - else [`Error::Memory`] alone.
     fn serialize(&self, alloc: Global, buf: &mut Vec<u8>) -> Result<(), Error>
         ensures ok { OnOk result (buf.new.items ≡ buf.old.items ++ written self.now) }
         ensures err { OnErr result (buf.new.items ≡ buf.old.items) }
         ensures refused { MatchOption (refusal self.now) (IsOkUnless result Memory) (λ why. result ≡ Err why) };
 }
 
-/// What is written as bytes that are counted before the first is put: so there is one growth at most, and nothing is
-/// refused behind it.
+/// A type whose encoded length is computed before the first byte is appended: so a write allocates at most once, and
+/// no error comes after that.
 ///
-/// Its `bytes` are those of a value, and `refusal` says why a value can't be written; by default each can.
+/// `bytes` is the encoding of a value, and `refusal` says why a value can't be written; by default each can.
 pub trait Put {
     ghost bytes: { Self → List ℕ };
 
     ghost refusal: { Self → Option Error } = { λ _. None };
 
-    /// Whether the value can be written; [`Error::Unwritable`] for one that its form can't hold.
+    /// Checks that the value can be written; [`Error::Unwritable`] where it doesn't fit its encoding.
     fn check(&self) -> Result<(), Error>
         ensures { MatchOption (refusal self.now) (IsOk result) (λ why. result ≡ Err why) };
 
-    /// How many bytes are written for the value.
+    /// The length of the encoded value in bytes.
     fn written_len(&self) -> usize
         ensures { result ≡ length (bytes self.now) };
 
-    /// Appends the bytes of the value, which can be written, where `buf` has room for them.
+    /// Appends the encoding of the value. The value has passed `check`, and `buf` has the capacity.
     fn put(&self, buf: &mut Vec<u8>)
         requires writable { refusal self.now ≡ None }
         requires room { vec_len buf.old + length (bytes self.now) ≤ vec_capacity buf.old }

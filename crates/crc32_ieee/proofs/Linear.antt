@@ -1,4 +1,4 @@
--- What leaves the register is linear under xor, so a word is the xor of its bytes, each looked up by itself.
+-- Shifting bits out is linear under xor, so a word can be processed as the xor of its bytes, each looked up by itself.
 use Rattle.std.proofs.Common.{◌≡◌, ℕ, zero, suc, ◌+◌, ◌-◌, ◌*◌, ◌/◌, ◌%◌, ◌^◌, ◌<◌, ◌≤◌, List, [], ◌∷◌, ◌++◌, length, slice_index, slice_set, get_or, take, drop, refl, sym, ap, subst, inl, inr, ◌∙◌, arith}
 use Rattle.std.proofs.lemmas.List.{get_or-take, get_or-drop, get_or_past, length-take-le, take-append-drop, nil_from_length, get_or-set_same, get_or-set_other}
 use Rattle.std.proofs.lemmas.Bool.{cases_lt}
@@ -52,13 +52,13 @@ unfolding after_bits
 after_bits-shifted zero a = omega arith
 after_bits-shifted (suc n) a = ap (after_bits n) (after_bit-shifted n a) ∙ after_bits-shifted n a
 
--- The lowest byte is looked up, and what stands above it moves down.
+-- The lowest byte is looked up, and the bits above it are shifted down.
 pub by_lowest : (n w b : ℕ) → b < 256 → after_bits (8 + n) (w * 256 + b) ≡ bit_xor (after_bits n w) (after_bits (8 + n) b)
 by_lowest n w b byte =
     ap (after_bits (8 + n)) (sym (xor_shifted w 8 b byte)) ∙ after_bits-xor (8 + n) (w * 256) b
     ∙ ap (λ (x : ℕ). bit_xor x (after_bits (8 + n) b)) (after_bits-add 8 n (w * 256) ∙ ap (after_bits n) (after_bits-shifted 8 w))
 
--- Eight bits that leave a register: its lowest byte is looked up, and what stands above it moves down.
+-- Shifting eight bits out: the lowest byte is looked up, and the bits above it are shifted down.
 pub by_byte : (c : ℕ) → after_bits 8 c ≡ bit_xor (after_bits 8 (c % 256)) (c / 256)
 unfolding after_bits
 by_byte c =
@@ -73,7 +73,7 @@ by_byte-xor c b byte =
     let high : bit_xor c b / 256 ≡ c / 256 = xor_shr c b 8 ∙ ap (bit_xor (c / 256)) none ∙ xor_zero_r (c / 256) in
     by_byte (bit_xor c b) ∙ (λ i. bit_xor (after_bits 8 (low i)) (high i))
 
--- A word, byte by byte.
+-- A word is processed byte by byte.
 next_byte : (n w : ℕ) → after_bits (8 + n) w ≡ bit_xor (after_bits n (w / 256)) (after_bits (8 + n) (w % 256))
 next_byte n w =
     let split : w ≡ w / 256 * 256 + w % 256 = omega arith in
@@ -109,7 +109,7 @@ by_bytes w =
     ∙ onto _ _ (after_bits 32 (w / 2 ^ 32 % 256)) (next_at 16 40 w (w / 2 ^ 40) refl (omega arith)
     ∙ onto _ _ (after_bits 24 (w / 2 ^ 40 % 256)) (next_at 8 48 w (w / 2 ^ 48) refl (omega arith)))))))
 
--- Bytes as a number, least byte first.
+-- The little-endian number of the bytes.
 pub little : List ℕ → ℕ
 little [] = 0
 little (b ∷ s) = little s * 256 + b
@@ -117,7 +117,7 @@ little (b ∷ s) = little s * 256 + b
 abbrev pub AreBytes : List ℕ → Type 0
 AreBytes s = (i : ℕ) → slice_index s i < 256
 
--- Bytes that come one after another are as a word of them that comes at once.
+-- Processing bytes one by one is processing the word of them at once.
 pub register-word : (c : ℕ) (s : List ℕ) → AreBytes s → register c s ≡ after_bits (8 * length s) (bit_xor c (little s))
 unfolding register after_bits little
 register-word c [] are = sym (xor_zero_r c)

@@ -1,36 +1,35 @@
 //! CRC-32 as IEEE 802.3, zlib and MySQL compute it: the checksum of binary log events.
 //!
-//! The crate `crc32fast` gives the same values. Here [`Crc32::checksum`] is proved to give the CRC-32 that
-//! `specs/Crc32.antt` defines bit by bit, though it takes eight bytes at a time.
+//! It gives the values of the Rust crate `crc32fast`. [`Crc32::checksum`] processes eight bytes at a time
+//! ("slicing-by-8"), and is proved to give the bit-by-bit CRC-32 of `specs/Crc32.antt`.
 #![tactic(auto)]
 
 ghost use Rattle.std.specs.Prelude.{◌≡◌, ◌+◌, ◌*◌, ◌<◌};
 ghost use Rattle.std.specs.Int.RustNames.{bit_xor};
 ghost use Rattle.crc32_ieee.specs.Crc32.{after_bit, after_bits, crc32, AreEntries};
 
-/// The polynomial, its bits reversed.
+/// The polynomial, bits reversed.
 const POLYNOMIAL: u32 = 0xedb8_8320;
 
-/// How many bytes are taken at a time.
+/// The number of bytes processed at a time.
 const WORD: usize = 8;
 
-/// How many entries the table of one place in a word has.
+/// The number of entries of one table.
 const BYTES: usize = 256;
 
-/// How many entries the tables of all places have.
+/// The number of entries of all tables.
 const ENTRIES: usize = WORD * BYTES;
 
-/// Computes the CRC-32 of bytes by tables of 8 KiB, which it holds. One is made once and used for any number of
-/// checksums.
+/// Computes CRC-32 checksums. It holds its lookup tables, 8 KiB: create one, and use it for any number of checksums.
 #[derive(Drop)]
 pub struct Crc32 {
-    // one table behind another: that of a word's last byte, of the byte before it, and so on
+    // eight tables of 256 entries: for the last byte of a word, for the byte before it, and so on
     tables: [u32; ENTRIES],
     ghost are_entries: { AreEntries 2048 tables },
 }
 
 impl Crc32 {
-    /// Makes the tables.
+    /// Computes the tables.
     pub fn new() -> Crc32 {
         let mut tables = [0; ENTRIES];
         'first: for index in 0..BYTES {
@@ -43,7 +42,7 @@ impl Crc32 {
         Crc32 { tables }
     }
 
-    /// Returns the CRC-32 of the bytes, 0 for none. It reads them once and takes no memory.
+    /// The CRC-32 of the bytes, 0 for none. It reads them once, and no memory is allocated.
     pub fn checksum(&self, bytes: &[u8]) -> u32
         ensures { result ≡ crc32 bytes.now }
     {
@@ -60,7 +59,7 @@ impl Crc32 {
         !crc
     }
 
-    // What a byte makes of an empty register, with so many zero bytes behind it.
+    // The register after a byte and `zeros_behind` zero bytes, from an empty register.
     #[inline(always)]
     fn entry(&self, zeros_behind: usize, byte: u64) -> u32
         requires place { zeros_behind < 8 }
@@ -70,7 +69,7 @@ impl Crc32 {
         self.tables[zeros_behind * BYTES + byte as usize]
     }
 
-    // A register of 64 bits, all of which leave it.
+    // The result of shifting out all 64 bits of a register.
     #[inline(always)]
     fn after_word(&self, word: u64) -> u32
         ensures { result ≡ after_bits 64 word }

@@ -1,4 +1,4 @@
--- Several tokens that are written at once.
+-- Several tokens written at once.
 use Rattle.std.proofs.Common.{◌≡◌, ℕ, ◌^◌, ◌<◌, Bool, true, false, List, [], ◌∷◌, ◌++◌, codes, IsUtf8, refl, ap, ◌∙◌, arith, append_assoc}
 use Rattle.std.proofs.lemmas.Str.{IsUtf8-from_ascii}
 use Rattle.std.proofs.lemmas.Fmt.{IsAscii-decimal_wide}
@@ -16,7 +16,7 @@ use Rattle.json_line.proofs.OneMore.{text_begun, pushed, pushed_tokens}
 pub number_utf8 : (n : ℕ) → n < 2 ^ 64 → IsUtf8 (decimal n)
 number_utf8 n fits = IsUtf8-from_ascii _ (IsAscii-decimal_wide n (omega arith))
 
--- a name and its number
+-- a member's name and its number
 module _ (old : List ℕ) (after_value : Bool) (line : IsLine old after_value) (name : List ℕ) (plain : IsPlainText name) (utf8 : IsUtf8 name) (n : ℕ) (fits : n < 2 ^ 64)
     (new : List ℕ) (is : new ≡ old ++ (comma after_value ++ (34 ∷ (name ++ 34 ∷ 58 ∷ [])) ++ decimal n)) where
   abbrev named : List ℕ

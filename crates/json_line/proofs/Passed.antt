@@ -18,7 +18,7 @@ use Rattle.json.specs.Run.{is_stop}
 use Rattle.json.proofs.Printed.Plain.{escape_on_plain}
 use Rattle.json_line.specs.Passed.{is_other, PassedBetween}
 
--- ---- a mask that is computed lane by lane, held to a test at each of the 256 bytes
+-- ---- a mask that is computed lane by lane, compared with a test at each of the 256 bytes
 
 abbrev hit : ℕ → ℕ → ℕ
 hit a b = cond (eqb a b) 255 0
@@ -68,7 +68,7 @@ masked : (f : ℕ → ℕ) (p : ℕ → Bool) (v z : List ℕ) → length v ≤ 
 masked f p v z short fits e all =
     ap (λ l. mask_l l % 2 ^ 64) (ap (map (top 7)) e ∙ each_byte f p all v fits) ∙ mask_l-mod (map p v) 64 (omega (arith, length-map v p))
 
--- ---- bytes that pass
+-- ---- bytes that pass the test
 
 abbrev passes : ℕ → Bool
 passes byte = not (is_other byte)
@@ -93,7 +93,7 @@ on_true : (b : Bool) (P : Type 0) → (b ≡ true → P) → OnTrue b P
 on_true true P f = f refl
 on_true false P f = tt
 
--- the four tests of a vector of n lanes, as the code makes them
+-- the four tests of a vector of n lanes, as in the code
 pub passed_from_lanes : (d : List ℕ) (i n : ℕ) → i + n ≤ length d → n ≤ 64 → ((k : ℕ) → Fits w8 (get_or d k 0))
     → OnTrue (mask_l (map (top 7) (zip2 bit_or (zip2 bit_or (zip2 bit_or (zip2 hit (chunk i n d) (replicate n 34)) (zip2 hit (chunk i n d) (replicate n 92))) (zip2 below (chunk i n d) (replicate n 32))) (zip2 at_most (replicate n 128) (chunk i n d)))) % 2 ^ 64 == 0)
     (PassedBetween d i (i + n))

@@ -1,4 +1,4 @@
--- Texts that stand in quotation marks as they are.
+-- Texts that need no escape in a string.
 use Rattle.std.proofs.Common.{◌≡◌, ℕ, zero, suc, ◌/◌, ◌%◌, ◌<◌, Bool, true, ◌&&◌, get_or, slice_index, List, [], ◌∷◌, ◌++◌, length, Fits, w8, refl, sym, ap, arith, append_assoc}
 use Rattle.std.proofs.lemmas.Bool.{and_parts}
 use Rattle.hex.specs.Hex.{encode_lower, encode_with, lower_digits}

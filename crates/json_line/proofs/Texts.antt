@@ -1,4 +1,4 @@
--- Which bytes are text, and how they are shown.
+-- Which bytes are UTF-8, and how texts are printed.
 use Rattle.std.proofs.Common.{◌≡◌, ℕ, List, [], ◌∷◌, refl, lit<, Bool, true, ◌&&◌, ltb, T}
 use lib.Ieee.Fits.{and_l, and_r}
 use Rattle.std.proofs.lemmas.Bool.{eq-eqb}
@@ -26,6 +26,6 @@ are_digits = from_test lower_digits tt
 pub digits_are_text : (bytes : List ℕ) → IsUtf8 (encode_lower bytes)
 digits_are_text bytes = IsUtf8-from_ascii _ (IsAscii-encode_with lower_digits bytes are_digits)
 
--- what is UTF-8 is a string
+-- bytes that are UTF-8 are printed as a string
 pub text_is_string : (text : List ℕ) → IsUtf8 text → text_value text ≡ string text ∷ []
 text_is_string text is = rw (eq-eqb _ _ (utf8_valid_len-IsUtf8 text is)) refl

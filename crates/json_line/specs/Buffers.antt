@@ -1,24 +1,24 @@
--- What a contract sees of a buffer.
+-- A buffer as contracts see it.
 use Rattle.std.specs.Prelude.{◌≡◌, ℕ, Bool, cond, List, [], ◌∷◌, ◌++◌, refl, Result, MatchResult}
 use Rattle.std.specs.Coded.{Coded, code_by, coded×, coded_list, coded_ℕ}
 
--- the bytes that are written, how many more may be written before it has to grow, and the byte that stands behind them, where
--- there is room for one
+-- The written bytes; how many more fit before it has to grow; and the byte stored after them, if there is room for
+-- one.
 pub record Buffered : Type 0 where
   pub text : List ℕ
   pub room : ℕ
   pub next : List ℕ
 
--- it is stored as its fields
+-- It is encoded as its fields.
 abbrev pub buffered_code : Coded Buffered
 buffered_code =
     code_by (List ℕ × (ℕ × List ℕ)) (coded× (coded_list coded_ℕ) (coded× coded_ℕ (coded_list coded_ℕ)))
     (λ b. (b.text, (b.room, b.next))) (λ p. record { text = p.0; room = p.1.0; next = p.1.1 }) (λ _. refl)
 
--- a comma, where it is wanted
+-- A comma, if wanted.
 abbrev pub comma : Bool → List ℕ
 comma wanted = cond wanted (44 ∷ []) []
 
--- the bytes stand behind the others, or none of them does
+-- The bytes are appended to the others, or nothing is.
 abbrev pub Puts : {A E : Type 0} → Result A E → Buffered → Buffered → List ℕ → Type 0
 Puts result old new bytes = MatchResult result (λ _. new.text ≡ old.text ++ bytes) (λ _. new.text ≡ old.text)

@@ -5,49 +5,50 @@ use Rattle.hex.specs.Hex.{encode_lower}
 use Rattle.uuid.specs.Text.{hyphenated_text, lower}
 use Rattle.json.specs.Token.{Token, begin_object, end_object, begin_array, end_array, key, string, number, boolean, null}
 
--- these tokens are added, unless memory ran out
+-- These tokens are appended, unless an allocation fails.
 abbrev pub Adds : {A E : Type 0} → Result A E → List Token → List Token → List Token → Type 0
 Adds result old new tokens = OnOk result (new ≡ old ++ tokens)
 
 -- ---- values
 
--- a number in full
+-- A number with all its digits.
 abbrev pub number_value : ℕ → List Token
 number_value n = number (decimal n) ∷ []
 
--- the hexadecimal digits of bytes
+-- Bytes as a string of hexadecimal digits.
 abbrev pub bytes_value : List ℕ → List Token
 bytes_value bytes = string (encode_lower bytes) ∷ []
 
--- a string where the bytes are UTF-8, and else their digits in an object
+-- A string if the bytes are UTF-8, else an object with their hexadecimal digits.
 abbrev pub text_value : List ℕ → List Token
 text_value text =
     cond (nat_eq (utf8_valid_len text) (length text)) (string text ∷ [])
     (begin_object ∷ key (codes "hex") ∷ string (encode_lower text) ∷ end_object ∷ [])
 
--- 36 characters
+-- A UUID: a string of 36 characters.
 abbrev pub uuid_value : List ℕ → List Token
 uuid_value bytes = string (hyphenated_text lower bytes) ∷ []
 
--- a value, or null
+-- A value, or null.
 abbrev pub or_null : {A : Type 0} → (A → List Token) → Option A → List Token
 or_null value None = null ∷ []
 or_null value (Some x) = value x
 
 -- ---- members of objects
 
+-- A member with this name and value.
 abbrev pub member : List ℕ → List Token → List Token
 member name value = key name ∷ value
 
--- a member that is bytes, left out where there are none
+-- A member with bytes; nothing if there are none.
 abbrev pub bytes_member_if_any : List ℕ → List ℕ → List Token
 bytes_member_if_any name [] = []
 bytes_member_if_any name (byte ∷ bytes) = member name (bytes_value (byte ∷ bytes))
 
--- an object of these members
+-- An object with these members.
 abbrev pub object : List Token → List Token
 object members = begin_object ∷ (members ++ end_object ∷ [])
 
--- an array of these items
+-- An array with these items.
 abbrev pub array : List Token → List Token
 array items = begin_array ∷ (items ++ end_array ∷ [])

@@ -1,4 +1,4 @@
-//! Bytes that are written one behind another.
+//! A growing byte buffer.
 ghost use Rattle.std.specs.Prelude.{◌≡◌, ◌≤◌, ◌+◌, ◌*◌, [], ◌∷◌, ◌++◌, length, OnOk};
 ghost use Rattle.std.specs.Fmt.{decimal};
 ghost use Rattle.hex.specs.Hex.{encode_lower};
@@ -8,14 +8,14 @@ use crate::place::{place_byte, place_bytes, place_comma, place_hexadecimal, plac
 use std::alloc::{AllocError, Global};
 use std::marker::Model;
 
-// The room of a buffer that grows for the first time, in bytes.
+// The size of the first allocation, in bytes.
 const LEAST_ROOM: usize = 1_024;
 
-// No number of 64 bits has more digits.
+// The longest 64-bit number has 20 digits.
 const MAX_DIGITS: usize = 20;
 
-/// Bytes, and room for more of them behind. Contracts see it as [`Buffered`](../specs/Buffers.antt): what is written, how
-/// much room there is, and the byte that stands behind what is written.
+/// Bytes, with room for more. Contracts see it as [`Buffered`](../specs/Buffers.antt): the written bytes, the room
+/// left, and the byte after the written ones.
 #[derive(Drop)]
 pub(crate) struct Buffer {
     bytes: Vec<u8>,
@@ -36,7 +36,7 @@ impl Model for Buffer {
 }
 
 impl Buffer {
-    /// A buffer that has taken no memory yet.
+    /// An empty buffer. No memory is allocated.
     pub(crate) fn new(alloc: Global) -> Self
         ensures { result.text ≡ [] }
     {
@@ -46,7 +46,7 @@ impl Buffer {
         }
     }
 
-    /// Forgets what is written, and keeps the room.
+    /// Drops the written bytes and keeps the memory.
     #[inline]
     pub(crate) fn clear(&mut self)
         ensures { self.new.text ≡ [] }
@@ -54,7 +54,7 @@ impl Buffer {
         self.len = 0;
     }
 
-    /// Writes a byte behind what is written, of which it isn't a part.
+    /// Stores a byte after the written ones, without making it one of them.
     #[inline]
     pub(crate) fn put_behind(&mut self, byte: u8) -> Result<(), AllocError>
         ensures text { self.new.text ≡ self.old.text }
@@ -65,7 +65,7 @@ impl Buffer {
         Ok(())
     }
 
-    /// What is written, and the byte behind it.
+    /// The written bytes, and the byte after them.
     #[inline]
     pub(crate) fn with_next(&self) -> &[u8]
         requires { length self.now.next ≡ 1 }
@@ -74,7 +74,7 @@ impl Buffer {
         &self.bytes[..self.len + 1]
     }
 
-    // Room for so many bytes.
+    // Makes room for this many bytes.
     #[inline(always)]
     fn reserve(&mut self, room: usize) -> Result<(), AllocError>
         ensures text { self.new.text ≡ self.old.text }
@@ -86,7 +86,7 @@ impl Buffer {
         self.grow(room)
     }
 
-    // At least twice the room of before, so that a long line grows few times.
+    // At least doubles, so that a long line grows few times.
     #[cold]
     #[inline(never)]
     fn grow(&mut self, room: usize) -> Result<(), AllocError>
@@ -112,7 +112,7 @@ impl Buffer {
         self.len = place_bytes(memory, at, text);
     }
 
-    /// Writes a comma where it is wanted, and the bytes.
+    /// Writes a comma if wanted, and the bytes.
     #[inline(always)]
     pub(crate) fn add(&mut self, after_value: bool, text: &[u8]) -> Result<(), AllocError>
         ensures { Puts result self.old self.new (comma after_value ++ text.now) }
@@ -134,7 +134,7 @@ impl Buffer {
         self.len = place_byte(memory, at, b'"');
     }
 
-    /// Writes a comma where it is wanted, and the bytes between quotation marks.
+    /// Writes a comma if wanted, and the bytes in quotation marks.
     #[inline(always)]
     pub(crate) fn add_quoted(&mut self, after_value: bool, text: &[u8]) -> Result<(), AllocError>
         ensures { Puts result self.old self.new (comma after_value ++ 34 ∷ (text.now ++ 34 ∷ [])) }
@@ -157,7 +157,7 @@ impl Buffer {
         self.len = place_byte(memory, at, b':');
     }
 
-    /// Writes a comma where it is wanted, the bytes between quotation marks, and a colon.
+    /// Writes a comma if wanted, the bytes in quotation marks, and a colon.
     #[inline(always)]
     pub(crate) fn add_name(&mut self, after_value: bool, name: &[u8]) -> Result<(), AllocError>
         ensures { Puts result self.old self.new (comma after_value ++ 34 ∷ (name.now ++ 34 ∷ 58 ∷ [])) }
@@ -179,7 +179,7 @@ impl Buffer {
         self.len = place_bytes(memory, at, after);
     }
 
-    /// Writes a comma where it is wanted, and three texts, the first and the last of which are short.
+    /// Writes a comma if wanted, and three texts, the first and the last of which are short.
     #[inline(always)]
     pub(crate) fn add_between(
         &mut self,
@@ -206,7 +206,7 @@ impl Buffer {
         self.len = place_number(memory, at, number);
     }
 
-    /// Writes a comma where it is wanted, and a number in decimal.
+    /// Writes a comma if wanted, and a decimal number.
     #[inline(always)]
     pub(crate) fn add_number(&mut self, after_value: bool, number: u64) -> Result<(), AllocError>
         ensures { Puts result self.old self.new (comma after_value ++ decimal number) }
@@ -230,7 +230,7 @@ impl Buffer {
         self.len = place_number(memory, at, number);
     }
 
-    /// Writes a comma where it is wanted, the bytes between quotation marks, a colon, and a number in decimal.
+    /// Writes a comma if wanted, the bytes in quotation marks, a colon, and a decimal number.
     #[inline(always)]
     pub(crate) fn add_named_number(
         &mut self,
@@ -257,7 +257,7 @@ impl Buffer {
         self.len = place_byte(memory, at, b'"');
     }
 
-    /// Writes a comma where it is wanted, and the bytes in hexadecimal digits between quotation marks.
+    /// Writes a comma if wanted, and the bytes as hexadecimal digits in quotation marks.
     #[inline(always)]
     pub(crate) fn add_hexadecimal(
         &mut self,

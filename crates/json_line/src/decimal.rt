@@ -1,8 +1,8 @@
-//! How many digits a number has.
+//! The number of digits of a number.
 ghost use Rattle.std.specs.Prelude.{◌≡◌, ◌<◌, length};
 ghost use Rattle.std.specs.Fmt.{decimal};
 
-// Of a number of at most five digits.
+// For a number of at most five digits.
 #[inline(always)]
 fn short_len(number: u64) -> usize
     requires { number < 100000 }
@@ -15,7 +15,7 @@ fn short_len(number: u64) -> usize
     }
 }
 
-/// The number of digits in decimal.
+/// The number of decimal digits.
 #[inline(always)]
 pub(crate) fn decimal_len(number: u64) -> usize
     ensures { result ≡ length (decimal number) }

@@ -1,7 +1,7 @@
-//! Lines of JSON, as they are written: tokens, and values made of them, in memory that is kept from line to line.
+//! Writing lines of JSON: tokens, and values made of them, in memory that is reused from line to line.
 //!
-//! A [`Line`] is seen by contracts as the list of its tokens; its bytes are the print of them, which reads back as these and is
-//! UTF-8. `specs/Tokens` says which tokens a value has.
+//! Contracts see a [`Line`] as the list of its tokens. Its bytes are these tokens printed: they are UTF-8, and parse
+//! back to the same tokens. `specs/Tokens` defines which tokens each value has.
 #![tactic(auto)]
 
 mod buffer;

@@ -1,4 +1,4 @@
-//! A line of JSON as it is written: tokens, and values made of them.
+//! A line of JSON: tokens, and values made of them.
 ghost use Rattle.std.specs.Prelude.{◌≡◌, ◌∷◌, ◌++◌, [], codes, IsUtf8, IfOk, OnErr};
 ghost use Rattle.std.specs.Fmt.{signed_decimal};
 ghost use Rattle.json.specs.Lex.{tokens as read_tokens};
@@ -15,7 +15,7 @@ use std::marker::Model;
 use std::{mem, str};
 use uuid::Uuid;
 
-/// The text of a line, in memory that is kept for the next. Contracts see it as the list of its tokens.
+/// A line of JSON, in memory that is reused for the next line. Contracts see it as the list of its tokens.
 #[derive(Drop)]
 pub struct Line {
     alloc: Global,
@@ -45,7 +45,7 @@ fn boolean_text(value: bool) -> &'static [u8]
     if value { b"true" } else { b"false" }
 }
 
-// A writer of one token, in the memory that is kept for it.
+// A writer of one token, in its reused memory.
 fn token_writer(token: &mut Vec<u8>, alloc: Global) -> Writer<Global>
     ensures before { result.before ≡ [] }
     ensures tokens { result.tokens ≡ [] }
@@ -55,10 +55,11 @@ fn token_writer(token: &mut Vec<u8>, alloc: Global) -> Writer<Global>
     Writer::new(memory)
 }
 
-/// Each call that writes adds its tokens, or fails where memory runs out. The line is then as it was, but where a value of several
-/// tokens (a text that isn't UTF-8) or a member of such a value had begun.
+/// Each writing call appends its tokens, or fails with [`AllocError`] if an allocation fails. After a failure the line
+/// is unchanged, except in calls that write several tokens one after another: [`Line::text`] with bytes that aren't
+/// UTF-8, and the members with a text or bytes. There the first tokens may have been written.
 impl Line {
-    /// An empty line, which takes no memory yet.
+    /// An empty line. No memory is allocated.
     pub fn new(alloc: Global) -> Self
         ensures { result ≡ [] }
     {
@@ -70,7 +71,7 @@ impl Line {
         }
     }
 
-    /// Begins anew, in the same memory.
+    /// Clears the line and keeps its memory.
     #[inline]
     pub fn clear(&mut self)
         ensures { self.new ≡ [] }
@@ -79,11 +80,11 @@ impl Line {
         self.after_value = false;
     }
 
-    /// The bytes of the line, and the one that ends it.
+    /// The bytes of the line, with a line feed at the end.
     ///
     /// # Errors
     ///
-    /// Where memory runs out.
+    /// [`AllocError`] if the allocation fails.
     #[inline]
     pub fn end(&mut self) -> Result<&[u8], AllocError>
         ensures ok { IfOk result (λ text. text.now ≡ print self.old ++ codes "\n") }
@@ -138,7 +139,7 @@ impl Line {
         Ok(())
     }
 
-    /// The name of a member, which needs no escape, and the colon behind it.
+    /// The name of a member and a colon. The name must need no escape.
     #[inline(always)]
     pub fn key(&mut self, name: &str) -> Result<(), AllocError>
         requires { IsPlainText name.now }
@@ -205,7 +206,7 @@ impl Line {
         Ok(())
     }
 
-    // By the writer of any token.
+    // Through the general token writer.
     #[inline(never)]
     fn escaped_string(&mut self, text: &str) -> Result<(), AllocError>
         ensures added { Adds result self.old self.new (tokens.string text.now ∷ []) }
@@ -219,7 +220,7 @@ impl Line {
         Ok(())
     }
 
-    /// A number in full.
+    /// An unsigned number with all its digits.
     #[inline(always)]
     pub fn number(&mut self, number: u64) -> Result<(), AllocError>
         ensures added { Adds result self.old self.new (number_value number) }
@@ -230,7 +231,7 @@ impl Line {
         Ok(())
     }
 
-    /// A number with its sign where it is negative.
+    /// A signed number, with a minus sign if it is negative.
     pub fn signed_number(&mut self, number: i64) -> Result<(), AllocError>
         ensures added { Adds result self.old self.new (tokens.number (signed_decimal number) ∷ []) }
         ensures unchanged { OnErr result (self.new ≡ self.old) }
@@ -243,7 +244,7 @@ impl Line {
         Ok(())
     }
 
-    /// Bytes in hexadecimal digits.
+    /// Bytes as a string of hexadecimal digits.
     #[inline]
     pub fn bytes(&mut self, bytes: &[u8]) -> Result<(), AllocError>
         ensures added { Adds result self.old self.new (bytes_value bytes.now) }
@@ -254,7 +255,7 @@ impl Line {
         Ok(())
     }
 
-    /// A string where the bytes are UTF-8, and else an object that has them in hexadecimal digits.
+    /// A string if the bytes are UTF-8, else an object with their hexadecimal digits: `{"hex":"ff"}`.
     #[inline(always)]
     pub fn text(&mut self, text: &[u8]) -> Result<(), AllocError>
         ensures { Adds result self.old self.new (text_value text.now) }
@@ -286,7 +287,7 @@ impl Line {
         self.end_object()
     }
 
-    /// A UUID in lower-case digits with hyphens.
+    /// A UUID in lower case with hyphens.
     pub fn uuid(&mut self, bytes: [u8; 16]) -> Result<(), AllocError>
         ensures added { Adds result self.old self.new (uuid_value bytes) }
         ensures unchanged { OnErr result (self.new ≡ self.old) }
@@ -310,7 +311,7 @@ impl Line {
         }
     }
 
-    /// Four bytes in hexadecimal digits, or null.
+    /// Four bytes as hexadecimal digits, or null.
     #[inline]
     pub fn checksum_or_null(&mut self, checksum: Option<[u8; 4]>) -> Result<(), AllocError>
         ensures added { Adds result self.old self.new (or_null bytes_value checksum) }
@@ -322,7 +323,7 @@ impl Line {
         }
     }
 
-    /// An object of a key, which needs no escape, and of a value, which is to follow: `{"key":"Flags2","value":`
+    /// Begins an object with a key, which must need no escape, and the name of its value: `{"key":"Flags2","value":`
     #[inline(always)]
     pub fn begin_entry(&mut self, key: &str) -> Result<(), AllocError>
         requires { IsPlainText key.now }
@@ -339,7 +340,7 @@ impl Line {
         Ok(())
     }
 
-    /// A member of an object that is a number.
+    /// An object's member with a number.
     #[inline(always)]
     pub fn number_member(&mut self, name: &str, number: u64) -> Result<(), AllocError>
         requires { IsPlainText name.now }
@@ -352,7 +353,7 @@ impl Line {
         Ok(())
     }
 
-    /// A member of an object that is a text, as [`Line::text`] writes it.
+    /// An object's member with a text, as [`Line::text`] writes it.
     #[inline(always)]
     pub fn text_member(&mut self, name: &str, text: &[u8]) -> Result<(), AllocError>
         requires { IsPlainText name.now }
@@ -362,7 +363,7 @@ impl Line {
         self.text(text)
     }
 
-    /// A member of an object that is bytes in hexadecimal digits.
+    /// An object's member with bytes as hexadecimal digits.
     #[inline(always)]
     pub fn bytes_member(&mut self, name: &str, bytes: &[u8]) -> Result<(), AllocError>
         requires { IsPlainText name.now }
@@ -372,7 +373,7 @@ impl Line {
         self.bytes(bytes)
     }
 
-    /// A member of an object that is bytes in hexadecimal digits, left out where there are none.
+    /// An object's member with bytes as hexadecimal digits; nothing if there are none.
     #[inline(always)]
     pub fn bytes_member_if_any(&mut self, name: &str, bytes: &[u8]) -> Result<(), AllocError>
         requires { IsPlainText name.now }

@@ -1,4 +1,4 @@
-//! Writing bytes at a place in memory that has room for them. Each call answers where they end.
+//! Writing bytes at an index of memory that has room for them. Each function returns the index after them.
 ghost use Rattle.std.specs.Prelude.{◌≡◌, ◌+◌, ◌*◌, ◌<◌, ◌≤◌, [], ◌∷◌, length, take};
 ghost use Rattle.std.specs.Fmt.{decimal};
 ghost use Rattle.hex.specs.Hex.{encode_lower};
@@ -10,6 +10,7 @@ use hex::encode_to_slice;
 use itoa::write_digits;
 use std::simd::Simd;
 
+/// Writes a byte.
 #[inline(always)]
 pub(crate) fn place_byte(memory: &mut [u8], at: usize, byte: u8) -> usize
     requires { at < length memory.old }
@@ -19,7 +20,8 @@ pub(crate) fn place_byte(memory: &mut [u8], at: usize, byte: u8) -> usize
     at + 1
 }
 
-// The comma is always stored, and counts only where it is wanted.
+/// Writes a comma if wanted.
+// The comma is always stored, and counted only if wanted.
 #[inline(always)]
 pub(crate) fn place_comma(memory: &mut [u8], at: usize, wanted: bool) -> usize
     requires { at < length memory.old }
@@ -29,6 +31,7 @@ pub(crate) fn place_comma(memory: &mut [u8], at: usize, wanted: bool) -> usize
     if wanted { at + 1 } else { at }
 }
 
+/// Writes the first N bytes.
 // The first N bytes are one load and one store.
 #[inline(always)]
 fn place_front<const N: usize>(memory: &mut [u8], at: usize, bytes: &[u8]) -> usize
@@ -39,7 +42,8 @@ fn place_front<const N: usize>(memory: &mut [u8], at: usize, bytes: &[u8]) -> us
     at + N
 }
 
-// The first N bytes and the last N may lie over each other.
+/// Writes N to 2N bytes.
+// The first N bytes and the last N may overlap.
 #[inline(always)]
 fn place_ends<const N: usize>(memory: &mut [u8], at: usize, bytes: &[u8]) -> usize
     requires fits { at + length bytes.now ≤ length memory.old }
@@ -51,6 +55,7 @@ fn place_ends<const N: usize>(memory: &mut [u8], at: usize, bytes: &[u8]) -> usi
     place_front::<N>(memory, at + last, &bytes[last..])
 }
 
+/// Writes 32 or more bytes.
 #[inline(always)]
 fn place_long(memory: &mut [u8], at: usize, bytes: &[u8]) -> usize
     requires { (32 ≤ length bytes.now) × (at + length bytes.now ≤ length memory.old) }
@@ -64,7 +69,8 @@ fn place_long(memory: &mut [u8], at: usize, bytes: &[u8]) -> usize
     place_ends::<32>(memory, at + done, &bytes[done..])
 }
 
-// A text is mostly short, and then two stores cost less than a call.
+/// Writes the bytes.
+// Most texts are short, and two stores cost less than a call.
 #[inline(always)]
 pub(crate) fn place_bytes(memory: &mut [u8], at: usize, bytes: &[u8]) -> usize
     requires { at + length bytes.now ≤ length memory.old }
@@ -88,7 +94,8 @@ pub(crate) fn place_bytes(memory: &mut [u8], at: usize, bytes: &[u8]) -> usize
     }
 }
 
-// No number of 64 bits has more than 20 digits, and many have one.
+/// Writes a decimal number.
+// A 64-bit number has at most 20 digits, and many have one.
 #[inline(always)]
 pub(crate) fn place_number(memory: &mut [u8], at: usize, number: u64) -> usize
     requires { at + 20 ≤ length memory.old }
@@ -103,6 +110,7 @@ pub(crate) fn place_number(memory: &mut [u8], at: usize, number: u64) -> usize
     end
 }
 
+/// Writes the bytes as lower-case hexadecimal digits.
 #[inline(always)]
 pub(crate) fn place_hexadecimal(memory: &mut [u8], at: usize, bytes: &[u8]) -> usize
     requires { at + 2 * length bytes.now ≤ length memory.old }

@@ -1,4 +1,4 @@
-//! Whether a text is ASCII and stands in quotation marks as it is.
+//! Whether a text is ASCII and needs no escape.
 ghost use Rattle.std.specs.Prelude.{◌≡◌, ◌+◌, ◌≤◌, length, IsUtf8};
 ghost use Rattle.std.specs.Bool.{OnTrue};
 ghost use Rattle.json.specs.Print.{escape};
@@ -20,7 +20,7 @@ fn is_plain_block<const N: usize>(text: &[u8], at: usize) -> bool
         == 0
 }
 
-// Of a text of fewer bytes than the smallest block.
+// For texts shorter than the smallest block.
 #[inline(always)]
 fn is_plain_by_bytes(text: &[u8]) -> bool
     ensures { OnTrue result (PassedBetween text.now 0 (length text.now)) }
@@ -33,7 +33,7 @@ fn is_plain_by_bytes(text: &[u8]) -> bool
     true
 }
 
-// The last block may lie over the one before it.
+// The last block may overlap the one before it.
 #[inline(always)]
 fn is_plain_by_blocks<const N: usize>(text: &[u8]) -> bool
     requires { (1 ≤ N) × (N ≤ 64) × (N ≤ length text.now) }
@@ -49,8 +49,8 @@ fn is_plain_by_blocks<const N: usize>(text: &[u8]) -> bool
     is_plain_block::<N>(text, text.len() - N)
 }
 
-/// Whether all bytes are ASCII, and none is a quotation mark, a backslash or a control character. It may answer no of a text
-/// that stands as it is.
+/// Whether all bytes are ASCII, and none is a quotation mark, a backslash or a control character. False also for some
+/// texts that need no escape: those that aren't ASCII.
 #[inline(always)]
 pub(crate) fn is_plain(text: &[u8]) -> bool
     ensures as_it_is { OnTrue result (escape text.now ≡ text.now) }

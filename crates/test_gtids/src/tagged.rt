@@ -180,12 +180,16 @@ fn tagged_bodies_that_end_are_refused(rt: HostRuntime) {
 
 #[test]
 fn tagged_bodies_are_refused(rt: HostRuntime) {
-    let rows: [(&[u8], Invalid); 5] = [
+    let rows: [(&[u8], Invalid); 8] = [
         (b"\0\x14\0", Invalid::SerializationVersion(0)),
         (b"\x02\x02\0", Invalid::PayloadSize(1)),
         (b"\x02\x06\0", Invalid::MissingTag),
         (b"\x02\x16\0\x06\x08test\x04\x02", Invalid::Negative(2)),
         (b"\x02\x0e\xc8\0\0\xc6\0", Invalid::UnknownField(99)),
+        // Flags of 256, a byte of the source's id of 256, and a version of 2^32.
+        (b"\x02\x0c\0\0\x01\x04", Invalid::FieldRange(0)),
+        (b"\x02\x0c\0\x02\x01\x04", Invalid::FieldRange(1)),
+        (b"\x02\x12\0\x12\x0f\0\0\0\x20", Invalid::FieldRange(9)),
     ];
     for (body, invalid) in rows {
         assert!(rt; why(rt.alloc(), body) == Some(Error::InvalidData(invalid)));

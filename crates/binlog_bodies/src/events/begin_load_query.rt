@@ -1,4 +1,4 @@
-//! The event of the first block of a loaded file.
+//! BEGIN_LOAD_QUERY: the first block of a file that `LOAD DATA` loads.
 ghost use Rattle.std.specs.Prelude.{◌≡◌, [], IfOk, IsOkUnless, refl};
 ghost use Rattle.std.specs.Cow.{cow_slice_items};
 ghost use Rattle.binlog_wire.specs.declared.error.Error.TheVariants.{Memory};
@@ -12,10 +12,11 @@ use binlog_wire::{
 use std::alloc::Global;
 use std::borrow::CowSlice;
 
-/// The first block of a file to be loaded by `LOAD DATA`.
+/// The BEGIN_LOAD_QUERY event (type 17): the first block of a file that `LOAD DATA` loads.
 ///
-/// Its body is the number of the file, 4 bytes, and the block, to the end. See "BEGIN_LOAD_QUERY_EVENT" in MySQL's
-/// internals documentation.
+/// Its body is the file id, 4 bytes, little-endian, and the block, to the end.
+///
+/// Source: "BEGIN_LOAD_QUERY_EVENT" in MySQL's internals documentation.
 #[derive(Debug, PartialEq, Eq, Hash, Drop)]
 pub struct BeginLoadQueryEvent<'a> {
     file_id: u32,
@@ -23,7 +24,7 @@ pub struct BeginLoadQueryEvent<'a> {
 }
 
 impl<'a> BeginLoadQueryEvent<'a> {
-    /// An empty block of the file with this number.
+    /// The event of an empty block of the file with this id.
     pub fn new(file_id: u32) -> Self
         ensures { result ≡ record { file_id = file_id; block_data = [] } }
     {
@@ -33,7 +34,7 @@ impl<'a> BeginLoadQueryEvent<'a> {
         }
     }
 
-    /// The event with this number of the file.
+    /// The same event with another file id.
     pub fn with_file_id(mut self, file_id: u32) -> Self
         ensures { result ≡ record self.entry { file_id = file_id } }
     {
@@ -41,7 +42,7 @@ impl<'a> BeginLoadQueryEvent<'a> {
         self
     }
 
-    /// The event with this block.
+    /// The same event with another block.
     pub fn with_block_data(mut self, block_data: CowSlice<'a, u8>) -> Self
         ensures { result ≡ record self.entry { block_data = cow_slice_items block_data.entry } }
     {
@@ -49,7 +50,7 @@ impl<'a> BeginLoadQueryEvent<'a> {
         self
     }
 
-    /// The number of the file, which other events speak of.
+    /// The id of the file, by which later events refer to it.
     pub fn file_id(&self) -> u32
         ensures { result ≡ self.now.file_id }
     {
@@ -63,7 +64,7 @@ impl<'a> BeginLoadQueryEvent<'a> {
         self.block_data.as_bytes()
     }
 
-    /// The same event, with its bytes owned; refused by [`Error::Memory`] alone.
+    /// The same event with owned bytes. The only error is [`Error::Memory`].
     pub fn into_owned(self, alloc: Global) -> Result<BeginLoadQueryEvent<'static>, Error>
         ensures ok { IfOk result (λ owned. owned ≡ self.entry) }
         ensures memory { IsOkUnless result Memory }
@@ -75,7 +76,7 @@ impl<'a> BeginLoadQueryEvent<'a> {
         })
     }
 
-    /// The same event once more: lent bytes stay lent, and owned ones are copied. Refused by [`Error::Memory`] alone.
+    /// A copy: borrowed bytes stay borrowed, and owned ones are copied. The only error is [`Error::Memory`].
     pub fn clone(&self, alloc: Global) -> Result<Self, Error>
         ensures ok { IfOk result (λ copy. copy ≡ self.now) }
         ensures memory { IsOkUnless result Memory }
@@ -88,7 +89,7 @@ impl<'a> BeginLoadQueryEvent<'a> {
     }
 }
 
-/// [`Error::EndOfBody`] where fewer than 4 bytes are there, and no other error.
+/// The only error is [`Error::EndOfBody`], where there are fewer than 4 bytes.
 impl<'de> MyDeserialize<'de> for BeginLoadQueryEvent<'de> {
     const SIZE: Option<usize> = None;
 

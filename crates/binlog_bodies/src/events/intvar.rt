@@ -1,4 +1,4 @@
-//! The event of an integer variable, an auto-increment value or the last insert id.
+//! INTVAR: the last insert id, or an auto-increment value.
 ghost use Rattle.std.specs.Prelude.{◌≡◌, Some, refl};
 ghost use Rattle.binlog_bodies.specs.Intvar.{intvar};
 
@@ -7,13 +7,14 @@ use binlog_description::{BinlogCtx, BinlogEvent};
 use binlog_wire::{Const, Error, IntRepr, LeU64, MyDeserialize, ParseBuf, Put, RawInt};
 use std::alloc::Global;
 
-/// The length of the body in bytes.
+/// The size of the body in bytes.
 const INTVAR_LEN: usize = 9;
 
-/// An integer variable that the next statement uses: an automatic value or the last inserted id.
+/// The INTVAR event (type 5): an integer variable that the next statement uses, LAST_INSERT_ID or INSERT_ID.
 ///
-/// Its body is one unit of 9 bytes: which variable it is, 1 byte, 0 to 2, and its value, 8 bytes. See "INTVAR_EVENT"
-/// in MySQL's internals documentation.
+/// Its body is one unit of 9 bytes: the subtype, 1 byte, 0 to 2, and the value, 8 bytes, little-endian.
+///
+/// Source: "INTVAR_EVENT" in MySQL's internals documentation.
 #[derive(Clone, Copy, Debug, PartialEq, Eq, Hash)]
 pub struct IntvarEvent {
     subtype: IntvarEventType,
@@ -21,14 +22,14 @@ pub struct IntvarEvent {
 }
 
 impl IntvarEvent {
-    /// This variable has this value.
+    /// The event of this variable and value.
     pub fn new(subtype: IntvarEventType, value: u64) -> Self
         ensures { result ≡ record { subtype = subtype; value = value } }
     {
         IntvarEvent { subtype, value }
     }
 
-    /// The event with this variable.
+    /// The same event with another variable.
     pub fn with_subtype(mut self, subtype: IntvarEventType) -> Self
         ensures { result ≡ record self { subtype = subtype } }
     {
@@ -36,7 +37,7 @@ impl IntvarEvent {
         self
     }
 
-    /// The event with this value.
+    /// The same event with another value.
     pub fn with_value(mut self, value: u64) -> Self
         ensures { result ≡ record self { value = value } }
     {
@@ -44,14 +45,14 @@ impl IntvarEvent {
         self
     }
 
-    /// Which variable it is.
+    /// The variable.
     pub fn subtype(&self) -> IntvarEventType
         ensures { result ≡ self.now.subtype }
     {
         self.subtype
     }
 
-    /// The variable's value.
+    /// The value of the variable.
     pub fn value(&self) -> u64
         ensures { result ≡ self.now.value }
     {
@@ -59,8 +60,10 @@ impl IntvarEvent {
     }
 }
 
-/// [`Error::EndOfBody`] where fewer than 9 bytes are there, and else [`Error::InvalidData`] where the variable's number
-/// is above 2.
+/// # Errors
+///
+/// - [`Error::EndOfBody`] where there are fewer than 9 bytes;
+/// - else [`Error::InvalidData`] where the subtype is above 2 (`Subtype`).
 impl<'de> MyDeserialize<'de> for IntvarEvent {
     const SIZE: Option<usize> = Some(9);
 

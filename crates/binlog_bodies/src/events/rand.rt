@@ -1,4 +1,4 @@
-//! The event of the two seeds of `RAND()`.
+//! RAND: the seeds of `RAND()`.
 ghost use Rattle.std.specs.Prelude.{Some, refl};
 ghost use Rattle.binlog_bodies.specs.Rand.{rand};
 
@@ -7,12 +7,14 @@ use binlog_description::{BinlogCtx, BinlogEvent};
 use binlog_wire::{Error, LeU64, MyDeserialize, ParseBuf, Put, RawInt};
 use std::alloc::Global;
 
-/// The length of the body in bytes.
+/// The size of the body in bytes.
 const RAND_LEN: usize = 16;
 
-/// The seeds of the random numbers that the next statement uses.
+/// The RAND event (type 13): the seeds that `RAND()` uses in the next statement.
 ///
-/// Its body is one unit of 16 bytes: the two seeds, 8 bytes each. See "RAND_EVENT" in MySQL's internals documentation.
+/// Its body is one unit of 16 bytes: the two seeds, 8 bytes each, little-endian.
+///
+/// Source: "RAND_EVENT" in MySQL's internals documentation.
 #[derive(Clone, Debug, PartialEq, Eq, Hash, Drop)]
 pub struct RandEvent {
     /// The first seed.
@@ -21,7 +23,7 @@ pub struct RandEvent {
     pub seed2: RawInt<LeU64>,
 }
 
-/// [`Error::EndOfBody`] where fewer than 16 bytes are there, and no other error.
+/// The only error is [`Error::EndOfBody`], where there are fewer than 16 bytes.
 impl<'de> MyDeserialize<'de> for RandEvent {
     const SIZE: Option<usize> = Some(16);
 

@@ -1,4 +1,4 @@
-//! The event of the statement that the row events behind it come from.
+//! ROWS_QUERY: the statement that the following row events come from.
 ghost use Rattle.std.specs.Prelude.{◌≡◌, IfOk, IsOkUnless, refl};
 ghost use Rattle.std.specs.Cow.{cow_slice_items, cow_str_bytes};
 ghost use Rattle.std.specs.Str.Lossy.{utf8_lossy};
@@ -11,17 +11,18 @@ use binlog_wire::{EofBytes, Error, IntRepr, MyDeserialize, ParseBuf, Put, RawByt
 use std::alloc::Global;
 use std::borrow::{CowSlice, CowStr};
 
-/// The statement that made the row events behind it.
+/// The ROWS_QUERY event (type 29): the statement that the following row events come from.
 ///
-/// Its body is one byte that says nothing and is written as 0, and the statement, to the end. See "ROWS_QUERY_EVENT"
-/// in MySQL's internals documentation.
+/// Its body is one reserved byte, which is written as 0, and the statement, to the end.
+///
+/// Source: "ROWS_QUERY_EVENT" in MySQL's internals documentation.
 #[derive(Debug, PartialEq, Eq, Hash, Drop)]
 pub struct RowsQueryEvent<'a> {
     query: RawBytes<'a, EofBytes>,
 }
 
 impl<'a> RowsQueryEvent<'a> {
-    /// This statement made the row events.
+    /// The event of this statement.
     pub fn new(query: CowSlice<'a, u8>) -> Self
         ensures { result ≡ record { query = cow_slice_items query.entry } }
     {
@@ -36,7 +37,8 @@ impl<'a> RowsQueryEvent<'a> {
         self.query.as_bytes()
     }
 
-    /// The statement as UTF-8 text, with U+FFFD in place of what isn't; refused by [`Error::Memory`] alone.
+    /// The statement as UTF-8 text, with U+FFFD in place of each malformed sequence. The only error is
+    /// [`Error::Memory`].
     pub fn query(&self, alloc: Global) -> Result<CowStr<'_, Global>, Error>
         ensures ok { IfOk result (λ text. cow_str_bytes text ≡ utf8_lossy self.now.query) }
         ensures memory { IsOkUnless result Memory }
@@ -44,7 +46,7 @@ impl<'a> RowsQueryEvent<'a> {
         self.query.as_str(alloc)
     }
 
-    /// The same event, with its bytes owned; refused by [`Error::Memory`] alone.
+    /// The same event with owned bytes. The only error is [`Error::Memory`].
     pub fn into_owned(self, alloc: Global) -> Result<RowsQueryEvent<'static>, Error>
         ensures ok { IfOk result (λ owned. owned ≡ self.entry) }
         ensures memory { IsOkUnless result Memory }
@@ -53,7 +55,7 @@ impl<'a> RowsQueryEvent<'a> {
         Ok(RowsQueryEvent { query })
     }
 
-    /// The same event once more: lent bytes stay lent, and owned ones are copied. Refused by [`Error::Memory`] alone.
+    /// A copy: borrowed bytes stay borrowed, and owned ones are copied. The only error is [`Error::Memory`].
     pub fn clone(&self, alloc: Global) -> Result<Self, Error>
         ensures ok { IfOk result (λ copy. copy ≡ self.now) }
         ensures memory { IsOkUnless result Memory }
@@ -63,7 +65,7 @@ impl<'a> RowsQueryEvent<'a> {
     }
 }
 
-/// [`Error::EndOfBody`] where no byte is there, and no other error.
+/// The only error is [`Error::EndOfBody`], where there are no bytes.
 impl<'de> MyDeserialize<'de> for RowsQueryEvent<'de> {
     const SIZE: Option<usize> = None;
 

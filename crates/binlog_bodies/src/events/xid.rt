@@ -1,4 +1,4 @@
-//! The event that ends a transaction.
+//! XID: the commit of a transaction.
 ghost use Rattle.std.specs.Prelude.{refl};
 ghost use Rattle.binlog_consts.specs.declared.event_type.EventType.TheVariants.{XID_EVENT};
 ghost use Rattle.binlog_description.specs.DescriptionRefs.{description_of};
@@ -10,20 +10,22 @@ use binlog_description::{BinlogCtx, BinlogEvent};
 use binlog_wire::{Error, IntRepr, LeU64, MyDeserialize, ParseBuf, Put};
 use std::alloc::Global;
 
-/// The length of the written body in bytes.
+/// The size of the written body in bytes.
 const XID_LEN: usize = 8;
 
-/// The end of a transaction of a storage engine with two-phase commit.
+/// The XID event (type 16): the commit of a transaction in an engine with two-phase commit.
 ///
-/// Its body is as many bytes as the format description states for the post-header, which say nothing and aren't
-/// written, and the number of the transaction, 8 bytes. See "XID_EVENT" in MySQL's internals documentation.
+/// Its body is a post-header of the length that the format description states, which is reserved and isn't written,
+/// and the transaction's id, 8 bytes, little-endian.
+///
+/// Source: "XID_EVENT" in MySQL's internals documentation.
 #[derive(Clone, Copy, Debug, PartialEq, Eq, Hash)]
 pub struct XidEvent {
-    /// The number of the transaction.
+    /// The transaction's id.
     pub xid: u64,
 }
 
-/// [`Error::EndOfBody`] where fewer bytes are there, and no other error.
+/// The only error is [`Error::EndOfBody`], where there are fewer bytes than the post-header and 8.
 impl<'de> MyDeserialize<'de> for XidEvent {
     const SIZE: Option<usize> = None;
 

@@ -2,11 +2,11 @@ use super::print_events;
 use std::io;
 use std::io::Write;
 
-/// A file of events of 27 and of 19 bytes.
+/// A file with events of 27 and of 19 bytes.
 const TWO_EVENTS: &[u8] = b"\xfebin\0\0\0\0\x10\x01\0\0\0\x1b\0\0\0\0\0\0\0\0\0\x0b\0\0\0\0\0\0\0\
     \0\0\0\0\x03\x01\0\0\0\x13\0\0\0\0\0\0\0\0\0";
 
-// Takes all bytes, and counts its flushes and the ends of lines.
+// Accepts all bytes, and counts flushes and line feeds.
 #[derive(Drop)]
 struct FlushedWriter {
     flushes: u64,

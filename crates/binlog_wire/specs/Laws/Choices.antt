@@ -1,4 +1,4 @@
--- Fields that may be absent: by nothing, by a byte before them, or by how many bytes are left.
+-- Optional fields: absent always, by the byte before them, or by the number of bytes left.
 use Rattle.std.proofs.Common.{◌≡◌, ℕ, zero, suc, Bool, true, false, cond, ltb, List, [], ◌∷◌, length, Ok, refl, subst, inl, inr}
 use Rattle.std.proofs.lemmas.Bool.{ltb-false, ltb-true, le-ltb, lt-ltb}
 use Rattle.binlog_wire.specs.Reading.{Read}
@@ -13,7 +13,7 @@ keeps_silent {V} x = record {
   complete = λ s v r h. rw (h.0, h.1) refl;
 }
 
--- ---- a byte chooses
+-- ---- a byte selects
 
 either_sound : {V : Type 0} {F : List ℕ → V → List ℕ → Type 0} {G : List ℕ → V → List ℕ → Type 0} {f : List ℕ → Read V} {g : List ℕ → Read V}
     → KeepsTo F f → KeepsTo G g → (s : List ℕ) (x : V × List ℕ) → IsBytes s → either_at f g s ≡ Ok x → IsEither F G s x.0 x.1 × IsBytes x.1
@@ -32,7 +32,7 @@ pub keeps_either : {V : Type 0} {F : List ℕ → V → List ℕ → Type 0} {G 
     → KeepsTo F f → KeepsTo G g → KeepsTo (IsEither F G) (either_at f g)
 keeps_either kf kg = record { sound = either_sound kf kg; complete = either_complete kf kg }
 
--- ---- a byte, if one is left
+-- ---- a byte where one is left
 
 byte_if_left_sound : (s : List ℕ) (x : ℕ × List ℕ) → IsBytes s → byte_if_left_at s ≡ Ok x → IsByteIfLeft s x.0 x.1 × IsBytes x.1
 byte_if_left_sound [] x fits e =
@@ -49,7 +49,7 @@ byte_if_left_complete s b r (inr (e, lt)) = rw e refl
 pub keeps_byte_if_left : KeepsTo IsByteIfLeft byte_if_left_at
 keeps_byte_if_left = record { sound = byte_if_left_sound; complete = byte_if_left_complete }
 
--- ---- how many bytes are left chooses
+-- ---- the number of bytes left decides
 
 present_from_sound : {V : Type 0} {F : List ℕ → V → List ℕ → Type 0} {f : List ℕ → Read V} (n : ℕ) (x : V) → KeepsTo F f
     → (s : List ℕ) (y : V × List ℕ) → IsBytes s → (b : Bool) → ltb (length s) n ≡ b → cond b (silent_at x s) (f s) ≡ Ok y

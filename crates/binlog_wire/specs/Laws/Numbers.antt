@@ -1,4 +1,4 @@
--- Numbers of k bytes: any, those that are allowed, and those that stand for something.
+-- Numbers of k bytes: any, allowed ones, and codes.
 use Rattle.std.proofs.Common.{◌≡◌, ℕ, zero, suc, ◌+◌, ◌*◌, ◌/◌, ◌%◌, ◌^◌, ◌<◌, ◌≤◌, Bool, false, ltb, List, [], ◌∷◌, ◌++◌, length, take, drop, Result, Ok, Err, refl, sym, ap, subst, ◌∙◌, arith}
 use Rattle.std.proofs.Math.Nat.{div-div-eq-div-mul, pow-succ'}
 use Rattle.std.specs.Int.{bytes_low_first}
@@ -11,7 +11,7 @@ use Rattle.binlog_wire.specs.Reading.{ends, invalid}
 use Rattle.binlog_wire.specs.Fields.{IsBytes, IsNumber, number_at, IsAllowed, allow, allowed_at, IsCoded, meant, coded_at}
 use Rattle.binlog_wire.specs.Laws.{KeepsTo, IsBytes-drop, bind_ok, guard_ok, allow_ok}
 
--- the bytes from the second on are those of the number without its first byte
+-- The bytes of a number from its second on are those of the number divided by 256.
 bytes_low_first-shift : (i k n : ℕ) → bytes_low_first (suc i) k n ≡ bytes_low_first i k (n / 256)
 bytes_low_first-shift i zero n = refl
 bytes_low_first-shift zero (suc k) n = ap (λ (t : List ℕ). n / 256 % 256 ∷ t) (bytes_low_first-shift 1 k n)
@@ -19,7 +19,7 @@ bytes_low_first-shift (suc i) (suc k) n =
     let e : n / 256 ^ suc (suc i) ≡ n / 256 / 256 ^ suc i = ap (λ (p : ℕ). n / p) (pow-succ' 256 (suc i)) ∙ sym (div-div-eq-div-mul n 256 (256 ^ suc i)) in
     rw (e, bytes_low_first-shift (suc (suc i)) k n) refl
 
--- the bytes of the number that k bytes make are those bytes
+-- Encoding the number that k bytes make gives these bytes.
 pub little_bytes-little_number : (k : ℕ) (s : List ℕ) → IsBytes s → k ≤ length s → little_bytes k (little_number k s) ≡ take k s
 little_bytes-little_number zero s fits h = refl
 little_bytes-little_number (suc k) [] fits h = absurd (omega arith)
@@ -31,11 +31,11 @@ little_bytes-little_number (suc k) (b ∷ s) fits h =
     let high : (b + 256 * little_number k s) / 256 ≡ little_number k s = omega arith in
     rw (moved, low, bytes_low_first-shift 0 k (b + 256 * little_number k s), high, ih) refl
 
--- a number of k bytes takes k bytes
+-- The encoding of a number in k bytes has k bytes.
 pub length-little_bytes : (k n : ℕ) → length (little_bytes k n) ≡ k
 length-little_bytes k n = length-bytes_low_first 0 k n
 
--- what spells a number of k bytes is k bytes longer than what follows
+-- Bytes that encode a number of k bytes are k bytes longer than the rest.
 pub length-number : (k : ℕ) (s : List ℕ) (n : ℕ) (r : List ℕ) → IsNumber k s n r → length s ≡ k + length r
 length-number k s n r h = ap length h.1 ∙ length-append (little_bytes k n) r ∙ ap (λ (m : ℕ). m + length r) (length-little_bytes k n)
 
@@ -63,13 +63,13 @@ keeps_allowed k allowed why = record {
   complete = λ s n r h. rw ((keeps_number k).complete s n r h.0, h.1) refl;
 }
 
--- The law of every table of codes: decoding undoes the code, and nothing else is decoded.
+-- The law of a table of codes: decoding inverts `code`, and decodes nothing else.
 pub record IsCode {E W : Type 0} (k : ℕ) (code : E → ℕ) (decoded : ℕ → Result E W) : Type 0 where
-  -- each code fits k bytes
+  -- Each code fits in k bytes.
   pub fits : (e : E) → code e < 256 ^ k
-  -- a code stands for what it is the code of
+  -- A code decodes to its value.
   pub again : (e : E) → decoded (code e) ≡ Ok e
-  -- only a code stands for something
+  -- Only the code of a value decodes to it.
   pub only : (n : ℕ) (e : E) → decoded n ≡ Ok e → n ≡ code e
 
 meant_ok : {E : Type 0} (d : Result E Invalid) (rest : List ℕ) (x : E × List ℕ) → meant d rest ≡ Ok x → (d ≡ Ok x.0) × (rest ≡ x.1)

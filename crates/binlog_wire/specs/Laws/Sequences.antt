@@ -1,4 +1,4 @@
--- Fields one after the other, in one unit, behind skipped bytes, and seen as another value.
+-- Fields in sequence, in one unit, after reserved bytes, and mapped to another value.
 use Rattle.std.proofs.Common.{◌≡◌, ℕ, ◌≤◌, ltb, List, length, Ok, refl, sym, ap, subst}
 use Rattle.std.proofs.lemmas.Bool.{le-ltb}
 use Rattle.binlog_wire.specs.Reading.{ends, Read, ◌>>=◌, read_as}
@@ -20,7 +20,7 @@ keeps_then {A} {B} {F} {G} {f} {g} kf kg = record {
       rw (kf.complete s v.0 h.0 h.1, (kg v.0).complete h.0 v.1 r h.2) refl;
 }
 
--- a unit of k bytes, which are there wherever its fields are
+-- Reading a unit of k bytes is sound and complete, where every encoding of its fields has at least k bytes.
 pub keeps_unit : {A : Type 0} {F : List ℕ → A → List ℕ → Type 0} {f : List ℕ → Read A} (k : ℕ)
     → ((s : List ℕ) (v : A) (r : List ℕ) → F s v r → k ≤ length s)
     → KeepsTo F f → KeepsTo F (unit_at k f)
@@ -39,7 +39,7 @@ keeps_skipped {V} {F} {f} k kf = record {
   complete = λ s v r h. rw ((keeps_block k).complete s h.0 h.1 h.2) (kf.complete h.1 v r h.3);
 }
 
--- the same bytes seen as another value, from which the first comes back wherever bytes spell it
+-- The value mapped by `to`, where `from` inverts `to` on every value that bytes encode.
 pub keeps_seen_as_spelled : {A B : Type 0} {F : List ℕ → A → List ℕ → Type 0} {f : List ℕ → Read A} (to : A → B) (from : B → A)
     → ((s : List ℕ) (a : A) (r : List ℕ) → F s a r → from (to a) ≡ a) → ((b : B) → to (from b) ≡ b)
     → KeepsTo F f → KeepsTo (IsSeenAs from F) (λ s. read_as to (f s))
@@ -53,13 +53,13 @@ keeps_seen_as_spelled {A} {B} {F} {f} to from back forth k = record {
   complete = λ s b r h. rw (k.complete s (from b) r h) (ap (λ (z : B). Ok (z, r)) (forth b));
 }
 
--- the same where the first always comes back
+-- The value mapped by `to`, where `from` always inverts it.
 pub keeps_seen_as : {A B : Type 0} {F : List ℕ → A → List ℕ → Type 0} {f : List ℕ → Read A} (to : A → B) (from : B → A)
     → ((a : A) → from (to a) ≡ a) → ((b : B) → to (from b) ≡ b)
     → KeepsTo F f → KeepsTo (IsSeenAs from F) (λ s. read_as to (f s))
 keeps_seen_as to from back forth k = keeps_seen_as_spelled to from (λ s a r h. back a) forth k
 
--- the same bytes seen as a value that is made of the first
+-- The value mapped by `to`, with no inverse.
 pub keeps_made : {A B : Type 0} {F : List ℕ → A → List ℕ → Type 0} {f : List ℕ → Read A} (to : A → B) → KeepsTo F f → KeepsTo (IsMade to F) (λ s. read_as to (f s))
 keeps_made {A} {B} {F} {f} to k = record {
   sound = λ s x fits e.

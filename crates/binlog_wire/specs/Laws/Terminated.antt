@@ -1,4 +1,4 @@
--- Bytes that end before a zero byte.
+-- Zero-terminated strings.
 use Rattle.std.proofs.Common.{◌≡◌, ℕ, zero, suc, ◌+◌, ◌<◌, ◌≤◌, List, [], ◌∷◌, ◌++◌, length, take, drop, Option, None, Some, Ok, Err, refl, sym, ap, subst, arith, ◌∙◌}
 use Rattle.std.proofs.lemmas.Bool.{eqb-true}
 use Rattle.std.specs.Prelude.{MatchOption, ◌-◌}
@@ -30,19 +30,19 @@ keeps_terminated = record {
   complete = λ s v r h. rw h.1 (terminated_complete v r h.0);
 }
 
--- a byte is zero, and with it a whole unit is there
+-- An encoding has at least one byte, the terminator.
 pub terminated_long : (s text r : List ℕ) → IsTerminated s text r → 1 + length r ≤ length s
 terminated_long s text r h = rw h.1 (omega (arith, length-append text (0 ∷ r)))
 
--- ---- where a search says that the first zero byte stands
+-- ---- the result of `memchr`
 
--- nowhere
+-- No zero byte is found.
 pub terminated_nowhere : (s : List ℕ) → Nowhere (Passes (is_byte 0) s) 0 (length s) → terminated_at s ≡ Err ends
 terminated_nowhere [] none = refl
 terminated_nowhere (zero ∷ s) none = absurd (none 0 (omega arith) (omega arith) refl)
 terminated_nowhere (suc b ∷ s) none = rw (terminated_nowhere s (λ k low high is. none (suc k) (omega arith) (omega arith) is)) refl
 
--- at this place
+-- The first zero byte is found at this offset.
 pub terminated_first : (s : List ℕ) (place : ℕ) → NoneBefore (Passes (is_byte 0) s) 0 (length s) place → Passes (is_byte 0) s place
     → terminated_at s ≡ Ok (take place s, drop (suc place) s)
 terminated_first [] place first is = absurd (omega (arith, first.high))
@@ -55,7 +55,7 @@ terminated_first (suc b ∷ s) (suc place) first is =
     = record { low = omega arith; high = high; before = λ k low less at. first.before (suc k) (omega arith) (omega arith) at } in
     rw (terminated_first s place later is) refl
 
--- as a search answers
+-- The result of reading is that of the search.
 pub terminated_search : (s : List ℕ) (found : Option ℕ) → IsFirstByte (is_byte 0) s found
     → MatchOption found (terminated_at s ≡ Err ends) (λ place. terminated_at s ≡ Ok (take place s, take (length s - (place + 1)) (drop (place + 1) s)))
 terminated_search s None none = terminated_nowhere s none

@@ -1,4 +1,4 @@
--- Bytes: k of them, all that are left, and those behind their own length.
+-- Byte strings: of k bytes, to the end, and after a length prefix.
 use Rattle.std.proofs.Common.{◌≡◌, ℕ, ◌-◌, ◌≤◌, false, ltb, List, [], ◌++◌, length, take, drop, replicate, Ok, refl, sym, subst, arith}
 use Rattle.std.proofs.lemmas.Bool.{ltb-false, le-ltb}
 use Rattle.std.proofs.lemmas.List.{take_at, drop_at, take-append-drop, append-nil, length-append, length-replicate, length-take, take_all}
@@ -39,15 +39,15 @@ keeps_text k = record {
       rw ((keeps_number k).complete s (length v) h.0 h.1, (keeps_block (length v)).complete h.0 v r (refl, h.2)) refl;
 }
 
--- ---- bytes that are filled up with zeros
+-- ---- padding with zeros
 
--- k bytes in all
+-- A padded string has k bytes.
 pub length-padded : (k : ℕ) (s : List ℕ) → length (padded k s) ≡ k
 length-padded k s =
     let missing : ℕ = k - length (take k s) in
     omega (arith, length-append (take k s) (replicate missing 0), length-take k s, length-replicate {A = ℕ} missing 0)
 
--- k bytes are left as they are
+-- A string of k bytes needs no padding.
 pub padded_all : (k : ℕ) (s : List ℕ) → length s ≡ k → padded k s ≡ s
 padded_all k s e =
     let all : take k s ≡ s = take_all k s (omega arith) in

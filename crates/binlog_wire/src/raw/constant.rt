@@ -1,4 +1,4 @@
-//! Constants of the format, numbers that stand for a value of a table, and bytes that are skipped.
+//! Integer codes, known ones and any, and reserved bytes.
 ghost use Rattle.std.specs.Prelude.{◌≡◌, Result, List, ℕ};
 ghost use Rattle.binlog_wire.specs.declared.error.Invalid.{Invalid};
 ghost use Rattle.binlog_wire.specs.Reading.{read_as};
@@ -11,28 +11,28 @@ use crate::traits::{MyDeserialize, Put};
 use std::alloc::Global;
 use std::marker::PhantomData;
 
-/// A value that a number stands for in a body, where any other number is invalid.
+/// A value that is encoded as an integer code; any other integer is invalid in its place.
 pub trait Constant<P>: Copy {
     ghost decoded: { P → Result Self Invalid };
 
     ghost code: { Self → P };
 
-    /// The value that the number stands for, or why it stands for none.
+    /// The value whose code this is, or why there is none.
     fn from_number(number: P) -> Result<Self, Invalid>
         ensures { result ≡ decoded number };
 
-    /// The number that stands for the value.
+    /// The code of the value.
     fn number(self) -> P
         ensures { result ≡ code self };
 }
 
-/// A value that has to be one of those that a number stands for, in the bytes that its kind `K` says.
+/// A value that is encoded as an integer code of kind `K`. Reading any other integer is [`Error::InvalidData`].
 #[derive(Drop)]
 #[derive_where(Clone, Debug, PartialEq, Eq, Hash; E)]
 pub struct Const<E: Copy, K>(pub E, #[derive_where(skip)] PhantomData<K>);
 
 impl<E: Copy, K> Const<E, K> {
-    /// The value, under this kind.
+    /// Wraps the value.
     pub fn new(value: E) -> Self
         ensures { result.0 ≡ value }
     {
@@ -76,13 +76,13 @@ impl<K: IntRepr, E: Constant<K::Primitive>> Put for Const<E, K> {
     }
 }
 
-/// A number, in the bytes that its kind `K` says, that may stand for a value `E` or for none.
+/// An integer code of kind `K`, which may be that of a value `E` or unknown. Reading accepts any integer.
 #[derive(Drop)]
 #[derive_where(Clone, Debug, PartialEq, Eq, Hash; K::Primitive)]
 pub struct RawConst<K: IntRepr, E>(pub K::Primitive, #[derive_where(skip)] PhantomData<E>);
 
 impl<K: IntRepr, E> RawConst<K, E> {
-    /// The number, whatever it stands for.
+    /// Wraps the code, whether known or not.
     pub fn new(number: K::Primitive) -> Self
         ensures { result.0 ≡ number }
     {
@@ -91,7 +91,7 @@ impl<K: IntRepr, E> RawConst<K, E> {
 }
 
 impl<K: IntRepr, E: TryFrom<K::Primitive>> RawConst<K, E> {
-    /// The value that the number stands for, or the unknown number.
+    /// The value whose code this is, or the error of `E::try_from` for an unknown code.
     pub fn get(&self) -> Result<E, E::Error>
         ensures { E.try_from_gives self.now.0 result }
     {
@@ -133,7 +133,7 @@ impl<K: IntRepr, E> Put for RawConst<K, E> {
     }
 }
 
-/// `N` bytes that may hold anything when they are read, and that are written as zeros.
+/// `N` reserved bytes: they may hold anything when they are read, and are written as zeros.
 #[derive(Clone, Copy, Debug, PartialEq, Eq, Hash, Default)]
 pub struct Skip<const N: usize>;
 

@@ -1,4 +1,4 @@
-//! Sets of flags.
+//! Flag sets.
 ghost use Rattle.std.specs.Prelude.{◌≡◌};
 ghost use Rattle.std.specs.Int.RustNames.{bit_and};
 ghost use Rattle.bitflags.specs.Sets.{known_bits};
@@ -12,13 +12,13 @@ use bitflags::Flags;
 use std::alloc::Global;
 use std::marker::PhantomData;
 
-/// The number of a set of flags `F`, in the bytes that its kind `K` says. Bits that no flag has are kept.
+/// A set of flags `F`, kept as the integer of kind `K` that encodes it. Bits that `F` doesn't define are kept.
 #[derive(Drop)]
 #[derive_where(Clone, Debug, PartialEq, Eq, Hash; K::Primitive)]
 pub struct RawFlags<F, K: IntRepr>(pub K::Primitive, #[derive_where(skip)] PhantomData<F>);
 
 impl<F, K: IntRepr> RawFlags<F, K> {
-    /// The set with this number.
+    /// The set whose bits are `number`.
     pub fn new(number: K::Primitive) -> Self
         ensures { result.0 ≡ number }
     {
@@ -27,7 +27,7 @@ impl<F, K: IntRepr> RawFlags<F, K> {
 }
 
 impl<F: Flags, K: IntRepr<Primitive = F::Bits>> RawFlags<F, K> {
-    /// The flags that are known.
+    /// The flags that `F` defines; other bits are left out.
     pub fn get(&self) -> F
         ensures { F.exact → F.set_of result ≡ bit_and (F.Bits.pattern self.now.0) (known_bits F.table) }
     {
@@ -35,7 +35,7 @@ impl<F: Flags, K: IntRepr<Primitive = F::Bits>> RawFlags<F, K> {
     }
 }
 
-/// No flags.
+/// The empty set.
 impl<F, K: IntRepr> Default for RawFlags<F, K>
 where
     K::Primitive: Default,

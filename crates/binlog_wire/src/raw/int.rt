@@ -1,4 +1,4 @@
-//! Numbers as fields: their widths, and numbers as they stand.
+//! Integer encodings, and integers as fields.
 ghost use Rattle.std.specs.Prelude.{◌≡◌, ◌++◌, ◌+◌, ◌^◌, ◌<◌, ◌≤◌, ℕ, List, Option, Some, OnOk, OnErr, IfOk, IsOkUnless, length, vec_len, vec_capacity};
 ghost use Rattle.std.specs.Int.{w8, cast_signed, cast_unsigned};
 ghost use Rattle.byteorder.specs.Endian.{little_bytes};
@@ -13,13 +13,13 @@ use byteorder::{ByteOrder, LittleEndian};
 use std::alloc::Global;
 use std::marker::PhantomData;
 
-/// How a number stands in bytes.
+/// An encoding of an integer.
 ///
-/// `reads` is what reading it from the front of bytes gives, and `written` the bytes that are written for it.
+/// `reads` is what reading one from the start of bytes gives, and `written` is its encoding.
 pub trait IntRepr {
-    /// The type of the number.
+    /// The integer type.
     type Primitive: Copy;
-    /// How many bytes it takes, where that is always the same.
+    /// The size of the encoding in bytes, where it is fixed.
     const SIZE: Option<usize>;
 
     ghost SIZE: { Option ℕ };
@@ -28,16 +28,17 @@ pub trait IntRepr {
 
     ghost written: { Self.Primitive → List ℕ };
 
-    /// Takes a number off the front of `buf`; [`Error::EndOfBody`] where the bytes end within it. No memory is taken.
+    /// Takes an integer from the start of `buf`; [`Error::EndOfBody`] where the bytes end within it,
+    /// [`Error::InvalidData`] where its first byte isn't allowed. No memory is allocated.
     fn read(buf: &mut ParseBuf<'_>) -> Result<Self::Primitive, Error>
         ensures { Gives ⊥ buf.new result (reads buf.old) };
 
-    /// How many bytes are written for the number, 1 to 9.
+    /// The length of the encoding in bytes, 1 to 9.
     fn written_len(number: Self::Primitive) -> usize
         ensures count { result ≡ length (written number) }
         ensures small { result ≤ 9 };
 
-    /// Appends the bytes of the number, where `buf` has room for them.
+    /// Appends the encoding of the integer; `buf` has the capacity.
     fn put(number: Self::Primitive, buf: &mut Vec<u8>)
         requires { vec_len buf.old + length (written number) ≤ vec_capacity buf.old }
         ensures items { buf.new.items ≡ buf.old.items ++ written number }
@@ -45,7 +46,7 @@ pub trait IntRepr {
         ensures capacity { vec_capacity buf.old ≤ vec_capacity buf.new };
 }
 
-/// A byte.
+/// An unsigned integer in one byte.
 impl IntRepr for u8 {
     type Primitive = u8;
 
@@ -75,7 +76,7 @@ impl IntRepr for u8 {
     }
 }
 
-/// A signed number of one byte, in two's complement.
+/// A signed integer in one byte, in two's complement.
 impl IntRepr for i8 {
     type Primitive = i8;
 
@@ -104,7 +105,7 @@ impl IntRepr for i8 {
     }
 }
 
-/// A number of two bytes, least byte first.
+/// A little-endian integer in two bytes.
 #[derive(Drop)]
 pub struct LeU16;
 
@@ -140,7 +141,7 @@ impl IntRepr for LeU16 {
     }
 }
 
-/// A number of four bytes, least byte first.
+/// A little-endian integer in four bytes.
 #[derive(Drop)]
 pub struct LeU32;
 
@@ -176,7 +177,7 @@ impl IntRepr for LeU32 {
     }
 }
 
-/// A number of six bytes, least byte first. Of a number from 2^48 on, the low six bytes are written.
+/// A little-endian integer in six bytes. Of an integer of 2^48 or more, the low six bytes are written.
 #[derive(Drop)]
 pub struct LeU48;
 
@@ -199,7 +200,7 @@ impl IntRepr for LeU48 {
         if buf.0.len() < 6 {
             return Err(Error::EndOfBody);
         }
-        // Two parts, since their types say how large the number can be.
+        // In two parts: the bound 2^48 follows from their types.
         let low = LittleEndian::read_u32(buf.0);
         let high = LittleEndian::read_u16(&buf.0[4..]);
         buf.0 = &buf.0[6..];
@@ -217,7 +218,7 @@ impl IntRepr for LeU48 {
     }
 }
 
-/// A number of seven bytes, least byte first. Of a number from 2^56 on, the low seven bytes are written.
+/// A little-endian integer in seven bytes. Of an integer of 2^56 or more, the low seven bytes are written.
 #[derive(Drop)]
 pub struct LeU56;
 
@@ -253,7 +254,7 @@ impl IntRepr for LeU56 {
     }
 }
 
-/// A number of eight bytes, least byte first.
+/// A little-endian integer in eight bytes.
 #[derive(Drop)]
 pub struct LeU64;
 
@@ -289,13 +290,13 @@ impl IntRepr for LeU64 {
     }
 }
 
-/// A number, in the bytes that its kind `K` says: `u8`, `i8`, [`LeU16`], [`LeU32`], [`LeU48`], [`LeU56`] or [`LeU64`].
+/// An integer in the encoding of its kind `K`: `u8`, `i8`, [`LeU16`], [`LeU32`], [`LeU48`], [`LeU56`] or [`LeU64`].
 #[derive(Drop)]
 #[derive_where(Clone, Debug, PartialEq, Eq, Hash; K::Primitive)]
 pub struct RawInt<K: IntRepr>(pub K::Primitive, #[derive_where(skip)] PhantomData<K>);
 
 impl<K: IntRepr> RawInt<K> {
-    /// The number, under this kind.
+    /// Wraps the integer.
     pub fn new(number: K::Primitive) -> Self
         ensures { result.0 ≡ number }
     {
@@ -303,7 +304,7 @@ impl<K: IntRepr> RawInt<K> {
     }
 }
 
-/// The number 0.
+/// The integer 0.
 impl<K: IntRepr> Default for RawInt<K>
 where
     K::Primitive: Default,

@@ -7,7 +7,7 @@ use Rattle.binlog_gtids.specs.TaggedFields.{Value, at_most, value_of_id}
 use Rattle.binlog_gtids.specs.EntryReading.{value_is, value_refused}
 use Rattle.binlog_gtids.proofs.tagged_fields.read_value.Goals as goal
 
--- a number that is read, and bytes that are, as values
+-- a number that was read, and bytes that were read, as values
 abbrev as_number : Read ℕ → Read Value
 as_number x = read_as (λ n. inl n) x
 

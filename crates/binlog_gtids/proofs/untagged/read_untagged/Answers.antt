@@ -7,7 +7,7 @@ use Rattle.binlog_gtids.specs.declared.gtid_event.GtidEvent.{GtidEvent}
 use Rattle.binlog_gtids.specs.Untagged.{Head, Clock, head, clock, untagged, untagged_of, with_clock, without_clock}
 use Rattle.binlog_gtids.proofs.untagged.read_untagged.Goals as goal
 
--- what follows a head
+-- the bytes after the head
 abbrev whole : Read Head → Read GtidEvent
 whole x = read_decoded untagged_of (x >>= λ a. behind_at 2 clock.reads a.1 >>= λ b. Ok ((a.0, b.0), b.1))
 

@@ -10,7 +10,7 @@ use Rattle.binlog_gtids.specs.declared.previous_gtids_sid.PreviousGtidsSid.{Prev
 use Rattle.binlog_gtids.specs.PreviousGtids.{previous_gtids, has_tags, count_in, sid_in, event_of}
 use Rattle.binlog_gtids.proofs.previous_gtids_event.PreviousGtidsEventMyDeserialize.deserialize.Goals as goal
 
--- the event of the entries behind the first number
+-- the event with the entries after the first number
 abbrev behind_head : ℕ → Read (List PreviousGtidsSid) → Read PreviousGtidsEvent
 behind_head head x = read_as event_of (read_decoded {P = ℕ × List PreviousGtidsSid} (λ x. Ok x.1) (x >>= λ b. Ok ((head, b.0), b.1)))
 
