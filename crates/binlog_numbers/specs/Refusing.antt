@@ -22,3 +22,5 @@ refused_as grows more also errors.FrameMemory x y same h = h
 refused_as grows more also errors.Reader x y same h = h
 refused_as grows more also errors.ReaderInFrame x y same h = h
 refused_as grows more also errors.Writer x y same h = h
+refused_as grows more also (errors.ChecksumMismatch stored computed) x y same h = h
+refused_as grows more also (errors.BadGno number) x y same h = h

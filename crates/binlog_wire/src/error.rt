@@ -107,12 +107,19 @@ pub enum Error {
     /// E16: the writer failed, and it isn't known how much was written.
     #[error("the writer failed")]
     Writer,
+    /// E17: the stored checksum of an event isn't the computed one. Only reading that verifies checksums gives it. Both
+    /// are numbers of four little-endian bytes; the text shows these bytes in their order.
+    #[error("checksum mismatch: stored {:08x}, computed {:08x}", .stored.swap_bytes(), .computed.swap_bytes())]
+    ChecksumMismatch { stored: u32, computed: u32 },
+    /// E18: this transaction number (GNO) isn't in 1 to 2^63 - 1, so that no set of GTIDs holds it.
+    #[error("the transaction number {0} is not in 1 to 9223372036854775807")]
+    BadGno(u64),
 }
 
 impl Error {
     ghost use Rattle.binlog_wire.specs.Errors.{error_number, is_within_frame, is_outside};
 
-    /// The number of the error, 1 to 16, as listings print it.
+    /// The number of the error, 1 to 18, as listings print it.
     pub fn number(&self) -> u8
         ensures { result ≡ error_number self.now }
     {
@@ -133,6 +140,8 @@ impl Error {
             Error::Reader => 14,
             Error::ReaderInFrame => 15,
             Error::Writer => 16,
+            Error::ChecksumMismatch { .. } => 17,
+            Error::BadGno(_) => 18,
         }
     }
 

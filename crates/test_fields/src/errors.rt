@@ -22,6 +22,16 @@ fn sorts_each_error(rt: HostRuntime) {
         (Error::Reader, 14, false, true),
         (Error::ReaderInFrame, 15, true, true),
         (Error::Writer, 16, false, true),
+        (
+            Error::ChecksumMismatch {
+                stored: 0x1c,
+                computed: 0x1b,
+            },
+            17,
+            false,
+            false,
+        ),
+        (Error::BadGno(0), 18, false, false),
     ];
     for (error, number, within_frame, is_outside) in rows {
         assert_eq!(rt; error.number(), number, "of {error:?}");
@@ -77,6 +87,17 @@ fn says_what_is_wrong(rt: HostRuntime) -> Result<(), Fail> {
         (Error::Reader, "the reader failed between events"),
         (Error::ReaderInFrame, "the reader failed within an event"),
         (Error::Writer, "the writer failed"),
+        (
+            Error::ChecksumMismatch {
+                stored: 0x1b,
+                computed: 0x1e_c3_a2_5f,
+            },
+            "checksum mismatch: stored 1b000000, computed 5fa2c31e",
+        ),
+        (
+            Error::BadGno(1 << 63),
+            "the transaction number 9223372036854775808 is not in 1 to 9223372036854775807",
+        ),
     ];
     for (error, text) in rows {
         assert!(rt; format!(in alloc; "{error}")?.as_str() == text);
