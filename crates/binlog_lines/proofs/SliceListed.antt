@@ -8,7 +8,7 @@ use Rattle.std.proofs.lemmas.List.Folds.{list_any-append}
 use Rattle.std.proofs.KnownBytes.{Appends-nil, Appends-trans}
 use Rattle.binlog_wire.specs.declared.error.Error.{Error}
 use Rattle.binlog_wire.specs.declared.error.Error.TheVariants.{Memory, Writer}
-use Rattle.binlog_wire.specs.Errors.{is_outside}
+use Rattle.binlog_wire.specs.Errors.{is_environment_error}
 use Rattle.binlog_events.specs.Events.{EventView}
 use Rattle.binlog_events.specs.EventRefs.{item_view}
 use Rattle.binlog_events.specs.declared.event_ref.EventRef.{EventRef}
@@ -151,11 +151,11 @@ module _ (line : ℕ → Result EventView Error → List ℕ) (takes : Result Ev
         });
       })
 
-  outside_item : (old new : BinlogSlice) (item : Result EventRef Error) (error : Error) → SliceGives old (Some item) new → item_view item ≡ Err error → is_outside error ≡ true → ⊥
+  outside_item : (old new : BinlogSlice) (item : Result EventRef Error) (error : Error) → SliceGives old (Some item) new → item_view item ≡ Err error → is_environment_error error ≡ true → ⊥
   outside_item old new (Ok event) error gives is outside = cc
   outside_item old new (Err why) error gives is outside =
       let same : why ≡ error = cc in
-      let inside : is_outside error ≡ false = subst (λ (e : Error). is_outside e ≡ false) same gives.inside in cc
+      let inside : is_environment_error error ≡ false = subst (λ (e : Error). is_environment_error e ≡ false) same gives.inside in cc
 
   -- the listing ends with the error of an item's line
   stopped : (slice then next : BinlogSlice) (items : List (Result EventRef Error)) (item : Result EventRef Error) (old mid new : Option (List ℕ)) (failed : Bool) (index : ℕ) (error : Error)

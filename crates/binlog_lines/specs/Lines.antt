@@ -4,7 +4,7 @@ use Rattle.std.specs.List.{list_any}
 use Rattle.std.specs.Io.KnownBytes.{Appends}
 use Rattle.binlog_wire.specs.declared.error.Error.{Error}
 use Rattle.binlog_wire.specs.declared.error.Error.TheVariants.{EndOfInput, InvalidFileHeader, Memory, Reader, Writer}
-use Rattle.binlog_wire.specs.Errors.{is_outside}
+use Rattle.binlog_wire.specs.Errors.{is_environment_error}
 use Rattle.binlog_consts.specs.declared.version.BinlogVersion.TheVariants.{Version4}
 use Rattle.binlog_events.specs.FileHeader.{file_header}
 use Rattle.binlog_events.specs.Events.{EventView}
@@ -22,7 +22,7 @@ pub record AppendsFront (old new : Option (List ℕ)) (bytes : List ℕ) : Type 
 -- an item that gets a line
 abbrev pub HasLine : Result EventView Error → Type 0
 HasLine (Ok event) = ⊤
-HasLine (Err error) = is_outside error ≡ false
+HasLine (Err error) = is_environment_error error ≡ false
 
 -- `line index item` is the line of an item
 module _ (line : ℕ → Result EventView Error → List ℕ) where
@@ -48,7 +48,7 @@ module _ (line : ℕ → Result EventView Error → List ℕ) where
     pub before : (more : List (Result EventView Error)) → AreLeft state.fde unread ended more → AreLeft s.fde rest was (items ++ more)
     pub written : Appends old new (listing 0 items)
     pub refused : Gives Handles state after (Some unread) ended (Some (Err error)) left is
-    pub outside : is_outside error ≡ true
+    pub outside : is_environment_error error ≡ true
 
   -- The writer failed: it has a front of the listing.
   pub record ListsFront (s : StreamState) (rest : List ℕ) (was : Bool) (old new : Option (List ℕ)) : Type 0 where
@@ -102,7 +102,7 @@ module _ (line : ℕ → Result EventView Error → List ℕ) (takes : Result Ev
   ListsItem index None old new (Ok None) = new ≡ old
   ListsItem index (Some item) old new (Ok (Some is_error)) = Appends old new (line index item) × (is_error ≡ is_err item) × HasLine item
   ListsItem index (Some item) old new (Err error) =
-      ((error ≡ Writer) × HasLine item × AppendsFront old new (line index item)) ⊎ (((error ≡ Memory) × HasLine item × (new ≡ old) × takes item) ⊎ ((item ≡ Err error) × (new ≡ old) × (is_outside error ≡ true)))
+      ((error ≡ Writer) × HasLine item × AppendsFront old new (line index item)) ⊎ (((error ≡ Memory) × HasLine item × (new ≡ old) × takes item) ⊎ ((item ≡ Err error) × (new ≡ old) × (is_environment_error error ≡ true)))
   ListsItem index item old new answer = ⊥
 
   -- the next item is given, and its line written

@@ -1,6 +1,6 @@
 //! The loop over the items of a log in memory.
 ghost use Rattle.std.specs.Prelude.{◌≡◌, false, Some, IfErr};
-ghost use Rattle.binlog_wire.specs.Errors.{is_outside};
+ghost use Rattle.binlog_wire.specs.Errors.{is_environment_error};
 ghost use Rattle.binlog_events.specs.EventRefs.{item_view};
 ghost use Rattle.binlog_lines.specs.Lines.{Lists, ListsItem};
 ghost use Rattle.binlog_lines.specs.SliceLines.{ListsSlice, answered};
@@ -60,7 +60,7 @@ fn list_item<W: Write, L: ItemLines>(
     lines: &mut L,
     output: &mut W,
 ) -> Result<bool, Error>
-    requires { IfErr item (λ e. is_outside e ≡ false) }
+    requires { IfErr item (λ e. is_environment_error e ≡ false) }
     ensures { ListsItem L.line L.takes index (Some (item_view item.entry)) (W.contents output.old) (W.contents output.new) (answered result) }
 {
     match item {

@@ -32,7 +32,7 @@ impl Word {
             }
             Ok(None) => Ok(Word::Unknown),
             Err(error) => {
-                if error.is_outside() {
+                if error.is_environment_error() {
                     return Err(error);
                 }
                 Ok(Word::Refused)

@@ -33,10 +33,10 @@ fn sorts_each_error(rt: HostRuntime) {
         ),
         (Error::BadGno(0), 18, false, false),
     ];
-    for (error, number, within_frame, is_outside) in rows {
+    for (error, number, within_frame, is_environment_error) in rows {
         assert_eq!(rt; error.number(), number, "of {error:?}");
         assert_eq!(rt; error.within_frame(), within_frame, "of {error:?}");
-        assert_eq!(rt; error.is_outside(), is_outside, "of {error:?}");
+        assert_eq!(rt; error.is_environment_error(), is_environment_error, "of {error:?}");
     }
 }
 
@@ -67,7 +67,7 @@ fn says_what_is_wrong(rt: HostRuntime) -> Result<(), Fail> {
         ),
         (
             Error::RemainingBytes(2),
-            "2 bytes are left behind an event's body",
+            "2 bytes are left after an event's body",
         ),
         (
             Error::WrongEventType(16),
