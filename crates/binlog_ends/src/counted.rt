@@ -11,11 +11,11 @@ use std::marker::Model;
 
 /// A reader or a writer, with the number of its failures and the kind of the last one.
 ///
-/// No contract of the standard library says when a reader or a writer fails, nor whether a flush reached it. So the
-/// contracts say that each [`Failed`] is counted, and that nothing else is; tests say that a failure comes only from the
-/// reader or the writer.
+/// No contract of the standard library states when a reader or a writer fails, or whether a flush reached it. So the
+/// contracts state that each [`Failed`] is counted, and that nothing else is. That a failure comes only from the reader
+/// or the writer is tested.
 ///
-/// Contracts see the record of these three.
+/// Contracts see it as a record of these three.
 #[derive(Debug, Drop)]
 pub struct Counted<T> {
     inner: T,
@@ -35,7 +35,7 @@ impl<T> Model for Counted<T> {
 }
 
 impl<T> Counted<T> {
-    /// A reader or a writer that hasn't failed so far.
+    /// Wraps a reader or a writer, with no failures so far.
     pub fn new(inner: T) -> Self
         ensures { result ≡ record { inner = inner; failures = 0; last_failure = None } }
     {
@@ -46,21 +46,21 @@ impl<T> Counted<T> {
         }
     }
 
-    /// The reader or writer itself.
+    /// The wrapped reader or writer.
     pub fn get_ref(&self) -> &T
         ensures { result.now ≡ self.now.inner }
     {
         &self.inner
     }
 
-    /// The reader or writer itself. The count is let go of.
+    /// The wrapped reader or writer. The count is dropped.
     pub fn into_inner(self) -> T
         ensures { result ≡ self.inner }
     {
         self.inner
     }
 
-    /// How the last call failed that did, or None where none has.
+    /// The kind of the last failure, or None if there was none.
     pub fn last_failure(&self) -> Option<ErrorKind>
         ensures kind { result ≡ self.now.last_failure }
         ensures none { IsNone result ↔ (self.now.failures ≡ 0) }
@@ -89,8 +89,8 @@ impl<T> CountsFailures for Counted<T> {
 impl<R: BufRead> ReadCounted for Counted<R> {
     ghost remaining = { λ counted. R.remaining counted.inner };
 
-    /// Copies what the reader shows, as far as there is room. The reader is asked once, and where it shows nothing the
-    /// input is at its end.
+    /// Copies what the reader's buffer shows, as far as there is room. The reader is called once; if it shows nothing,
+    /// the input is at its end.
     fn read_some(&mut self, buf: &mut [u8]) -> Result<usize, Failed>
         ensures within { IfOk result (λ count. count ≤ length buf.new) }
         ensures took { IfOk result (λ count. Consumes (R.remaining self.old.inner) (R.remaining self.new.inner) (take count buf.new)) }
@@ -115,7 +115,7 @@ impl<R: BufRead> ReadCounted for Counted<R> {
 impl<W: Write> WriteCounted for Counted<W> {
     ghost contents = { λ counted. W.contents counted.inner };
 
-    /// Writes until all bytes are taken. A write that takes none of them is a failure, as is one that is interrupted.
+    /// Writes until all bytes are taken. A write that takes no byte is a failure, and so is an interrupted one.
     fn write_whole(&mut self, bytes: &[u8]) -> Result<(), Failed>
         ensures written { OnOk result (Appends (W.contents self.old.inner) (W.contents self.new.inner) bytes.now) }
         ensures front { OnErr result (AppendsFront (W.contents self.old.inner) (W.contents self.new.inner) bytes.now) }
@@ -141,7 +141,7 @@ impl<W: Write> WriteCounted for Counted<W> {
     }
 }
 
-// Copies what the reader shows, as far as there is room.
+// Copies what the reader's buffer shows, as far as there is room.
 fn copy_shown<R: BufRead>(input: &mut R, buf: &mut [u8]) -> io::Result<usize>
     requires { 0 < length buf.old }
     ensures took { IfOk result (λ count. Consumes (R.remaining input.old) (R.remaining input.new) (take count buf.new)) }
@@ -157,7 +157,7 @@ fn copy_shown<R: BufRead>(input: &mut R, buf: &mut [u8]) -> io::Result<usize>
     Ok(count)
 }
 
-// Writes all of the bytes, by as many writes as it takes; refused where one fails or takes none of them.
+// Writes all of the bytes, in as many writes as it takes. It fails if a write fails or takes no byte.
 fn write_each<W: Write>(output: &mut W, bytes: &[u8]) -> Result<(), ErrorKind>
     ensures written { OnOk result (Appends (W.contents output.old) (W.contents output.new) bytes.now) }
     ensures front { OnErr result (AppendsFront (W.contents output.old) (W.contents output.new) bytes.now) }
