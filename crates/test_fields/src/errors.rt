@@ -1,10 +1,10 @@
-//! The numbers and the texts of errors.
+//! The numbers and the messages of errors.
 use binlog_wire::{Error, Field, Invalid};
 use std::test::Fail;
 
 #[test]
 fn sorts_each_error(rt: HostRuntime) {
-    // number, within a frame, outside
+    // number, is_within_frame, is_environment_error
     let rows = [
         (Error::EndOfInput, 1, true, false),
         (Error::InvalidFileHeader, 2, false, false),
