@@ -36,7 +36,11 @@ fn sorts_each_error(rt: HostRuntime) {
     for (error, number, within_frame, is_environment_error) in rows {
         assert_eq!(rt; error.number(), number, "of {error:?}");
         assert_eq!(rt; error.within_frame(), within_frame, "of {error:?}");
-        assert_eq!(rt; error.is_environment_error(), is_environment_error, "of {error:?}");
+        assert_eq!(rt;
+            error.is_environment_error(),
+            is_environment_error,
+            "of {error:?}"
+        );
     }
 }
 
