@@ -62,8 +62,8 @@ impl<R: Read> Read for Retrying<R> {
 impl<R: BufRead> BufRead for Retrying<R> {
     ghost consumable_len = { λ reader. R.consumable_len reader.inner };
 
-    // A reader that shows bytes is asked for them a second time, since the bytes of the first call can't be returned
-    // from within the loop. They are in its buffer by then, so nothing more is read.
+    // A reader that shows bytes is called a second time, since the bytes of the first call can't be returned from
+    // within the loop. They are in its buffer by then, so nothing more is read.
     fn fill_buf(&mut self) -> io::Result<&[u8]> {
         'attempts: for _ in 1..ATTEMPTS {
             match self.inner.fill_buf() {
