@@ -173,7 +173,7 @@ def variable(number):
 
 
 def signed(number):
-    """A signed one that isn't negative."""
+    """A signed variable-length integer, of a number that isn't negative."""
     return variable(2 * number)
 
 

@@ -8,7 +8,7 @@ use std::io::BufRead;
 pub struct Findings {
     /// The number of events that could be read.
     pub events: u64,
-    /// The number of damaged events that are followed by further events.
+    /// The number of damaged events. After each the file goes on with the next event.
     pub damaged: u64,
     /// Whether an event states an impossible size, so that no event can be found after it.
     pub is_broken_off: bool,

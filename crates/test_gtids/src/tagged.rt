@@ -10,7 +10,7 @@ use testkit_bodies::{
     is_same, is_unwritable, is_written, is_written_as, is_written_with, joined, told_len,
 };
 
-/// The fields of `long_event`, after its payload size.
+/// The body of `long_event` with the sequence number 2^34, after its payload size.
 const LONG_FIELDS: &[u8] =
     b"\0\0\0\x02\xad\x02\xad\x02\xad\x02\xad\x02\xad\x02\xad\x02\xad\x02\xad\x02\xad\x02\xad\x02\xad\x02\xad\x02\xad\x02\xad\x02\xad\x02\xad\x02\x04\x04\x06\x40abcdefghijklmnopqrstuvwxyz012345\x08\xff\xfe\xff\xff\xff\xff\xff\xff\xff\x0a\x1f\0\0\0\0\x02\x0c\xff\xff\xff\xff\xff\xff\xff\xff\xff\x0e\0\x10\xff\xff\xff\xff\xff\xff\xff\xff\xff\x12\xfb\x11\x7a\x16\xff\xff\xff\xff\xff\xff\xff\xff\xff";
 
@@ -34,7 +34,7 @@ fn backup(alloc: Global) -> Result<GtidEvent, Error> {
     )
 }
 
-// The event of a body of 127 bytes. It is longer with a sequence number that takes more bytes.
+// An event whose body has 127 bytes with the sequence number 2^34, and 129 bytes with 2^41.
 fn long_event(alloc: Global, sequence_number: u64) -> Result<GtidEvent, Error> {
     Ok(
         tagged(alloc, b"abcdefghijklmnopqrstuvwxyz012345")?
