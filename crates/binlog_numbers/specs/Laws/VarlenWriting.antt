@@ -1,23 +1,14 @@
--- Variable-length integers as a format: the shortest encoding is written.
-use Rattle.std.proofs.Common.{◌≡◌, ℕ, zero, suc, ◌+◌, ◌-◌, ◌*◌, ◌^◌, ◌<◌, ◌≤◌, ◌⊎◌, inl, inr, Bool, true, false, cond, ltb, List, ◌∷◌, ◌++◌, length, take, refl, sym, ap, subst, ◌∙◌, arith}
-use Rattle.std.proofs.lemmas.Bool.{cases_lt, ltb-true, ltb-false, lt-ltb, le-ltb}
-use Rattle.std.proofs.lemmas.Nat.{pow_below}
-use Rattle.std.proofs.Math.Nat.{pow-le-pow_right}
-use Rattle.std.specs.Int.{byte_at, bytes_low_first}
+-- Variable-length integers: the written encoding is one of their grammar, and none is shorter.
+use Rattle.std.proofs.Common.{◌≡◌, ℕ, suc, ◌+◌, ◌-◌, ◌*◌, ◌^◌, ◌≤◌, inl, Bool, true, false, cond, ltb, List, ◌++◌, refl, zero, ◌<◌, inr, arith, length, sym, subst, ap, ◌∙◌, ◌⊎◌, ◌∷◌, take}
+use Rattle.std.proofs.lemmas.Bool.{ltb-true, ltb-false, cases_lt, lt-ltb, le-ltb}
 use Rattle.std.proofs.lemmas.List.{length-append}
+use Rattle.std.proofs.lemmas.Nat.{pow_below}
+use Rattle.std.specs.Int.{byte_at, bytes_low_first}
+use Rattle.std.proofs.Math.Nat.{pow-le-pow_right}
 use Rattle.byteorder.specs.Endian.{little_bytes}
 use Rattle.binlog_wire.specs.Laws.Numbers.{length-number, length-little_bytes}
-use Rattle.binlog_wire.specs.Formats.{Place, Format}
-use Rattle.binlog_numbers.specs.Varlen.{IsVarlen, varlen_at, keeps_varlen, held}
-
--- The shortest encoding of at least k bytes, with t more widths to try.
-abbrev pub written_from : ℕ → ℕ → ℕ → List ℕ
-written_from zero k n = 255 ∷ little_bytes 8 n
-written_from (suc t) k n = cond (ltb n (2 ^ (7 * k))) (little_bytes k (n * 2 ^ k + 2 ^ (k - 1) - 1)) (written_from t (suc k) n)
-
--- The shortest encoding.
-unfoldable pub varlen_written : ℕ → List ℕ
-varlen_written n = written_from 8 1 n
+use Rattle.binlog_numbers.specs.Varlen.{IsVarlen, written_from, varlen_written}
+use Rattle.binlog_numbers.specs.Laws.Varlen.{held}
 
 spelled_by : (t k n : ℕ) (r : List ℕ) (b : Bool) → ltb n (2 ^ (7 * k)) ≡ b → 1 ≤ k → k ≤ 8
     → IsVarlen (written_from t (suc k) n ++ r) n r
@@ -36,23 +27,6 @@ varlen_long s n r (inr (m, e, h)) = rw e (omega (arith, length-number 8 m n r h)
 pub varlen_writes : (n : ℕ) (r : List ℕ) → n < 256 ^ 8 → IsVarlen (varlen_written n ++ r) n r
 unfolding varlen_written
 varlen_writes n r fits = varlen_spelled 8 1 n r (omega arith) refl fits
-
--- The format of a variable-length integer.
-abbrev pub varlen : {place : Place} → Format place ℕ
-varlen = record {
-  spells = IsVarlen;
-  reads = varlen_at;
-  written = varlen_written;
-  normal = λ n. n;
-  Fits = λ n. n < 256 ^ 8;
-  least = 1;
-  keeps = keeps_varlen;
-  writes = λ n r fits follows. varlen_writes n r fits;
-  settled = λ s n r h. refl;
-  twice = λ n. refl;
-  again = λ n fits. refl;
-  long = varlen_long;
-}
 
 -- ---- no encoding is shorter
 

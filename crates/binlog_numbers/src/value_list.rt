@@ -13,11 +13,11 @@ use std::marker::Model;
 ///
 /// Contracts see it as the list of its values.
 #[derive(Debug, Drop)]
-pub struct Items<T> {
+pub struct ValueList<T> {
     items: Vec<T>,
 }
 
-impl<T> Model for Items<T> {
+impl<T> Model for ValueList<T> {
     ghost use Rattle.std.specs.Prelude.{List};
 
     ghost Value = { List T };
@@ -25,12 +25,12 @@ impl<T> Model for Items<T> {
     ghost view = { λ list. list.items.items };
 }
 
-impl<T> Items<T> {
+impl<T> ValueList<T> {
     /// Wraps the values.
     pub fn new(items: Vec<T>) -> Self
         ensures { result ≡ items.items }
     {
-        Items { items }
+        ValueList { items }
     }
 
     /// The values as a slice.
@@ -48,7 +48,7 @@ impl<T> Items<T> {
     }
 }
 
-impl<T: PartialEq> PartialEq for Items<T> {
+impl<T: PartialEq> PartialEq for ValueList<T> {
     ghost use Rattle.std.specs.Cmp.Lexicographic.{pointwise};
     ghost use Rattle.std.specs.Cmp.Rules.{comparing};
     ghost use Rattle.std.proofs.Common.{rules};
@@ -62,14 +62,14 @@ impl<T: PartialEq> PartialEq for Items<T> {
     }
 }
 
-impl<T: Eq> Eq for Items<T> {
+impl<T: Eq> Eq for ValueList<T> {
     ghost use Rattle.std.specs.Cmp.Rules.{comparing};
     ghost use Rattle.std.proofs.Common.{rules};
 
     ghost laws = { Prim.search (comparing, rules, T.Eq.laws) };
 }
 
-impl<T: Hash> Hash for Items<T> {
+impl<T: Hash> Hash for ValueList<T> {
     ghost use Rattle.std.specs.Hash as fed;
     ghost use Rattle.std.proofs.Common.{rules};
 
@@ -89,7 +89,7 @@ impl<T: Hash> Hash for Items<T> {
 ///
 /// - Those of the values, from the first value that fails.
 /// - [`Error::Memory`] where an allocation fails.
-impl<'de, T: MyDeserialize<'de> + Drop> MyDeserialize<'de> for Items<T>
+impl<'de, T: MyDeserialize<'de> + Drop> MyDeserialize<'de> for ValueList<T>
 where
     T::Ctx: Copy,
 {
@@ -112,7 +112,7 @@ where
             let item = T::deserialize(alloc, each, buf)?;
             push(&mut items, item)?;
         }
-        Ok(Items { items })
+        Ok(ValueList { items })
     }
 }
 

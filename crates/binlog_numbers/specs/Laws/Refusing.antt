@@ -1,8 +1,8 @@
 -- Refusals that are passed on, from a part to the whole that contains it.
 use Rattle.std.proofs.Common.{◌≡◌, Err}
 use Rattle.binlog_wire.specs.declared.error.Error.{Error}
-use Rattle.binlog_wire.specs.declared.error.Error.TheVariants as errors
 use Rattle.binlog_wire.specs.Reading.{Read, Refusal, ends, invalid, other_type, Refuses}
+use Rattle.binlog_wire.specs.declared.error.Error.TheVariants as errors
 
 pub refused_as : {V W : Type 0} (grows more : Type 0) → (grows → more) → (e : Error) (x : Read V) (y : Read W)
     → ((d : Refusal) → x ≡ Err d → y ≡ Err d) → Refuses grows e x → Refuses more e y

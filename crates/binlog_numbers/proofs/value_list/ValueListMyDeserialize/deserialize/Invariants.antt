@@ -1,7 +1,7 @@
 use Rattle.std.proofs.Common.{◌≡◌, ◌-◌}
 use Rattle.binlog_numbers.specs.Repeated.{times_at}
-use Rattle.binlog_numbers.specs.RepeatedLoops.{behind_values}
-use Rattle.binlog_numbers.proofs.items.ItemsMyDeserialize.deserialize.Given as goal
+use Rattle.binlog_numbers.specs.Laws.RepeatedLoops.{behind_values}
+use Rattle.binlog_numbers.proofs.value_list.ValueListMyDeserialize.deserialize.Given as goal
 
 abbrev pub invariant-loop-index : goal.invariant-loop-index
 invariant-loop-index g l =

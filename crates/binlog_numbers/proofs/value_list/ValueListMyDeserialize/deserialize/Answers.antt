@@ -2,9 +2,9 @@ use Rattle.std.specs.Prelude.{⊤}
 use Rattle.std.proofs.Common.{arith}
 use Rattle.std.proofs.lemmas.Result.{err_from_is_err_and}
 use Rattle.binlog_numbers.specs.Repeated.{times_at}
-use Rattle.binlog_numbers.specs.Refusing.{refused_as}
-use Rattle.binlog_numbers.specs.RepeatedLoops.{times_turn, times_refused}
-use Rattle.binlog_numbers.proofs.items.ItemsMyDeserialize.deserialize.Goals as goal
+use Rattle.binlog_numbers.specs.Laws.Refusing.{refused_as}
+use Rattle.binlog_numbers.specs.Laws.RepeatedLoops.{times_turn, times_refused}
+use Rattle.binlog_numbers.proofs.value_list.ValueListMyDeserialize.deserialize.Goals as goal
 
 pub returns-in_err-item : goal.returns-in_err-item
 returns-in_err-item g c =

@@ -5,7 +5,7 @@ use Rattle.binlog_wire.specs.Reading.{Read, Refusal, ◌>>=◌}
 use Rattle.binlog_wire.specs.Fields.{IsBytes}
 use Rattle.binlog_wire.specs.Formats.{anywhere, Format}
 use Rattle.binlog_numbers.specs.Within.{IsEnd, until_in, until_at}
-use Rattle.binlog_numbers.specs.RepeatedLoops.{behind_values, one_more}
+use Rattle.binlog_numbers.specs.Laws.RepeatedLoops.{behind_values, one_more}
 
 module _ {V : Type 0} (f : Format anywhere V) (End : List ℕ → Type 0) (test : List ℕ → Bool) (law : IsEnd f End test) where
   at_nil : (k : ℕ) (s : List ℕ) → length s ≤ 0 → until_in k test f.reads s ≡ Ok ([], [])

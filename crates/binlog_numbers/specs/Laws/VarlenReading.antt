@@ -1,22 +1,19 @@
--- Lemmas for reading variable-length integers.
-use Rattle.std.proofs.Common.{◌≡◌, ℕ, suc, ◌+◌, ◌-◌, ◌*◌, ◌/◌, ◌%◌, ◌^◌, ◌<◌, ◌≤◌, inl, inr, true, false, cond, ltb, List, [], ◌∷◌, length, get_or, drop, take, Ok, refl, sym, ap, ◌∙◌, arith}
+-- The number in an encoding of a given width, and the same number from eight bytes.
+use Rattle.std.proofs.Common.{◌≡◌, ℕ, suc, ◌+◌, ◌-◌, ◌≤◌, inl, inr, true, false, ltb, List, [], ◌∷◌, length, get_or, drop, Ok, refl, ap, ◌∙◌, arith, ◌*◌, ◌/◌, take, ◌%◌, ◌^◌, sym, ◌<◌}
 use Rattle.std.specs.Int.{w8, trailing_ones}
 use Rattle.std.proofs.lemmas.Bool.{cases_lt, lt-ltb, le-ltb}
+use Rattle.std.proofs.lemmas.List.{take_rest, append-nil}
 use Rattle.std.proofs.Math.Nat.{div-one}
-use Rattle.std.proofs.lemmas.List.{append-nil, take_rest}
 use Rattle.std.proofs.lemmas.Nat.{shl-shr, shr-shr, field_of}
 use Rattle.byteorder.specs.Endian.{little_number, little_bytes}
 use Rattle.byteorder.specs.Numbers.{little_from-take, little_from-bytes}
 use Rattle.binlog_wire.specs.Fields.{IsBytes}
 use Rattle.binlog_wire.specs.Laws.Numbers.{little_bytes-little_number}
-use Rattle.binlog_numbers.specs.Varlen.{varlen_at, eight_ones, pow256}
-use Rattle.binlog_numbers.specs.VarlenWriting.{take_little_bytes}
+use Rattle.binlog_numbers.specs.Varlen.{varlen_at, number_of}
+use Rattle.binlog_numbers.specs.Laws.Varlen.{eight_ones, pow256}
+use Rattle.binlog_numbers.specs.Laws.VarlenWriting.{take_little_bytes}
 
 -- ---- the number in a given width
-
--- The number in an encoding of this width in bytes.
-abbrev pub number_of : ℕ → List ℕ → ℕ
-number_of width s = cond (ltb width 9) (little_number width s / 2 ^ width) (little_number 8 (drop 1 s))
 
 -- The trailing ones of the first byte give the width; nine bytes begin with 255.
 pub varlen_whole : (s : List ℕ) (width : ℕ) → 1 ≤ length s → width ≡ trailing_ones w8 (get_or s 0 0) + 1 → (9 ≤ width → get_or s 0 0 ≡ 255) → width ≤ length s

@@ -1,8 +1,8 @@
 -- Lemmas for loops over values.
-use Rattle.std.proofs.Common.{◌≡◌, ℕ, suc, ◌+◌, ◌-◌, ◌<◌, List, [], ◌∷◌, ◌++◌, length, get_or, drop, Ok, Err, refl, sym, ap, ◌∙◌, append_assoc, add-one, arith}
-use Rattle.std.proofs.Math.Seq.{drop-cons}
+use Rattle.std.proofs.Common.{◌+◌, List, ◌++◌, Ok, ◌≡◌, [], ◌∷◌, Err, refl, sym, ap, append_assoc, ℕ, suc, ◌-◌, ◌<◌, ◌∙◌, arith, length, get_or, drop, add-one}
 use Rattle.std.proofs.lemmas.List.{append-nil, length-append}
-use Rattle.binlog_wire.specs.Reading.{Read, Refusal, ◌>>=◌}
+use Rattle.std.proofs.Math.Seq.{drop-cons}
+use Rattle.binlog_wire.specs.Reading.{Read, ◌>>=◌, Refusal}
 use Rattle.binlog_numbers.specs.Repeated.{times_at, each_written}
 
 -- ---- reading a number of values
