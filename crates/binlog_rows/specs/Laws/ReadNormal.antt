@@ -1,13 +1,13 @@
 -- A table map and a row event that were read are their own normal forms in the format in which they are written.
-use Rattle.std.proofs.Common.{◌≡◌, ℕ, Bool, true, false, cond, eqb, Option, None, List, [], refl, sym, ap, subst, ◌∙◌}
+use Rattle.std.proofs.Common.{◌≡◌, ℕ, List, Bool, true, false, cond, Option, None, [], refl, subst, eqb, sym, ap, ◌∙◌}
 use Rattle.binlog_wire.specs.Formats.{anywhere, silent}
 use Rattle.binlog_numbers.specs.Chosen.{choose}
-use Rattle.binlog_rows.specs.Forms.{default_length}
-use Rattle.binlog_rows.specs.Rows.{extra, extra_in, present, forgotten, no_extra, columns, rows}
 use Rattle.binlog_rows.specs.TableMaps.{table_map}
+use Rattle.binlog_rows.specs.declared.table_map_event.TableMapEvent.{TableMapEvent}
+use Rattle.binlog_rows.specs.Rows.{extra, extra_in, present, forgotten, no_extra, columns, rows}
 use Rattle.binlog_rows.specs.declared.rows_form.RowsForm.{RowsForm}
 use Rattle.binlog_rows.specs.declared.rows_event.RowsEvent.{RowsEvent}
-use Rattle.binlog_rows.specs.declared.table_map_event.TableMapEvent.{TableMapEvent}
+use Rattle.binlog_rows.specs.Forms.{default_length}
 
 -- The post-header's length matters only for the length of the table id.
 pub map_normal : (post_header : ℕ) (s : List ℕ) (event : TableMapEvent) (r : List ℕ) → (table_map post_header).spells s event r → (table_map 8).normal event ≡ event

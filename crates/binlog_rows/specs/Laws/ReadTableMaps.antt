@@ -1,10 +1,10 @@
 -- A table map that was read can be written.
-use Rattle.std.proofs.Common.{◌≡◌, ℕ, ◌^◌, ◌<◌, inl, inr, Bool, true, false, cond, eqb, List, length, refl, sym, ap, subst, ◌∙◌, arith}
+use Rattle.std.proofs.Common.{ℕ, ◌^◌, ◌<◌, inl, inr, List, arith, Bool, true, false, cond, ◌≡◌, length, refl, sym, ap, ◌∙◌, eqb, subst}
 use Rattle.binlog_wire.specs.Bits.{bytes_of_bits}
 use Rattle.binlog_numbers.specs.LenEnc.{IsLenEnc}
 use Rattle.binlog_rows.specs.Columns.{Bitmap}
-use Rattle.binlog_rows.specs.TableColumns.{TableColumns}
 use Rattle.binlog_rows.specs.TableMaps.{Fields, fields, columns_of, columns, table_map}
+use Rattle.binlog_rows.specs.TableColumns.{TableColumns}
 use Rattle.binlog_rows.specs.declared.table_map_event.TableMapEvent.{TableMapEvent}
 
 pub lenenc_small : (s : List ℕ) (n : ℕ) (r : List ℕ) → IsLenEnc s n r → n < 256 ^ 8

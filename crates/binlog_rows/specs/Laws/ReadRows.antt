@@ -1,9 +1,9 @@
 -- A row event that was read can be written.
-use Rattle.std.proofs.Common.{ℕ, ◌^◌, ◌<◌, Bool, true, false, cond, eqb, Option, List, length, ap, ◌∙◌}
+use Rattle.std.proofs.Common.{ℕ, ◌^◌, ◌<◌, Bool, true, false, cond, Option, List, length, ap, ◌∙◌, eqb}
 use Rattle.binlog_rows.specs.Columns.{id_width, Bitmap}
-use Rattle.binlog_rows.specs.Forms.{default_length}
-use Rattle.binlog_rows.specs.ReadTableMaps.{lenenc_small, id_small_by}
 use Rattle.binlog_rows.specs.Rows.{extra_in, image, rows}
+use Rattle.binlog_rows.specs.Forms.{default_length}
+use Rattle.binlog_rows.specs.Laws.ReadTableMaps.{lenenc_small, id_small_by}
 use Rattle.binlog_rows.specs.declared.rows_form.RowsForm.{RowsForm}
 use Rattle.binlog_rows.specs.declared.rows_event.RowsEvent.{RowsEvent}
 

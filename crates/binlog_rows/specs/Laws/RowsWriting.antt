@@ -1,13 +1,13 @@
 -- The written bytes of a row event, by its parts, are those of its form.
-use Rattle.std.specs.Prelude.{◌≡◌, ℕ, Bool, true, false, Option, Some, None, is_some, List, ◌++◌, refl, if◌then◌else◌}
-use Rattle.std.proofs.Common.{ap, sym, ◌∙◌}
+use Rattle.std.specs.Prelude.{◌≡◌, ℕ, Bool, true, false, Option, Some, None, is_some, List, refl, if◌then◌else◌, ◌++◌}
+use Rattle.std.proofs.Common.{ap, ◌∙◌, sym}
 use Rattle.binlog_wire.specs.Fields.{little_bytes}
 use Rattle.binlog_numbers.specs.LenEnc.{lenenc_written}
-use Rattle.binlog_rows.specs.Columns.{id_width, Bitmap}
-use Rattle.binlog_rows.specs.Forms.{default_length}
-use Rattle.binlog_rows.specs.Rows.{extra_in, image, rows, IsOfForm, extra_written, image_written, rows_written}
-use Rattle.binlog_rows.specs.declared.rows_form.RowsForm.{RowsForm}
+use Rattle.binlog_rows.specs.Rows.{extra_in, extra_written, image, image_written, rows, IsOfForm, rows_written}
+use Rattle.binlog_rows.specs.Columns.{Bitmap, id_width}
 use Rattle.binlog_rows.specs.declared.rows_event.RowsEvent.{RowsEvent}
+use Rattle.binlog_rows.specs.Forms.{default_length}
+use Rattle.binlog_rows.specs.declared.rows_form.RowsForm.{RowsForm}
 
 extra_as : (has_extra : Bool) (o : Option (List ℕ)) → is_some o ≡ has_extra → extra_written o ≡ (extra_in has_extra (if has_extra then 10 else 8)).written o
 extra_as true (Some s) e = refl

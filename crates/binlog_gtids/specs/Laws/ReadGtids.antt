@@ -1,11 +1,12 @@
 -- A GTID that was read is its own normal form in the format in which it is written.
-use Rattle.std.proofs.Common.{◌≡◌, ℕ, Bool, true, false, eqb, Option, None, Some, List, refl, sym, ap, subst, ◌∙◌}
+use Rattle.std.proofs.Common.{◌≡◌, ℕ, Option, Some, List, sym, subst, None, refl, ap, ◌∙◌, Bool, true, false, eqb}
 use Rattle.binlog_wire.specs.Formats.{last, nowhere}
 use Rattle.binlog_numbers.specs.Chosen.{choose}
 use Rattle.binlog_gtids.specs.Gtids.{gtid, by_tag, raw_type_of, anonymous_of, anonymous}
-use Rattle.binlog_gtids.specs.Tagged.{tagged, tag_in}
-use Rattle.binlog_gtids.specs.Untagged.{untagged, untagged_with, is_untagged_type, Head, Clock}
+use Rattle.binlog_gtids.specs.Formats.{tagged, untagged}
 use Rattle.binlog_gtids.specs.declared.gtid_event.GtidEvent.{GtidEvent}
+use Rattle.binlog_gtids.specs.Untagged.{untagged_with, Head, Clock, is_untagged_type}
+use Rattle.binlog_gtids.specs.Tagged.{tag_in}
 use Rattle.binlog_gtids.specs.declared.anonymous_gtid_event.AnonymousGtidEvent.{AnonymousGtidEvent}
 
 -- The format with a tag, and that without.
