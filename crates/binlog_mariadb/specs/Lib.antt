@@ -6,6 +6,7 @@ pub mod AnnotateRows
 pub mod BinlogCheckpoint
 pub mod StartEncryption
 pub mod Gtids
+pub mod GtidLengths
 pub mod GtidLists
 pub mod Ranges
 pub mod EventBodies
