@@ -1,0 +1,75 @@
+//! The columns of a table, in order.
+ghost use Rattle.std.specs.Prelude.{◌≡◌, None, Some, MatchResult, length};
+ghost use Rattle.binlog_columns.specs.Refusals.{refusal, columns_in};
+
+use crate::column::Column;
+use crate::column_error::{ColumnError, ColumnErrorKind, kind_of};
+use binlog_wire::ParseBuf;
+
+/// The columns of a table, in order: an iterator over them. It borrows the types and the metadata of a table map, and
+/// takes no memory.
+#[derive(Clone, Copy, Debug)]
+pub struct TableColumns<'a> {
+    types: &'a [u8],
+    metadata: &'a [u8],
+    ghost is_whole: { refusal 0 types.now metadata.now ≡ None },
+}
+
+impl<'a> TableColumns<'a> {
+    ghost use Rattle.binlog_columns.specs.TableColumns.{columns_of};
+
+    /// The columns of these types, a byte each, with this metadata: for each column, from left to right, as many bytes
+    /// as its type has. Nothing may be left of them.
+    ///
+    /// # Errors
+    ///
+    /// The first refusal, from left to right: see [`ColumnErrorKind`].
+    pub fn new(types: &'a [u8], metadata: &'a [u8]) -> Result<Self, ColumnError>
+        ensures { MatchResult result
+            (λ columns. (refusal 0 types.now metadata.now ≡ None) × (columns_of columns ≡ columns_in types.now metadata.now))
+            (λ error. refusal 0 types.now metadata.now ≡ Some error) }
+    {
+        let mut rest = ParseBuf(metadata);
+        for (index, number) in types.iter().enumerate() {
+            if let Err(error) = Column::read(*number, &mut rest) {
+                return Err(ColumnError {
+                    kind: kind_of(error),
+                    column: index as u64,
+                });
+            }
+        }
+        if !rest.is_empty() {
+            return Err(ColumnError {
+                kind: ColumnErrorKind::LeftOver,
+                column: types.len() as u64,
+            });
+        }
+        Ok(TableColumns { types, metadata })
+    }
+}
+
+/// The columns from left to right.
+impl<'a> Iterator for TableColumns<'a> {
+    type Item = Column;
+
+    ghost use Rattle.std.specs.Iterator.{YieldsFirstBy, item_count};
+    ghost use Rattle.binlog_columns.specs.Columns.{typed_of};
+    ghost use Rattle.binlog_columns.specs.TableColumns.{columns_of};
+
+    ghost next_gives = { YieldsFirstBy typed_of columns_of };
+
+    ghost remaining = { item_count columns_of };
+
+    fn next(&mut self) -> Option<Column> {
+        let (number, types) = self.types.split_first()?;
+        let mut rest = ParseBuf(self.metadata);
+        let Ok(column) = Column::read(*number, &mut rest) else {
+            unreachable!()
+        };
+        *self = TableColumns {
+            types,
+            metadata: rest.0,
+        };
+        Some(column)
+    }
+}
