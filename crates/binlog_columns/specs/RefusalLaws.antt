@@ -3,7 +3,7 @@ use Rattle.std.proofs.Common.{◌≡◌, ℕ, suc, ◌+◌, ◌<◌, List, [], �
 use Rattle.binlog_wire.specs.declared.error.Error.{Error}
 use Rattle.binlog_wire.specs.declared.error.Error.TheVariants as errors
 use Rattle.binlog_wire.specs.Reading.{Refusal, Read, ends, invalid, other_type, Refuses}
-use Rattle.binlog_numbers.specs.RepeatedLoops.{drop_item}
+use Rattle.binlog_numbers.specs.Laws.RepeatedLoops.{drop_item}
 use Rattle.binlog_columns.specs.Metadata.{Typed, column}
 use Rattle.binlog_columns.specs.Kinds.{kind_as, kind_of}
 use Rattle.binlog_columns.specs.Refusals.{refused_or, refusal}
