@@ -10,7 +10,7 @@ use crate::maria_gtid::{ENTRY_LEN, MariaGtid};
 use crate::traits::MariaEvent;
 use binlog_consts::BinlogVersion;
 use binlog_description::{BinlogCtx, BinlogStruct, MAX_BODY_LEN};
-use binlog_numbers::Items;
+use binlog_numbers::ValueList;
 use binlog_wire::{
     Error, Field, IntRepr, LeU32, MyDeserialize, MySerialize, ParseBuf, Put, Skip, reserve,
 };
@@ -29,7 +29,7 @@ const MOST_ENTRIES: u32 = 1 << 28;
 #[derive(Debug, PartialEq, Eq, Hash, Drop)]
 pub struct GtidListEvent {
     flags: u8,
-    entries: Items<MariaGtid>,
+    entries: ValueList<MariaGtid>,
 }
 
 impl GtidListEvent {
@@ -44,7 +44,7 @@ impl GtidListEvent {
     {
         GtidListEvent {
             flags: 0,
-            entries: Items::new(entries),
+            entries: ValueList::new(entries),
         }
     }
 
@@ -78,7 +78,7 @@ impl GtidListEvent {
         let entries = Vec::from_slice(alloc, self.entries.as_slice())?;
         Ok(GtidListEvent {
             flags: self.flags,
-            entries: Items::new(entries),
+            entries: ValueList::new(entries),
         })
     }
 
@@ -117,14 +117,14 @@ fn read_entries(
     alloc: Global,
     count: u32,
     buf: &mut ParseBuf<'_>,
-) -> Result<Items<MariaGtid>, Error>
+) -> Result<ValueList<MariaGtid>, Error>
     ensures { Gives ⊤ buf.new result ((entries_of count).reads buf.old) }
 {
     if count == 0 {
         buf.parse::<Skip<2>>(alloc, ())?;
-        return Ok(Items::new(Vec::new(alloc)));
+        return Ok(ValueList::new(Vec::new(alloc)));
     }
-    Items::deserialize(alloc, (u64::from(count), ()), buf)
+    ValueList::deserialize(alloc, (u64::from(count), ()), buf)
 }
 
 /// Memory grows with the entries that are there, and not by the count.
