@@ -1,5 +1,5 @@
 //! A column: its type, and what the metadata says of it.
-ghost use Rattle.std.specs.Prelude.{◌≡◌, ◌<◌, true};
+ghost use Rattle.std.specs.Prelude.{◌≡◌, ◌==◌, ◌<◌, true};
 ghost use Rattle.std.specs.Prelude.{◌+◌, ◌*◌};
 ghost use Rattle.binlog_wire.specs.Fields.{number_at};
 ghost use Rattle.binlog_wire.specs.Reading.{Gives};
@@ -86,6 +86,13 @@ impl Column {
             | ColumnType::MYSQL_TYPE_SET => real_type_in(self.metadata),
             other => other,
         }
+    }
+
+    /// Whether the metadata of a STRING, an ENUM or a SET states that the real type is ENUM.
+    pub fn states_enum(&self) -> bool
+        ensures { result ≡ (real_number (typed_of self.now).1 == 247) }
+    {
+        real_number(self.metadata) == 247
     }
 
     /// How the values of the column are encoded.
