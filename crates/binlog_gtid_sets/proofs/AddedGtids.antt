@@ -5,7 +5,11 @@ use Rattle.std.proofs.lemmas.Bool.Decides.{nat_tests}
 use Rattle.binlog_numbers.specs.declared.gno_interval.GnoInterval.{GnoInterval}
 use Rattle.binlog_gtids.specs.declared.previous_gtids_sid.PreviousGtidsSid.{PreviousGtidsSid}
 use Rattle.binlog_gtids.specs.GnoSets.{is_within, is_held}
-use Rattle.binlog_gtid_sets.specs.AddedGtids.{bad_gno_in, bad_gno, bad_gno_listed, is_listed}
+use Rattle.binlog_event_data.specs.declared.event_data.EventData.{EventData}
+use Rattle.binlog_event_data.specs.declared.event_data.EventData.TheVariants as variants
+use Rattle.binlog_gtids.specs.declared.gtid_event.GtidEvent.{GtidEvent}
+use Rattle.binlog_gtids.specs.declared.previous_gtids_event.PreviousGtidsEvent.{PreviousGtidsEvent}
+use Rattle.binlog_gtid_sets.specs.AddedGtids.{bad_gno_in, bad_gno, bad_gno_listed, is_listed, is_added, bad_gno_of}
 use Rattle.binlog_gtid_sets.specs.GtidGroups.{Pair, pair_of, is_same}
 
 -- of none in a row, each is none
@@ -83,3 +87,17 @@ pub entry_held : (es : List PreviousGtidsSid) (k n : ℕ) (q : Pair) (d : Previo
 entry_held [] k n q d old new within put = absurd (omega arith)
 entry_held (e ∷ es) zero n q d old new within put = rw put (or_swap (is_same (pair_of e.uuid e.tag) q && is_held e.intervals n) (is_listed es q n) old)
 entry_held (e ∷ es) (suc k) n q d old new within put = entry_held es k n q d old new (omega arith) put
+
+-- ---- other events
+
+pub adds_nothing : (event : EventData) → ((x : GtidEvent) → event ≡ variants.GtidEvent x → ⊥) → ((x : PreviousGtidsEvent) → event ≡ variants.PreviousGtidsEvent x → ⊥)
+    → (p : Pair) (n : ℕ) → is_added event p n ≡ false
+adds_nothing (variants.GtidEvent x) other none p n = absurd (other x refl)
+adds_nothing (variants.PreviousGtidsEvent x) other none p n = absurd (none x refl)
+adds_nothing _ other none p n = refl
+
+pub refuses_nothing : (event : EventData) → ((x : GtidEvent) → event ≡ variants.GtidEvent x → ⊥) → ((x : PreviousGtidsEvent) → event ≡ variants.PreviousGtidsEvent x → ⊥)
+    → bad_gno_of event ≡ None
+refuses_nothing (variants.GtidEvent x) other none = absurd (other x refl)
+refuses_nothing (variants.PreviousGtidsEvent x) other none = absurd (none x refl)
+refuses_nothing _ other none = refl

@@ -3,7 +3,9 @@ use Rattle.std.specs.Prelude.{ℕ, ◌+◌, ◌^◌, Bool, false, ◌&&◌, ◌|
 use Rattle.std.specs.Option.{option_or}
 use Rattle.binlog_numbers.specs.declared.gno_interval.GnoInterval.{GnoInterval}
 use Rattle.binlog_gtids.specs.declared.previous_gtids_sid.PreviousGtidsSid.{PreviousGtidsSid}
-use Rattle.binlog_gtids.specs.GnoSets.{is_held}
+use Rattle.binlog_gtids.specs.GnoSets.{is_within, is_held}
+use Rattle.binlog_event_data.specs.declared.event_data.EventData.{EventData}
+use Rattle.binlog_event_data.specs.declared.event_data.EventData.TheVariants as variants
 use Rattle.binlog_gtid_sets.specs.GtidGroups.{Pair, pair_of, is_same}
 
 -- The interval of one number.
@@ -31,3 +33,15 @@ bad_gno (i ∷ is) = option_or (bad_gno_in i) (bad_gno is)
 abbrev pub bad_gno_listed : List PreviousGtidsSid → Option ℕ
 bad_gno_listed [] = None
 bad_gno_listed (entry ∷ entries) = option_or (bad_gno entry.intervals) (bad_gno_listed entries)
+
+-- The event adds the GTID: it is that of a GTID event, or one of a PREVIOUS_GTIDS event. Other events add nothing.
+abbrev pub is_added : EventData → Pair → ℕ → Bool
+is_added (variants.GtidEvent event) pair n = is_same (pair_of event.sid event.tag) pair && is_within (only event.gno) n
+is_added (variants.PreviousGtidsEvent event) pair n = is_listed event.sids pair n
+is_added _ pair n = false
+
+-- The first number that the event would add and that isn't from 1 to 2^63 - 1.
+abbrev pub bad_gno_of : EventData → Option ℕ
+bad_gno_of (variants.GtidEvent event) = bad_gno_in (only event.gno)
+bad_gno_of (variants.PreviousGtidsEvent event) = bad_gno_listed event.sids
+bad_gno_of _ = None

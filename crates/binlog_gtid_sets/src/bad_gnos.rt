@@ -1,12 +1,22 @@
 //! Transaction numbers that no GTID can have.
 ghost use Rattle.std.specs.Prelude.{◌≡◌};
-ghost use Rattle.binlog_gtid_sets.specs.AddedGtids.{bad_gno_in, bad_gno, bad_gno_listed};
+ghost use Rattle.binlog_gtid_sets.specs.AddedGtids.{only, bad_gno_in, bad_gno, bad_gno_listed};
 
 use binlog_gtids::PreviousGtidsSid;
 use binlog_numbers::GnoInterval;
 
 /// The number after the greatest transaction number.
 const GNO_END: u64 = 1 << 63;
+
+/// The number, if it isn't from 1 to 2^63 - 1.
+pub(crate) fn bad_number(gno: u64) -> Option<u64>
+    ensures { result ≡ bad_gno_in (only gno) }
+{
+    if gno == 0 || gno >= GNO_END {
+        return Some(gno);
+    }
+    None
+}
 
 /// The first number of an interval that isn't from 1 to 2^63 - 1.
 pub(crate) fn bad_gno_in(interval: &GnoInterval) -> Option<u64>
