@@ -1,0 +1,2 @@
+pub mod GtidGroups
+pub mod AddedGtids

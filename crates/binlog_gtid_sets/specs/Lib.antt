@@ -1,0 +1,2 @@
+pub mod AddedGtids
+pub mod GtidGroups
