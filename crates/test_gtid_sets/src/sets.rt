@@ -74,13 +74,20 @@ fn are(intervals: &[GnoInterval], wanted: &[(u64, u64)]) -> bool {
         ) == *wanted)
 }
 
+// The text of a tag; empty for none.
+fn text_of<'a>(tag: Option<&'a Tag<'static>>) -> &'a [u8] {
+    match tag {
+        Some(tag) => tag.as_str().as_bytes(),
+        None => &[],
+    }
+}
+
 // Whether the group at an index has this source and tag.
 fn is_group(set: &GtidTracker, at: usize, sid: [u8; 16], tag: &[u8]) -> bool {
-    match set.group(at) {
-        Some((of, Some(kept))) => of == sid && kept.as_str().as_bytes() == tag,
-        Some((of, None)) => of == sid && tag.is_empty(),
-        None => false,
-    }
+    let Some(group) = set.group(at) else {
+        return false;
+    };
+    group.0 == sid && text_of(group.1) == tag
 }
 
 // Whether the group at an index is this entry.
