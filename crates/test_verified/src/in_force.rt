@@ -7,12 +7,13 @@ use testkit_logs::{COUNTED, DESCRIPTION, FILE_HEADER, count, joined};
 /// A table map of id 5 with its right checksum, 37, and with another.
 const MAP_5: &[u8] = b"\0\0\0\0\x13\x01\0\0\0\x29\0\0\0\0\0\0\0\0\0\
     \x05\0\0\0\0\0\x01\0\x01d\0\x01t\0\x01\x03\0\x01\x25\0\0\0";
+
 const WRONG_MAP_5: &[u8] = b"\0\0\0\0\x13\x01\0\0\0\x29\0\0\0\0\0\0\0\0\0\
     \x05\0\0\0\0\0\x01\0\x01d\0\x01t\0\x01\x03\0\x01\x24\0\0\0";
 
 /// A rotate of position 4 with its right checksum, 27, and with another.
-const ROTATE: &[u8] =
-    b"\0\0\0\0\x04\x01\0\0\0\x1f\0\0\0\0\0\0\0\0\0\x04\0\0\0\0\0\0\0\x1b\0\0\0";
+const ROTATE: &[u8] = b"\0\0\0\0\x04\x01\0\0\0\x1f\0\0\0\0\0\0\0\0\0\x04\0\0\0\0\0\0\0\x1b\0\0\0";
+
 const WRONG_ROTATE: &[u8] =
     b"\0\0\0\0\x04\x01\0\0\0\x1f\0\0\0\0\0\0\0\0\0\x04\0\0\0\0\0\0\0\0\0\0\0";
 
