@@ -14,12 +14,12 @@ use Rattle.binlog_events.specs.EventRefs.{item_view}
 use Rattle.binlog_events.specs.declared.event_ref.EventRef.{EventRef}
 use Rattle.binlog_file.specs.declared.slice.BinlogSlice.{BinlogSlice}
 use Rattle.binlog_file.specs.Slices.{slice_fde, SliceGives}
+use Rattle.binlog_file.specs.State.{Handles}
 use Rattle.binlog_file.specs.StreamItems.{AreItems}
-use Rattle.binlog_file.proofs.Iterating.{some_left}
 use Rattle.binlog_file.proofs.WholeSlices.{all_of_slice, items_and_left, few_so_far}
-use Rattle.binlog_lines.specs.Lines.{listing, AppendsFront, ListsFront, ListsItem}
+use Rattle.binlog_lines.specs.Lines.{listing, AppendsFront, ListsFront, LeavesLooked, ListsItem}
 use Rattle.binlog_lines.specs.SliceLines.{state_under, ListsSlice}
-use Rattle.binlog_lines.proofs.Listed.{listing-more, listing-append}
+use Rattle.binlog_lines.proofs.Listed.{listing-more}
 
 -- `line` and `takes` are those of the listing
 module _ (line : ℕ → Result EventView Error → List ℕ) (takes : Result EventView Error → Type 0) where
@@ -55,7 +55,7 @@ module _ (line : ℕ → Result EventView Error → List ℕ) (takes : Result Ev
       → listing line 0 (map item_view items ++ item ∷ []) ≡ listing line 0 (map item_view items) ++ line index item
   lines_more items item index count =
       let at : 0 + length (map item_view items) ≡ index = omega (arith, count, length-views items) in
-      listing-more line takes 0 (map item_view items) item ∙ ap (λ i. listing line 0 (map item_view items) ++ line i item) at
+      listing-more line 0 (map item_view items) item ∙ ap (λ i. listing line 0 (map item_view items) ++ line i item) at
 
   -- one more item and its line
   pub listed_more : (items : List (Result EventRef Error)) (item : Result EventRef Error) (old mid new : Option (List ℕ)) (failed is : Bool) (index : ℕ)
@@ -80,7 +80,7 @@ module _ (line : ℕ → Result EventView Error → List ℕ) (takes : Result Ev
       let whole = all_of_slice slice end items goes given in
       record {
         after = state_under (slice_fde end);
-        left = Some end.rest.now;
+        behind = Some end.rest.now;
         ended = end.is_ended;
         lists = (record { items = map item_view items; are = whole.are; written = listed.written; errors = listed.errors }, whole.ends);
       }
@@ -88,28 +88,23 @@ module _ (line : ℕ → Result EventView Error → List ℕ) (takes : Result Ev
   -- the writer failed in the line of an item
   front_listed : (slice then next : BinlogSlice) (items : List (Result EventRef Error)) (item : Result EventRef Error) (old mid new : Option (List ℕ)) (failed : Bool) (index : ℕ)
       → slice.is_ended ≡ false → Yields SliceGives slice items then → SliceGives then (Some item) next → AreListed items old mid failed index → AppendsFront mid new (line index (item_view item))
-      → ListsFront line (state_under (slice_fde slice)) slice.rest.now false old new
+      → ListsFront Handles LeavesLooked line takes (state_under (slice_fde slice)) slice.rest.now false old new
   front_listed slice then next items item old mid new failed index goes given gives listed wrote =
       let views = map item_view items in
       let view = item_view item in
-      let more = some_left (slice_fde next) next.rest.now next.is_ended in
-      let behind = listing line (index + 1) more.0 in
       let at : 0 + length views ≡ index = omega (arith, listed.count, length-views items) in
-      let lines : listing line 0 (views ++ view ∷ more.0) ≡ listing line 0 views ++ (line index view ++ behind) =
-      listing-append line takes 0 views (view ∷ more.0) ∙ ap (λ (i : ℕ). listing line 0 views ++ (line i view ++ listing line (i + 1) more.0)) at in
-      let all : map item_view (items ++ item ∷ []) ++ more.0 ≡ views ++ view ∷ more.0 =
-      ap (λ (l : List (Result EventView Error)). l ++ more.0) (views-more items item) ∙ append_assoc views (view ∷ []) more.0 in
+      let lines : listing line 0 (map item_view (items ++ item ∷ [])) ≡ listing line 0 views ++ line index view =
+      ap (listing line 0) (views-more items item) ∙ listing-more line 0 views view ∙ ap (λ (i : ℕ). listing line 0 views ++ line i view) at in
       record {
-        items = views ++ view ∷ more.0;
-        are =
-            subst (AreItems (slice_fde slice) slice.rest.now) all
-            (items_and_left slice next (items ++ item ∷ []) more.0 goes (yields_more slice items then item next given gives) more.1);
+        items = map item_view (items ++ item ∷ []);
+        state = state_under (slice_fde next);
+        unread = next.rest.now;
+        ended = next.is_ended;
+        before = λ more are. items_and_left slice next (items ++ item ∷ []) more goes (yields_more slice items then item next given gives) are;
         written = record {
           front = listing line 0 views ++ wrote.front;
-          cut = wrote.cut ++ behind;
-          whole =
-              lines ∙ ap (λ (l : List ℕ). listing line 0 views ++ l) (ap (λ (l : List ℕ). l ++ behind) wrote.whole ∙ append_assoc wrote.front wrote.cut behind)
-              ∙ sym (append_assoc (listing line 0 views) wrote.front (wrote.cut ++ behind));
+          cut = wrote.cut;
+          whole = lines ∙ ap (λ (l : List ℕ). listing line 0 views ++ l) wrote.whole ∙ sym (append_assoc (listing line 0 views) wrote.front wrote.cut);
           written = Appends-trans old mid new _ _ listed.written wrote.written;
         };
       }
@@ -121,7 +116,7 @@ module _ (line : ℕ → Result EventView Error → List ℕ) (takes : Result Ev
       subst (λ (e : Error). ListsSlice line takes slice old (Err e) new) (sym writer)
       (record {
         after = state_under (slice_fde next);
-        left = Some next.rest.now;
+        behind = Some next.rest.now;
         ended = next.is_ended;
         lists = front_listed slice then next items item old mid new failed index goes given gives listed wrote;
       })
@@ -135,14 +130,14 @@ module _ (line : ℕ → Result EventView Error → List ℕ) (takes : Result Ev
       subst (λ (e : Error). ListsSlice line takes slice old (Err e) new) (sym memory)
       (record {
         after = state_under (slice_fde next);
-        left = Some next.rest.now;
+        behind = Some next.rest.now;
         ended = next.is_ended;
         lists = inr (record {
           items = views;
           item = item_view item;
           grows = grows;
           unread = next.rest.now;
-          behind = refl;
+          stands = refl;
           before = λ more are.
               subst (AreItems (slice_fde slice) slice.rest.now)
               (ap (λ (l : List (Result EventView Error)). l ++ more) (views-more items item) ∙ append_assoc views (item_view item ∷ []) more)

@@ -7,5 +7,5 @@ mod output;
 mod slice_listing;
 
 pub use item_lines::ItemLines;
-pub use listing::{list, list_items, status};
+pub use listing::{list, list_items, list_verified, status};
 pub use slice_listing::list_slice;
