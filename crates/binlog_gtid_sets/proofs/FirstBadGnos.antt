@@ -1,12 +1,12 @@
 -- The number that an event is refused for is the first one that no GTID can have.
-use Rattle.std.proofs.Common.{◌≡◌, ◌⊎◌, inl, inr, ℕ, ◌^◌, ◌<◌, ◌≤◌, Bool, true, false, ltb, leb, cond, ◌&&◌, ◌||◌, List, [], ◌∷◌, Option, Some, None, MatchOption, refl, arith}
+use Rattle.std.proofs.Common.{◌≡◌, ◌⊎◌, inl, inr, ℕ, ◌^◌, Bool, true, false, ltb, leb, cond, ◌&&◌, ◌||◌, List, [], ◌∷◌, Option, Some, None, MatchOption, refl, arith}
 use Rattle.std.specs.Option.{option_or}
 use Rattle.std.proofs.lemmas.Bool.Decides.{nat_tests}
 use Rattle.binlog_numbers.specs.declared.gno_interval.GnoInterval.{GnoInterval}
 use Rattle.binlog_gtids.specs.declared.previous_gtids_sid.PreviousGtidsSid.{PreviousGtidsSid}
 use Rattle.binlog_gtids.specs.GnoSets.{is_within, is_held}
 use Rattle.binlog_gtid_sets.specs.AddedGtids.{bad_gno_in, bad_gno, bad_gno_listed}
-use Rattle.binlog_gtid_sets.specs.FirstBadGnos.{IsGno, AreGnos, AreListedGnos, IsFirstBad, IsFirstBadIn, IsFirstBadListed}
+use Rattle.binlog_gtid_sets.specs.FirstBadGnos.{AreGnos, AreListedGnos, IsFirstBad, IsFirstBadIn, IsFirstBadListed}
 
 module _ (i : GnoInterval) where
   one_by : (a b c : Bool) → ltb i.start i.end ≡ a → (leb 1 i.start && ltb i.start (2 ^ 63)) ≡ b → ltb (2 ^ 63) i.end ≡ c

@@ -7,7 +7,7 @@ use Rattle.std.proofs.lemmas.Bool.{cases_lt}
 use Rattle.std.proofs.lemmas.List.{get_or_read}
 use Rattle.binlog_numbers.specs.declared.gno_interval.GnoInterval.{GnoInterval}
 use Rattle.binlog_gtids.specs.declared.previous_gtids_sid.PreviousGtidsSid.{PreviousGtidsSid}
-use Rattle.binlog_gtids.specs.GnoSets.{is_within, is_held}
+use Rattle.binlog_gtids.specs.GnoSets.{is_held}
 use Rattle.binlog_gtid_sets.specs.declared.gtid_group.GtidGroup.{GtidGroup}
 use Rattle.binlog_gtid_sets.specs.AddedGtids.{is_listed}
 use Rattle.binlog_gtid_sets.specs.GtidGroups.{Pair, pair_of, pair_in, compare_pairs, is_same, intervals_of, is_tracked, AreGroups, AreBelow}

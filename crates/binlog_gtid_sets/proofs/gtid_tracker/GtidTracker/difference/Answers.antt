@@ -1,4 +1,4 @@
-use Rattle.std.proofs.Common.{◌≡◌, ◌∙◌, get_or, ap, subst, sym, arith}
+use Rattle.std.proofs.Common.{◌∙◌, get_or, ap, subst, sym, arith}
 use Rattle.std.proofs.lemmas.List.{get_or_read}
 use Rattle.binlog_gtid_sets.specs.declared.gtid_group.GtidGroup.{GtidGroup}
 use Rattle.binlog_gtid_sets.specs.GtidGroups.{pair_in, compare_pairs, AreGroups}

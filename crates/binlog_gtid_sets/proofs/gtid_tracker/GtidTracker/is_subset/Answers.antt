@@ -1,6 +1,6 @@
 use Rattle.std.proofs.Common.{[], None, ◌∙◌, subst, sym, refl, arith}
 use Rattle.std.specs.Prelude.{IsTrue}
-use Rattle.binlog_gtid_sets.specs.GtidGroups.{pair_in, AreGroups, is_tracked}
+use Rattle.binlog_gtid_sets.specs.GtidGroups.{pair_in, AreGroups}
 use Rattle.binlog_gtid_sets.proofs.GtidDifferences.{group_tracked, subset_done}
 use Rattle.binlog_gtid_sets.proofs.gtid_tracker.GtidTracker.is_subset.Goals as goal
 
