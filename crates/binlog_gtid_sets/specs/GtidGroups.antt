@@ -55,3 +55,7 @@ pub record IsGapFor (groups : List GtidGroup) (pair : Pair) (at : ℕ) : Type 0 
   pub within : at ≤ length groups
   pub smaller : (j : ℕ) (d : GtidGroup) → j < at → compare_pairs (pair_in (slice_index_or groups j d)) pair ≡ Less
   pub greater : (j : ℕ) (d : GtidGroup) → at ≤ j → j < length groups → compare_pairs (pair_in (slice_index_or groups j d)) pair ≡ Greater
+
+-- The pair of each group is below a pair.
+abbrev pub AreBelow : List GtidGroup → Pair → Type 0
+AreBelow groups pair = (i : ℕ) (d : GtidGroup) → i < length groups → compare_pairs (pair_in (slice_index_or groups i d)) pair ≡ Less
