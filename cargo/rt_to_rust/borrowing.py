@@ -2,7 +2,7 @@
 
 from rt_to_rust.items import fields, function_at, functions
 from rt_to_rust.kinds import base, local_type
-from rt_to_rust.source import segments
+from rt_to_rust.source import OPENING, segments
 
 KINDS = {"CowSlice": "[u8]", "CowStr": "str"}
 
@@ -19,13 +19,13 @@ def cow_types(source):
 
 def is_taken_as_any(source, index):
     """Whether a value that is passed here may be anything that makes a `Cow`: an argument of `new` or `with_..`."""
-    opening = index - 1
-    if source.code[opening].text not in ("(", ","):
+    place = index - 1
+    if source.code[place].text not in ("(", ","):
         return False
-    while source.code[opening].text != "(":
-        opening = source.partner.get(opening - 1, opening) if source.code[opening - 1].text in ")]}" else opening - 1
-    name = source.code[opening - 1].text
-    return name == "new" or name.startswith("with_")
+    while source.code[place].text not in OPENING:
+        place = source.partner.get(place, place) - 1
+    name = source.code[place - 1].text
+    return source.code[place].text == "(" and (name == "new" or name.startswith("with_"))
 
 
 def cow_values(source):

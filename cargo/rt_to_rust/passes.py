@@ -28,7 +28,9 @@ def rust(path, text, place, public, clones, used):
     may be refused."""
     source = Source(path, text)
     members = ghost_members(source)
-    source = without_proofs(guarded(source, public, used.checks), is_test=place.is_test())
+    if not place.public:
+        source = guarded(source, public, used.checks)
+    source = without_proofs(source, is_test=place.is_test())
     source = without_drops(source)
     if place.has_runtime:
         source = without_runtime(source.changed(forms.programs(source)))

@@ -8,6 +8,7 @@ from rt_to_rust.items import block_at, functions
 CHECKS = {
     # It is `parse`, which looks itself.
     "ParseBuf::parse_unchecked": None,
+    "BinlogEventHeader::from_bytes": "BinlogEventHeader::LEN <= bytes.len()",
     "GnoSet::insert": "0 < start && start < end && end <= 1 << 63",
     "GnoSet::contains_all": "start < end",
 }

@@ -6,5 +6,6 @@ pub mod binlog_lines;
 pub mod binlog_listing;
 mod digits;
 mod json;
+#[doc(hidden)]
 pub mod json_line;
 mod simd;

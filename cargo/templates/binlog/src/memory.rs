@@ -19,6 +19,12 @@ impl From<TryReserveError> for crate::Error {
     }
 }
 
+impl From<AllocError> for std::io::Error {
+    fn from(error: AllocError) -> Self {
+        std::io::Error::new(std::io::ErrorKind::OutOfMemory, error)
+    }
+}
+
 /// Vectors whose growth may be refused; they are unchanged then.
 pub trait TryGrow<T> {
     /// Appends an item.
