@@ -68,4 +68,5 @@ def empty_tests(source):
 def without_runtime(source):
     """The source without the runtime."""
     source = source.changed([*asserts(source), *made_texts(source), *law_statements(source)])
-    return source.changed([*parameters(source), *empty_tests(source)])
+    source = source.changed(parameters(source))
+    return source.changed(empty_tests(source))
