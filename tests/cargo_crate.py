@@ -32,8 +32,10 @@ TOOLS = ("cargo", "rustc", "rustfmt")
 REGISTRY = Path("/usr/share/cargo/registry")
 PACKAGES = [f"librust-{name}-dev" for name in ("byteorder", "hex", "memchr", "thiserror", "uuid")]
 
-# Every so many cases of damaged copies.
-STEP = 12
+# Of the damaged copies of samples one in so many is a case, and of the encoder's logs the first so many: they are of each
+# kind of event under the first description, then of the next.
+STEP = 20
+LOGS = 80
 
 PROFILE = "checked"
 
@@ -65,8 +67,8 @@ def tests_of_converter():
 def cargo(out, *arguments):
     """Runs cargo on the packages, without network; its output goes to ours if it fails."""
     settings = ['source.crates-io.replace-with="debian"', f'source.debian.directory="{REGISTRY}"']
-    command = ["cargo", *(part for setting in settings for part in ("--config", setting)), *arguments]
-    command += ["--offline", "--jobs", "1", "--workspace", "--profile", PROFILE]
+    command = ["cargo", *(part for setting in settings for part in ("--config", setting))]
+    command += [*arguments, "--offline", "--jobs", "1", "--workspace", "--profile", PROFILE]
     finished = subprocess.run(
         command, cwd=out, stdout=subprocess.PIPE, stderr=subprocess.STDOUT, text=True
     )
@@ -84,18 +86,23 @@ def tests_of_sources(out):
 
 
 def cases(is_json):
-    """Some of the damaged copies, and all logs of the encoder that aren't damaged."""
+    """Samples and some of their damaged copies, and some logs of the encoder with their listings or lines of JSON."""
     sample = make_sample.sample()
     yield from damaged_copies.no_change(sample)
-    yield from islice(damaged_copies.all_cases(sample, is_json), 0, None, STEP)
+    for kind in (damaged_copies.truncations, damaged_copies.changed_bytes, damaged_copies.changed_sizes):
+        yield from islice(kind(sample), 0, None, STEP)
+    for kind in (damaged_copies.checksummed_cases, damaged_copies.table_maps, damaged_copies.event_data):
+        yield from islice(kind(), 0, None, STEP)
+    yield from damaged_copies.not_binlogs(sample)
+    yield from islice(damaged_copies.encoded(is_json), LOGS)
 
 
 def compared(made, proved, model, is_json):
     """How many cases passed and failed on which the programs, the model and the encoder were compared."""
     programs = [str(made), str(proved)]
     with ThreadPoolExecutor(PROCESSES_AT_A_TIME) as pool:
-        compare = lambda case: damaged_copies.failure(programs, model, case)
-        results = list(pool.map(compare, cases(is_json)))
+        every = cases(is_json)
+        results = list(pool.map(lambda case: damaged_copies.failure(programs, model, case), every))
     failures = [result for result in results if result is not None]
     for message in failures[: damaged_copies.SHOWN_FAILURES]:
         print(message)
