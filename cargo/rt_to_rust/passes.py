@@ -12,7 +12,7 @@ from rt_to_rust.imports import placed, with_memory
 from rt_to_rust.memory_forms import renamed, with_plain_forms
 from rt_to_rust.runtime import without_runtime
 from rt_to_rust.source import Source
-from rt_to_rust.visibility import guarded, with_panics
+from rt_to_rust.visibility import guarded, open_enums, with_panics
 
 
 class Used:
@@ -29,7 +29,7 @@ def rust(path, text, place, public, clones, used):
     source = Source(path, text)
     members = ghost_members(source)
     if not place.public:
-        source = guarded(source, public, used.checks)
+        source = open_enums(guarded(source, public, used.checks))
     source = without_proofs(source, is_test=place.is_test())
     source = without_drops(source)
     if place.has_runtime:

@@ -13,6 +13,9 @@ CHECKS = {
     "GnoSet::contains_all": "start < end",
 }
 
+# Enumerations of the library that may get more variants.
+NON_EXHAUSTIVE = ["Error"]
+
 # A closure's own contract: any closure of Rust can be called.
 ALWAYS = "IsAlwaysCallable"
 
@@ -51,6 +54,16 @@ def guarded(source, public, used):
         if CHECKS[name]:
             brace = source.code[function.body].end
             changes.append((brace, brace, f" assert!({CHECKS[name]});"))
+    return source.changed(changes)
+
+
+def open_enums(source):
+    """The source in which a match on an enumeration that may grow has to have a last arm."""
+    changes = []
+    for name in NON_EXHAUSTIVE:
+        for index in source.places("pub", "enum", name, "{"):
+            start = source.code[index].start
+            changes.append((start, start, "#[non_exhaustive] "))
     return source.changed(changes)
 
 

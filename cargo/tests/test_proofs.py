@@ -55,6 +55,9 @@ class Visibility(Case):
         text = "impl A {\n    pub fn f(&self)\n        requires { F.IsAlwaysCallable f }\n    {}\n}"
         self.gives(text, "impl A { pub fn f(&self) {} }")
 
+    def test_an_enumeration_of_the_table_may_grow(self):
+        self.gives("pub enum Error {\n    A,\n}", "#[non_exhaustive] pub enum Error { A }")
+
     def test_a_public_function_that_asks_is_refused(self):
         text = "pub fn Held()\n    requires { a }\n{}"
         self.assertEqual(refusal(text), "sample.rt:1: `Held` is public and asks its callers for something")

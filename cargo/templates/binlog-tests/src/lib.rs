@@ -1,6 +1,5 @@
 //! The tests of the proved sources, as tests of the crate `binlog`.
 #![forbid(unsafe_code)]
-#![allow(unused_imports)]
 
 use std::borrow::Cow;
 
