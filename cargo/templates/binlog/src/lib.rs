@@ -94,7 +94,7 @@ pub mod events {
 
 /// The fields that bodies are made of.
 pub mod raw {
-    pub use crate::binlog_numbers::{LenEnc, LenEncBytes, Varlen, VarlenSigned};
+    pub use crate::binlog_numbers::{LenEnc, LenEncBytes, ValueList, Varlen, VarlenSigned};
     pub use crate::binlog_wire::{BareBytes, BareU8Bytes, BareU16Bytes, EofBytes, FixedLengthText};
     pub use crate::binlog_wire::{BitView, BytesRepr, Const, Constant, IntRepr, ParseBuf, Put};
     pub use crate::binlog_wire::{LeU16, LeU32, LeU48, LeU56, LeU64, MyDeserialize, MySerialize};
