@@ -3,8 +3,8 @@
 
 Usage: convert.py OUT
 
-OUT gets a workspace of two packages, `binlog` and `binlog-tools`; what it has of an earlier run is replaced. A form that
-the converter doesn't know stops it with file and line, and status 1.
+OUT gets a workspace of three packages, `binlog`, `binlog-tools` and `binlog-tests`; what it has of an earlier run is
+replaced. A form that the converter doesn't know stops it with file and line, and status 1.
 """
 
 import shutil
@@ -63,7 +63,7 @@ def place_of(crate, public):
 
 
 def convert(out):
-    """Writes the sources of both packages."""
+    """Writes the sources of all packages."""
     used = Used()
     clones = types_with_fallible_clones()
     facade = TEMPLATES / "binlog/src/lib.rs"

@@ -4,9 +4,9 @@
 Usage: cargo_crate.py [OUT]
 
 The packages are made in OUT, or in a temporary folder, and built without network, with checks of overflow: the crates
-that they depend on are Debian's, `PACKAGES`. A test each: what the converter's own tests check; each test of the sources,
-converted; and each case: samples, damaged copies and encoded logs, of which the programs, the models and the encoder have
-to print the same. The last line is `N passed, M failed`; the exit status is 1 if something failed.
+that they depend on are Debian's, `PACKAGES`. A test each: what the converter's own tests check; each test of the
+sources, converted; and each case: samples, damaged copies and encoded logs, of which the programs, the models and the
+encoder have to print the same. The last line is `N passed, M failed`; the exit status is 1 if something failed.
 
 Where cargo or those crates aren't there, it says so, and passes with no test.
 """

@@ -65,8 +65,8 @@ def sentences_without(lines, words):
 
 
 def for_users(lines, members):
-    """Lines of documentation without what only a reader of the proofs asks for: sentences on contracts, and on the ghost
-    members of a trait."""
+    """Lines of documentation without what only a reader of the proofs asks for: sentences on contracts, and on the
+    ghost members of a trait."""
 
     def is_of_proofs(sentence):
         return PROOFS.search(sentence) or any(f"`{member}`" in sentence for member in members)

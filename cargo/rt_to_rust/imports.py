@@ -50,8 +50,8 @@ ALSO = {("binlog_events", "event::Event"): "event::DescribedEvent"}
 
 
 class Place(NamedTuple):
-    """Where a source goes: the module of its crate in the package, None in a program, whose modules are the package's own;
-    the path of each public name of the library, outside of it; and whether its functions take the runtime."""
+    """Where a source goes: the module of its crate in the package, None in a program, whose modules are the package's
+    own; the path of each public name of the library, outside of it; and whether its functions take the runtime."""
 
     module: str | None
     public: dict | None
@@ -131,8 +131,8 @@ def memory_path(place):
 
 
 def imports(source, place):
-    """Each `use`, with the paths of the package; an import that stands for two is written once. What a crate of the library
-    passes on of another one goes: the library's root does that."""
+    """Each `use`, with the paths of the package; an import that stands for two is written once. What a crate of the
+    library passes on of another one goes: the library's root does that."""
     for index in source.places("use"):
         start = index - 1 if source.is_at(index - 1, "pub") else index
         end = index

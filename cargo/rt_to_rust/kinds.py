@@ -1,5 +1,5 @@
-"""The types of receivers, as far as a function's own text states them: enough to tell the standard library's vectors and
-texts from types of the crates. What isn't stated stops the converter."""
+"""The types of receivers, as far as a function's own text states them: enough to tell the standard library's vectors
+and texts from types of the crates. What isn't stated stops the converter."""
 
 from rt_to_rust.items import block_at, fields, function_at, functions
 from rt_to_rust.source import segments

@@ -106,7 +106,8 @@ def clone_of(source, function):
 
 
 def with_plain_forms(source, public):
-    """The source with the forms that a user of Rust expects beside the proved ones, of the types with `public` names."""
+    """The source with the forms that a user of Rust expects beside the proved ones, of the types with `public`
+    names."""
     changes = []
     for function in functions(source):
         name = source.code[function.name].text.removeprefix("try_")

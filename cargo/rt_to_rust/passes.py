@@ -24,8 +24,8 @@ class Used:
 
 
 def rust(path, text, place, public, clones, used):
-    """The Rust source of a Rattle source. `public` has the public names of the library, and `clones` the types whose copies
-    may be refused."""
+    """The Rust source of a Rattle source. `public` has the public names of the library, and `clones` the types whose
+    copies may be refused."""
     source = Source(path, text)
     members = ghost_members(source)
     if not place.public:

@@ -84,8 +84,8 @@ class Source:
         return start, end
 
     def changed(self, changes):
-        """The source with these changes, each (start, end, text). A line that goes stays as a mark, so that a refusal names
-        the line of the file, until `marks_removed`."""
+        """The source with these changes, each (start, end, text). A line that goes stays as a mark, so that a refusal
+        names the line of the file, until `marks_removed`."""
         changes, out, at = sorted(set(changes)), [], 0
         if not changes:
             return self

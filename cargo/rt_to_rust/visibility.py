@@ -1,5 +1,5 @@
-"""What a proved function asks of its callers. Where nothing proves it any more, a public function that asks something is
-the crate's own, or looks itself."""
+"""What a proved function asks of its callers. Where nothing proves it any more, a public function that asks something
+is the crate's own, or looks itself."""
 
 from rt_to_rust.items import block_at, functions
 
@@ -36,8 +36,8 @@ def full_name(source, function):
 
 
 def guarded(source, public, used):
-    """The source in which no public method asks for anything that nobody looks at. Functions of a module are the crate's own
-    unless they are among the `public` names. Adds to `used` the rows of the table that it used."""
+    """The source in which no public method asks for anything that nobody looks at. Functions of a module are the
+    crate's own unless they are among the `public` names. Adds to `used` the rows of the table that it used."""
     changes = []
     for function in functions(source):
         is_public = source.is_at(function.first, "pub") and not source.is_at(function.first + 1, "(")
