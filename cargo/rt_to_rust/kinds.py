@@ -10,6 +10,9 @@ REFERENCE = ("&", "mut")
 # Functions of other sources that are called for a vector.
 RETURN_VECTORS = ("joined", "written")
 
+# The types of fields that another source than the one that calls declares.
+FIELDS_OF_OTHERS = {"gnos": ["GnoSet"]}
+
 
 def base(texts):
     """The name of a type, without references, lifetimes and generics."""
@@ -104,7 +107,8 @@ def kind_of(source, dot):
     if first == last:
         stated = named_type(source, name, dot)
     else:
-        stated = fields(source).get(source.code[last].text)
+        field = source.code[last].text
+        stated = fields(source).get(field) or FIELDS_OF_OTHERS.get(field)
     kind = stated and (element(stated) if is_indexed else base(stated))
     if kind is None:
         raise source.refusal(dot, f"the type of `{source.between(first, dot - 1)}` isn't stated")

@@ -53,7 +53,10 @@ pub mod memory;
 
 pub use crate::binlog_description::{BinlogCtx, BinlogEvent, BinlogStruct, DescriptionRef, read_body};
 pub use crate::binlog_events::{BinlogFileHeader, EventRef};
-pub use crate::binlog_file::{BinlogFile, BinlogSlice, EventStreamReader, Items};
+pub use crate::binlog_file::{
+    BinlogFile, BinlogFileOf, BinlogSlice, EventStreamReader, Items, Unverified, Verification,
+    Verified, VerifiedFile,
+};
 pub use crate::binlog_gtid_sets::GtidTracker;
 pub use crate::binlog_gtids::GnoSet;
 pub use crate::binlog_wire::{Error, Field, Invalid};
