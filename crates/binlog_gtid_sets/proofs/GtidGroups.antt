@@ -32,7 +32,7 @@ turned Less = refl
 turned Equal = refl
 turned Greater = refl
 
--- of two pairs that differ, one is the same as q at most
+-- Of two pairs that differ, at most one is the same as q.
 pub not_both : (a b q : Pair) → is_same a b ≡ false → is_same a q ≡ true → is_same b q ≡ false
 not_both a b q differ same =
     let tied = equal_from_same (compare_pairs a q) same in
@@ -53,7 +53,7 @@ gap_same groups p q at same gap =
 
 -- ---- what is found
 
--- no group before this index has the pair
+-- No group before this index has the pair.
 abbrev NoneBefore : List GtidGroup → Pair → ℕ → Type 0
 NoneBefore groups p i = (j : ℕ) (d : GtidGroup) → j < i → is_same (pair_in (get_or groups j d)) p ≡ false
 
@@ -72,7 +72,7 @@ lookup_present [] p i d is none = absurd (omega (arith, is.within))
 lookup_present (g ∷ groups) p zero d is none = let same : is_same (pair_in g) p ≡ true = ap is_eq (is.same d) in rw same refl
 lookup_present (g ∷ groups) p (suc i) d is none = rw (none 0 g (omega arith)) (lookup_present groups p i d (at_in_tail g groups p i is) (none_in_tail g groups p i none))
 
--- the intervals with those of one group
+-- The intervals, with those of one group.
 abbrev pub with_group : List GtidGroup → GtidGroup → Pair → List GnoInterval
 with_group groups g q = cond (is_same (pair_in g) q) g.gnos (intervals_of groups q)
 
@@ -90,7 +90,7 @@ put_later_by : (first : GtidGroup) (rest edited : List GnoInterval) (g : GtidGro
 put_later_by first rest edited g q true e other same = rw (e, not_both (pair_in first) (pair_in g) q other e) refl
 put_later_by first rest edited g q false e other same = rw e same
 
--- a group in the place of one with its pair
+-- A group in place of one with the same pair.
 lookup_set : (groups : List GtidGroup) (g : GtidGroup) (i : ℕ) (q : Pair) → i < length groups → ((d : GtidGroup) → pair_in (get_or groups i d) ≡ pair_in g) → NoneBefore groups (pair_in g) i
     → intervals_of (set groups i g) q ≡ with_group groups g q
 lookup_set [] g i q within same none = absurd (omega arith)
@@ -99,7 +99,7 @@ lookup_set (first ∷ groups) g (suc i) q within same none =
     put_later_by first (intervals_of groups q) (intervals_of (set groups i g) q) g q (is_same (pair_in first) q) refl (none 0 first (omega arith))
     (lookup_set groups g i q (omega arith) same (none_in_tail first groups (pair_in g) i none))
 
--- a new group before any with its pair
+-- A new group before any with its pair.
 lookup-insert : (groups : List GtidGroup) (g : GtidGroup) (i : ℕ) (q : Pair) → NoneBefore groups (pair_in g) i → intervals_of (insert groups i g) q ≡ with_group groups g q
 lookup-insert groups g zero q none = refl
 lookup-insert [] g (suc i) q none = refl
@@ -115,7 +115,7 @@ module _ (groups : List GtidGroup) (are : AreGroups groups) (p : Pair) where
       searchable_from_sorted pairs_total pair_in groups p
       (λ k d from to. ap is_lt (pairs_total.antisymm (pair_in (get_or groups (k + 1) d)) (pair_in (get_or groups k d)) ∙ ap ordering_reverse (are.ascending k (k + 1) d (omega arith) to)))
 
-  -- a binary search finds the group with the pair, or where it would be inserted
+  -- A binary search finds the group with the pair, or the index where it would be inserted.
   pub searched : (r : Result ℕ ℕ) → IsSearchInRange r (length groups) → IsBinarySearchResult (λ g. compare_pairs (pair_in g) p) groups r
       → record { found : IfOk r (λ at. IsAt groups p at); absent : IfErr r (λ at. IsGapFor groups p at) }
   searched (Ok at) within equal = record { found = record { within = within; same = equal }; absent = tt }
@@ -146,7 +146,7 @@ module _ (groups : List GtidGroup) (p : Pair) (at : ℕ) (gap : IsGapFor groups 
   pub not_found : intervals_of groups p ≡ []
   not_found = lookup_absent groups p none_of_pair
 
--- a pair after that of the last group would be inserted at the end
+-- A pair that is after that of the last group would be inserted at the end.
 pub after_last : (groups : List GtidGroup) → AreGroups groups → (p : Pair) (last : GtidGroup) → 0 < length groups → last ≡ get_or groups (length groups - 1) last
     → compare_pairs (pair_in last) p ≡ Less → IsGapFor groups p (length groups)
 after_last groups are p last some last_is less =
@@ -248,7 +248,7 @@ module _ (groups : List GtidGroup) (are : AreGroups groups) (p : Pair) (at : ℕ
         filled = λ i d within. filled_set groups g at some are.filled i d (omega (arith, same_length));
       }
 
-  -- after the insertion, or after its failure
+  -- After the insertion, or after its failure.
   pub inserts_at : {T E : Type 0} (r : Result T E) (s e : ℕ) (new : List GtidGroup) → new ≡ set groups at g → OnOk r ((n : ℕ) → is_held g.gnos n ≡ (is_within (interval s e) n || is_held old.gnos n))
       → OnOk r (Inserted groups new p s e)
   inserts_at (Ok x) s e new put held = subst (λ (gs : List GtidGroup). Inserted groups gs p s e) (sym put) (inserted_at s e held)

@@ -1,4 +1,4 @@
--- What a listing over a slice has written so far, and what it answers.
+-- What a listing of a slice has written so far, and its results.
 use Rattle.std.proofs.Common.{◌≡◌, inl, inr, ℕ, ◌+◌, ◌<◌, ◌^◌, Bool, true, false, ◌||◌, List, [], ◌∷◌, ◌++◌, length, map, Option, Some, None, Result, Ok, Err, is_err, refl, sym, ap, subst, ◌∙◌, arith, append_assoc, length-append}
 use Rattle.std.proofs.lemmas.List.{map-append}
 use Rattle.std.specs.List.{list_any}
@@ -21,9 +21,9 @@ use Rattle.binlog_lines.specs.Lines.{listing, AppendsFront, ListsFront, LeavesLo
 use Rattle.binlog_lines.specs.SliceLines.{state_under, ListsSlice}
 use Rattle.binlog_lines.proofs.Listed.{listing-more}
 
--- `line` and `takes` are those of the listing
+-- `line` and `takes` are those of the listing.
 module _ (line : ℕ → Result EventView Error → List ℕ) (takes : Result EventView Error → Type 0) where
-  -- one more call
+  -- One more call.
   yields_more : (s : BinlogSlice) (xs : List (Result EventRef Error)) (t : BinlogSlice) (x : Result EventRef Error) (u : BinlogSlice) → Yields SliceGives s xs t → SliceGives t (Some x) u
       → Yields SliceGives s (xs ++ x ∷ []) u
   yields_more s [] t x u given gives = (u, subst (λ (k : BinlogSlice). SliceGives k (Some x) u) (sym given) gives, refl)
@@ -46,18 +46,18 @@ module _ (line : ℕ → Result EventView Error → List ℕ) (takes : Result Ev
   or_false true = refl
   or_false false = refl
 
-  -- before the first item
+  -- Before the first item.
   pub listed_none : (old : Option (List ℕ)) → AreListed [] old old false 0
   listed_none old = record { written = Appends-nil old; errors = refl; count = refl }
 
-  -- the lines of the items so far, and of one more
+  -- The lines of the items so far, and of one more.
   lines_more : (items : List (Result EventRef Error)) (item : Result EventView Error) (index : ℕ) → length items ≡ index
       → listing line 0 (map item_view items ++ item ∷ []) ≡ listing line 0 (map item_view items) ++ line index item
   lines_more items item index count =
       let at : 0 + length (map item_view items) ≡ index = omega (arith, count, length-views items) in
       listing-more line 0 (map item_view items) item ∙ ap (λ i. listing line 0 (map item_view items) ++ line i item) at
 
-  -- one more item and its line
+  -- One more item and its line.
   pub listed_more : (items : List (Result EventRef Error)) (item : Result EventRef Error) (old mid new : Option (List ℕ)) (failed is : Bool) (index : ℕ)
       → AreListed items old mid failed index → ListsItem line takes index (Some (item_view item)) mid new (Ok (Some is)) → AreListed (items ++ item ∷ []) old new (failed || is) (index + 1)
   listed_more items item old mid new failed is index so_far lists =
@@ -73,7 +73,7 @@ module _ (line : ℕ → Result EventView Error → List ℕ) (takes : Result Ev
         count = omega (arith, so_far.count, length-append items (item ∷ []));
       }
 
-  -- no item is left
+  -- No item is left.
   all_listed : (slice end : BinlogSlice) (items : List (Result EventRef Error)) (old new : Option (List ℕ)) (failed : Bool) (index : ℕ) → slice.is_ended ≡ false
       → YieldsThen SliceGives slice items None end → AreListed items old new failed index → ListsSlice line takes slice old (Ok failed) new
   all_listed slice end items old new failed index goes given listed =
@@ -85,7 +85,7 @@ module _ (line : ℕ → Result EventView Error → List ℕ) (takes : Result Ev
         lists = (record { items = map item_view items; are = whole.are; written = listed.written; errors = listed.errors }, whole.ends);
       }
 
-  -- the writer failed in the line of an item
+  -- The writer failed in the line of an item.
   front_listed : (slice then next : BinlogSlice) (items : List (Result EventRef Error)) (item : Result EventRef Error) (old mid new : Option (List ℕ)) (failed : Bool) (index : ℕ)
       → slice.is_ended ≡ false → Yields SliceGives slice items then → SliceGives then (Some item) next → AreListed items old mid failed index → AppendsFront mid new (line index (item_view item))
       → ListsFront Handles LeavesLooked line takes (state_under (slice_fde slice)) slice.rest.now false old new
@@ -121,7 +121,7 @@ module _ (line : ℕ → Result EventView Error → List ℕ) (takes : Result Ev
         lists = front_listed slice then next items item old mid new failed index goes given gives listed wrote;
       })
 
-  -- memory ran out for the line of the next item
+  -- An allocation failed for the line of the next item.
   memory_listed : (slice then next : BinlogSlice) (items : List (Result EventRef Error)) (item : Result EventRef Error) (old new : Option (List ℕ)) (failed : Bool) (index : ℕ) (error : Error)
       → slice.is_ended ≡ false → Yields SliceGives slice items then → SliceGives then (Some item) next → AreListed items old new failed index → error ≡ Memory
       → takes (item_view item) → ListsSlice line takes slice old (Err error) new
@@ -152,7 +152,7 @@ module _ (line : ℕ → Result EventView Error → List ℕ) (takes : Result Ev
       let same : why ≡ error = cc in
       let inside : is_environment_error error ≡ false = subst (λ (e : Error). is_environment_error e ≡ false) same gives.inside in cc
 
-  -- the listing ends with the error of an item's line
+  -- The listing ends with the error of an item's line.
   stopped : (slice then next : BinlogSlice) (items : List (Result EventRef Error)) (item : Result EventRef Error) (old mid new : Option (List ℕ)) (failed : Bool) (index : ℕ) (error : Error)
       → slice.is_ended ≡ false → Yields SliceGives slice items then → SliceGives then (Some item) next → AreListed items old mid failed index
       → ListsItem line takes index (Some (item_view item)) mid new (Err error) → ListsSlice line takes slice old (Err error) new
@@ -182,7 +182,7 @@ module _ (line : ℕ → Result EventView Error → List ℕ) (takes : Result Ev
       subst (λ (s : BinlogSlice). ListsSlice line takes s old (Err error) new) begins
       (stopped begun then next items item old mid new failed index error (goes_on slice begun begins goes) given gives listed lists)
 
-  -- there are fewer items than bytes
+  -- There are fewer items than bytes.
   pub index_fits : (slice begun then : BinlogSlice) (items : List (Result EventRef Error)) (old new : Option (List ℕ)) (failed : Bool) (index : ℕ) → begun ≡ slice → slice.is_ended ≡ false
       → Yields SliceGives begun items then → AreListed items old new failed index → length slice.rest.now < 2 ^ 64 → index + 1 < 2 ^ 64
   index_fits slice begun then items old new failed index begins goes given listed few =

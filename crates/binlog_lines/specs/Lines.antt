@@ -1,4 +1,4 @@
--- A line for each item of a binlog file, whatever the line says, and what the program answers.
+-- A line for each item of a binlog file, for any kind of line, and the exit status of a program.
 use Rattle.std.specs.Prelude.{◌≡◌, ◌≢◌, ℕ, ◌+◌, ◌<◌, ◌≤◌, Bool, true, false, List, [], ◌∷◌, ◌++◌, length, take, ◌⊎◌, Option, Some, None, Result, Ok, Err, is_err, ⊤}
 use Rattle.std.specs.List.{list_any}
 use Rattle.std.specs.Io.KnownBytes.{Appends}
@@ -14,14 +14,14 @@ use Rattle.binlog_file.specs.Streams.{Gives, IsLeft}
 use Rattle.binlog_file.specs.StreamItems.{AreLeft}
 use Rattle.binlog_file.specs.VerifiedFiles.{AreVerifiedItems}
 
--- known bytes grow by a front of these
+-- A prefix of these bytes was appended.
 pub record AppendsFront (old new : Option (List ℕ)) (bytes : List ℕ) : Type 0 where
   pub front : List ℕ
   pub cut : List ℕ
   pub whole : bytes ≡ front ++ cut
   pub written : Appends old new front
 
--- an item that gets a line
+-- An item that gets a line: every item except a failure of memory or of the reader.
 abbrev pub HasLine : Result EventView Error → Type 0
 HasLine (Ok event) = ⊤
 HasLine (Err error) = is_environment_error error ≡ false
@@ -32,7 +32,7 @@ Left = StreamState → List ℕ → Bool → List (Result EventView Error) → T
 
 -- `line index item` is the line of an item
 module _ (line : ℕ → Result EventView Error → List ℕ) where
-  -- the lines of these items, the first of which has this index
+  -- The lines of these items, where `index` is that of the first.
   abbrev pub listing : ℕ → List (Result EventView Error) → List ℕ
   listing index [] = []
   listing index (item ∷ items) = line index item ++ listing (index + 1) items
@@ -81,7 +81,7 @@ module _ (handles : Handling) (left : Left) (line : ℕ → Result EventView Err
     pub before : (more : List (Result EventView Error)) → left after unread is more → left s rest was (items ++ item ∷ more)
     pub written : Appends old new (listing line 0 items)
 
-  -- What listing the items that are left may answer, what is then written, and where the iteration stands.
+  -- The results of listing the items that are left: what is written, and where the iteration is then.
   abbrev pub ListsItems : StreamState → List ℕ → Bool → Option (List ℕ) → Result Bool Error → StreamState → Option (List ℕ) → Bool → Option (List ℕ) → Type 0
   ListsItems s rest was old (Ok has_errors) after behind is new = ListsAll s rest was old new has_errors × (is ≡ true)
   ListsItems s rest was old (Err Writer) after behind is new = ListsFront s rest was old new
@@ -89,7 +89,7 @@ module _ (handles : Handling) (left : Left) (line : ℕ → Result EventView Err
       ListsBefore Memory s rest was old after behind is new ⊎ ListsBeforeLine s rest was old after behind is new
   ListsItems s rest was old (Err error) after behind is new = ListsBefore error s rest was old after behind is new
 
-  -- The input is a binlog file, whose items are listed.
+  -- The input is a binlog file, and its items are listed.
   pub record ListsFile (bytes : List ℕ) (old : Option (List ℕ)) (answer : Result Bool Error) (new : Option (List ℕ)) : Type 0 where
     pub stream : List ℕ
     pub file : bytes ≡ file_header ++ stream

@@ -1,4 +1,4 @@
-//! Lists the items of a binary log, a line for each.
+//! Lists the items of a binary log, one line for each.
 #![tactic(auto)]
 
 mod line;
