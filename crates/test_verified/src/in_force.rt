@@ -24,7 +24,7 @@ fn behind(alloc: Global, events: &[&[u8]]) -> Result<(Option<u8>, bool), Error> 
     let mut file = VerifiedFile::new(alloc, BinlogVersion::Version4, count, Cursor::new(bytes))?;
     let mut last = None;
     for _ in 0..4u8 {
-        match file.next() {
+        match file.next_ref() {
             Some(Err(error)) => last = Some(error.number()),
             Some(Ok(_)) | None => {}
         }
