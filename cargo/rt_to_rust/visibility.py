@@ -11,20 +11,23 @@ CHECKS = {
     "BinlogEventHeader::from_bytes": "BinlogEventHeader::LEN <= bytes.len()",
     "GnoSet::insert": "0 < start && start < end && end <= 1 << 63",
     "GnoSet::contains_all": "start < end",
+    "GtidTracker::insert": "0 < start && start < end && end <= 1 << 63",
 }
 
 # Enumerations of the library that may get more variants.
 NON_EXHAUSTIVE = ["Error"]
 
-# A closure's own contract: any closure of Rust can be called.
-ALWAYS = "IsAlwaysCallable"
+# What says that a closure can be called, its own contract or by a verification: any closure of Rust can.
+CAN_BE_CALLED = ("IsAlwaysCallable", "is_ready")
 
 
 def asks(source, function):
     """Whether a function asks its callers for more than a closure that can be called."""
     clauses = source.code[function.parameters : function.body]
     return any(
-        clause.kind == "clause" and clause.text.startswith("requires") and ALWAYS not in clause.text
+        clause.kind == "clause"
+        and clause.text.startswith("requires")
+        and not any(word in clause.text for word in CAN_BE_CALLED)
         for clause in clauses
     )
 
