@@ -5,7 +5,7 @@ Usage: allocations.py
 
 The programs and tests are those that are built in crates/NAME/out. Each further event takes one buffer if it is owned
 (probe_owned_events), and nothing if it is borrowed (binlog_list, binlog_json, bench_write_back), even if statements and
-their status variables are read (bench_typed). Checksums take nothing. A format description that comes into force, and a
+their status variables are read (bench_typed), or GTIDs that come in order are kept (binlog_gtids_list). Checksums take nothing. A format description that comes into force, and a
 table map, is copied once: one allocation for each of its texts that isn't empty, and one for the description.
 
 No allocation of a program is larger than the bytes that came and 65,536 more; the vector of table maps may have 12 bytes
@@ -22,6 +22,7 @@ import sys
 from typing import Callable, NamedTuple
 
 import checksummed_sample
+import gtids_sample
 import json_sample
 import make_sample
 import watched
@@ -79,6 +80,7 @@ LOGS = {
     # The version, the lengths and the description itself, and the same for the description under which an event is read.
     "descriptions": Log(MAGIC, lambda _: DESCRIPTION, kept=3, owned=3),
     "statements that name databases": Log(MAGIC, lambda _: statement_of(100), is_counted=False),
+    "GTIDs in order": Log(MAGIC, lambda index: gtids_sample.gtid(index + 1)),
 }
 
 # Logs that are read once.
@@ -88,10 +90,18 @@ WHOLE_LOGS = {
     "the sample with checksums": checksummed_sample.sample(),
     "each body": json_sample.sample(),
     "each body, cut": json_sample.sample()[:-1],
+    "GTIDs": gtids_sample.sample(),
 }
 
 # The number of allocations that each program makes for a further event.
-PROGRAMS = {"binlog_list": 0, "binlog_json": 0, "bench_write_back": 0, "bench_typed": 0, "probe_owned_events": 1}
+PROGRAMS = {
+    "binlog_list": 0,
+    "binlog_json": 0,
+    "binlog_gtids_list": 0,
+    "bench_write_back": 0,
+    "bench_typed": 0,
+    "probe_owned_events": 1,
+}
 
 # The programs that hold a whole log, for which a buffer may have twice the bytes, and others.
 HOLDING = {"probe_slice_listing"}

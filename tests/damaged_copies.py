@@ -3,10 +3,11 @@
 
 The encoder also gives the listing and the lines of JSON of the events that it encodes.
 
-Usage: damaged_copies.py [--json] [PROGRAM [SAMPLE]]
+Usage: damaged_copies.py [--json | --gtids] [PROGRAM [SAMPLE]]
 
-PROGRAM reads a binlog on standard input; its default is the built binlog_list, and
-with --json, which compares lines of JSON, the built binlog_json. Without --json the
+PROGRAM reads a binlog on standard input; its default is the built binlog_list,
+with --json, which compares lines of JSON, the built binlog_json, and with --gtids,
+which compares listings of GTIDs, the built binlog_gtids_list. Without a flag the
 built probe_slice_listing lists each log too, and has to list it alike.
 Without SAMPLE the sample is made in memory. The last line of the output is
 `N passed, M failed`; the exit status is 1 if something failed.
@@ -18,10 +19,14 @@ import sys
 from concurrent.futures import ThreadPoolExecutor
 from itertools import combinations
 from pathlib import Path
+from types import ModuleType
+from typing import Callable, NamedTuple
 
 import bodies_sample
 import checksummed_sample
 import encoded_logs
+import gtid_model
+import gtids_sample
 import json_model
 import listing_model
 import make_sample
@@ -30,6 +35,7 @@ REPOSITORY = Path(__file__).resolve().parent.parent
 LISTING_PROGRAM = REPOSITORY / "crates/binlog_list/out/binlog_list"
 SLICE_PROGRAM = REPOSITORY / "crates/probe_slice_listing/out/probe_slice_listing"
 JSON_PROGRAM = REPOSITORY / "crates/binlog_json/out/binlog_json"
+GTIDS_PROGRAM = REPOSITORY / "crates/binlog_gtids_list/out/binlog_gtids_list"
 
 PROCESSES_AT_A_TIME = 2
 SHOWN_FAILURES = 20
@@ -355,11 +361,26 @@ def texts():
         yield f"the text {text[:9]} of {len(text)} bytes", MAGIC + query + rotate
 
 
-def encoded(is_json):
+def gtids():
+    """Logs of GTIDs of several sources and tags, damaged, and intervals that meet in each way."""
+    for kind in (no_change, truncations, changed_bytes, changed_sizes):
+        for name, content in kind(gtids_sample.sample()):
+            yield f"GTIDs: {name}", content
+    for first in range(1, 8):
+        for end in range(first - 1, 10):
+            intervals = [(3, 5), (7, 8), (first, end)]
+            added = gtids_sample.previous((gtids_sample.SID, intervals))
+            later = "".join(f", {number}" for number in (9, 6, 2))
+            yield f"intervals 3 to 5, 7 to 8, {first} to {end}", MAGIC + added
+            single = b"".join(map(gtids_sample.gtid, (9, 6, 2)))
+            yield f"the same, then{later}", MAGIC + added + single
+
+
+def encoded(stated):
     """Logs of encoded events with the encoder's output for them, and logs of damaged copies."""
     for log in encoded_logs.logs():
-        stated = log.lines if is_json else log.listing
-        yield (log.name, log.content) if stated is None else (log.name, log.content, stated)
+        output = stated(log)
+        yield (log.name, log.content) if output is None else (log.name, log.content, output)
 
 
 def checksummed_cases():
@@ -373,7 +394,7 @@ def checksummed_cases():
     yield from rotates()
 
 
-def all_cases(sample, is_json):
+def all_cases(sample, stated):
     yield from no_change(sample)
     yield from truncations(sample)
     yield from changed_bytes(sample)
@@ -385,7 +406,8 @@ def all_cases(sample, is_json):
     yield from table_maps()
     yield from event_data()
     yield from texts()
-    yield from encoded(is_json)
+    yield from gtids()
+    yield from encoded(stated)
 
 
 def run(program, content):
@@ -423,33 +445,45 @@ def all_faults(found, wanted):
         yield f"{found_name}, unlike {wanted_name}: {first_difference(output, wanted_output)}"
 
 
+class Compared(NamedTuple):
+    """A program, others that have to print the same, the model, and the encoder's output for a log, None if it has none."""
+
+    program: Path
+    others: list
+    model: ModuleType
+    stated: Callable
+
+
+LISTING = Compared(LISTING_PROGRAM, [SLICE_PROGRAM], listing_model, lambda log: log.listing)
+JSON = Compared(JSON_PROGRAM, [], json_model, lambda log: log.lines)
+GTIDS = Compared(GTIDS_PROGRAM, [], gtid_model, lambda _log: None)
+
+
 def read_arguments():
     parser = argparse.ArgumentParser(description="Compares a listing program with the model.")
-    parser.add_argument("--json", action="store_true")
+    kinds = parser.add_mutually_exclusive_group()
+    kinds.add_argument("--json", dest="compared", action="store_const", const=JSON, default=LISTING)
+    kinds.add_argument("--gtids", dest="compared", action="store_const", const=GTIDS, default=LISTING)
     parser.add_argument("program", nargs="?", type=Path)
     parser.add_argument("sample", nargs="?", type=Path)
     arguments = parser.parse_args()
-    if arguments.program is None:
-        arguments.program = JSON_PROGRAM if arguments.json else LISTING_PROGRAM
-    for program in compared(arguments):
+    for program in programs_of(arguments):
         if not program.is_file():
             parser.error(f"no program at {program}")
     return arguments
 
 
-def compared(arguments):
-    """The program; for the listing also the one over a slice."""
-    return [arguments.program] if arguments.json else [arguments.program, SLICE_PROGRAM]
+def programs_of(arguments):
+    return [arguments.program or arguments.compared.program, *arguments.compared.others]
 
 
 def main():
     arguments = read_arguments()
-    programs = [str(program.resolve()) for program in compared(arguments)]
+    programs = [str(program.resolve()) for program in programs_of(arguments)]
     sample = arguments.sample.read_bytes() if arguments.sample else make_sample.sample()
-    model = json_model if arguments.json else listing_model
-    cases = list(all_cases(sample, arguments.json))
+    cases = list(all_cases(sample, arguments.compared.stated))
     with ThreadPoolExecutor(PROCESSES_AT_A_TIME) as pool:
-        results = list(pool.map(lambda case: failure(programs, model, case), cases))
+        results = list(pool.map(lambda case: failure(programs, arguments.compared.model, case), cases))
     failures = [result for result in results if result is not None]
     for message in failures[:SHOWN_FAILURES]:
         print(message)

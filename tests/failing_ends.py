@@ -1,14 +1,14 @@
 #!/usr/bin/env python3
 """Runs the listing with an input that fails, and with an output that fails: its exit status is 3.
 
-Usage: failing_ends.py [--json] [PROGRAM]
+Usage: failing_ends.py [--json | --gtids] [PROGRAM]
 
-PROGRAM lists the binlog on its standard input; its default is the built binlog_list, and with --json, where the listing
-is lines of JSON, the built binlog_json. An input that fails is a folder, a closed descriptor, and a terminal that hangs
-up after a prefix of the sample: all events that were whole by then must be listed. An output that fails is a full
-device, a closed descriptor and a pipe that nobody reads; the listing is short, so that the failure shows when it is
-flushed, or long. The last line is `N passed, M failed`; the
-exit status is 1 if something failed.
+PROGRAM lists the binlog on its standard input; its default is the built binlog_list, with --json, where the listing
+is lines of JSON, the built binlog_json, and with --gtids, where it is one of GTIDs, the built binlog_gtids_list. An input
+that fails is a folder, a closed descriptor, and a terminal that hangs up after a prefix of the sample: all events that
+were whole by then must be listed, of a listing of GTIDs the errors alone. An output that fails is a full device, a
+closed descriptor and a pipe that nobody reads; the listing is short, so that the failure shows when it is flushed, or
+long. The last line is `N passed, M failed`; the exit status is 1 if something failed.
 """
 
 import os
@@ -17,18 +17,46 @@ import sys
 import tty
 from concurrent.futures import ThreadPoolExecutor
 from pathlib import Path
+from typing import Callable, NamedTuple
 
+import gtid_model
+import gtids_sample
 import json_model
 import listing_model
 import make_sample
-from damaged_copies import EVENT, JSON_PROGRAM, LISTING_PROGRAM, MAGIC, PROCESSES_AT_A_TIME
+from damaged_copies import (
+    EVENT,
+    GTIDS_PROGRAM,
+    JSON_PROGRAM,
+    LISTING_PROGRAM,
+    MAGIC,
+    PROCESSES_AT_A_TIME,
+    frame_starts,
+)
 
 FAILED = 3
 
-SAMPLE = make_sample.sample()
-SHORT_LOG = SAMPLE
-# The listing is longer than the program's output buffer of 65,536 bytes.
+
+class Listing(NamedTuple):
+    """A program, its sample, what it lists if the input fails behind a content, and a log whose listing is longer than its
+    output buffer of 65,536 bytes."""
+
+    program: Path
+    sample: bytes
+    listed_before: Callable
+    long_log: bytes
+
+
+def all_lines(model):
+    return lambda content: model.expected(content)[0]
+
+
 LONG_LOG = MAGIC + 20_000 * EVENT
+TEXT = Listing(LISTING_PROGRAM, make_sample.sample(), all_lines(listing_model), LONG_LOG)
+JSON = Listing(JSON_PROGRAM, make_sample.sample(), all_lines(json_model), LONG_LOG)
+GTIDS = Listing(
+    GTIDS_PROGRAM, gtids_sample.sample(), gtid_model.error_lines, MAGIC + 20_000 * gtids_sample.gtid(0)
+)
 
 
 def hung_up(content):
@@ -57,14 +85,13 @@ def listed_until_it_fails(program, front):
         os.close(descriptor)
 
 
-def front_failure(program, model, length):
+def front_failure(program, listing, length):
     """None if the whole events in a prefix of the sample are listed, else what is wrong."""
-    front = SAMPLE[:length]
-    lines, _ = model.expected(front)
+    front = listing.sample[:length]
     return difference(
         f"an input that fails behind {length} bytes",
         listed_until_it_fails(program, front),
-        (lines, FAILED),
+        (listing.listed_before(front), FAILED),
     )
 
 
@@ -96,11 +123,11 @@ def status_with_output(program, log, **ends):
     return process.returncode
 
 
-def failing_outputs(program):
+def failing_outputs(program, listing):
     unread, writing = os.pipe()
     os.close(unread)
     with open("/dev/full", "wb") as full:
-        for length, log in (("short", SHORT_LOG), ("long", LONG_LOG)):
+        for length, log in (("short", listing.sample), ("long", listing.long_log)):
             outputs = {
                 "a full device": {"stdout": full},
                 "a pipe that nobody reads": {"stdout": writing},
@@ -112,22 +139,21 @@ def failing_outputs(program):
     os.close(writing)
 
 
-def lengths():
-    """Prefixes: each up to the third event, then those that end with an event or one byte off."""
-    ends = [position for _, position, _, _, _ in make_sample.EVENTS]
+def lengths(sample):
+    """Prefixes: each up to some length, then those that end with an event or one byte off."""
+    ends = [*frame_starts(sample), len(sample)]
     beside = {end + more for end in ends for more in (-1, 0, 1)}
-    return sorted(set(range(300)) | {length for length in beside if length <= len(SAMPLE)})
+    return sorted(set(range(300)) | {length for length in beside if length <= len(sample)})
 
 
 def main(arguments):
-    is_json = "--json" in arguments
-    paths = [argument for argument in arguments if argument != "--json"]
-    model = json_model if is_json else listing_model
-    program = str(Path(paths[0] if paths else JSON_PROGRAM if is_json else LISTING_PROGRAM).resolve())
+    listing = JSON if "--json" in arguments else GTIDS if "--gtids" in arguments else TEXT
+    paths = [argument for argument in arguments if not argument.startswith("--")]
+    program = str(Path(paths[0] if paths else listing.program).resolve())
     with ThreadPoolExecutor(PROCESSES_AT_A_TIME) as pool:
-        results = list(pool.map(lambda length: front_failure(program, model, length), lengths()))
+        results = list(pool.map(lambda length: front_failure(program, listing, length), lengths(listing.sample)))
     results += unread_inputs(program)
-    results += failing_outputs(program)
+    results += failing_outputs(program, listing)
     failures = [result for result in results if result is not None]
     for message in failures:
         print(message)

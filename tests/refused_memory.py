@@ -4,7 +4,7 @@
 Usage: refused_memory.py
 
 The programs and tests are those that are built in crates/NAME/out. Each runs with its first allocation refused, then with
-its second one, and so on until a run makes fewer. The listing and the JSON lines must then be a prefix of all lines, with
+its second one, and so on until a run makes fewer. Listings and JSON lines must then be a prefix of all lines, with
 status 3; what is written back must be a prefix of the log; and a program must free all its memory. A test must pass;
 those are run whose full name contains `memory`. A test whose name ends in `takes_no_memory` or `take_no_memory` must
 make no allocation, not even one whose refusal it would hide, and one whose name ends in `makes_one_allocation` exactly
@@ -17,6 +17,8 @@ import sys
 from itertools import count
 
 import checksummed_sample
+import gtid_model
+import gtids_sample
 import json_model
 import json_sample
 import listing_model
@@ -31,6 +33,7 @@ LOGS = {
     "the sample": make_sample.sample(),
     "the sample with checksums": checksummed_sample.sample(),
     "each body": json_sample.sample(),
+    "GTIDs": gtids_sample.sample(),
     "long events": make_sample.sample() + 3 * LONG_EVENT,
 }
 
@@ -69,6 +72,10 @@ def listing_fault(content):
     return lines_fault(listing_model, content)
 
 
+def gtids_fault(content):
+    return lines_fault(gtid_model, content)
+
+
 def json_fault(content):
     return lines_fault(json_model, content)
 
@@ -90,6 +97,7 @@ PROGRAMS = {
     "binlog_list": listing_fault,
     "probe_slice_listing": listing_fault,
     "binlog_json": json_fault,
+    "binlog_gtids_list": gtids_fault,
     "bench_write_back": written_back_fault,
     "bench_typed": failure_fault,
     "probe_owned_events": failure_fault,

@@ -9,7 +9,7 @@ use std::io::{ErrorKind, Write};
 /// Writes a line, and retries after an interruption. The only error is [`Error::Writer`]; a prefix of the line is then
 /// written.
 #[inline(always)]
-pub(crate) fn write_line<W: Write>(output: &mut W, line: &[u8]) -> Result<(), Error>
+pub fn write_line<W: Write>(output: &mut W, line: &[u8]) -> Result<(), Error>
     ensures ok { OnOk result (Appends (W.contents output.old) (W.contents output.new) line.now) }
     ensures front { OnErr result (AppendsFront (W.contents output.old) (W.contents output.new) line.now) }
     ensures err { IfErr result (λ e. e ≡ Error.Writer) }

@@ -1,0 +1,5 @@
+pub mod Added
+pub mod Writing
+pub mod Groups
+pub mod Tracked
+pub mod Numbers

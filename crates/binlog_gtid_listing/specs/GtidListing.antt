@@ -1,0 +1,107 @@
+-- The listing of the GTIDs of a log: the lines of its errors, and then those of the groups of its GTIDs.
+use Rattle.std.specs.Prelude.{◌≡◌, ◌≢◌, ◌⊎◌, ℕ, ◌<◌, ◌≤◌, Bool, true, false, ◌||◌, List, [], ◌++◌, length, take, Option, Some, None, Result, Ok, Err}
+use Rattle.std.specs.List.{list_any}
+use Rattle.std.specs.Io.KnownBytes.{Appends}
+use Rattle.binlog_wire.specs.declared.error.Error.{Error}
+use Rattle.binlog_wire.specs.declared.error.Error.TheVariants.{EndOfInput, InvalidFileHeader, Memory, Reader, Writer}
+use Rattle.binlog_consts.specs.declared.version.BinlogVersion.TheVariants.{Version4}
+use Rattle.binlog_events.specs.FileHeader.{file_header}
+use Rattle.binlog_events.specs.Events.{EventView}
+use Rattle.binlog_file.specs.State.{StreamState, Handles, first_state}
+use Rattle.binlog_file.specs.Streams.{Gives}
+use Rattle.binlog_file.specs.StreamItems.{AreLeft}
+use Rattle.binlog_gtid_sets.specs.declared.gtid_group.GtidGroup.{GtidGroup}
+use Rattle.binlog_gtid_sets.specs.GtidGroups.{Pair, is_tracked, AreGroups}
+use Rattle.binlog_lines.specs.Lines.{listing, AppendsFront, HasLine, ListsItem, ListsItems, LeavesLooked}
+use Rattle.binlog_gtid_listing.specs.GtidItems.{gtids_in, gtid_line, is_refused, are_added, MayGrow, GrowsBy}
+use Rattle.binlog_gtid_listing.specs.GroupLines.{AreGroupLines}
+
+-- The lines of the items with errors, in order.
+abbrev pub error_lines : List (Result EventView Error) → List ℕ
+error_lines items = listing gtid_line 0 items
+
+-- ---- the items
+
+-- All items that are left are read: the lines of their errors are written, and the set has what they add.
+pub record TracksAll (s : StreamState) (rest : List ℕ) (was : Bool) (old new : Option (List ℕ)) (groups : List GtidGroup) (has_errors : Bool) : Type 0 where
+  pub items : List (Result EventView Error)
+  pub are : AreLeft s.fde rest was items
+  pub written : Appends old new (error_lines items)
+  pub errors : has_errors ≡ list_any is_refused items
+  pub same : (pair : Pair) (n : ℕ) → is_tracked groups pair n ≡ are_added items pair n
+
+-- What reading the items that are left may answer. After an error the lines of all items before it are written, or a front
+-- of the items' lines where the writer failed.
+abbrev pub TracksItems : StreamState → List ℕ → Bool → Option (List ℕ) → Result Bool Error → StreamState → Option (List ℕ) → Bool → Option (List ℕ) → List GtidGroup → Type 0
+TracksItems s rest was old (Ok has_errors) after left is new groups = TracksAll s rest was old new groups has_errors
+TracksItems s rest was old (Err error) after left is new groups = ListsItems Handles LeavesLooked gtid_line MayGrow s rest was old (Err error) after left is new
+
+-- ---- the whole listing
+
+-- These groups are the GTIDs that the items add, and no others.
+pub record AreGtidsOf (items : List (Result EventView Error)) (groups : List GtidGroup) : Type 0 where
+  pub ascending : AreGroups groups
+  pub same : (pair : Pair) (n : ℕ) → is_tracked groups pair n ≡ are_added items pair n
+
+-- The lines of all errors are written, and then those of all groups, and nothing else.
+pub record ListsAllGtids (s : StreamState) (rest : List ℕ) (was : Bool) (old new : Option (List ℕ)) (has_errors : Bool) : Type 0 where
+  pub items : List (Result EventView Error)
+  pub are : AreLeft s.fde rest was items
+  pub groups : List GtidGroup
+  pub union : AreGtidsOf items groups
+  pub lines : List ℕ
+  pub listed : AreGroupLines groups lines
+  pub written : Appends old new (error_lines items ++ lines)
+  pub errors : has_errors ≡ list_any is_refused items
+
+-- Memory ran out or the writer failed in the lines of the groups: those of the first groups are written behind those of all
+-- errors, or a front of these lines.
+pub record ListsSomeGtids (error : Error) (s : StreamState) (rest : List ℕ) (was : Bool) (old new : Option (List ℕ)) : Type 0 where
+  pub items : List (Result EventView Error)
+  pub are : AreLeft s.fde rest was items
+  pub groups : List GtidGroup
+  pub union : AreGtidsOf items groups
+  pub count : ℕ
+  pub lines : List ℕ
+  pub listed : AreGroupLines (take count groups) lines
+  pub written : ((error ≡ Memory) × Appends old new (error_lines items ++ lines)) ⊎ ((error ≡ Writer) × AppendsFront old new (error_lines items ++ lines))
+
+-- What listing the GTIDs of the items that are left may answer, and what is then written.
+abbrev pub ListsGtidItems : StreamState → List ℕ → Bool → Option (List ℕ) → Result Bool Error → StreamState → Option (List ℕ) → Bool → Option (List ℕ) → Type 0
+ListsGtidItems s rest was old (Ok has_errors) after left is new = ListsAllGtids s rest was old new has_errors
+ListsGtidItems s rest was old (Err error) after left is new =
+    ListsItems Handles LeavesLooked gtid_line MayGrow s rest was old (Err error) after left is new ⊎ ListsSomeGtids error s rest was old new
+
+-- The input is a binlog file, whose GTIDs are listed.
+pub record ListsGtidsFile (bytes : List ℕ) (old : Option (List ℕ)) (answer : Result Bool Error) (new : Option (List ℕ)) : Type 0 where
+  pub stream : List ℕ
+  pub file : bytes ≡ file_header ++ stream
+  pub after : StreamState
+  pub left : Option (List ℕ)
+  pub ended : Bool
+  pub lists : ListsGtidItems (first_state Version4) stream false old answer after left ended new
+
+-- What listing the GTIDs of a file's bytes may answer, and what is then written.
+abbrev pub ListsGtids : List ℕ → Option (List ℕ) → Result Bool Error → Option (List ℕ) → Type 0
+-- no file, and nothing is written
+ListsGtids bytes old (Err EndOfInput) new = (length bytes < 4) × Appends old new []
+ListsGtids bytes old (Err InvalidFileHeader) new = (4 ≤ length bytes) × (take 4 bytes ≢ file_header) × Appends old new []
+-- the reader failed, perhaps in the file header
+ListsGtids bytes old (Err Reader) new = ListsGtidsFile bytes old (Err Reader) new ⊎ Appends old new []
+ListsGtids bytes old answer new = ListsGtidsFile bytes old answer new
+
+-- ---- one item
+
+-- What is written, added and answered for an answer of `next_ref`.
+abbrev pub TracksItem : ℕ → Option (Result EventView Error) → List GtidGroup → Option (List ℕ) → List GtidGroup → Option (List ℕ) → Result (Option Bool) Error → Type 0
+TracksItem index None before old after new (Ok None) = (after ≡ before) × (new ≡ old)
+TracksItem index (Some item) before old after new (Ok (Some is_error)) =
+    GrowsBy (gtids_in item) before after × Appends old new (gtid_line index item) × (is_error ≡ is_refused item) × HasLine item
+TracksItem index item before old after new (Err error) = ListsItem gtid_line MayGrow index item old new (Err error)
+TracksItem index item before old after new answer = ⊥
+
+-- The next item is given, and its line written or what it adds added.
+pub record TracksNext (index : ℕ) (s then : StreamState) (rest : Option (List ℕ)) (was : Bool) (left : Option (List ℕ)) (is : Bool) (before after : List GtidGroup) (old new : Option (List ℕ)) (answer : Result (Option Bool) Error) : Type 0 where
+  pub item : Option (Result EventView Error)
+  pub gives : Gives Handles s then rest was item left is
+  pub tracks : TracksItem index item before old after new answer

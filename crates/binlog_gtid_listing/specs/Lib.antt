@@ -1,0 +1,3 @@
+pub mod GtidItems
+pub mod GroupLines
+pub mod GtidListing

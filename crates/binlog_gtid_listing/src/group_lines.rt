@@ -1,0 +1,64 @@
+//! The lines of the groups of a set of GTIDs.
+ghost use Rattle.std.specs.Prelude.{◌≡◌, option_copied};
+ghost use Rattle.binlog_gtids.specs.GnoSets.{AreApart};
+ghost use Rattle.binlog_gtid_sets.specs.GtidGroups.{AreGroups, pair_of, intervals_of};
+ghost use Rattle.binlog_gtid_listing.specs.GroupLines.{Writes, WritesGroup, WritesGroups, group_line};
+
+use crate::parts::{write_intervals, write_part, write_sid, write_tag};
+use binlog_file::{Error, GnoInterval, GtidTracker, Tag};
+use std::io::Write;
+
+/// Writes the line of each group of a set, in their order.
+///
+/// # Errors
+///
+/// - [`Error::Memory`] where memory ran out for the gaps of a group, after the lines of all groups before.
+/// - [`Error::Writer`] where the writer failed; it has a front of the lines.
+pub(crate) fn write_groups<W: Write>(gtids: &GtidTracker, output: &mut W) -> Result<(), Error>
+    ensures groups { AreGroups gtids.now }
+    ensures written { WritesGroups gtids.now (W.contents output.old) result (W.contents output.new) }
+{
+    for index in 0..gtids.len() {
+        if let Some(group) = gtids.group(index) {
+            let sid = group.0;
+            write_group(gtids, sid, group.1, output)?;
+        }
+    }
+    Ok(())
+}
+
+// Writes the line of the numbers of a source and a tag.
+fn write_group<W: Write>(
+    gtids: &GtidTracker,
+    sid: [u8; 16],
+    tag: Option<&Tag<'_>>,
+    output: &mut W,
+) -> Result<(), Error>
+    ensures { WritesGroup sid (option_copied tag.entry) (intervals_of gtids.now (pair_of sid (option_copied tag.entry)))
+        (W.contents output.old) result (W.contents output.new) }
+{
+    let gaps = gtids.gaps(sid, tag)?;
+    write_parts(sid, tag, gtids.intervals(sid, tag), &gaps, output)
+}
+
+// Writes a line of these parts.
+fn write_parts<W: Write>(
+    sid: [u8; 16],
+    tag: Option<&Tag<'_>>,
+    intervals: &[GnoInterval],
+    gaps: &[GnoInterval],
+    output: &mut W,
+) -> Result<(), Error>
+    requires intervals { AreApart 0 intervals.now }
+    requires gaps { AreApart 0 gaps.now }
+    ensures { Writes (group_line sid (option_copied tag.entry) intervals.now gaps.now)
+        (W.contents output.old) result (W.contents output.new) }
+{
+    write_sid(&sid, output)?;
+    write_tag(tag, output)?;
+    write_part(b" ", output)?;
+    write_intervals(intervals, output)?;
+    write_part(b" gaps ", output)?;
+    write_intervals(gaps, output)?;
+    write_part(b"\n", output)
+}

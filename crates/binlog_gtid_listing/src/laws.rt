@@ -1,0 +1,13 @@
+//! Laws of the listing of GTIDs. Each is a function without effect whose contract states it.
+ghost use Rattle.std.specs.Prelude.{◌≡◌, ℕ, List, Option};
+ghost use Rattle.binlog_numbers.specs.declared.gno_interval.GnoInterval.{GnoInterval};
+ghost use Rattle.binlog_gtids.specs.GnoSets.{is_held};
+ghost use Rattle.binlog_gtid_listing.specs.GroupLines.{IsGroupLine};
+
+/// The line of a source and a tag is determined by their numbers: two lines with the same numbers are equal, so there is
+/// one way to write the intervals and the gaps.
+pub fn group_lines_are_one()
+    ensures { (sid : List ℕ) (tag : Option (List ℕ)) (first second : List GnoInterval) (line other : List ℕ)
+        → IsGroupLine sid tag first line → IsGroupLine sid tag second other
+        → ((n : ℕ) → is_held first n ≡ is_held second n) → line ≡ other }
+{}

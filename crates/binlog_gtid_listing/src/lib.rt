@@ -1,0 +1,10 @@
+//! Lists the GTIDs of a binary log: a line for each error, and then a line for each source and tag.
+#![tactic(auto)]
+
+mod adding;
+mod group_lines;
+pub mod laws;
+mod listing;
+mod parts;
+
+pub use listing::list_gtids;

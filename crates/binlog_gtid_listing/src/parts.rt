@@ -1,0 +1,106 @@
+//! The parts of a line, each written as soon as it is made. No memory is taken.
+ghost use Rattle.std.specs.Prelude.{◌≡◌, ◌<◌, length, option_copied, decimal};
+ghost use Rattle.hex.specs.Hex.{encode_lower};
+ghost use Rattle.binlog_gtids.specs.GnoSets.{AreApart};
+ghost use Rattle.binlog_listing.specs.Listing.{error_line};
+ghost use Rattle.binlog_gtid_listing.specs.GroupLines.{Writes, tag_suffix, interval_text, intervals_text};
+
+use binlog_file::{Error, GnoInterval, Tag};
+use binlog_lines::{ItemLines, write_line};
+use binlog_listing::TextLines;
+use hex::encode_to_slice;
+use itoa::Buffer;
+use std::alloc::Global;
+use std::io::Write;
+
+/// Writes these bytes. Refused by [`Error::Writer`] alone; the writer then has a front of the bytes. So it is with each
+/// function of this module.
+pub(crate) fn write_part<W: Write>(part: &[u8], output: &mut W) -> Result<(), Error>
+    ensures { Writes part.now (W.contents output.old) result (W.contents output.new) }
+{
+    write_line(output, part)
+}
+
+/// Writes the line of an error.
+#[inline(never)]
+pub(crate) fn write_error<W: Write>(
+    alloc: Global,
+    index: u64,
+    error: &Error,
+    output: &mut W,
+) -> Result<(), Error>
+    ensures { Writes (error_line index error.now) (W.contents output.old) result (W.contents output.new) }
+{
+    let mut lines = TextLines::new();
+    match lines.error_line(alloc, index, error) {
+        Ok(line) => write_part(line, output),
+        Err(error) => Err(error),
+    }
+}
+
+/// Writes the UUID of a source in lower-case hexadecimal digits.
+pub(crate) fn write_sid<W: Write>(sid: &[u8], output: &mut W) -> Result<(), Error>
+    requires { length sid.now ≡ 16 }
+    ensures { Writes (encode_lower sid.now) (W.contents output.old) result (W.contents output.new) }
+{
+    let mut digits = [0; 32];
+    match encode_to_slice(sid, &mut digits) {
+        Ok(()) => write_part(&digits, output),
+        Err(_) => unreachable!(),
+    }
+}
+
+/// Writes a colon and the tag; nothing for no tag.
+pub(crate) fn write_tag<W: Write>(tag: Option<&Tag<'_>>, output: &mut W) -> Result<(), Error>
+    ensures { Writes (tag_suffix (option_copied tag.entry)) (W.contents output.old) result (W.contents output.new) }
+{
+    match tag {
+        None => Ok(()),
+        Some(tag) => {
+            write_part(b":", output)?;
+            write_part(tag.as_str().as_bytes(), output)
+        }
+    }
+}
+
+// Writes a number in decimal digits.
+fn write_number<W: Write>(number: u64, output: &mut W) -> Result<(), Error>
+    ensures { Writes (decimal number) (W.contents output.old) result (W.contents output.new) }
+{
+    let mut digits = Buffer::new();
+    write_part(digits.format(number).as_bytes(), output)
+}
+
+// Writes the first number of an interval, and the last one if it is another.
+fn write_interval<W: Write>(interval: &GnoInterval, output: &mut W) -> Result<(), Error>
+    requires { interval.now.start < interval.now.end }
+    ensures { Writes (interval_text interval.now) (W.contents output.old) result (W.contents output.new) }
+{
+    let first = interval.start();
+    let last = interval.end() - 1;
+    write_number(first, output)?;
+    if first == last {
+        return Ok(());
+    }
+    write_part(b"-", output)?;
+    write_number(last, output)
+}
+
+/// Writes intervals with commas between them, or `-` if there are none.
+pub(crate) fn write_intervals<W: Write>(
+    intervals: &[GnoInterval],
+    output: &mut W,
+) -> Result<(), Error>
+    requires { AreApart 0 intervals.now }
+    ensures { Writes (intervals_text intervals.now) (W.contents output.old) result (W.contents output.new) }
+{
+    let Some((first, rest)) = intervals.split_first() else {
+        return write_part(b"-", output);
+    };
+    write_interval(first, output)?;
+    for interval in rest {
+        write_part(b",", output)?;
+        write_interval(interval, output)?;
+    }
+    Ok(())
+}

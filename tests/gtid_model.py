@@ -1,0 +1,114 @@
+"""A plain model of the listing of GTIDs: the output and the exit status of `binlog_gtids_list`.
+
+The items of a log, and which of them are errors, come from the model of the listing; the fields of GTID events come from the
+model of event data. A set is a list of the intervals that were added, which are merged at the end.
+"""
+
+import event_data_model
+import listing_model
+from event_data_model import Fault
+
+GTID, PREVIOUS_GTIDS, GTID_TAGGED = 33, 35, 42
+GTID_TYPES = (GTID, PREVIOUS_GTIDS, GTID_TAGGED)
+
+BAD_GNO = 18
+# The number behind the greatest that a GTID can have.
+END = 1 << 63
+
+
+def added(type_number, data, lengths):
+    """The intervals that an event adds: source, tag (empty for none), first number, number behind the last one."""
+    fields = event_data_model.fields(type_number, data, lengths)
+    if type_number != PREVIOUS_GTIDS:
+        yield fields["sid"].bytes, tag_bytes(fields["tag"]), fields["gno"], fields["gno"] + 1
+        return
+    for entry in fields["sids"]:
+        for start, end in entry["intervals"]:
+            if start < end:
+                yield entry["uuid"].bytes, tag_bytes(entry["tag"]), start, end
+
+
+def tag_bytes(tag):
+    return b"" if tag is None else tag.bytes
+
+
+def gtids_of(type_number, data, lengths):
+    """What an event adds; a fault if its data can't be read or one of its numbers can't be added."""
+    if type_number not in GTID_TYPES:
+        return []
+    intervals = list(added(type_number, data, lengths))
+    if any(start < 1 or end > END for _, _, start, end in intervals):
+        raise Fault(BAD_GNO)
+    return intervals
+
+
+def frame_gtids(frame, in_force):
+    """What the event of a frame adds; a fault if the item is an error, or the event is."""
+    parts = listing_model.cut(frame, in_force.algorithm)
+    if parts is None:
+        raise Fault(4)
+    data, _ = parts
+    fault = listing_model.body_fault(frame, data, in_force)
+    if fault is not None:
+        raise Fault(fault)
+    return gtids_of(listing_model.type_number(frame), data, in_force.lengths)
+
+
+def merged(intervals):
+    """The same numbers as ascending intervals that don't touch."""
+    result = []
+    for start, end in sorted(intervals):
+        if result and start <= result[-1][1]:
+            result[-1][1] = max(end, result[-1][1])
+        else:
+            result.append([start, end])
+    return result
+
+
+def gaps(intervals):
+    ends = [1] + [end for _, end in intervals]
+    return [(end, start) for end, (start, _) in zip(ends, intervals) if end < start]
+
+
+def interval_text(start, end):
+    return str(start) if end - start == 1 else f"{start}-{end - 1}"
+
+
+def intervals_text(intervals):
+    return ",".join(interval_text(*interval) for interval in intervals) or "-"
+
+
+def group_line(sid, tag, intervals):
+    name = sid.hex() + (f":{tag.decode('ascii')}" if tag else "")
+    numbers = merged(intervals)
+    return f"{name} {intervals_text(numbers)} gaps {intervals_text(gaps(numbers))}\n"
+
+
+def tracked(content):
+    """The lines of the errors, and for each source and tag the intervals that were added."""
+    frames, tail = listing_model.split(content[4:])
+    lines, groups = [], {}
+    for index, (frame, in_force) in enumerate(zip(frames, listing_model.in_force_at(frames))):
+        try:
+            for sid, tag, start, end in frame_gtids(frame, in_force):
+                groups.setdefault((sid, tag), []).append((start, end))
+        except Fault as fault:
+            lines.append(f"{index} error E{fault.args[0]}\n")
+    if listing_model.is_undersized(tail):
+        lines.append(f"{len(frames)} error E3\n")
+    return lines, groups
+
+
+def error_lines(content):
+    """The lines of the errors alone: what is listed if the input fails behind this content."""
+    lines, _ = tracked(content)
+    return "".join(lines).encode("ascii")
+
+
+def expected(content):
+    """The standard output and the exit status for a file of this content."""
+    if content[:4] != listing_model.FILE_HEADER:
+        return b"", listing_model.STATUS_NOT_A_BINLOG
+    lines, groups = tracked(content)
+    listing = "".join(lines + [group_line(sid, tag, groups[sid, tag]) for sid, tag in sorted(groups)])
+    return listing.encode("ascii"), listing_model.STATUS_ERRORS if lines else listing_model.STATUS_FINE
