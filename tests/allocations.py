@@ -91,7 +91,14 @@ WHOLE_LOGS = {
 }
 
 # The number of allocations that each program makes for a further event.
-PROGRAMS = {"binlog_list": 0, "binlog_json": 0, "bench_write_back": 0, "bench_typed": 0, "bench_verifying": 0, "probe_owned_events": 1}
+PROGRAMS = {
+    "binlog_list": 0,
+    "binlog_json": 0,
+    "bench_write_back": 0,
+    "bench_typed": 0,
+    "bench_verifying": 0,
+    "probe_owned_events": 1,
+}
 
 # The programs that hold a whole log, for which a buffer may have twice the bytes, and others.
 HOLDING = {"probe_slice_listing"}
