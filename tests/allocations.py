@@ -100,6 +100,7 @@ PROGRAMS = {
     "binlog_gtids_list": 0,
     "bench_write_back": 0,
     "bench_typed": 0,
+    "bench_verifying": 0,
     "probe_owned_events": 1,
 }
 

@@ -1,0 +1,106 @@
+#!/usr/bin/env python3
+"""Measures `bench_verifying` beside a hand-written program and `mariadb-binlog`; prints two Markdown tables.
+
+Usage: measure_verifying.py [PROGRAM [LISTING [FOLDER]]]
+
+PROGRAM is the built bench_verifying, and LISTING the built binlog_list, if not given. FOLDER, `work` beside this file if not
+given, holds the files of make_binlogs.py; those with checksums are made if they are missing. The baseline is built first.
+
+The first table is of listings that verify each checksum: their outputs must be equal, but for the word at the end of a
+line, and their exit statuses. Instructions are those of the small log; the cost of verifying is what they are more than
+those of LISTING. The second is of verifying alone: `bench_verifying count`, the baseline's `--mismatches`, and
+`mariadb-binlog --verify-binlog-checksum`, of Debian's package `mariadb-client`, which refuses row events of MySQL. Times
+are processor times, the best of 5, in turns, with output to /dev/null.
+"""
+
+import subprocess
+import sys
+from pathlib import Path
+
+import make_binlogs
+from measure import compare_listings
+from measure_json import instructions, seconds
+
+KINDS = ("statements_crc32", "rows_crc32")
+ROUNDS = 5
+HERE = Path(__file__).resolve().parent
+BASELINE = HERE / "baseline"
+LISTING_COLUMNS = [
+    "Input", "Bytes / event", "MB/s", "Baseline's", "Time / baseline", "Instructions / event", "Baseline's", "Verifying / event"
+]
+ALONE_COLUMNS = ["Input", "MB/s", "Baseline's", "mariadb-binlog's", "Times as fast as mariadb-binlog"]
+
+
+def build_baseline():
+    target = BASELINE / "target"
+    manifest = ["--manifest-path", BASELINE / "Cargo.toml", "--target-dir", target]
+    subprocess.run(["cargo", "build", "--release", "--offline", *manifest], check=True, stdout=sys.stderr)
+    return str(target / "release/listing_baseline")
+
+
+def best_of(commands, path):
+    """The best time of each command that reads the log."""
+    return map(min, zip(*([seconds(command, path) for command in commands] for _ in range(ROUNDS))))
+
+
+def has_mariadb(path):
+    command = ["mariadb-binlog", "--verify-binlog-checksum", path]
+    try:
+        return subprocess.run(command, stdout=subprocess.DEVNULL, stderr=subprocess.DEVNULL).returncode == 0
+    except FileNotFoundError:
+        return False
+
+
+def rate(path, elapsed):
+    return f"{path.stat().st_size / 1e6 / elapsed:.0f}"
+
+
+def listing_row(program, listing, baseline, folder, kind):
+    path, small = folder / f"{kind}.binlog", folder / f"{kind}_small.binlog"
+    compare_listings([program], [baseline, "--verify"], path)
+    ours, theirs = best_of([[program], [baseline, "--verify"]], path)
+    with open(small, "rb") as file:
+        few = subprocess.run([listing], stdin=file, stdout=subprocess.PIPE, check=True).stdout.count(b"\n")
+    counted = [instructions(command, small) for command in ([program], [baseline, "--verify"], [listing])]
+    if None in counted:
+        figures = ["not counted"] * 3
+    else:
+        figures = [f"{count / few:.0f}" for count in (counted[0], counted[1], counted[0] - counted[2])]
+    return [
+        kind, f"{small.stat().st_size / few:.0f}", rate(path, ours), rate(path, theirs), f"{ours / theirs:.2f}", *figures
+    ]
+
+
+def alone_row(program, baseline, folder, kind):
+    path = folder / f"{kind}.binlog"
+    ours, theirs = best_of([[program, "count"], [baseline, "--mismatches"]], path)
+    if not has_mariadb(path):
+        return [kind, rate(path, ours), rate(path, theirs), "not measured", "not measured"]
+    mariadb = min(seconds(["mariadb-binlog", "--verify-binlog-checksum", path]) for _ in range(ROUNDS))
+    return [kind, rate(path, ours), rate(path, theirs), rate(path, mariadb), f"{mariadb / ours:.1f}"]
+
+
+def print_table(columns, rows):
+    print("| " + " | ".join(columns) + " |")
+    print("|---" + "|---:" * (len(columns) - 1) + "|")
+    for row in rows:
+        print("| " + " | ".join(row) + " |", flush=True)
+    print()
+
+
+def main(arguments):
+    crates = HERE.parent / "crates"
+    program = arguments[0] if arguments else str(crates / "bench_verifying/out/bench_verifying")
+    listing = arguments[1] if len(arguments) > 1 else str(crates / "binlog_list/out/binlog_list")
+    folder = Path(arguments[2]) if len(arguments) > 2 else HERE / "work"
+    folder.mkdir(parents=True, exist_ok=True)
+    baseline = build_baseline()
+    for kind in KINDS:
+        make_binlogs.make_start(folder, kind)
+        make_binlogs.make_kind(folder, kind)
+    print_table(LISTING_COLUMNS, (listing_row(program, listing, baseline, folder, kind) for kind in KINDS))
+    print_table(ALONE_COLUMNS, (alone_row(program, baseline, folder, kind) for kind in KINDS))
+
+
+if __name__ == "__main__":
+    main(sys.argv[1:])
