@@ -22,10 +22,8 @@ from itertools import islice
 from pathlib import Path
 
 import damaged_copies
-import json_model
-import listing_model
 import make_sample
-from damaged_copies import JSON_PROGRAM, LISTING_PROGRAM, PROCESSES_AT_A_TIME, REPOSITORY
+from damaged_copies import PROCESSES_AT_A_TIME, REPOSITORY
 
 CONVERTER = REPOSITORY / "cargo"
 TOOLS = ("cargo", "rustc", "rustfmt")
@@ -38,6 +36,13 @@ STEP = 20
 LOGS = 80
 
 PROFILE = "checked"
+
+# What each program of the packages is compared with.
+COMPARED = {
+    "binlog-list": damaged_copies.LISTING,
+    "binlog-json": damaged_copies.JSON,
+    "binlog-gtids": damaged_copies.GTIDS,
+}
 
 
 def missing():
@@ -85,24 +90,29 @@ def tests_of_sources(out):
     return passed, max(failed, int(finished.returncode != 0))
 
 
-def cases(is_json):
-    """Samples and some of their damaged copies, and some logs of the encoder with their listings or lines of JSON."""
+def cases(stated):
+    """Samples and some of their damaged copies, and some logs of the encoder with what it states of their output."""
     sample = make_sample.sample()
     yield from damaged_copies.no_change(sample)
     for kind in (damaged_copies.truncations, damaged_copies.changed_bytes, damaged_copies.changed_sizes):
         yield from islice(kind(sample), 0, None, STEP)
-    for kind in (damaged_copies.checksummed_cases, damaged_copies.table_maps, damaged_copies.event_data):
+    for kind in (
+        damaged_copies.checksummed_cases,
+        damaged_copies.table_maps,
+        damaged_copies.event_data,
+        damaged_copies.gtids,
+    ):
         yield from islice(kind(), 0, None, STEP)
     yield from damaged_copies.not_binlogs(sample)
-    yield from islice(damaged_copies.encoded(is_json), LOGS)
+    yield from islice(damaged_copies.encoded(stated), LOGS)
 
 
-def compared(made, proved, model, is_json):
-    """How many cases passed and failed on which the programs, the model and the encoder were compared."""
-    programs = [str(made), str(proved)]
+def compared(made, kind):
+    """How many cases passed and failed on which the program made, the proved one, the model and the encoder were compared."""
+    programs = [str(made), str(kind.program)]
     with ThreadPoolExecutor(PROCESSES_AT_A_TIME) as pool:
-        every = cases(is_json)
-        results = list(pool.map(lambda case: damaged_copies.failure(programs, model, case), every))
+        every = cases(kind.stated)
+        results = list(pool.map(lambda case: damaged_copies.failure(programs, kind.model, case), every))
     failures = [result for result in results if result is not None]
     for message in failures[: damaged_copies.SHOWN_FAILURES]:
         print(message)
@@ -121,14 +131,14 @@ def tests(out):
         yield 0, 1
         return
     built = Path(os.environ.get("CARGO_TARGET_DIR", Path(out) / "target")) / PROFILE
-    yield compared(built / "binlog-list", LISTING_PROGRAM, listing_model, is_json=False)
-    yield compared(built / "binlog-json", JSON_PROGRAM, json_model, is_json=True)
+    for name, kind in COMPARED.items():
+        yield compared(built / name, kind)
 
 
 def main(arguments):
-    for program in (LISTING_PROGRAM, JSON_PROGRAM):
-        if not program.is_file():
-            print(f"no program at {program}", file=sys.stderr)
+    for kind in COMPARED.values():
+        if not kind.program.is_file():
+            print(f"no program at {kind.program}", file=sys.stderr)
             return 2
     if (why := missing()) is not None:
         print(f"The cargo packages aren't tested: {why}.")

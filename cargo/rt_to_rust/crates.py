@@ -18,10 +18,10 @@ LIBRARY = [
     "binlog_mariadb",
     "binlog_file",
 ]
-TOOLS = ["json_line", "binlog_lines", "binlog_listing"]
+TOOLS = ["json_line", "binlog_lines", "binlog_listing", "binlog_gtid_listing"]
 
 # The crates of programs, and the programs' names.
-PROGRAMS = {"binlog_list": "binlog-list", "binlog_json": "binlog-json"}
+PROGRAMS = {"binlog_list": "binlog-list", "binlog_json": "binlog-json", "binlog_gtids_list": "binlog-gtids"}
 
 # The crates of tests, and their helpers. Not among them: `test_ends`, whose crate is not in the library.
 TESTKITS = ["testkit_bodies", "testkit_logs"]

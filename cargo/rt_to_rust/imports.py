@@ -21,6 +21,7 @@ STAND_INS = {
     "std::borrow::CowSlice": "std::borrow::Cow",
     "std::borrow::CowStr": "std::borrow::Cow",
     "std::simd::Simd": "crate::simd::Simd",
+    "itoa::Buffer": "crate::digits::Buffer",
     "itoa::write_digits": "crate::digits::write_digits",
     "json::Writer": "crate::json::Writer",
     "bitflags::Flag": "crate::bitflags::Flag",

@@ -3,7 +3,7 @@ ghost use Rattle.std.specs.Prelude.{◌≡◌};
 ghost use Rattle.binlog_events.specs.EventRefs.{view_of};
 ghost use Rattle.binlog_gtid_listing.specs.GtidItems.{has_gtids, AddsGtids};
 
-use binlog_file::{BinlogEventHeader, Error, EventRef, EventType, GtidTracker};
+use binlog_file::{Error, EventRef, EventType, GtidTracker};
 use std::alloc::Global;
 
 /// Adds the GTIDs of an event to the set; nothing if its type has none. An error leaves the set unchanged.
@@ -33,7 +33,7 @@ pub(crate) fn add_gtids(
 fn has_gtids(event: &EventRef<'_>) -> bool
     ensures { result ≡ has_gtids (view_of event.now) }
 {
-    let number = BinlogEventHeader::type_in(event.frame());
+    let number = event.header().event_type_raw();
     number == EventType::GTID_EVENT as u8
         || number == EventType::PREVIOUS_GTIDS_EVENT as u8
         || number == EventType::GTID_TAGGED_LOG_EVENT as u8

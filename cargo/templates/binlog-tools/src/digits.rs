@@ -1,4 +1,4 @@
-//! Decimal digits in their place.
+//! Decimal digits of numbers.
 
 /// Writes the decimal digits of a number so that they end in front of `end`, and answers where they begin.
 #[inline]
@@ -11,5 +11,22 @@ pub fn write_digits(mut number: u64, bytes: &mut [u8], end: usize) -> usize {
         if number == 0 {
             return at;
         }
+    }
+}
+
+/// Room for the decimal digits of a number.
+pub struct Buffer {
+    bytes: [u8; 20],
+}
+
+impl Buffer {
+    pub fn new() -> Self {
+        Buffer { bytes: [0; 20] }
+    }
+
+    /// The decimal digits of a number.
+    pub fn format(&mut self, number: u64) -> &str {
+        let start = write_digits(number, &mut self.bytes, 20);
+        std::str::from_utf8(&self.bytes[start..]).unwrap_or_default()
     }
 }

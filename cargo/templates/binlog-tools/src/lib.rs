@@ -1,7 +1,8 @@
-//! Lines of MySQL binary logs: listings, and the parts of lines of JSON. The programs `binlog-list` and `binlog-json` print
-//! them.
+//! Lines of MySQL binary logs: listings of events and of GTIDs, and the parts of lines of JSON. The programs `binlog-list`,
+//! `binlog-gtids` and `binlog-json` print them.
 #![forbid(unsafe_code)]
 
+pub mod binlog_gtid_listing;
 pub mod binlog_lines;
 pub mod binlog_listing;
 mod digits;
