@@ -61,9 +61,9 @@ event_refused index event before after old new e added inside wrote =
     )
 
 -- the writer failed in its line
-pub event_stops : (index : ℕ) (event : EventView) (before after : List GtidGroup) (old new : Option (List ℕ)) (e writer : Error) → AddsGtids event before (Err e) after
-    → is_environment_error e ≡ false → (writer ≡ Writer) × AppendsFront old new (error_line index e) → TracksItem index (Some (Ok event)) before old after new (Err writer)
-event_stops index event before after old new e writer added inside wrote =
+pub event_stops : (index : ℕ) (event : EventView) (before after : List GtidGroup) (old new : Option (List ℕ)) (e failure : Error) → AddsGtids event before (Err e) after
+    → is_environment_error e ≡ false → (failure ≡ Writer) × AppendsFront old new (error_line index e) → TracksItem index (Some (Ok event)) before old after new (Err failure)
+event_stops index event before after old new e failure added inside wrote =
     let why = why_of event before after e added inside in
     inl (wrote.0, tt, subst (λ (f : Result (Option EventData) Error). AppendsFront old new (line_for index f)) (sym why) wrote.1)
 
@@ -72,9 +72,9 @@ pub error_listed : (index : ℕ) (error : Error) (groups : List GtidGroup) (old 
     → TracksItem index (Some (Err error)) groups old groups new (Ok (Some true))
 error_listed index error groups old new inside wrote = (λ pair n. refl, wrote, refl, inside)
 
-pub error_stops : (index : ℕ) (error writer : Error) (groups : List GtidGroup) (old new : Option (List ℕ)) → is_environment_error error ≡ false
-    → (writer ≡ Writer) × AppendsFront old new (error_line index error) → TracksItem index (Some (Err error)) groups old groups new (Err writer)
-error_stops index error writer groups old new inside wrote = inl (wrote.0, inside, wrote.1)
+pub error_stops : (index : ℕ) (error failure : Error) (groups : List GtidGroup) (old new : Option (List ℕ)) → is_environment_error error ≡ false
+    → (failure ≡ Writer) × AppendsFront old new (error_line index error) → TracksItem index (Some (Err error)) groups old groups new (Err failure)
+error_stops index error failure groups old new inside wrote = inl (wrote.0, inside, wrote.1)
 
 -- ---- the items so far
 

@@ -1,7 +1,7 @@
 use Rattle.binlog_file.specs.declared.file.BinlogFileOf.{BinlogFileOf}
 use Rattle.binlog_file.specs.declared.verification.Unverified.{Unverified}
 use Rattle.std.proofs.lemmas.Result.{err_from_is_err_and}
-use Rattle.binlog_gtid_listing.proofs.Tracked.{items_stop, groups_stop, groups_end, listed_file, listed_refused}
+use Rattle.binlog_gtid_listing.proofs.Tracked.{listed_file, listed_refused}
 use Rattle.binlog_gtid_listing.proofs.listing.list_gtids.Goals as goal
 
 pub returns-in_err-file : goal.returns-in_err-file
@@ -9,24 +9,7 @@ returns-in_err-file g c =
     let p = err_from_is_err_and c.from_residual.result c.from_residual.ensures.1 in
     rw (p.1, p.2) (listed_refused (BinlogFileOf g.row.R.Denot Unverified) _ _ _ c.in_err-file.field-0.0 c.in_err-file.ensures.header.1)
 
-pub returns-in_err-has_errors : goal.returns-in_err-has_errors
-returns-in_err-has_errors g c =
-    let p = err_from_is_err_and c.from_residual.result c.from_residual.ensures.1 in
-    let header = c.in_ok-file.ensures.header in
-    rw (p.1, p.2)
-    (listed_file _ _ _ _ _ _ _ _ _ _ c.in_ok-file.file (rw header.2 header.1) c.in_ok-file.ensures.starts c.in_ok-file.ensures.goes
-    (items_stop _ _ _ _ _ _ _ _ _ _ c.in_err-has_errors.ensures))
-
-pub returns-in_err-write_groups : goal.returns-in_err-write_groups
-returns-in_err-write_groups g c =
-    let p = err_from_is_err_and c.from_residual.result c.from_residual.ensures.1 in
-    let header = c.in_ok-file.ensures.header in
-    rw (p.1, p.2)
-    (listed_file _ _ _ _ _ _ _ _ _ _ c.in_ok-file.file (rw header.2 header.1) c.in_ok-file.ensures.starts c.in_ok-file.ensures.goes
-    (groups_stop _ _ _ _ _ _ _ _ _ _ _ _ c.in_ok-has_errors.ensures c.write_groups.ensures.groups c.in_err-write_groups.ensures.written))
-
 pub returns : goal.returns
 returns g c =
     let header = c.in_ok-file.ensures.header in
-    listed_file _ _ _ _ _ _ _ _ _ _ c.in_ok-file.file (rw header.2 header.1) c.in_ok-file.ensures.starts c.in_ok-file.ensures.goes
-    (groups_end _ _ _ _ _ _ _ _ _ _ _ c.in_ok-has_errors.ensures c.write_groups.ensures.groups c.in_ok-write_groups.ensures.written)
+    listed_file _ _ _ _ _ _ _ _ _ _ c.in_ok-file.file (rw header.2 header.1) c.in_ok-file.ensures.starts c.in_ok-file.ensures.goes c.list_items.ensures
