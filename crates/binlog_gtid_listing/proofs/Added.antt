@@ -18,7 +18,7 @@ use Rattle.binlog_events.specs.Parts.{data_of}
 use Rattle.binlog_gtid_sets.specs.declared.gtid_group.GtidGroup.{GtidGroup}
 use Rattle.binlog_gtid_sets.specs.GtidGroups.{Pair, is_tracked}
 use Rattle.binlog_gtid_sets.specs.AddedGtids.{is_added, bad_gno_of}
-use Rattle.binlog_gtid_listing.specs.GtidItems.{has_gtids, unless_bad, data_in, data_by, gtids_of, adds, GrowsBy, AddsGtids}
+use Rattle.binlog_gtid_listing.specs.GtidItems.{has_gtids, unless_bad, data_in, data_by, gtids_of, adds, AddsGtids}
 
 -- ---- by the type
 

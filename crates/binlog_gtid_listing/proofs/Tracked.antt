@@ -19,13 +19,13 @@ use Rattle.binlog_file.proofs.StreamItems.{few_items}
 use Rattle.binlog_file.proofs.Iterating.{some_left, next_is_first, next_is_none}
 use Rattle.binlog_gtid_sets.specs.declared.gtid_group.GtidGroup.{GtidGroup}
 use Rattle.binlog_gtid_sets.specs.GtidGroups.{Pair, is_tracked, AreGroups}
-use Rattle.binlog_lines.specs.Lines.{listing, AppendsFront, HasLine, ListsItem, ListsItems, ListsNext, LeavesLooked}
+use Rattle.binlog_lines.specs.Lines.{AppendsFront, HasLine, ListsNext, LeavesLooked}
 use Rattle.binlog_lines.proofs.Listed as listed
 use Rattle.binlog_lines.proofs.Listed.{looked_to, looked_from}
 use Rattle.binlog_listing.specs.Listing.{error_line}
 use Rattle.binlog_gtid_listing.specs.GtidItems.{gtids_of, gtids_in, line_for, gtid_line, is_refused, adds, are_added, MayGrow, GrowsBy, AddsGtids}
-use Rattle.binlog_gtid_listing.specs.GroupLines.{Writes, WritesSomeGroups, WritesGroups}
-use Rattle.binlog_gtid_listing.specs.GtidListing.{error_lines, TracksAll, TracksItems, ListsAllGtids, ListsSomeGtids, ListsGtidItems, ListsGtidsFile, ListsGtids, TracksItem, TracksNext}
+use Rattle.binlog_gtid_listing.specs.GroupLines.{WritesSomeGroups, WritesGroups}
+use Rattle.binlog_gtid_listing.specs.GtidListing.{error_lines, TracksAll, TracksItems, ListsSomeGtids, ListsGtidItems, ListsGtidsFile, ListsGtids, TracksItem, TracksNext}
 use Rattle.binlog_gtid_listing.proofs.Writing.{front_later}
 
 -- ---- one item

@@ -1,5 +1,5 @@
 -- What an item of a log gives to the listing of its GTIDs: data that adds to them, or the error of a line.
-use Rattle.std.specs.Prelude.{◌≡◌, ◌⊎◌, ℕ, ◌==◌, Bool, true, false, ◌||◌, List, [], ◌∷◌, length, Option, Some, None, Result, Ok, Err, is_err, ⊤, if◌then◌else◌}
+use Rattle.std.specs.Prelude.{◌≡◌, ◌⊎◌, ℕ, ◌==◌, Bool, true, false, ◌||◌, List, [], ◌∷◌, length, Option, Some, None, Result, Ok, Err, is_err, if◌then◌else◌}
 use Rattle.binlog_wire.specs.Reading.{Read, ends, invalid, other_type}
 use Rattle.binlog_wire.specs.declared.error.Error.{Error}
 use Rattle.binlog_wire.specs.declared.error.Error.TheVariants.{EndOfBody, InvalidData, RemainingBytes, WrongEventType, BadGno, Memory}
