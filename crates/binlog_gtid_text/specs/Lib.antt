@@ -1,0 +1,5 @@
+pub mod Faults
+pub mod Reading
+pub mod Pieces
+pub mod Printing
+pub mod Laws

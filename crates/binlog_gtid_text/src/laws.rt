@@ -1,0 +1,20 @@
+//! Laws of texts of sets of GTIDs. Each is a function without effect whose contract states it.
+ghost use Rattle.std.specs.Prelude.{◌≡◌, ℕ, List};
+ghost use Rattle.binlog_gtid_sets.specs.declared.gtid_group.GtidGroup.{GtidGroup};
+ghost use Rattle.binlog_gtid_sets.specs.GtidGroups.{Pair, is_tracked, AreGroups};
+ghost use Rattle.binlog_gtid_text.specs.declared.error.GtidTextError.{GtidTextError};
+ghost use Rattle.binlog_gtid_text.specs.declared.piece.Piece.{Piece};
+ghost use Rattle.binlog_gtid_text.specs.Pieces.{IsText, IsInvalid, is_in_text};
+ghost use Rattle.binlog_gtid_text.specs.Printing.{set_text};
+ghost use Rattle.binlog_gtid_text.specs.Laws.Printing.{AreWritable};
+
+/// A text consists of one list of pieces at most, and is invalid only if it consists of none.
+pub fn one_reading()
+    ensures same { (text : List ℕ) (ps qs : List Piece) → IsText text ps → IsText text qs → ps ≡ qs }
+    ensures valid { (text : List ℕ) (ps : List Piece) (e : GtidTextError) → IsText text ps → IsInvalid text e → ⊥ }
+{}
+
+/// The text that is written of groups consists of pieces that name the groups' GTIDs.
+pub fn written_texts_read_back()
+    ensures { (groups : List GtidGroup) → AreGroups groups → AreWritable groups → (ps : List Piece) × IsText (set_text groups) ps × ((pair : Pair) (n : ℕ) → is_in_text ps pair n ≡ is_tracked groups pair n) }
+{}
