@@ -1,5 +1,5 @@
 -- What is read at the start of a text that begins with a printed part.
-use Rattle.std.proofs.Common.{◌≡◌, ℕ, zero, suc, ◌+◌, ◌-◌, ◌^◌, ◌<◌, ◌≤◌, Bool, true, false, cond, eqb, ltb, ◌&&◌, ◌⊎◌, inl, inr, List, [], ◌∷◌, ◌++◌, length, take, drop, Option, Some, None, Ok, refl, sym, ap, ◌∙◌, arith, append_assoc, decimal}
+use Rattle.std.proofs.Common.{◌≡◌, ℕ, zero, suc, ◌+◌, ◌-◌, ◌^◌, ◌<◌, ◌≤◌, Bool, true, false, cond, eqb, ltb, ◌&&◌, ◌⊎◌, inl, inr, List, [], ◌∷◌, ◌++◌, length, take, drop, Option, Some, None, Ok, Err, refl, sym, ap, ◌∙◌, arith, append_assoc, decimal}
 use Rattle.std.specs.Char.{is_ascii_digit}
 use Rattle.std.specs.List.{prefix_len}
 use Rattle.std.specs.Str.{all_ascii_digits}
@@ -11,7 +11,9 @@ use Rattle.std.proofs.lemmas.Bool.{lt-ltb, le-ltb, ltb-true}
 use Rattle.std.proofs.lemmas.Bool.Decides.{nat_tests}
 use Rattle.binlog_numbers.specs.Tags.{is_first, is_later, is_tag}
 use Rattle.binlog_numbers.specs.declared.gno_interval.GnoInterval.{GnoInterval}
-use Rattle.binlog_gtid_text.specs.Reading.{◌>>=◌, is_space, skip, after, number_at, interval_by, interval_at, begins_tag, named_at, tag_at}
+use Rattle.binlog_gtid_text.specs.declared.error.GtidTextFault.TheVariants as faults
+use Rattle.binlog_gtid_text.specs.Faults.{fault}
+use Rattle.binlog_gtid_text.specs.Reading.{◌>>=◌, is_space, skip, after, value_in, number_by, number_at, interval_by, interval_at, begins_tag, named_at, tag_at}
 
 -- ---- fronts that pass a test
 
@@ -109,11 +111,20 @@ digits_tag (d ∷ ds) rest n are = digit_no_tag d (first_passes is_ascii_digit d
 some_eqb : (n : ℕ) → 0 < n → eqb n 0 ≡ false
 some_eqb n some = grind (arith, nat_tests)
 
+value_is : (ds : List ℕ) (n : ℕ) → digits_value 10 ds ≡ n → n < 2 ^ 63 → value_in ds ≡ Some n
+value_is ds n v small = ap (λ (m : ℕ). cond (ltb m (2 ^ 63)) (Some m) None) v ∙ ap (λ (b : Bool). cond b (Some n) None) (lt-ltb n (2 ^ 63) small)
+
 pub number_read : (ds rest : List ℕ) (n : ℕ) → AreDigits ds n → n < 2 ^ 63 → Fails is_ascii_digit rest → Fails is_space rest → number_at (ds ++ rest) ≡ Ok (n, rest)
 unfolding number_at
 number_read ds rest n are small f g =
-    rw (prefix_over is_ascii_digit ds rest are.all f, some_eqb (length ds) are.some, take_at ds rest (length ds) refl, drop_at ds rest (length ds) refl, are.value, lt-ltb n (2 ^ 63) small, skip_none rest g)
-    refl
+    let s = ds ++ rest in
+    let k = length ds in
+    ap (λ (k : ℕ). cond (eqb k 0) (Err (fault faults.Number s)) (number_by s k (value_in (take k s)))) (prefix_over is_ascii_digit ds rest are.all f)
+    ∙ ap (λ (b : Bool). cond b (Err (fault faults.Number s)) (number_by s k (value_in (take k s)))) (some_eqb k are.some)
+    ∙ ap (λ (t : List ℕ). number_by s k (value_in t)) (take_at ds rest k refl)
+    ∙ ap (number_by s k) (value_is ds n are.value small)
+    ∙ ap (λ (t : List ℕ). Ok (n, skip t)) (drop_at ds rest k refl)
+    ∙ ap (λ (t : List ℕ). Ok (n, t)) (skip_none rest g)
 
 -- ---- intervals
 

@@ -51,9 +51,13 @@ fn read(alloc: Global, text: &[u8]) -> Result<GtidTracker, GtidTextError>
     if start.is_empty() {
         return Ok(set);
     }
-    let (sid, rest) = uuid_at(start).map_err(|fault| fault.in_text(text.len()))?;
-    add_pieces(&mut set, text.len(), sid, rest)?;
-    Ok(set)
+    match uuid_at(start) {
+        Ok((sid, rest)) => {
+            add_pieces(&mut set, text.len(), sid, rest)?;
+            Ok(set)
+        }
+        Err(fault) => Err(fault.in_text(text.len())),
+    }
 }
 
 // Adds what the pieces after the first UUID name. The text that they are at the end of has this length.

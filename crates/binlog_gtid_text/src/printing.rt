@@ -1,8 +1,10 @@
 //! The text of a set of GTIDs.
-ghost use Rattle.std.specs.Prelude.{◌≡◌, ◌++◌, ◌<◌, ◌≤◌, flat_map, decimal, option_copied, string_bytes, IfOk, OnOk, IsOkUnless};
+ghost use Rattle.std.specs.Prelude.{◌≡◌, ◌++◌, ◌<◌, length, slice_index_or, flat_map, option_copied, Some, string_bytes, IfOk, OnOk, IsOkUnless};
 ghost use Rattle.binlog_wire.specs.declared.error.Error.TheVariants.{Memory};
 ghost use Rattle.uuid.specs.Text.{hyphenated_text, lower};
 ghost use Rattle.binlog_gtids.specs.GnoSets.{AreApart};
+ghost use Rattle.binlog_gtid_sets.specs.declared.gtid_group.GtidGroup.{GtidGroup};
+ghost use Rattle.binlog_gtid_sets.specs.GtidGroups.{AreGroups};
 ghost use Rattle.binlog_gtid_text.specs.Printing.{interval_text, tag_part, sid_part, group_text, set_text};
 ghost use Rattle.binlog_gtid_text.specs.Laws.Printing.{IsTagIfAny, IsWritable, AreWritable};
 
@@ -27,17 +29,34 @@ pub fn to_text(alloc: Global, set: &GtidTracker) -> Result<String, Error>
     ensures memory { IsOkUnless result Memory }
 {
     let mut text = String::new(alloc);
-    let mut last: Option<[u8; 16]> = None;
+    let mut last = None;
     for i in 0..set.len() {
-        if let Some(group) = set.group(i) {
-            let sid = group.0;
-            let tag = group.1;
-            let intervals = set.intervals(sid, tag);
-            push_group(&mut text, last.as_ref(), &sid, tag, intervals)?;
-            last = Some(sid);
-        }
+        last = push_group_at(&mut text, last, set, i)?;
     }
     Ok(text)
+}
+
+// Appends the group at an index, after one of this source, and answers the group's source.
+fn push_group_at(
+    text: &mut String,
+    last: Option<[u8; 16]>,
+    set: &GtidTracker,
+    i: usize,
+) -> Result<Option<[u8; 16]>, Error>
+    requires groups { AreGroups set.now }
+    requires within { i < length set.now }
+    ensures ok { OnOk result ((d : GtidGroup) → string_bytes text.new ≡ string_bytes text.old ++ group_text last (slice_index_or set.now i d)) }
+    ensures source { IfOk result (λ next. (d : GtidGroup) → next ≡ Some (slice_index_or set.now i d).sid) }
+    ensures writable { OnOk result ((d : GtidGroup) → IsWritable (slice_index_or set.now i d)) }
+    ensures memory { IsOkUnless result Memory }
+{
+    match set.group(i) {
+        Some((sid, tag)) => {
+            push_group(text, last.as_ref(), &sid, tag, set.intervals(sid, tag))?;
+            Ok(Some(sid))
+        }
+        None => Ok(last),
+    }
 }
 
 // Appends a group: its source, unless the group before has the same, its tag and its intervals.

@@ -1,5 +1,5 @@
 //! Reading the parts at the start of a text. Each is read with the whitespace after it.
-ghost use Rattle.std.specs.Prelude.{◌≡◌, ◌^◌, ◌<◌, ◌≤◌, ℕ, true, length, option_copied, IfOk, IfSome};
+ghost use Rattle.std.specs.Prelude.{◌≡◌, ◌^◌, ◌<◌, ◌≤◌, ℕ, true, length, nat_lt, option_copied, Some, None, IfOk, IfSome, if◌then◌else◌};
 ghost use Rattle.std.specs.Char.{is_ascii_digit};
 ghost use Rattle.std.specs.List.{prefix_len};
 ghost use Rattle.std.specs.Str.{all_ascii_digits};
@@ -24,12 +24,20 @@ fn is_space(byte: u8) -> bool
     byte == b' ' || (byte >= b'\t' && byte <= b'\r')
 }
 
+// The number of bytes of whitespace at the start.
+fn spaces_len(text: &[u8]) -> usize
+    ensures count { result ≡ prefix_len is_space text.now }
+    ensures within { result ≤ length text.now }
+{
+    text.iter().take_while(|byte| is_space(**byte)).count()
+}
+
 /// What is left after whitespace.
 pub(crate) fn skip_spaces(text: &[u8]) -> &[u8]
     ensures value { result.now ≡ skip text.now }
     ensures short { length result.now ≤ length text.now }
 {
-    let count = text.iter().take_while(|byte| is_space(**byte)).count();
+    let count = spaces_len(text);
     &text[count..]
 }
 
@@ -67,6 +75,14 @@ fn digits_len(text: &[u8]) -> usize
     text.iter().take_while(|byte| byte.is_ascii_digit()).count()
 }
 
+// The number, if it is below 2^63.
+fn in_range(number: u64) -> Option<u64>
+    ensures value { result ≡ (if nat_lt number (2 ^ 63) then Some number else None) }
+    ensures small { IfSome result (λ n. n < 2 ^ 63) }
+{
+    if number < GNO_END { Some(number) } else { None }
+}
+
 // The value of decimal digits, if it is below 2^63.
 fn value_of(digits: &[u8]) -> Option<u64>
     requires some { 0 < length digits.now }
@@ -78,8 +94,8 @@ fn value_of(digits: &[u8]) -> Option<u64>
         return None;
     };
     match text.parse::<u64>() {
-        Ok(number) if number < GNO_END => Some(number),
-        _ => None,
+        Ok(number) => in_range(number),
+        Err(_) => None,
     }
 }
 
