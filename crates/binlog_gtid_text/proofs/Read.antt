@@ -1,7 +1,8 @@
 -- What the readers at the start of a text give.
-use Rattle.std.proofs.Common.{◌≡◌, ℕ, suc, ◌+◌, ◌^◌, ◌<◌, ◌≤◌, ◌↔◌, Bool, true, false, cond, eqb, ltb, ◌&&◌, ◌||◌, ◌⊎◌, inl, inr, List, [], ◌∷◌, length, take, Option, Some, None, Result, Ok, Err, IfOk, IfErr, MatchResult, refl, sym, ap, subst, ◌∙◌, lit≤, length-take, arith}
+use Rattle.std.proofs.Common.{◌≡◌, ℕ, suc, ◌+◌, ◌^◌, ◌<◌, ◌≤◌, ◌↔◌, Bool, true, false, cond, eqb, ltb, ◌&&◌, ◌||◌, ◌⊎◌, inl, inr, List, [], ◌∷◌, length, take, drop, Option, Some, None, Result, Ok, Err, IfOk, IfErr, MatchResult, refl, sym, ap, subst, ◌∙◌, lit≤, length-take, length-take-le, arith}
 use Rattle.std.specs.Char.{is_ascii_digit}
 use Rattle.std.specs.List.{prefix_len}
+use Rattle.std.specs.Result.{IsOk}
 use Rattle.std.specs.Str.{all_ascii_digits, IsUtf8}
 use Rattle.std.specs.Str.Parse.{digits_value, ParsesUnsigned}
 use Rattle.std.proofs.lemmas.Bool.{cases_lt, ne_eqb, le-ltb}
@@ -12,7 +13,9 @@ use Rattle.std.proofs.lemmas.Str.Parse.{IsNumeralModel, numerals_by_value, tells
 use Rattle.uuid.specs.Text.{parsed, parsed_hyphenated, parsed_simple, parsed_braced, parsed_urn, has_hyphens, digits_of}
 use Rattle.binlog_gtid_text.specs.declared.error.Fault.{Fault}
 use Rattle.binlog_gtid_text.specs.declared.piece.Piece.TheVariants as pieces
-use Rattle.binlog_gtid_text.specs.Reading.{◌>>=◌, skip, value_in, uuid_at, source_at}
+use Rattle.binlog_gtid_text.specs.declared.error.GtidTextFault.TheVariants as faults
+use Rattle.binlog_gtid_text.specs.Faults.{fault}
+use Rattle.binlog_gtid_text.specs.Reading.{◌>>=◌, skip, value_in, uuid_by, uuid_at, source_at}
 
 -- ---- numbers
 
@@ -59,6 +62,27 @@ parsed_of_36_by t n long = rw long refl
 -- of the forms that are read, only that with hyphens has 36 bytes
 pub parsed_of_36 : (t : List ℕ) → length t ≡ 36 → parsed t ≡ parsed_hyphenated t
 parsed_of_36 t long = parsed_of_36_by t (length t) long
+
+pub uuid_short : (s : List ℕ) → length s < 36 → uuid_at s ≡ Err (fault faults.Uuid s)
+unfolding uuid_at
+uuid_short s short = ap (uuid_by s) (short_text s short)
+
+module _ (s : List ℕ) (long : 36 ≤ length s) where
+  parsed_front : parsed (take 36 s) ≡ parsed_hyphenated (take 36 s)
+  parsed_front = parsed_of_36 (take 36 s) (length-take-le 36 s long)
+
+  pub uuid_read : (sid : List ℕ) → Some sid ≡ parsed (take 36 s) → uuid_at s ≡ Ok (sid, skip (drop 36 s))
+  unfolding uuid_at
+  uuid_read sid is = ap (uuid_by s) (sym parsed_front ∙ sym is)
+
+  none_parsed : {E : Type 0} (o : Option (List ℕ)) (r : Result (List ℕ) E) (e : E) → r ≡ Err e → (((u : List ℕ) × (o ≡ Some u)) → IsOk r) → o ≡ None
+  none_parsed None r e is ok = refl
+  none_parsed (Some u) (Ok x) e is ok = absurd cc
+  none_parsed (Some u) (Err d) e is ok = absurd (let not : false ≡ true = ok (u, refl) in cc)
+
+  pub uuid_refused : {E : Type 0} (r : Result (List ℕ) E) (e : E) → r ≡ Err e → (IsOk r ↔ ((u : List ℕ) × (parsed (take 36 s) ≡ Some u))) → uuid_at s ≡ Err (fault faults.Uuid s)
+  unfolding uuid_at
+  uuid_refused r e is ok = ap (uuid_by s) (sym parsed_front ∙ none_parsed (parsed (take 36 s)) r e is ok.1)
 
 -- ---- the first piece
 

@@ -191,6 +191,7 @@ fn tag_at(text: &[u8]) -> Result<(Option<Tag<'_>>, &[u8]), Fault>
 #[tactic(auto, unfolding(crate::specs::Reading::source_at))]
 fn source_at(text: &[u8]) -> Result<(Piece<'_>, &[u8]), Fault>
     ensures value { Gives (λ x. (x.0, x.1.now)) result (source_at text.now) }
+    ensures bounds { IfOk result (λ x. IsInRange x.0) }
     ensures short { IfOk result (λ x. length x.1.now ≤ length text.now) }
 {
     let (sid, rest) = uuid_at(text)?;
