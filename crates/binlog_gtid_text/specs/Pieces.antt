@@ -23,6 +23,10 @@ abbrev pub IsText : List ℕ → List Piece → Type 0
 IsText text [] = skip text ≡ []
 IsText text (p ∷ ps) = (mid : List ℕ) × (source_at (skip text) ≡ Ok (p, mid)) × ArePieces mid ps []
 
+-- The error is that of the fault of a reading, in a text of this length.
+abbrev pub IsFaultAt : {A : Type 0} → ℕ → Result A Fault → GtidTextError → Type 0
+IsFaultAt len reading e = (f : Fault) × (reading ≡ Err f) × (e ≡ error_at len f)
+
 -- After these pieces, of a text that goes on, no piece can be read.
 pub record IsFaultAfter (text : List ℕ) (f : Fault) (ps : List Piece) (rest : List ℕ) : Type 0 where
   pub before : ArePieces text ps rest

@@ -1,14 +1,14 @@
 //! Reading a text as a set of GTIDs.
-ghost use Rattle.std.specs.Prelude.{◌≡◌, ◌⊎◌, ◌≤◌, ◌^◌, ◌&&◌, ◌||◌, ℕ, List, [], length, None, option_copied, IfOk, IfErr, OnOk, IsOkUnless, MatchResult};
+ghost use Rattle.std.specs.Prelude.{◌≡◌, ◌⊎◌, ◌<◌, ◌≤◌, ◌^◌, ◌&&◌, ◌||◌, ℕ, List, [], length, None, Ok, option_copied, IfOk, IfErr, OnOk, IsOkUnless, MatchResult};
 ghost use Rattle.binlog_gtid_sets.specs.declared.gtid_group.GtidGroup.{GtidGroup};
 ghost use Rattle.binlog_gtid_sets.specs.GtidGroups.{Pair, pair_of, is_same, is_tracked, AreGroups};
 ghost use Rattle.binlog_gtids.specs.GnoSets.{is_within};
 ghost use Rattle.binlog_gtid_text.specs.declared.error.GtidTextError.TheVariants.{Memory};
 ghost use Rattle.binlog_gtid_text.specs.declared.piece.Piece.{Piece};
-ghost use Rattle.binlog_gtid_text.specs.Reading.{IsInRange};
+ghost use Rattle.binlog_gtid_text.specs.Reading.{uuid_at, piece_at, IsInRange};
 ghost use Rattle.binlog_gtid_text.specs.Printing.{set_text};
 ghost use Rattle.binlog_gtid_text.specs.Laws.Printing.{AreWritable};
-ghost use Rattle.binlog_gtid_text.specs.Pieces.{ArePieces, IsText, IsInvalid, IsInvalidAfter, after_piece, is_named, are_naming, is_in_text};
+ghost use Rattle.binlog_gtid_text.specs.Pieces.{IsFaultAt, ArePieces, IsText, IsInvalid, IsInvalidAfter, after_piece, is_named, are_naming, is_in_text};
 
 use crate::error::GtidTextError;
 use crate::piece::{Piece, Under};
@@ -51,12 +51,32 @@ fn read(alloc: Global, text: &[u8]) -> Result<GtidTracker, GtidTextError>
     if start.is_empty() {
         return Ok(set);
     }
-    match uuid_at(start) {
-        Ok((sid, rest)) => {
-            add_pieces(&mut set, text.len(), sid, rest)?;
-            Ok(set)
-        }
-        Err(fault) => Err(fault.in_text(text.len())),
+    let (sid, rest) = first_uuid(text.len(), start)?;
+    add_pieces(&mut set, text.len(), sid, rest)?;
+    Ok(set)
+}
+
+// Reads the UUID at the start of what is left of a text of this length.
+fn first_uuid(len: usize, rest: &[u8]) -> Result<([u8; 16], &[u8]), GtidTextError>
+    ensures ok { IfOk result (λ x. uuid_at rest.now ≡ Ok (x.0, x.1.now)) }
+    ensures err { IfErr result (IsFaultAt len (uuid_at rest.now)) }
+{
+    match uuid_at(rest) {
+        Ok(found) => Ok(found),
+        Err(fault) => Err(fault.in_text(len)),
+    }
+}
+
+// Reads the piece at the start of what is left of a text of this length.
+fn next_piece(len: usize, rest: &[u8]) -> Result<(Piece<'_>, &[u8]), GtidTextError>
+    ensures ok { IfOk result (λ x. piece_at rest.now ≡ Ok (x.0, x.1.now)) }
+    ensures bounds { IfOk result (λ x. IsInRange x.0) }
+    ensures shorter { IfOk result (λ x. length x.1.now < length rest.now) }
+    ensures err { IfErr result (IsFaultAt len (piece_at rest.now)) }
+{
+    match piece_at(rest) {
+        Ok(found) => Ok(found),
+        Err(fault) => Err(fault.in_text(len)),
     }
 }
 
@@ -73,7 +93,7 @@ fn add_pieces(
     let mut rest = text;
     let mut under = Under { sid, tag: None };
     while !rest.is_empty() {
-        let (piece, next) = piece_at(rest).map_err(|fault| fault.in_text(len))?;
+        let (piece, next) = next_piece(len, rest)?;
         under = add_piece(set, under, piece)?;
         rest = next;
     }
