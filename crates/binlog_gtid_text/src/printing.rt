@@ -51,7 +51,9 @@ fn push_group_at(
     ensures memory { IsOkUnless result Memory }
 {
     match set.group(i) {
-        Some((sid, tag)) => {
+        Some(group) => {
+            let sid = group.0;
+            let tag = group.1;
             push_group(text, last.as_ref(), &sid, tag, set.intervals(sid, tag))?;
             Ok(Some(sid))
         }

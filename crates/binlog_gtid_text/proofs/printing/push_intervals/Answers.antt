@@ -3,7 +3,7 @@ use Rattle.binlog_numbers.specs.declared.gno_interval.GnoInterval.{GnoInterval}
 use Rattle.binlog_gtid_text.proofs.Appended.{interval_put, intervals_put, interval_filled, next_apart}
 use Rattle.binlog_gtid_text.proofs.printing.push_intervals.Goals as goal
 
-none : GnoInterval
+abbrev none : GnoInterval
 none = record { start = 0; end = 0 }
 
 pub push_interval-requires : goal.push_interval-requires

@@ -1,18 +1,19 @@
-use Rattle.std.proofs.Common.{[], None, add-one, arith}
+use Rattle.std.proofs.Common.{◌<◌, [], length, None, add-one, arith}
 use Rattle.binlog_gtid_sets.specs.declared.gtid_group.GtidGroup.{GtidGroup}
 use Rattle.binlog_gtid_text.proofs.Appended.{group_put, groups_put, writable_more, all_writable}
 use Rattle.binlog_gtid_text.proofs.printing.to_text.Goals as goal
 
-none : GtidGroup
+abbrev none : GtidGroup
 none = record { sid = []; tag = None; gnos = [] }
 
 pub loop-i-preserved : goal.loop-i-preserved
 loop-i-preserved c =
     let set = c.args.set.now in
     let i = c.loop-i.i in
-    let put = c.in_ok-push_group_at.ensures in
+    let put = c.in_ok-last.ensures in
+    let within : i < length set = omega arith in
     record {
-      whole = rw add-one (group_put set i _ _ none _ _ _ c.loop-i-test.true (put.ok none) (put.source none) c.loop-i.invariant.whole);
+      whole = rw add-one (group_put set i _ _ none _ _ _ within (put.ok none) (put.source none) c.loop-i.invariant.whole);
       writable = rw add-one (writable_more set i c.loop-i.invariant.writable put.writable);
     }
 
