@@ -4,7 +4,7 @@ use Rattle.std.proofs.lemmas.Bool.{cases_lt}
 use Rattle.binlog_numbers.specs.declared.gno_interval.GnoInterval.{GnoInterval}
 use Rattle.binlog_gtids.specs.GnoSets.{AreApart}
 use Rattle.binlog_gtid_sets.specs.declared.gtid_group.GtidGroup.{GtidGroup}
-use Rattle.binlog_gtid_sets.specs.GtidGroups.{pair_of, pair_in, intervals_of, AreGroups}
+use Rattle.binlog_gtid_sets.specs.GtidGroups.{pair_of, intervals_of, AreGroups}
 use Rattle.binlog_gtid_sets.proofs.GtidGroups.{own_intervals}
 use Rattle.binlog_gtid_text.specs.Printing.{interval_text, group_text, text_from}
 use Rattle.binlog_gtid_text.specs.Laws.Printing.{IsWritable, AreWritable}

@@ -1,5 +1,5 @@
 -- What is read at the start of a text that begins with a printed part.
-use Rattle.std.proofs.Common.{◌≡◌, ℕ, zero, suc, ◌+◌, ◌-◌, ◌^◌, ◌<◌, ◌≤◌, Bool, true, false, cond, eqb, ltb, ◌&&◌, ◌⊎◌, inl, inr, List, [], ◌∷◌, ◌++◌, length, take, drop, Option, Some, None, Ok, Err, refl, sym, ap, ◌∙◌, arith, append_assoc, decimal}
+use Rattle.std.proofs.Common.{◌≡◌, ℕ, suc, ◌+◌, ◌-◌, ◌^◌, ◌<◌, ◌≤◌, Bool, true, false, cond, eqb, ltb, ◌&&◌, ◌⊎◌, inl, inr, List, [], ◌∷◌, ◌++◌, length, take, drop, Some, None, Ok, Err, refl, ap, ◌∙◌, arith, decimal}
 use Rattle.std.specs.Char.{is_ascii_digit}
 use Rattle.std.specs.List.{prefix_len}
 use Rattle.std.specs.Str.{all_ascii_digits}
@@ -7,13 +7,13 @@ use Rattle.std.specs.Str.Parse.{digits_value}
 use Rattle.std.proofs.lemmas.Str.Parse.{IsNumeralModel, numerals_by_value, tells_all_ascii_digits}
 use Rattle.std.proofs.lemmas.Fmt.{digits_decimal, digits_value-decimal, decimal_is_IsNumeral}
 use Rattle.std.proofs.lemmas.List.{take_at, drop_at}
-use Rattle.std.proofs.lemmas.Bool.{lt-ltb, le-ltb, ltb-true}
+use Rattle.std.proofs.lemmas.Bool.{lt-ltb}
 use Rattle.std.proofs.lemmas.Bool.Decides.{nat_tests}
 use Rattle.binlog_numbers.specs.Tags.{is_first, is_later, is_tag}
 use Rattle.binlog_numbers.specs.declared.gno_interval.GnoInterval.{GnoInterval}
 use Rattle.binlog_gtid_text.specs.declared.error.GtidTextFault.TheVariants as faults
 use Rattle.binlog_gtid_text.specs.Faults.{fault}
-use Rattle.binlog_gtid_text.specs.Reading.{◌>>=◌, is_space, skip, after, value_in, number_by, number_at, interval_by, interval_at, begins_tag, named_at, tag_at}
+use Rattle.binlog_gtid_text.specs.Reading.{is_space, skip, after, value_in, number_by, number_at, interval_at, begins_tag, named_at, tag_at}
 
 -- ---- fronts that pass a test
 
@@ -133,8 +133,12 @@ module _ (i : GnoInterval) (ds es rest : List ℕ) (first : AreDigits ds i.start
   unfolding interval_at
   interval_read_by true f =
       let more : Fails is_ascii_digit (45 ∷ (es ++ rest)) = refl in
-      rw (number_read ds (45 ∷ (es ++ rest)) i.start first (omega arith) refl refl, some_eqb i.start positive, skip_none (es ++ rest) (digits_spaces es rest (i.end - 1) last),
-      number_read es rest (i.end - 1) last (omega arith) (ends_digits rest ends) (ends_spaces rest ends))
+      rw (
+        number_read ds (45 ∷ (es ++ rest)) i.start first (omega arith) refl refl,
+        some_eqb i.start positive,
+        skip_none (es ++ rest) (digits_spaces es rest (i.end - 1) last),
+        number_read es rest (i.end - 1) last (omega arith) (ends_digits rest ends) (ends_spaces rest ends),
+      )
       (let same : i.end - 1 + 1 ≡ i.end = omega arith in ap (λ (e : ℕ). Ok (record { start = i.start; end = e }, rest)) same)
   interval_read_by false f =
       rw (number_read ds rest i.start first (omega arith) (ends_digits rest ends) (ends_spaces rest ends), some_eqb i.start positive, ends_dash rest ends)

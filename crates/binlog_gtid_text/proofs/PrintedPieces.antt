@@ -1,11 +1,10 @@
 -- The pieces of a printed text, and what they name.
-use Rattle.std.proofs.Common.{◌≡◌, ℕ, zero, suc, ◌+◌, ◌-◌, ◌^◌, ◌<◌, ◌≤◌, Bool, true, false, cond, ltb, ◌&&◌, ◌||◌, ◌⊎◌, inl, inr, List, [], ◌∷◌, ◌++◌, length, get_or, flat_map, Option, Some, None, Ok, All, refl, sym, ap, subst, ◌∙◌, arith, append_assoc, decimal}
+use Rattle.std.proofs.Common.{◌≡◌, ℕ, ◌-◌, ◌^◌, ◌<◌, ◌≤◌, Bool, true, false, cond, ltb, ◌&&◌, ◌||◌, inl, inr, List, [], ◌∷◌, ◌++◌, length, get_or, flat_map, Option, Some, None, Ok, refl, sym, ap, subst, ◌∙◌, arith, append_assoc, decimal}
 use Rattle.std.specs.Option.{option_or}
 use Rattle.std.specs.declared.cmp.Ordering.{Ordering}
 use Rattle.std.specs.declared.cmp.Ordering.TheVariants.{Less, Equal, Greater}
 use Rattle.std.specs.Ordering.{nat_cmp, is_eq}
 use Rattle.std.specs.Cmp.Lexicographic.{slice_cmp}
-use Rattle.std.specs.List.{AllByRecursion}
 use Rattle.std.proofs.lemmas.List.{take_at, drop_at}
 use Rattle.std.proofs.lemmas.Bool.Decides.{nat_tests}
 use Rattle.std.proofs.lemmas.Map.Lookups.{exact_bytes}
@@ -22,8 +21,8 @@ use Rattle.binlog_gtid_text.specs.declared.piece.Piece.{Piece}
 use Rattle.binlog_gtid_text.specs.declared.piece.Piece.TheVariants as pieces
 use Rattle.binlog_gtid_text.specs.declared.piece.Under.{Under}
 use Rattle.binlog_gtid_text.specs.Reading.{◌>>=◌, is_space, skip, uuid_by, uuid_at, source_at, numbers_at, piece_at, interval_at}
-use Rattle.binlog_gtid_text.specs.Pieces.{ArePieces, IsText, after_piece, is_named, are_naming, is_in_text}
-use Rattle.binlog_gtid_text.specs.Printing.{interval_text, tag_part, sid_part, group_text, text_from, set_text}
+use Rattle.binlog_gtid_text.specs.Pieces.{ArePieces, IsText, are_naming, is_in_text}
+use Rattle.binlog_gtid_text.specs.Printing.{interval_text, tag_part, sid_part, text_from, set_text}
 use Rattle.binlog_gtid_text.specs.Laws.Printing.{IsSid, IsTagIfAny, IsWritable, AreWritable}
 use Rattle.binlog_gtid_text.proofs.Fronts.{Fails, skip_none, Ends, ends_spaces, AreDigits, decimal_digits, digits_spaces, digits_tag, interval_read_by, tag_spaces, tag_read, no_tag_read}
 
@@ -111,7 +110,7 @@ plain_pieces [] low rest apart ends = refl
 plain_pieces (i ∷ is) low rest apart ends = (
   flat_map interval_text is ++ rest,
   ap piece_at (append_assoc (interval_text i) (flat_map interval_text is) rest)
-  ∙ numbers_plain i (flat_map interval_text is ++ rest) (omega (arith, apart.0)) apart.1 apart.2 (ends_more is rest ends),
+      ∙ numbers_plain i (flat_map interval_text is ++ rest) (omega (arith, apart.0)) apart.1 apart.2 (ends_more is rest ends),
   plain_pieces is i.end rest apart.3 ends,
 )
 
@@ -121,7 +120,7 @@ tagged_pieces tag [] rest is_tagged some apart ends = absurd (omega arith)
 tagged_pieces tag (i ∷ is) rest is_tagged some apart ends = (
   flat_map interval_text is ++ rest,
   ap (λ (t : List ℕ). piece_at (58 ∷ (tag ++ t))) (append_assoc (interval_text i) (flat_map interval_text is) rest)
-  ∙ numbers_tagged i (flat_map interval_text is ++ rest) (omega (arith, apart.0)) apart.1 apart.2 (ends_more is rest ends) tag is_tagged,
+      ∙ numbers_tagged i (flat_map interval_text is ++ rest) (omega (arith, apart.0)) apart.1 apart.2 (ends_more is rest ends) tag is_tagged,
   plain_pieces is i.end rest apart.3 ends,
 )
 
@@ -202,8 +201,7 @@ printed_pieces (g ∷ groups) are is =
     let numbers = numbers_text g groups in
     let whole = hyphenated_text lower g.sid ++ numbers in
     let regrouped : set_text (g ∷ groups) ≡ whole = regroup_group (hyphenated_text lower g.sid) (tag_part g.tag) (flat_map interval_text g.gnos) (text_from (Some g.sid) groups) in
-    let spaces = ends_spaces numbers (numbers_end g.tag g.gnos (text_from (Some g.sid) groups) (filled_first g groups are)) in
-    (
+    let spaces = ends_spaces numbers (numbers_end g.tag g.gnos (text_from (Some g.sid) groups) (filled_first g groups are)) in (
       numbers,
       ap (λ (t : List ℕ). source_at (skip t)) regrouped ∙ ap source_at (skip_none whole (uuid_spaces g.sid numbers)) ∙ source_read g.sid numbers is.0.sid spaces,
       group_pieces g groups are is.0 (from_pieces g.sid groups (tail_groups g groups are) is.1),

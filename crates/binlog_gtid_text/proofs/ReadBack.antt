@@ -15,6 +15,9 @@ module _ (groups : List GtidGroup) (are : AreGroups groups) (is : AreWritable gr
   written_pieces : IsText text (pieces_of groups)
   written_pieces = subst (λ (t : List ℕ). IsText t (pieces_of groups)) (sym same) (printed_pieces groups are is)
 
+  pub reads_back : (ps : List Piece) × IsText text ps × ((pair : Pair) (n : ℕ) → is_in_text ps pair n ≡ is_tracked groups pair n)
+  reads_back = (pieces_of groups, written_pieces, λ q n. printed_named groups are q n)
+
   pub read_back : (r : Result (List GtidGroup) GtidTextError) → IfOk r (λ set. (ps : List Piece) × IsText text ps × ((pair : Pair) (n : ℕ) → is_tracked set pair n ≡ is_in_text ps pair n))
       → IfErr r (λ e. (e ≡ Memory) ⊎ IsInvalid text e) → MatchResult r (λ set. (pair : Pair) (n : ℕ) → is_tracked set pair n ≡ is_tracked groups pair n) (λ e. e ≡ Memory)
   read_back (Ok set) ok err = λ q n. ok.2 q n ∙ ap (λ (ps : List Piece). is_in_text ps q n) (same_texts ok.0 (pieces_of groups) text ok.1 written_pieces) ∙ printed_named groups are q n

@@ -1,12 +1,12 @@
 -- A text consists of one list of pieces, and has no fault then.
-use Rattle.std.proofs.Common.{◌≡◌, ℕ, ◌<◌, List, [], ◌∷◌, length, Result, Ok, Err, None, refl, sym, ap, subst, ◌∙◌, arith}
+use Rattle.std.proofs.Common.{◌≡◌, ℕ, List, [], ◌∷◌, length, Result, Ok, Err, refl, sym, ap, ◌∙◌, arith}
 use Rattle.binlog_gtid_text.specs.declared.error.Fault.{Fault}
 use Rattle.binlog_gtid_text.specs.declared.error.GtidTextFault.TheVariants as faults
 use Rattle.binlog_gtid_text.specs.declared.error.GtidTextError.{GtidTextError}
 use Rattle.binlog_gtid_text.specs.declared.piece.Piece.{Piece}
 use Rattle.binlog_gtid_text.specs.Faults.{fault}
 use Rattle.binlog_gtid_text.specs.Reading.{skip, uuid_at, source_at, piece_at}
-use Rattle.binlog_gtid_text.specs.Pieces.{ArePieces, IsText, IsFaultAfter, IsInvalidAfter, IsInvalidFrom, IsInvalid}
+use Rattle.binlog_gtid_text.specs.Pieces.{ArePieces, IsText, IsFaultAfter, IsInvalidFrom, IsInvalid}
 
 pub nothing_left : piece_at [] ≡ Err (fault faults.Separator [])
 unfolding piece_at

@@ -1,5 +1,5 @@
 -- How a text starts: its first UUID, or a fault there or after it.
-use Rattle.std.proofs.Common.{◌≡◌, ℕ, ◌<◌, ◌||◌, List, [], ◌∷◌, length, None, Result, Ok, Err, sym, ap, subst, ◌∙◌}
+use Rattle.std.proofs.Common.{◌≡◌, ℕ, ◌<◌, ◌||◌, List, [], ◌∷◌, length, None, Result, Ok, sym, ap, subst, ◌∙◌}
 use Rattle.binlog_gtid_sets.specs.declared.gtid_group.GtidGroup.{GtidGroup}
 use Rattle.binlog_gtid_sets.specs.GtidGroups.{Pair, is_tracked}
 use Rattle.binlog_gtid_text.specs.declared.error.Fault.{Fault}

@@ -1,5 +1,5 @@
 -- The text of a set of GTIDs: the pieces that it consists of, and the GTIDs that they name.
-use Rattle.std.specs.Prelude.{◌≡◌, ℕ, ◌<◌, Bool, false, ◌&&◌, ◌||◌, List, [], ◌∷◌, length, Option, None, Result, Ok, Err}
+use Rattle.std.specs.Prelude.{◌≡◌, ℕ, ◌<◌, Bool, false, ◌&&◌, ◌||◌, List, [], ◌∷◌, length, None, Result, Ok, Err}
 use Rattle.std.specs.Option.{option_or}
 use Rattle.binlog_gtids.specs.GnoSets.{is_within}
 use Rattle.binlog_gtid_sets.specs.GtidGroups.{Pair, pair_of, is_same}

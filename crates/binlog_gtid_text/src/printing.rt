@@ -1,10 +1,12 @@
 //! The text of a set of GTIDs.
-ghost use Rattle.std.specs.Prelude.{◌≡◌, ◌++◌, ◌<◌, length, slice_index_or, flat_map, option_copied, Some, string_bytes, IfOk, OnOk, IsOkUnless};
+ghost use Rattle.std.specs.Prelude.{◌≡◌, ◌++◌, ◌<◌, ℕ, List, length, slice_index_or, flat_map, option_copied, Some, string_bytes, IfOk, OnOk, IsOkUnless};
 ghost use Rattle.binlog_wire.specs.declared.error.Error.TheVariants.{Memory};
 ghost use Rattle.uuid.specs.Text.{hyphenated_text, lower};
 ghost use Rattle.binlog_gtids.specs.GnoSets.{AreApart};
 ghost use Rattle.binlog_gtid_sets.specs.declared.gtid_group.GtidGroup.{GtidGroup};
-ghost use Rattle.binlog_gtid_sets.specs.GtidGroups.{AreGroups};
+ghost use Rattle.binlog_gtid_sets.specs.GtidGroups.{Pair, is_tracked, AreGroups};
+ghost use Rattle.binlog_gtid_text.specs.declared.piece.Piece.{Piece};
+ghost use Rattle.binlog_gtid_text.specs.Pieces.{IsText, is_in_text};
 ghost use Rattle.binlog_gtid_text.specs.Printing.{interval_text, tag_part, sid_part, group_text, set_text};
 ghost use Rattle.binlog_gtid_text.specs.Laws.Printing.{IsTagIfAny, IsWritable, AreWritable};
 
@@ -26,6 +28,8 @@ use uuid::Uuid;
 pub fn to_text(alloc: Global, set: &GtidTracker) -> Result<String, Error>
     ensures text { IfOk result (λ text. string_bytes text ≡ set_text set.now) }
     ensures writable { OnOk result (AreWritable set.now) }
+    ensures ordered { AreGroups set.now }
+    ensures reads_back { IfOk result (λ text. (ps : List Piece) × IsText (string_bytes text) ps × ((pair : Pair) (n : ℕ) → is_in_text ps pair n ≡ is_tracked set.now pair n)) }
     ensures memory { IsOkUnless result Memory }
 {
     let mut text = String::new(alloc);

@@ -1,4 +1,4 @@
-use Rattle.std.proofs.Common.{sym, ◌∙◌}
+use Rattle.std.proofs.Common.{◌∙◌}
 use Rattle.binlog_gtid_text.proofs.ReadBack.{read_back}
 use Rattle.binlog_gtid_text.proofs.parsing.parse.Goals as goal
 

@@ -1,4 +1,4 @@
-use Rattle.std.proofs.Common.{◌≡◌, List, ℕ, true, sym, subst, take}
+use Rattle.std.proofs.Common.{◌≡◌, ℕ, true, sym, subst, take}
 use Rattle.std.specs.Str.{all_ascii_digits}
 use Rattle.binlog_gtid_text.proofs.Read.{digits_front}
 use Rattle.binlog_gtid_text.proofs.reading.number_at.Goals as goal
