@@ -1,5 +1,6 @@
 pub mod Appended
 pub mod Fronts
+pub mod OneSet
 pub mod Pieces
 pub mod PrintedPieces
 pub mod Read

@@ -18,3 +18,8 @@ pub fn one_reading()
 pub fn written_texts_read_back()
     ensures { (groups : List GtidGroup) → AreGroups groups → AreWritable groups → (ps : List Piece) × IsText (set_text groups) ps × ((pair : Pair) (n : ℕ) → is_in_text ps pair n ≡ is_tracked groups pair n) }
 {}
+
+/// Sets with the same GTIDs have the same text.
+pub fn one_text()
+    ensures { (a b : List GtidGroup) → AreGroups a → AreGroups b → AreWritable a → AreWritable b → ((pair : Pair) (n : ℕ) → is_tracked a pair n ≡ is_tracked b pair n) → set_text a ≡ set_text b }
+{}
