@@ -4,7 +4,7 @@ use Rattle.binlog_gtid_text.specs.declared.error.Fault.{Fault}
 use Rattle.binlog_gtid_text.specs.declared.error.GtidTextFault.TheVariants as faults
 use Rattle.binlog_gtid_text.specs.declared.error.GtidTextError.{GtidTextError}
 use Rattle.binlog_gtid_text.specs.declared.piece.Piece.{Piece}
-use Rattle.binlog_gtid_text.specs.Faults.{fault}
+use Rattle.binlog_gtid_text.specs.Faults.{fault, error_at}
 use Rattle.binlog_gtid_text.specs.Reading.{skip, uuid_at, source_at, piece_at}
 use Rattle.binlog_gtid_text.specs.Pieces.{ArePieces, IsText, IsFaultAfter, IsInvalidFrom, IsInvalid}
 
@@ -68,3 +68,23 @@ invalid_by ps len p mid (Err f) e same h bad = cc
 pub text_valid : (ps : List Piece) (text : List ℕ) (e : GtidTextError) → IsText text ps → IsInvalid text e → ⊥
 text_valid [] text e h bad = omega (arith, bad.0, ap length h)
 text_valid (p ∷ ps) text e h bad = invalid_by ps (length text) p h.0 (source_at (skip text)) e h.1 h.2 bad.1
+
+-- ---- one first fault
+
+same_faults : (ps qs : List Piece) (a b rest more : List ℕ) (f g : Fault) → a ≡ b → IsFaultAfter a f ps rest → IsFaultAfter b g qs more → f ≡ g
+same_faults [] [] a b rest more f g same h k = let one : piece_at rest ≡ piece_at more = ap piece_at (sym h.before ∙ same ∙ k.before) in let left = h.fault in let right = k.fault in cc
+same_faults [] (q ∷ qs) a b rest more f g same h k = let there = k.before in absurd (not_both_answers (piece_at b) (q, there.0) f there.1 (ap piece_at (sym same ∙ h.before) ∙ h.fault))
+same_faults (p ∷ ps) [] a b rest more f g same h k = let there = h.before in absurd (not_both_answers (piece_at a) (p, there.0) g there.1 (ap piece_at (same ∙ k.before) ∙ k.fault))
+same_faults (p ∷ ps) (q ∷ qs) a b rest more f g same h k =
+    let left = h.before in
+    let right = k.before in
+    let one : (p, left.0) ≡ (q, right.0) = one_answer (piece_at a) (p, left.0) (q, right.0) left.1 (ap piece_at same ∙ right.1) in
+    same_faults ps qs left.0 right.0 rest more f g (ap (λ (x : Piece × List ℕ). x.1) one) (record { before = left.2; some = h.some; fault = h.fault }) (record { before = right.2; some = k.some; fault = k.fault })
+
+errors_by : (len : ℕ) (r : Result (Piece × List ℕ) Fault) (e d : GtidTextError) → IsInvalidFrom len r e → IsInvalidFrom len r d → e ≡ d
+errors_by len (Ok x) e d h k = h.4 ∙ ap (error_at len) (same_faults h.1 k.1 x.1 x.1 h.2 k.2 h.0 k.0 refl h.3 k.3) ∙ sym k.4
+errors_by len (Err f) e d h k = h ∙ sym k
+
+-- a text has one error
+pub same_errors : (text : List ℕ) (e d : GtidTextError) → IsInvalid text e → IsInvalid text d → e ≡ d
+same_errors text e d h k = errors_by (length text) (source_at (skip text)) e d h.1 k.1

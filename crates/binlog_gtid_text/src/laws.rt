@@ -8,10 +8,11 @@ ghost use Rattle.binlog_gtid_text.specs.Pieces.{IsText, IsInvalid, is_in_text};
 ghost use Rattle.binlog_gtid_text.specs.Printing.{set_text};
 ghost use Rattle.binlog_gtid_text.specs.Laws.Printing.{AreWritable};
 
-/// A text consists of one list of pieces at most, and is invalid only if it consists of none.
+/// A text consists of one list of pieces at most, is invalid only if it consists of none, and has one error then.
 pub fn one_reading()
     ensures same { (text : List ℕ) (ps qs : List Piece) → IsText text ps → IsText text qs → ps ≡ qs }
     ensures valid { (text : List ℕ) (ps : List Piece) (e : GtidTextError) → IsText text ps → IsInvalid text e → ⊥ }
+    ensures fault { (text : List ℕ) (e d : GtidTextError) → IsInvalid text e → IsInvalid text d → e ≡ d }
 {}
 
 /// The text that is written of groups consists of pieces that name the groups' GTIDs.
