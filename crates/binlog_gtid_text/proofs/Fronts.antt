@@ -80,7 +80,7 @@ digits_by : (d : ℕ) (ds : List ℕ) (v : Bool) → is_ascii_digit d ≡ v → 
 digits_by d ds true f h rest = rw f (omega (arith, rest h))
 digits_by d ds false f h rest = absurd cc
 
-digits_pass : (ds : List ℕ) → all_ascii_digits ds ≡ true → prefix_len is_ascii_digit ds ≡ length ds
+pub digits_pass : (ds : List ℕ) → all_ascii_digits ds ≡ true → prefix_len is_ascii_digit ds ≡ length ds
 digits_pass [] h = refl
 digits_pass (d ∷ ds) h = digits_by d ds (is_ascii_digit d) refl h (λ h. digits_pass ds h)
 
@@ -108,10 +108,10 @@ pub digits_tag : (ds rest : List ℕ) (n : ℕ) → AreDigits ds n → begins_ta
 digits_tag [] rest n are = absurd (omega (arith, are.some))
 digits_tag (d ∷ ds) rest n are = digit_no_tag d (first_passes is_ascii_digit d ds are.all)
 
-some_eqb : (n : ℕ) → 0 < n → eqb n 0 ≡ false
+pub some_eqb : (n : ℕ) → 0 < n → eqb n 0 ≡ false
 some_eqb n some = grind (arith, nat_tests)
 
-value_is : (ds : List ℕ) (n : ℕ) → digits_value 10 ds ≡ n → n < 2 ^ 63 → value_in ds ≡ Some n
+pub value_is : (ds : List ℕ) (n : ℕ) → digits_value 10 ds ≡ n → n < 2 ^ 63 → value_in ds ≡ Some n
 value_is ds n v small = ap (λ (m : ℕ). cond (ltb m (2 ^ 63)) (Some m) None) v ∙ ap (λ (b : Bool). cond b (Some n) None) (lt-ltb n (2 ^ 63) small)
 
 pub number_read : (ds rest : List ℕ) (n : ℕ) → AreDigits ds n → n < 2 ^ 63 → Fails is_ascii_digit rest → Fails is_space rest → number_at (ds ++ rest) ≡ Ok (n, rest)
@@ -178,7 +178,7 @@ pub tag_spaces : (tag rest : List ℕ) → is_tag tag ≡ true → Fails is_spac
 tag_spaces [] rest h = absurd cc
 tag_spaces (b ∷ s) rest h = first_no_space b (tag_parts b s h).first
 
-tag_passes : (tag : List ℕ) → is_tag tag ≡ true → prefix_len is_later tag ≡ length tag
+pub tag_passes : (tag : List ℕ) → is_tag tag ≡ true → prefix_len is_later tag ≡ length tag
 tag_passes [] h = absurd cc
 tag_passes (b ∷ s) h =
     let parts = tag_parts b s h in

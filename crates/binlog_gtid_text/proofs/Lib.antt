@@ -6,4 +6,6 @@ pub mod PrintedPieces
 pub mod Read
 pub mod ReadBack
 pub mod Readings
+pub mod Spelled
+pub mod SpelledRead
 pub mod Starts

@@ -31,7 +31,7 @@ use Rattle.binlog_gtid_text.proofs.Fronts.{Fails, skip_none, Ends, ends_spaces, 
 hex_no_space : (d : ℕ) → is_space (hex_digit lower d) ≡ false
 hex_no_space d = grind (arith, nat_tests)
 
-fails_front : (p : ℕ → Bool) (a rest : List ℕ) → 0 < length a → p (get_or a 0 0) ≡ false → Fails p (a ++ rest)
+pub fails_front : (p : ℕ → Bool) (a rest : List ℕ) → 0 < length a → p (get_or a 0 0) ≡ false → Fails p (a ++ rest)
 fails_front p [] rest some f = absurd (omega arith)
 fails_front p (b ∷ a) rest some f = f
 
