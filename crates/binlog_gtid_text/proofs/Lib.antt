@@ -1,0 +1,11 @@
+pub mod Appended
+pub mod Fronts
+pub mod OneSet
+pub mod Pieces
+pub mod PrintedPieces
+pub mod Read
+pub mod ReadBack
+pub mod Readings
+pub mod Spelled
+pub mod SpelledRead
+pub mod Starts
