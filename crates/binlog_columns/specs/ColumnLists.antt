@@ -23,7 +23,7 @@ whole_by : (i : ℕ) (read : Read Typed) (types : List ℕ)
 whole_by i (Ok x) types ih h = rw (ih x.1 h) refl
 whole_by i (Err d) types ih h = absurd cc
 
--- Where no column is refused and nothing is left, the columns are what the metadata is read as.
+-- If no column is refused and no bytes are left, the columns are the result of reading the metadata.
 pub whole_read : (i : ℕ) (types m : List ℕ) → refusal i types m ≡ None → (columns types).reads m ≡ Ok (columns_in types m, [])
 whole_read i [] [] h = refl
 whole_read i [] (byte ∷ m) h = absurd cc
@@ -63,7 +63,7 @@ empty_read i (byte ∷ m) cs h =
     let none : byte ∷ m ≡ [] = ap (λ (p : List Typed × List ℕ). p.1) pairs in
     absurd cc
 
--- Where the metadata is read as columns, and nothing is left, no column is refused.
+-- If the metadata is read as columns, and no bytes are left, no column is refused.
 pub read_whole : (i : ℕ) (types m : List ℕ) (cs : List Typed) → (columns types).reads m ≡ Ok (cs, []) → refusal i types m ≡ None
 read_whole i [] m cs h = empty_read i m cs h
 read_whole i (number ∷ types) m cs h = none_read_by i ((column number).reads m) types cs (λ m ds. read_whole (suc i) types m ds) h

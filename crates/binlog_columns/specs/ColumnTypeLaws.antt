@@ -1,4 +1,4 @@
--- Which numbers are no column type's.
+-- Which numbers aren't those of a column type.
 use Rattle.std.proofs.Common.{◌≡◌, ℕ, ◌<◌, ◌≤◌, Bool, true, false, eqb, ltb, List, [], ◌∷◌, Err, refl, arith}
 use Rattle.std.specs.Prelude.{◌&&◌, ◌||◌}
 use Rattle.std.proofs.lemmas.Bool.{ltb-true, ne_eqb}
@@ -26,7 +26,7 @@ unknown_between number (v ∷ values) unknown low high n none above below =
     let other : eqb (number v) n ≡ false = ne_eqb (number v) n (differs (number v) n low high _ refl parts.0 above below) in
     rw other (unknown_between number values unknown low high n parts.1 above below)
 
--- The numbers 20 to 139 and 142 to 241 are no column type's.
+-- The numbers 20 to 139 and 142 to 241 aren't those of a column type.
 pub unknown_low : (n : ℕ) → 20 ≤ n → n ≤ 139 → column_type_of n ≡ Err (record { 0 = n })
 unknown_low n above below = unknown_between column_number column_types (λ n. record { 0 = n }) 20 139 n refl above below
 

@@ -8,7 +8,7 @@ use Rattle.binlog_columns.specs.declared.column.Column.{Column}
 abbrev pub typed_of : Column → Typed
 typed_of column = (column.column_type, column.metadata)
 
--- An answer, with the type and the metadata of its column.
+-- The result of a call, with the type and the metadata of its column.
 abbrev pub answer_typed : Result Column Error → Result Typed Error
 answer_typed (Ok column) = Ok (typed_of column)
 answer_typed (Err e) = Err e

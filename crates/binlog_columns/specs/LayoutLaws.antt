@@ -1,4 +1,4 @@
--- Allowed metadata gives a layout whose numbers are in their ranges.
+-- If the metadata is allowed, the numbers of the layout are in their ranges.
 use Rattle.std.proofs.Common.{◌≡◌, ℕ, ◌^◌, ◌<◌, ◌≤◌, Bool, true, false, cond, refl, arith}
 use Rattle.std.specs.Prelude.{◌&&◌, ◌||◌, ◌==◌, nat_le}
 use Rattle.std.proofs.lemmas.Bool.{leb-true}

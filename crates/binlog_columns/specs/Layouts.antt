@@ -7,7 +7,7 @@ use Rattle.binlog_columns.specs.declared.column_type.ColumnType.TheVariants.{MYS
 use Rattle.binlog_columns.specs.declared.layout.Layout.{Layout}
 use Rattle.binlog_columns.specs.declared.layout.Layout.TheVariants.{Nothing, Number, Bits, Timestamp2, DateTime2, Time2, Decimal, Counted, Vector}
 
--- A string of at most this many bytes: its length takes one byte where it is at most 255, else two.
+-- A string of at most this many bytes. Its length takes one byte if that number is at most 255, else two.
 abbrev pub string_layout : ℕ → Layout
 string_layout max = Counted (if nat_le max 255 then 1 else 2) max
 
@@ -15,7 +15,7 @@ string_layout max = Counted (if nat_le max 255 then 1 else 2) max
 abbrev pub blob_layout : ℕ → Layout
 blob_layout prefix = Counted prefix (256 ^ prefix - 1)
 
--- A STRING's real type is a string, an ENUM or a SET.
+-- The layout of a STRING, whose real type is STRING, ENUM or SET.
 abbrev pub real_layout : ℕ → Layout
 real_layout metadata = if real_number metadata == 254 then string_layout (string_length metadata) else Number (string_length metadata)
 

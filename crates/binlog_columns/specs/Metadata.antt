@@ -1,4 +1,4 @@
--- The metadata of a column: as many bytes as its type says, read as a little-endian number.
+-- The metadata of a column: a little-endian number, whose length in bytes the column's type determines.
 -- Source: MySQL's documentation of its source code, `mysql::binlog::event::Table_map_event`.
 use Rattle.std.specs.Prelude.{ℕ, ◌+◌, ◌-◌, ◌*◌, ◌/◌, ◌%◌, ◌==◌, ◌&&◌, ◌||◌, Bool, true, nat_le, Result, Ok, Err, refl}
 use Rattle.binlog_wire.specs.declared.error.Invalid.TheVariants.{FieldRange}
@@ -33,24 +33,25 @@ metadata_len MYSQL_TYPE_VAR_STRING = 2
 metadata_len MYSQL_TYPE_STRING = 2
 metadata_len _ = 0
 
--- ---- what the metadata says
+-- ---- what the metadata states
 
--- The first byte of two, and the second.
+-- The first byte of two.
 abbrev pub first_byte : ℕ → ℕ
 first_byte metadata = metadata % 256
 
+-- The second byte of two.
 abbrev pub second_byte : ℕ → ℕ
 second_byte metadata = metadata / 256
 
--- BIT: the number of bits over whole bytes, and the number of whole bytes.
+-- BIT: the number of bits, from the number of bits over whole bytes and the number of whole bytes.
 abbrev pub bit_count : ℕ → ℕ
 bit_count metadata = 8 * second_byte metadata + first_byte metadata
 
--- STRING: bits 4 and 5 of the first byte are the length's two high bits, inverted. With both of them set the byte is
--- the number of the real type.
+-- STRING: the two high bits of the length, which are bits 4 and 5 of the first byte, inverted.
 abbrev pub high_bits : ℕ → ℕ
 high_bits metadata = 3 - first_byte metadata / 16 % 4
 
+-- STRING: the number of the real type, which is the first byte with bits 4 and 5 set.
 abbrev pub real_number : ℕ → ℕ
 real_number metadata = first_byte metadata + 16 * high_bits metadata
 
@@ -113,13 +114,13 @@ is_metadata _ metadata = true
 abbrev pub Typed : Type 0
 Typed = ColumnType × ℕ
 
--- The metadata of a column of a type with this number, or of no type.
+-- The metadata of a column whose type's number is this one, if it is known.
 abbrev pub column_as : ℕ → Result ColumnType UnknownColumnType → Format anywhere Typed
 column_as number (Ok column_type) = made {A = ℕ} (λ metadata. (column_type, metadata)) (λ column. column.1)
     (allowed (metadata_len column_type) (is_metadata column_type) (λ _. FieldRange number)) (λ s a r h. refl) (λ _. refl)
 column_as number (Err unknown) = nowhere number
 
--- The metadata of a column whose type has this number. It is refused as `other_type` where the number is no type's, as
--- `ends` where its bytes aren't all there, and as `invalid` where it isn't allowed.
+-- The metadata of a column whose type has this number. It is refused as `other_type` if the number isn't that of a
+-- type, as `ends` if its bytes aren't all there, and as `invalid` if it isn't allowed.
 abbrev pub column : ℕ → Format anywhere Typed
 column number = column_as number (column_type_of number)

@@ -9,7 +9,7 @@ use Rattle.binlog_columns.specs.Kinds.{kind_as, kind_of}
 use Rattle.binlog_columns.specs.Refusals.{refused_or, refusal}
 use Rattle.binlog_columns.specs.declared.column_error.ColumnError.{ColumnError}
 
--- An error of reading a column is of the kind of its refusal.
+-- The error of reading a column has the kind of its refusal.
 pub kind_is : (e : Error) (read : Read Typed) → Refuses ⊥ e read → (d : Refusal) × (read ≡ Err d) × (kind_of e ≡ kind_as d)
 kind_is errors.EndOfBody read h = (ends, h, refl)
 kind_is (errors.InvalidData why) read h = (invalid why, h, refl)
@@ -42,7 +42,7 @@ refusal_here types i number m e less is h =
     let d = kind_is e ((column number).reads m) h in
     rw (drop_item types i number 0 less is, d.1, d.2) refl
 
--- No column is refused, whatever the index of the first.
+-- If no column is refused, none is with another index of the first column.
 none_by : (i j : ℕ) (read : Read Typed) (f g : List ℕ → Option ColumnError) → ((m : List ℕ) → f m ≡ None → g m ≡ None) → refused_or i read f ≡ None → refused_or j read g ≡ None
 none_by i j (Ok x) f g ih h = ih x.1 h
 none_by i j (Err d) f g ih h = absurd cc
@@ -56,12 +56,12 @@ some_by : (i : ℕ) (read : Read Typed) (f : List ℕ → Option ColumnError) �
 some_by i (Ok x) f h = (x, refl, h)
 some_by i (Err d) f h = absurd cc
 
--- Where no column is refused, the first is read.
+-- If no column is refused, the first is read.
 pub first_read : (i number : ℕ) (types m : List ℕ) → refusal i (number ∷ types) m ≡ None
     → (x : Typed × List ℕ) × ((column number).reads m ≡ Ok x) × (refusal (suc i) types x.1 ≡ None)
 first_read i number types m h = some_by i ((column number).reads m) (refusal (suc i) types) h
 
--- Where no column is refused, none of those after the first is.
+-- If no column is refused, none of those after the first is.
 pub tail_whole : (s types m rest : List ℕ) (number : ℕ) (typed : Typed) → refusal 0 s m ≡ None → s ≡ number ∷ types → (column number).reads m ≡ Ok (typed, rest)
     → refusal 0 types rest ≡ None
 tail_whole s types m rest number typed h split read =

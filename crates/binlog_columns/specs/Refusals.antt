@@ -1,4 +1,4 @@
--- The columns of a table map: their types, a byte each, and the metadata of all of them, from left to right.
+-- The columns of a table map: their types, one byte each, and the metadata of all of them, from left to right.
 use Rattle.std.specs.Prelude.{ℕ, suc, List, [], ◌∷◌, Option, Some, None, Ok, Err}
 use Rattle.binlog_wire.specs.Reading.{Read}
 use Rattle.binlog_columns.specs.Metadata.{Typed, column}
@@ -6,13 +6,13 @@ use Rattle.binlog_columns.specs.Kinds.{kind_as}
 use Rattle.binlog_columns.specs.declared.column_error.ColumnError.{ColumnError}
 use Rattle.binlog_columns.specs.declared.column_error.ColumnErrorKind.TheVariants.{LeftOver}
 
--- The refusal of this column, or of those after it.
+-- The refusal of this column, or else of those after it.
 abbrev pub refused_or : ℕ → Read Typed → (List ℕ → Option ColumnError) → Option ColumnError
 refused_or index (Ok x) next = next x.1
 refused_or index (Err d) next = Some (record { kind = kind_as d; column = index })
 
--- The first refusal from left to right, of columns that are counted from an index: the first column that is refused, or
--- bytes that are left after the last one.
+-- The first refusal from left to right: that of the first column that is refused, or that of bytes that are left after
+-- the last one. The index of the first column is given.
 abbrev pub refusal : ℕ → List ℕ → List ℕ → Option ColumnError
 refusal index [] [] = None
 refusal index [] (byte ∷ metadata) = Some (record { kind = LeftOver; column = index })

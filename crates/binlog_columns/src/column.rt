@@ -1,4 +1,4 @@
-//! A column: its type, and what the metadata says of it.
+//! A column: its type and its metadata.
 ghost use Rattle.std.specs.Prelude.{◌≡◌, ◌==◌, ◌<◌, true};
 ghost use Rattle.std.specs.Prelude.{◌+◌, ◌*◌};
 ghost use Rattle.binlog_wire.specs.Fields.{number_at};
@@ -14,7 +14,7 @@ use binlog_wire::{Error, IntRepr, Invalid, LeU16, ParseBuf};
 
 /// A column of a table: its type, and the metadata that the table map states for it.
 ///
-/// Which metadata is allowed:
+/// The metadata that is allowed for each type:
 ///
 /// | Type | Metadata |
 /// |---|---|
@@ -23,9 +23,9 @@ use binlog_wire::{Error, IntRepr, Invalid, LeU16, ParseBuf};
 /// | TIMESTAMP2, DATETIME2, TIME2 | the digits of the fraction, 0 to 6 |
 /// | BIT | the number of bits over whole bytes, 0 to 7, and the number of whole bytes; 1 to 64 bits in all |
 /// | VARCHAR, VAR_STRING, VARCHAR_COMPRESSED | the greatest length in bytes, two bytes |
-/// | BLOB and its like, JSON, GEOMETRY, VECTOR, BLOB_COMPRESSED | the size of the length in bytes, 1 to 4 |
+/// | the four BLOB types, JSON, GEOMETRY, VECTOR, BLOB_COMPRESSED | the size of the length in bytes, 1 to 4 |
 /// | STRING | the real type and the greatest length in bytes, 0 to 1,023 |
-/// | ENUM, SET, also as the real type of a STRING | the real type and the size in bytes: 1 or 2, 1 to 8 |
+/// | ENUM, SET, also as the real type of a STRING | the real type and the size in bytes: ENUM 1 or 2, SET 1 to 8 |
 /// | any other | none |
 #[derive(Clone, Copy, Debug, PartialEq, Eq, Hash)]
 pub struct Column {
@@ -42,9 +42,9 @@ impl Column {
     ///
     /// # Errors
     ///
-    /// - [`Error::WrongEventType`] with the number where it is no type's.
-    /// - [`Error::EndOfBody`] where the bytes end within the metadata.
-    /// - [`Error::InvalidData`] where the metadata isn't allowed.
+    /// - [`Error::WrongEventType`] with `number` if it isn't the number of a column type.
+    /// - [`Error::EndOfBody`] if the bytes end within the metadata.
+    /// - [`Error::InvalidData`] if the metadata isn't allowed for the type.
     pub fn read(number: u8, buf: &mut ParseBuf<'_>) -> Result<Self, Error>
         ensures { Gives ⊥ buf.new (answer_typed result) ((column number).reads buf.old) }
     {
@@ -68,15 +68,15 @@ impl Column {
         self.column_type
     }
 
-    /// The metadata, as a little-endian number; 0 where the type has none.
+    /// The metadata as a little-endian number; 0 if the type has none.
     pub fn metadata(&self) -> u16
         ensures { result ≡ (typed_of self.now).1 }
     {
         self.metadata
     }
 
-    /// The real type: that of a STRING, an ENUM or a SET is STRING, ENUM or SET as the metadata says; any other type is
-    /// its own.
+    /// The real type. For the types STRING, ENUM and SET the metadata states it: STRING, ENUM or SET. Any other type is
+    /// its own real type.
     pub fn real_type(&self) -> ColumnType
         ensures { result ≡ real_type (typed_of self.now) }
     {

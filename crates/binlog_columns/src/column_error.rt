@@ -5,10 +5,10 @@ ghost use Rattle.binlog_columns.specs.Kinds.{kind_of};
 use binlog_wire::Error;
 use thiserror::Error as ErrorMessage;
 
-/// What is wrong with a column of a table map.
+/// What is wrong with a column of a table map, or with its metadata.
 #[derive(Clone, Copy, Debug, PartialEq, Eq, Hash)]
 pub enum ColumnErrorKind {
-    /// The byte for the type is the number of no column type.
+    /// The byte for the type isn't the number of a column type.
     BadType,
     /// The bytes end within the column's metadata.
     Truncated,

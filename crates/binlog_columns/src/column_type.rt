@@ -1,9 +1,8 @@
 //! The types of columns.
 use thiserror::Error;
 
-/// The type of a column, as a table map states it in one byte.
-///
-/// The metadata of the column says more of it: see [`Column`](crate::Column).
+/// The type of a column, as a table map states it in one byte. For the metadata of each type see
+/// [`Column`](crate::Column).
 ///
 /// Source: MySQL's documentation of its source code, `enum_field_types`; MariaDB's for the compressed types.
 #[allow(non_camel_case_types)]
@@ -71,13 +70,13 @@ pub enum ColumnType {
     MYSQL_TYPE_BLOB = 252,
     /// A string of variable length, as older servers write it.
     MYSQL_TYPE_VAR_STRING = 253,
-    /// A string of fixed length, an ENUM or a SET, as the metadata says.
+    /// A string of fixed length, an ENUM or a SET; the metadata states which.
     MYSQL_TYPE_STRING = 254,
     /// A geometry: its SRID, and then well-known binary (WKB).
     MYSQL_TYPE_GEOMETRY = 255,
 }
 
-/// A byte that is the number of no column type.
+/// A byte that isn't the number of a column type.
 #[derive(Clone, Copy, Debug, PartialEq, Eq, Hash, Error)]
 #[error("the column type {0} is not known")]
 pub struct UnknownColumnType(pub u8);

@@ -1,6 +1,6 @@
 //! How the values of a column are encoded.
 
-/// How the values of a column are encoded, as its type and metadata say.
+/// How the values of a column are encoded. The column's type and metadata determine it.
 #[derive(Clone, Copy, Debug, PartialEq, Eq, Hash)]
 pub enum Layout {
     /// No bytes: the value is NULL.

@@ -1,7 +1,5 @@
-//! The columns of a table, as a table map describes them: their types and metadata, and how their values are encoded.
-//!
-//! The format of a column's metadata is defined in `specs/Metadata`, how values are encoded in `specs/Layouts`, and which
-//! columns are refused in `specs/Refusals`.
+//! `specs/Metadata` defines the format of a column's metadata, `specs/Layouts` how values are encoded, and
+//! `specs/Refusals` which columns are refused.
 #![tactic(auto)]
 
 mod column;

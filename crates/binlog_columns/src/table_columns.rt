@@ -7,7 +7,7 @@ use crate::column_error::{ColumnError, ColumnErrorKind, kind_of};
 use binlog_wire::ParseBuf;
 
 /// The columns of a table, in order: an iterator over them. It borrows the types and the metadata of a table map, and
-/// takes no memory.
+/// allocates nothing.
 #[derive(Clone, Copy, Debug)]
 pub struct TableColumns<'a> {
     types: &'a [u8],
@@ -18,12 +18,17 @@ pub struct TableColumns<'a> {
 impl<'a> TableColumns<'a> {
     ghost use Rattle.binlog_columns.specs.TableColumns.{columns_of};
 
-    /// The columns of these types, a byte each, with this metadata: for each column, from left to right, as many bytes
-    /// as its type has. Nothing may be left of them.
+    /// The columns of these types, one byte each, with this metadata: the metadata of each column, from left to right.
+    /// Each type determines the length of its metadata, and no bytes may be left after the last column's.
     ///
     /// # Errors
     ///
-    /// The first refusal, from left to right: see [`ColumnErrorKind`].
+    /// The first fault, from left to right; its `kind` is:
+    ///
+    /// - [`ColumnErrorKind::BadType`] if a byte isn't the number of a column type.
+    /// - [`ColumnErrorKind::Truncated`] if the bytes end within a column's metadata.
+    /// - [`ColumnErrorKind::BadMetadata`] if a column's metadata isn't allowed for its type.
+    /// - [`ColumnErrorKind::LeftOver`] if bytes are left after the last column's metadata.
     pub fn new(types: &'a [u8], metadata: &'a [u8]) -> Result<Self, ColumnError>
         ensures { MatchResult result
             (λ columns. (refusal 0 types.now metadata.now ≡ None) × (columns_of columns ≡ columns_in types.now metadata.now))

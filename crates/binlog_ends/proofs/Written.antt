@@ -1,4 +1,4 @@
--- What a writer has written of some bytes.
+-- What was written of some bytes.
 use Rattle.std.proofs.Common.{◌≡◌, ℕ, List, [], ◌++◌, ◌-◌, length, take, drop, Option, Some, None, refl, sym, ap, subst, ◌∙◌, arith, append_assoc, append-nil}
 use Rattle.std.proofs.lemmas.List.{take-append-drop, nil_from_length, take_all, length-drop}
 use Rattle.std.specs.Io.KnownBytes.{Appends, Keeps}
@@ -14,7 +14,7 @@ pub record IsWritten (old new : Option (List ℕ)) (bytes rest : List ℕ) : Typ
 pub written_none : (old : Option (List ℕ)) (bytes : List ℕ) → IsWritten old old bytes bytes
 written_none old bytes = record { front = []; whole = refl; written = Appends-nil old }
 
--- A write took some of them.
+-- One write wrote some of them.
 pub written_more : (old mid new : Option (List ℕ)) (bytes rest after : List ℕ) (count : ℕ) → IsWritten old mid bytes rest → Appends mid new (take count rest) → after ≡ drop count rest → IsWritten old new bytes after
 written_more old mid new bytes rest after count so_far more e = record {
   front = so_far.front ++ take count rest;

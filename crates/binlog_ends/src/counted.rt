@@ -11,11 +11,11 @@ use std::marker::Model;
 
 /// A reader or a writer, with the number of its failures and the kind of the last one.
 ///
-/// No contract of the standard library states when a reader or a writer fails, or whether a flush reached it. So the
+/// No contract of the standard library states when a reader or a writer fails, or whether a flush called it. So the
 /// contracts state that each [`Failed`] is counted, and that nothing else is. That a failure comes only from the reader
 /// or the writer is tested.
 ///
-/// Contracts see it as a record of these three.
+/// Contracts see it as a record of these three fields.
 #[derive(Debug, Drop)]
 pub struct Counted<T> {
     inner: T,
@@ -89,8 +89,8 @@ impl<T> CountsFailures for Counted<T> {
 impl<R: BufRead> ReadCounted for Counted<R> {
     ghost remaining = { λ counted. R.remaining counted.inner };
 
-    /// Copies what the reader's buffer shows, as far as there is room. The reader is called once; if it shows nothing,
-    /// the input is at its end.
+    /// Copies bytes from the reader's buffer, as many as `buf` has room for. The reader is called once; if its buffer
+    /// is empty, the input is at its end.
     fn read_some(&mut self, buf: &mut [u8]) -> Result<usize, Failed>
         ensures within { IfOk result (λ count. count ≤ length buf.new) }
         ensures took { IfOk result (λ count. Consumes (R.remaining self.old.inner) (R.remaining self.new.inner) (take count buf.new)) }
@@ -115,7 +115,7 @@ impl<R: BufRead> ReadCounted for Counted<R> {
 impl<W: Write> WriteCounted for Counted<W> {
     ghost contents = { λ counted. W.contents counted.inner };
 
-    /// Writes until all bytes are taken. A write that takes no byte is a failure, and so is an interrupted one.
+    /// Writes until all bytes are written. A write of 0 bytes is a failure, and so is an interruption.
     fn write_whole(&mut self, bytes: &[u8]) -> Result<(), Failed>
         ensures written { OnOk result (Appends (W.contents self.old.inner) (W.contents self.new.inner) bytes.now) }
         ensures front { OnErr result (AppendsFront (W.contents self.old.inner) (W.contents self.new.inner) bytes.now) }
@@ -141,7 +141,7 @@ impl<W: Write> WriteCounted for Counted<W> {
     }
 }
 
-// Copies what the reader's buffer shows, as far as there is room.
+// Copies bytes from the reader's buffer, as many as `buf` has room for.
 fn copy_shown<R: BufRead>(input: &mut R, buf: &mut [u8]) -> io::Result<usize>
     requires { 0 < length buf.old }
     ensures took { IfOk result (λ count. Consumes (R.remaining input.old) (R.remaining input.new) (take count buf.new)) }
@@ -157,7 +157,7 @@ fn copy_shown<R: BufRead>(input: &mut R, buf: &mut [u8]) -> io::Result<usize>
     Ok(count)
 }
 
-// Writes all of the bytes, in as many writes as it takes. It fails if a write fails or takes no byte.
+// Writes all of the bytes, in as many writes as needed. It fails if a write fails or writes 0 bytes.
 fn write_each<W: Write>(output: &mut W, bytes: &[u8]) -> Result<(), ErrorKind>
     ensures written { OnOk result (Appends (W.contents output.old) (W.contents output.new) bytes.now) }
     ensures front { OnErr result (AppendsFront (W.contents output.old) (W.contents output.new) bytes.now) }

@@ -1,13 +1,13 @@
-//! The ends of a binlog's reader and writer: the source of its bytes, and the destination.
+//! Readers and writers that count their failures.
 //!
-//! Each end counts its failures, and the count only rises ([`CountsFailures`]). So a caller can tell whether a device
-//! failed: if the count is unchanged after a call, and isn't `u64::MAX`, nothing failed in that call. In contracts this
-//! is `Rose`, in `specs/Counts`; [`laws`] has what follows from it.
+//! Each of them counts its failures, and the count never falls ([`CountsFailures`]). So a caller can determine whether
+//! a device failed: if the count is unchanged after a call, and isn't `u64::MAX`, nothing failed in that call. In
+//! contracts this is `Rose`, in `specs/Counts`; [`laws`] has the laws about it.
 //!
 //! - [`ReadCounted`] reads, and [`WriteCounted`] writes. [`Failed`] is returned exactly if a failure was counted.
 //! - [`Counted`] wraps any `BufRead` or `Write`, and keeps the kind of the last failure.
 //! - [`SliceReader`] reads bytes in memory, and never fails.
-//! - [`Retrying`] tries an interrupted call again. To read a file or a pipe, use `Counted::new(Retrying::new(input))`.
+//! - [`Retrying`] retries an interrupted call. To read a file or a pipe, use `Counted::new(Retrying::new(input))`.
 //!   Without it an interruption is a failure like any other.
 //!
 //! ```

@@ -1,14 +1,14 @@
-//! A reader or a writer that tries again after an interruption.
+//! A reader or a writer that retries after an interruption.
 use std::io;
 use std::io::{BufRead, ErrorKind, Read, Write};
 
-/// How many times in a row one read, write or flush is tried if each try is interrupted.
+/// The number of attempts at one read, write or flush if each of them is interrupted.
 pub const ATTEMPTS: usize = 64;
 
-/// A reader or a writer that tries an interrupted call again, at most [`ATTEMPTS`] times in a row. After that it
-/// returns the interruption.
+/// A reader or a writer that retries an interrupted call, up to [`ATTEMPTS`] attempts. After that it returns the
+/// interruption.
 ///
-/// No contract of the standard library states when a call is interrupted, so the number of tries is tested and not
+/// No contract of the standard library states when a call is interrupted, so the number of attempts is tested and not
 /// proved. That no byte is lost is proved.
 #[derive(Debug, Drop)]
 pub struct Retrying<T> {
@@ -40,7 +40,7 @@ impl<T> Retrying<T> {
     }
 }
 
-// Whether a call was interrupted, so that it can be tried again.
+// Whether a call was interrupted, so that it can be retried.
 fn is_interrupted(error: &io::Error) -> bool {
     error.kind() == ErrorKind::Interrupted
 }
@@ -62,8 +62,8 @@ impl<R: Read> Read for Retrying<R> {
 impl<R: BufRead> BufRead for Retrying<R> {
     ghost consumable_len = { λ reader. R.consumable_len reader.inner };
 
-    // A reader that shows bytes is called a second time, since the bytes of the first call can't be returned from
-    // within the loop. They are in its buffer by then, so nothing more is read.
+    // If the reader's buffer has bytes, the reader is called a second time, since the bytes of the first call can't be
+    // returned from within the loop. They are in its buffer by then, so nothing more is read.
     fn fill_buf(&mut self) -> io::Result<&[u8]> {
         'attempts: for _ in 1..ATTEMPTS {
             match self.inner.fill_buf() {

@@ -5,12 +5,12 @@ ghost use Rattle.binlog_ends.specs.Counts.{CountsErr, AppendsFront};
 
 use crate::failed::Failed;
 
-/// Counts its failures.
+/// Counts its own failures.
 pub trait CountsFailures {
-    /// The number of failures; at `u64::MAX` it stays.
+    /// The number of failures, at most `u64::MAX`.
     ghost failures: { Self → ℕ };
 
-    /// The number of failures. It rises by one at each failure, and stays at `u64::MAX`.
+    /// The number of failures. It rises by one at each failure, and isn't above `u64::MAX`.
     fn failures(&self) -> u64
         ensures { result ≡ failures self.now };
 }

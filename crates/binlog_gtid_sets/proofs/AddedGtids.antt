@@ -12,7 +12,7 @@ use Rattle.binlog_gtids.specs.declared.previous_gtids_event.PreviousGtidsEvent.{
 use Rattle.binlog_gtid_sets.specs.AddedGtids.{bad_gno_in, bad_gno, bad_gno_listed, is_listed, is_added, bad_gno_of}
 use Rattle.binlog_gtid_sets.specs.GtidGroups.{Pair, pair_of, is_same}
 
--- of none in a row, each is none
+-- If the first of two options is None, each of them is.
 first_none : (a b : Option ℕ) → option_or a b ≡ None → a ≡ None
 first_none None b h = refl
 first_none (Some x) b h = absurd cc
@@ -31,7 +31,7 @@ good_after [] k good = refl
 good_after (i ∷ is) zero good = rest_none (bad_gno_in i) (bad_gno is) good
 good_after (i ∷ is) (suc k) good = good_after is k good
 
--- the bounds of an interval with numbers, all of them good
+-- The bounds of an interval that has numbers, all of them allowed.
 module _ (i : GnoInterval) (some : i.start < i.end) where
   bounds_by : (a b c : Bool) → ltb i.start i.end ≡ a → (leb 1 i.start && ltb i.start (2 ^ 63)) ≡ b → ltb (2 ^ 63) i.end ≡ c
       → cond a (cond b (cond c (Some (2 ^ 63)) None) (Some i.start)) None ≡ None → (1 ≤ i.start) × (i.end ≤ 2 ^ 63)
@@ -43,7 +43,7 @@ module _ (i : GnoInterval) (some : i.start < i.end) where
   pub good_bounds : bad_gno_in i ≡ None → (1 ≤ i.start) × (i.end ≤ 2 ^ 63)
   good_bounds good = bounds_by (ltb i.start i.end) (leb 1 i.start && ltb i.start (2 ^ 63)) (ltb (2 ^ 63) i.end) refl refl refl good
 
--- an interval without numbers
+-- An interval without numbers.
 pub none_in : (i : GnoInterval) (n : ℕ) → i.end ≤ i.start → is_within i n ≡ false
 none_in i n le = grind (arith, nat_tests)
 
@@ -53,14 +53,14 @@ and_or true true false t = refl
 and_or true false b t = refl
 and_or false a b t = refl
 
--- one more interval
+-- One more interval.
 pub interval_held : (is : List GnoInterval) (k n : ℕ) (d : GnoInterval) (same old new : Bool) → k < length is → new ≡ ((same && is_within (get_or is k d) n) || old)
     → ((same && is_held (drop (suc k) is) n) || new) ≡ ((same && is_held (drop k is) n) || old)
 interval_held [] k n d same old new within put = absurd (omega arith)
 interval_held (i ∷ is) zero n d same old new within put = rw put (and_or same (is_within i n) (is_held is n) old)
 interval_held (i ∷ is) (suc k) n d same old new within put = interval_held is k n d same old new (omega arith) put
 
--- no interval more
+-- An interval without the number changes nothing.
 pub same_held : (same inside old : Bool) → inside ≡ false → old ≡ ((same && inside) || old)
 same_held true inside old none = rw none refl
 same_held false inside old none = refl
@@ -80,7 +80,7 @@ or_swap true true t = refl
 or_swap true false t = refl
 or_swap false b t = refl
 
--- one more entry
+-- One more entry.
 pub entry_held : (es : List PreviousGtidsSid) (k n : ℕ) (q : Pair) (d : PreviousGtidsSid) (old new : Bool) → k < length es
     → new ≡ ((is_same (pair_of (get_or es k d).uuid (get_or es k d).tag) q && is_held (get_or es k d).intervals n) || old)
     → (is_listed (drop (suc k) es) q n || new) ≡ (is_listed (drop k es) q n || old)

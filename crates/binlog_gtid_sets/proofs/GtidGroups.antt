@@ -1,5 +1,5 @@
 -- What is found in a list of groups in ascending order, and what an edit of the list does to that.
-use Rattle.std.proofs.Common.{◌≡◌, ℕ, zero, suc, ◌+◌, ◌-◌, ◌<◌, ◌≤◌, Bool, true, false, cond, ◌&&◌, ◌||◌, List, [], ◌∷◌, length, get_or, set, Result, Ok, Err, IfOk, IfErr, OnOk, OnErr, refl, sym, ap, subst, ◌∙◌, inl, inr, arith}
+use Rattle.std.proofs.Common.{◌≡◌, ℕ, zero, suc, ◌+◌, ◌-◌, ◌<◌, ◌≤◌, Bool, true, false, cond, ◌&&◌, ◌||◌, List, [], ◌∷◌, ◌++◌, length, get_or, set, length-append, Result, Ok, Err, IfOk, IfErr, OnOk, OnErr, refl, sym, ap, subst, ◌∙◌, inl, inr, arith}
 use Rattle.std.specs.List.{insert}
 use Rattle.std.specs.List.Sorted.{IsSearchInRange, IsBinarySearchResult, IsNonDecreasingBy}
 use Rattle.std.specs.declared.cmp.Ordering.{Ordering}
@@ -7,14 +7,14 @@ use Rattle.std.specs.declared.cmp.Ordering.TheVariants.{Less, Equal, Greater}
 use Rattle.std.specs.Ordering.{ordering_index, ordering_reverse, is_eq, is_lt}
 use Rattle.std.specs.Cmp.{IsTotalOrder, then_total, on_total, alike_right, tied_itself}
 use Rattle.std.specs.Cmp.Lexicographic.{nat_list_cmp_total}
-use Rattle.std.proofs.lemmas.List.{get_or_read}
+use Rattle.std.proofs.lemmas.List.{get_or_read, get_or_append_left, get_or_push, take_all, drop_all}
 use Rattle.std.proofs.lemmas.List.Edits.{length-insert, get_or-insert_below, get_or-insert_at, get_or-insert_above}
 use Rattle.std.proofs.lemmas.List.Sorted.{searchable_from_sorted}
 use Rattle.std.proofs.lemmas.Bool.{cases_lt, lt-ltb, le-leb}
 use Rattle.binlog_numbers.specs.declared.gno_interval.GnoInterval.{GnoInterval}
 use Rattle.binlog_gtids.specs.GnoSets.{is_within, is_held}
 use Rattle.binlog_gtid_sets.specs.declared.gtid_group.GtidGroup.{GtidGroup}
-use Rattle.binlog_gtid_sets.specs.GtidGroups.{Pair, pair_in, compare_pairs, is_same, intervals_of, is_tracked, AreGroups, IsAt, IsGapFor}
+use Rattle.binlog_gtid_sets.specs.GtidGroups.{Pair, pair_in, compare_pairs, is_same, intervals_of, is_tracked, AreGroups, AreBelow, IsAt, IsGapFor}
 
 pub pairs_total : IsTotalOrder compare_pairs
 unfolding compare_pairs
@@ -32,7 +32,7 @@ turned Less = refl
 turned Equal = refl
 turned Greater = refl
 
--- of two pairs that differ, one is the same as q at most
+-- Of two pairs that differ, at most one is the same as q.
 pub not_both : (a b q : Pair) → is_same a b ≡ false → is_same a q ≡ true → is_same b q ≡ false
 not_both a b q differ same =
     let tied = equal_from_same (compare_pairs a q) same in
@@ -53,7 +53,7 @@ gap_same groups p q at same gap =
 
 -- ---- what is found
 
--- no group before this index has the pair
+-- No group before this index has the pair.
 abbrev NoneBefore : List GtidGroup → Pair → ℕ → Type 0
 NoneBefore groups p i = (j : ℕ) (d : GtidGroup) → j < i → is_same (pair_in (get_or groups j d)) p ≡ false
 
@@ -63,7 +63,7 @@ none_in_tail g groups p i none j d less = none (suc j) d (omega arith)
 at_in_tail : (g : GtidGroup) (groups : List GtidGroup) (p : Pair) (i : ℕ) → IsAt (g ∷ groups) p (suc i) → IsAt groups p i
 at_in_tail g groups p i is = record { within = omega (arith, is.within); same = is.same }
 
-lookup_absent : (groups : List GtidGroup) (p : Pair) → NoneBefore groups p (length groups) → intervals_of groups p ≡ []
+pub lookup_absent : (groups : List GtidGroup) (p : Pair) → NoneBefore groups p (length groups) → intervals_of groups p ≡ []
 lookup_absent [] p none = refl
 lookup_absent (g ∷ groups) p none = rw (none 0 g (omega arith)) (lookup_absent groups p (none_in_tail g groups p _ none))
 
@@ -72,7 +72,7 @@ lookup_present [] p i d is none = absurd (omega (arith, is.within))
 lookup_present (g ∷ groups) p zero d is none = let same : is_same (pair_in g) p ≡ true = ap is_eq (is.same d) in rw same refl
 lookup_present (g ∷ groups) p (suc i) d is none = rw (none 0 g (omega arith)) (lookup_present groups p i d (at_in_tail g groups p i is) (none_in_tail g groups p i none))
 
--- the intervals with those of one group
+-- The intervals, with those of one group.
 abbrev pub with_group : List GtidGroup → GtidGroup → Pair → List GnoInterval
 with_group groups g q = cond (is_same (pair_in g) q) g.gnos (intervals_of groups q)
 
@@ -90,7 +90,7 @@ put_later_by : (first : GtidGroup) (rest edited : List GnoInterval) (g : GtidGro
 put_later_by first rest edited g q true e other same = rw (e, not_both (pair_in first) (pair_in g) q other e) refl
 put_later_by first rest edited g q false e other same = rw e same
 
--- a group in the place of one with its pair
+-- A group in place of one with the same pair.
 lookup_set : (groups : List GtidGroup) (g : GtidGroup) (i : ℕ) (q : Pair) → i < length groups → ((d : GtidGroup) → pair_in (get_or groups i d) ≡ pair_in g) → NoneBefore groups (pair_in g) i
     → intervals_of (set groups i g) q ≡ with_group groups g q
 lookup_set [] g i q within same none = absurd (omega arith)
@@ -99,7 +99,7 @@ lookup_set (first ∷ groups) g (suc i) q within same none =
     put_later_by first (intervals_of groups q) (intervals_of (set groups i g) q) g q (is_same (pair_in first) q) refl (none 0 first (omega arith))
     (lookup_set groups g i q (omega arith) same (none_in_tail first groups (pair_in g) i none))
 
--- a new group before any with its pair
+-- A new group before any with its pair.
 lookup-insert : (groups : List GtidGroup) (g : GtidGroup) (i : ℕ) (q : Pair) → NoneBefore groups (pair_in g) i → intervals_of (insert groups i g) q ≡ with_group groups g q
 lookup-insert groups g zero q none = refl
 lookup-insert [] g (suc i) q none = refl
@@ -115,7 +115,7 @@ module _ (groups : List GtidGroup) (are : AreGroups groups) (p : Pair) where
       searchable_from_sorted pairs_total pair_in groups p
       (λ k d from to. ap is_lt (pairs_total.antisymm (pair_in (get_or groups (k + 1) d)) (pair_in (get_or groups k d)) ∙ ap ordering_reverse (are.ascending k (k + 1) d (omega arith) to)))
 
-  -- a binary search finds the group with the pair, or where it would be inserted
+  -- A binary search finds the group with the pair, or the index where it would be inserted.
   pub searched : (r : Result ℕ ℕ) → IsSearchInRange r (length groups) → IsBinarySearchResult (λ g. compare_pairs (pair_in g) p) groups r
       → record { found : IfOk r (λ at. IsAt groups p at); absent : IfErr r (λ at. IsGapFor groups p at) }
   searched (Ok at) within equal = record { found = record { within = within; same = equal }; absent = tt }
@@ -146,7 +146,7 @@ module _ (groups : List GtidGroup) (p : Pair) (at : ℕ) (gap : IsGapFor groups 
   pub not_found : intervals_of groups p ≡ []
   not_found = lookup_absent groups p none_of_pair
 
--- a pair after that of the last group would be inserted at the end
+-- A pair that is after that of the last group would be inserted at the end.
 pub after_last : (groups : List GtidGroup) → AreGroups groups → (p : Pair) (last : GtidGroup) → 0 < length groups → last ≡ get_or groups (length groups - 1) last
     → compare_pairs (pair_in last) p ≡ Less → IsGapFor groups p (length groups)
 after_last groups are p last some last_is less =
@@ -166,9 +166,13 @@ after_last groups are p last some last_is less =
 abbrev pub interval : ℕ → ℕ → GnoInterval
 interval s e = record { start = s; end = e }
 
--- the new groups contain the old numbers, and those of an interval under a pair
+-- the new groups contain the old numbers, and those that pass a test under a pair
+abbrev pub Added : List GtidGroup → List GtidGroup → Pair → (ℕ → Bool) → Type 0
+Added old new p h = (q : Pair) (n : ℕ) → is_tracked new q n ≡ ((is_same p q && h n) || is_tracked old q n)
+
+-- the same for the numbers of an interval
 abbrev pub Inserted : List GtidGroup → List GtidGroup → Pair → ℕ → ℕ → Type 0
-Inserted old new p s e = (q : Pair) (n : ℕ) → is_tracked new q n ≡ ((is_same p q && is_within (interval s e) n) || is_tracked old q n)
+Inserted old new p s e = Added old new p (is_within (interval s e))
 
 some_from_held : (is : List GnoInterval) (n : ℕ) → is_held is n ≡ true → 0 < length is
 some_from_held [] n h = absurd cc
@@ -244,7 +248,7 @@ module _ (groups : List GtidGroup) (are : AreGroups groups) (p : Pair) (at : ℕ
         filled = λ i d within. filled_set groups g at some are.filled i d (omega (arith, same_length));
       }
 
-  -- after the insertion, or after its failure
+  -- After the insertion, or after its failure.
   pub inserts_at : {T E : Type 0} (r : Result T E) (s e : ℕ) (new : List GtidGroup) → new ≡ set groups at g → OnOk r ((n : ℕ) → is_held g.gnos n ≡ (is_within (interval s e) n || is_held old.gnos n))
       → OnOk r (Inserted groups new p s e)
   inserts_at (Ok x) s e new put held = subst (λ (gs : List GtidGroup). Inserted groups gs p s e) (sym put) (inserted_at s e held)
@@ -261,20 +265,20 @@ module _ (groups : List GtidGroup) (are : AreGroups groups) (p : Pair) (at : ℕ
       (are_set (some_from_held g.gnos s (held s ∙ ap (λ (b : Bool). b || is_held old.gnos s) (starts_within s e some))))
   are_at (Err x) s e new some put held same = subst AreGroups (sym (put ∙ ap (set groups at) same ∙ set_same groups old at is.within old_is)) are
 
-module _ (groups : List GtidGroup) (are : AreGroups groups) (p : Pair) (at : ℕ) (gap : IsGapFor groups p at) (s e : ℕ) (some : s < e)
-    (g : GtidGroup) (pair : pair_in g ≡ p) (held : (n : ℕ) → is_held g.gnos n ≡ is_within (interval s e) n) where
+module _ (groups : List GtidGroup) (are : AreGroups groups) (p : Pair) (at : ℕ) (gap : IsGapFor groups p at) (h : ℕ → Bool)
+    (g : GtidGroup) (some : 0 < length g.gnos) (pair : pair_in g ≡ p) (held : (n : ℕ) → is_held g.gnos n ≡ h n) where
   added_by : (n : ℕ) (q : Pair) (b : Bool) → is_same p q ≡ b
-      → is_held (cond (is_same p q) g.gnos (intervals_of groups q)) n ≡ ((is_same p q && is_within (interval s e) n) || is_tracked groups q n)
+      → is_held (cond (is_same p q) g.gnos (intervals_of groups q)) n ≡ ((is_same p q && h n) || is_tracked groups q n)
   added_by n q true f =
       let none : intervals_of groups q ≡ [] = not_found groups q at (gap_same groups p q at f gap) in
-      rw (f, none) (held n ∙ sym (or_false (is_within (interval s e) n)))
+      rw (f, none) (held n ∙ sym (or_false (h n)))
   added_by n q false f = rw f refl
 
   own_gap : IsGapFor groups (pair_in g) at
   own_gap = subst (λ (q : Pair). IsGapFor groups q at) (sym pair) gap
 
-  pub inserted_in_gap : Inserted groups (insert groups at g) p s e
-  inserted_in_gap q n =
+  pub added_in_gap : Added groups (insert groups at g) p h
+  added_in_gap q n =
       ap (λ (is : List GnoInterval). is_held is n) (lookup-insert groups g at q (none_before_gap groups (pair_in g) at own_gap)
       ∙ ap (λ (r : Pair). cond (is_same r q) g.gnos (intervals_of groups q)) pair)
       ∙ added_by n q (is_same p q) refl
@@ -284,7 +288,6 @@ module _ (groups : List GtidGroup) (are : AreGroups groups) (p : Pair) (at : ℕ
       let new = insert groups at g in
       let grown = length-insert groups at g gap.within in
       let own = own_gap in
-      let some = some_from_held g.gnos s (held s ∙ starts_within s e some) in
       let below : (i : ℕ) (d : GtidGroup) → i < at → get_or new i d ≡ get_or groups i d = λ i d less. get_or-insert_below groups at g d i less gap.within in
       let here : (i : ℕ) (d : GtidGroup) → i ≡ at → get_or new i d ≡ g = λ i d is. rw is (get_or-insert_at groups at g d gap.within) in
       let above : (i : ℕ) (d : GtidGroup) → at < i → get_or new i d ≡ get_or groups (i - 1) d = λ i d less.
@@ -298,10 +301,49 @@ module _ (groups : List GtidGroup) (are : AreGroups groups) (p : Pair) (at : ℕ
       }
 
   -- after the insertion of the group, or after its failure
-  pub adds_in_gap : {T E : Type 0} (r : Result T E) (new : List GtidGroup) → OnOk r (new ≡ insert groups at g) → OnOk r (Inserted groups new p s e)
-  adds_in_gap (Ok x) new put = subst (λ (gs : List GtidGroup). Inserted groups gs p s e) (sym put) inserted_in_gap
+  pub adds_in_gap : {T E : Type 0} (r : Result T E) (new : List GtidGroup) → OnOk r (new ≡ insert groups at g) → OnOk r (Added groups new p h)
+  adds_in_gap (Ok x) new put = subst (λ (gs : List GtidGroup). Added groups gs p h) (sym put) added_in_gap
   adds_in_gap (Err x) new put = tt
 
   pub are_added : {T E : Type 0} (r : Result T E) (new : List GtidGroup) → OnOk r (new ≡ insert groups at g) → OnErr r (new ≡ groups) → AreGroups new
   are_added (Ok x) new put stays = subst AreGroups (sym put) are_in_gap
   are_added (Err x) new put stays = subst AreGroups (sym stays) are
+
+-- a group with the numbers of an interval isn't empty
+pub some_from_interval : (is : List GnoInterval) (s e : ℕ) → s < e → ((n : ℕ) → is_held is n ≡ is_within (interval s e) n) → 0 < length is
+some_from_interval is s e some held = some_from_held is s (held s ∙ starts_within s e some)
+
+-- ---- the groups of a pair that is the same, and of the pair of a group
+
+pub same_intervals : (groups : List GtidGroup) (p q : Pair) → is_same p q ≡ true → intervals_of groups p ≡ intervals_of groups q
+same_intervals [] p q same = refl
+same_intervals (g ∷ groups) p q same =
+    let first : is_same (pair_in g) p ≡ is_same (pair_in g) q = ap is_eq (alike_right pairs_total p q (pair_in g) (equal_from_same (compare_pairs p q) same)) in
+    rw (first, same_intervals groups p q same) refl
+
+pub own_intervals : (groups : List GtidGroup) → AreGroups groups → (k : ℕ) (g : GtidGroup) → k < length groups → g ≡ get_or groups k g → intervals_of groups (pair_in g) ≡ g.gnos
+own_intervals groups are k g within g_is =
+    let at : IsAt groups (pair_in g) k = record {
+      within = within;
+      same = λ d. ap (λ (x : GtidGroup). compare_pairs (pair_in x) (pair_in g)) (sym (get_or_read groups k g within g_is d)) ∙ tied_itself pairs_total (pair_in g);
+    } in
+    found_at groups are (pair_in g) k at g ∙ ap (λ (x : GtidGroup). x.gnos) (sym g_is)
+
+pub same_itself : (p : Pair) → is_same p p ≡ true
+same_itself p = ap is_eq (tied_itself pairs_total p)
+
+-- ---- a group after all others
+
+pub gap_above : (groups : List GtidGroup) (p : Pair) → AreBelow groups p → IsGapFor groups p (length groups)
+gap_above groups p below = record { within = omega arith; smaller = below; greater = λ j d least within. absurd (omega arith) }
+
+-- a group appended is a group inserted at the end
+pub pushed : (groups : List GtidGroup) (g : GtidGroup) → groups ++ g ∷ [] ≡ insert groups (length groups) g
+pushed groups g = rw (take_all (length groups) groups (omega arith), drop_all (length groups) groups (omega arith)) refl
+
+pub below_pushed : (groups : List GtidGroup) (g : GtidGroup) (p : Pair) → AreBelow groups p → compare_pairs (pair_in g) p ≡ Less → AreBelow (groups ++ g ∷ []) p
+below_pushed groups g p below less i d within =
+    elim (cases_lt i (length groups)) [
+      | inl before ↦ rw (get_or_append_left groups (g ∷ []) d i before) (below i d before)
+      | inr after ↦ rw (get_or_push groups g d i (omega (arith, length-append groups (g ∷ [])))) less
+    ]

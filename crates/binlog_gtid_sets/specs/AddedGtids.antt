@@ -24,12 +24,12 @@ bad_gno_in i =
     then (if nat_le 1 i.start && nat_lt i.start (2 ^ 63) then (if nat_lt (2 ^ 63) i.end then Some (2 ^ 63) else None) else Some i.start)
     else None
 
--- The first of the intervals' numbers that isn't.
+-- The first number of the intervals that isn't from 1 to 2^63 - 1.
 abbrev pub bad_gno : List GnoInterval → Option ℕ
 bad_gno [] = None
 bad_gno (i ∷ is) = option_or (bad_gno_in i) (bad_gno is)
 
--- The first of the entries' numbers that isn't, in the order of the entries and their intervals.
+-- The first number of the entries that isn't from 1 to 2^63 - 1, in the order of the entries and their intervals.
 abbrev pub bad_gno_listed : List PreviousGtidsSid → Option ℕ
 bad_gno_listed [] = None
 bad_gno_listed (entry ∷ entries) = option_or (bad_gno entry.intervals) (bad_gno_listed entries)

@@ -18,7 +18,7 @@ impl GtidTracker {
     ///
     /// The GTID of a GTID event takes constant time if its group and its number are the last ones, and otherwise
     /// logarithmic time and a move of the groups or intervals after it. Memory is allocated only for a new group or a
-    /// new interval. For a PREVIOUS_GTIDS event the set is copied.
+    /// new interval. For a PREVIOUS_GTIDS event the set is copied, unless it contains all of the event's GTIDs.
     ///
     /// # Errors
     ///
@@ -67,14 +67,17 @@ impl GtidTracker {
         }
     }
 
-    // Adds the numbers of entries, in a copy of the set that replaces it. The only error is [`Error::Memory`], which
-    // leaves the set unchanged.
+    // Adds the numbers of entries, in a copy of the set that replaces it; nothing is copied if the set contains them all.
+    // The only error is [`Error::Memory`], which leaves the set unchanged.
     fn unite(&mut self, entries: &[PreviousGtidsSid<'_>]) -> Result<(), Error>
         requires { bad_gno_listed entries.now ≡ None }
         ensures ok { OnOk result ((pair : Pair) (n : ℕ) → is_tracked self.new pair n ≡ (is_listed entries.now pair n || is_tracked self.old pair n)) }
         ensures err { OnErr result (self.new ≡ self.old) }
         ensures memory { IsOkUnless result Memory }
     {
+        if self.contains_listed(entries) {
+            return Ok(());
+        }
         let mut union = self.clone()?;
         union.insert_entries(entries)?;
         *self = union;

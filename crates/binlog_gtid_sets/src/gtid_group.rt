@@ -75,8 +75,16 @@ impl GtidGroup {
         ensures ok { IfOk result (λ copy. copy ≡ self.now) }
         ensures memory { IsOkUnless result Memory }
     {
-        let tag = owned_tag(alloc, self.tag.as_ref())?;
         let gnos = self.gnos.clone()?;
+        self.with_gnos(alloc, gnos)
+    }
+
+    /// A group of the same source and tag with other numbers. The only error is [`Error::Memory`].
+    pub(crate) fn with_gnos(&self, alloc: Global, gnos: GnoSet) -> Result<Self, Error>
+        ensures ok { IfOk result (λ group. group ≡ record { sid = self.now.sid; tag = self.now.tag; gnos = gnos }) }
+        ensures memory { IsOkUnless result Memory }
+    {
+        let tag = owned_tag(alloc, self.tag.as_ref())?;
         Ok(GtidGroup {
             sid: self.sid,
             tag,

@@ -6,6 +6,9 @@ ghost use Rattle.binlog_gtids.specs.GnoSets.{is_within, is_held, is_missing, Are
 ghost use Rattle.binlog_gtid_sets.specs.declared.gtid_group.GtidGroup.{GtidGroup};
 ghost use Rattle.binlog_gtid_sets.specs.GtidGroups.{Pair, pair_of, is_same, intervals_of, is_tracked, AreGroups, IsAt, IsGapFor};
 
+mod difference;
+mod listed;
+
 use crate::gtid_group::{GtidGroup, tag_text};
 use binlog_gtids::GnoSet;
 use binlog_numbers::{GnoInterval, Tag};
@@ -124,7 +127,7 @@ impl GtidTracker {
 
     /// Adds the numbers of a source and a tag from `start` to `end`, `end` excluded. The only error is
     /// [`Error::Memory`], which leaves the set unchanged.
-    pub(crate) fn insert(
+    pub fn insert(
         &mut self,
         sid: &[u8; 16],
         tag: Option<&Tag<'_>>,

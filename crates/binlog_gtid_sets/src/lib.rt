@@ -7,5 +7,6 @@ mod adding;
 mod bad_gnos;
 mod gtid_group;
 mod gtid_tracker;
+pub mod laws;
 
 pub use gtid_tracker::GtidTracker;

@@ -1,4 +1,4 @@
--- The word for what reading an event's data answered.
+-- The word for the result of reading an event's data.
 use Rattle.std.proofs.Common.{◌≡◌, ℕ, true, false, ◌<◌, List, [], ◌∷◌, length, Option, Some, None, Result, Ok, Err, refl, sym, subst, arith}
 use Rattle.binlog_wire.specs.Reading.{Read}
 use Rattle.binlog_wire.specs.declared.error.Error.{Error}
@@ -28,7 +28,7 @@ unknown_by : (d : FormatDescriptionEvent) (s : List ℕ) (type : Result EventTyp
 unknown_by d s (Err unknown) reads = refl
 unknown_by d s (Ok type) reads = absurd reads
 
--- bytes are left behind the value
+-- Bytes are left after the value.
 left_over : (r : List ℕ) (x : EventData) (read : Read EventData) → read ≡ Ok (x, r) → 0 < length r → read_whole read ≡ words.Refused
 left_over [] x read is some = absurd (omega arith)
 left_over (b ∷ rest) x read is some = rw is refl
@@ -60,7 +60,7 @@ memory_by d s (Ok type) e outside reads = memory_whole (TakesMemory type) e _ ou
 
 -- ---- of an event
 
--- the word by a type that is the event's
+-- The word for a type that is the event's.
 word_at : (event : EventView) (type : Result EventType UnknownEventType) (word : Word) → type ≡ event_type_of (header_of event.frame).event_type
     → word_by event.fde (data_of event.fde.footer event.frame) type ≡ word → word ≡ word_of event
 unfolding word_of

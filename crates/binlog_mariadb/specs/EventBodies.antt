@@ -1,4 +1,4 @@
--- The body of each of MariaDB's own event types, and what reading one gives.
+-- The body of each of MariaDB's own event types, and the results of reading one.
 use Rattle.std.proofs.Common.{◌≡◌, ◌↔◌, ℕ, Bool, true, false, List, [], Option, Some, None, Result, Ok, Err, refl, ap, sym, subst}
 use Rattle.std.specs.Prelude.{⊤}
 use Rattle.binlog_wire.specs.Formats.{Format, last}
@@ -28,7 +28,7 @@ use Rattle.binlog_mariadb.specs.declared.event_type.UnknownMariaEventType.{Unkno
 use Rattle.binlog_mariadb.specs.declared.event_data.MariaEventData.{MariaEventData}
 use Rattle.binlog_mariadb.specs.declared.event_data.MariaEventData.TheVariants as variants
 
--- A body: its format, and the event data that is made of its values.
+-- A body: its format, and how its value becomes event data.
 pub data Body : Type 1 where
   body : {V : Type 0} → Format last V → (V → MariaEventData) → Body
 
@@ -40,13 +40,13 @@ reads_in (body format data_of) s = read_as data_of (format.reads s)
 abbrev pub StandsIn : Body → List ℕ → MariaEventData → Type 0
 StandsIn (body {V} format data_of) s event = (v : V) × (event ≡ data_of v) × format.spells s v []
 
--- The compressed row events of a type, whose head is that of an uncompressed type, by whether they have extra bytes, a
--- before-image and an after-image. The rows are the stored bytes.
+-- The body of a compressed row event. `has_extra`, `has_before` and `has_after` say whether the uncompressed type has
+-- extra bytes, a before-image and an after-image. The rows are the stored bytes.
 abbrev rows_of : Bool → Bool → Bool → FormatDescriptionEvent → EventType → (RowsEvent → RowsEventData) → Body
 rows_of has_extra has_before has_after d type kind =
     body (rows (record { has_extra = has_extra; has_before = has_before; has_after = has_after }) (post_header d type)) (λ e. variants.RowsCompressedEvent (kind e))
 
--- The body of an event type under a description. Compressed events have the body of the uncompressed type, with the
+-- The body of an event type under a description. A compressed event has the body of the uncompressed type, with the
 -- stored bytes in place of the statement or the rows.
 abbrev pub body_of : MariaEventType → FormatDescriptionEvent → Body
 body_of types.ANNOTATE_ROWS_EVENT d = body annotate_rows variants.AnnotateRowsEvent
@@ -62,7 +62,7 @@ body_of types.WRITE_ROWS_COMPRESSED_EVENT d = rows_of true false true d mysql.WR
 body_of types.UPDATE_ROWS_COMPRESSED_EVENT d = rows_of true true true d mysql.UPDATE_ROWS_EVENT kinds.UpdateRowsEvent
 body_of types.DELETE_ROWS_COMPRESSED_EVENT d = rows_of true true false d mysql.DELETE_ROWS_EVENT kinds.DeleteRowsEvent
 
--- The types whose bodies need an allocation when they are read.
+-- The types whose reading allocates.
 abbrev pub TakesMemory : MariaEventType → Type 0
 TakesMemory types.GTID_LIST_EVENT = ⊤
 TakesMemory _ = ⊥
@@ -79,7 +79,7 @@ ReadsAs d s (Ok type) (Ok None) = ⊥
 ReadsAs d s (Ok type) (Ok (Some event)) = GivesWhole (TakesMemory type) (Ok event) (data_read d s type)
 ReadsAs d s (Ok type) (Err error) = GivesWhole (TakesMemory type) (Err error) (data_read d s type)
 
--- The same by the raw type of the event.
+-- The same, by the raw type of the event.
 abbrev pub ReadsMariaData : FormatDescriptionEvent → ℕ → List ℕ → Result (Option MariaEventData) Error → Type 0
 ReadsMariaData d number s answer = (type : Result MariaEventType UnknownMariaEventType) × (type ≡ maria_event_type_of number) × ReadsAs d s type answer
 
@@ -102,7 +102,7 @@ unwritable_data _ = None
 
 -- ---- reading gives exactly what the bytes encode
 
--- the value that was read, with no bytes after it
+-- The value that was read, with no bytes after it.
 from_read : {V : Type 0} (format : Format last V) (data_of : V → MariaEventData) (s : List ℕ) (event : MariaEventData) → IsBytes s
     → (x : Read V) → format.reads s ≡ x → read_as data_of x ≡ Ok (event, []) → (v : V) × (event ≡ data_of v) × format.spells s v []
 from_read format data_of s event bytes (Ok x) e h =

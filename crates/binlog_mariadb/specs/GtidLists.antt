@@ -34,11 +34,11 @@ most_entries = 268435456
 abbrev pub count_in : ℕ → ℕ
 count_in n = n % most_entries
 
--- No entries and two reserved bytes where the test holds; else this number of entries.
+-- No entries and two reserved bytes if `none` is true, else this number of entries.
 abbrev pub entries_by : Bool → ℕ → Format last (List MariaGtid)
 entries_by none count = choose none (skip_then 2 (silent [])) (times count gtid_entry)
 
--- This number of entries; after none of them, two reserved bytes.
+-- This number of entries; if it is 0, two reserved bytes.
 abbrev pub entries_of : ℕ → Format last (List MariaGtid)
 entries_of count = entries_by (eqb count 0) count
 
@@ -54,7 +54,7 @@ list_fields = then (number 4) (λ n. entries_of (count_in n))
 abbrev pub list_of : ListFields → Result GtidListEvent Invalid
 list_of x = Ok (record { flags = x.0 / most_entries; entries = x.1 })
 
--- The first number of a list with these flags, of which the low four bits are written.
+-- The first number of a list: the number of its entries, and the low four bits of its flags.
 abbrev pub first_number : GtidListEvent → ℕ
 first_number e = e.flags % 16 * most_entries + length e.entries
 
@@ -62,11 +62,11 @@ first_number e = e.flags % 16 * most_entries + length e.entries
 abbrev pub fields_of : GtidListEvent → ListFields
 fields_of e = (first_number e, e.entries)
 
--- What writing keeps of a list.
+-- The normal form of a list: of the flags only the low four bits are written.
 abbrev pub list_normal : GtidListEvent → GtidListEvent
 list_normal e = record { flags = e.flags % 16; entries = e.entries }
 
--- The entries are in range, and there aren't too many of them.
+-- The entries are in range, and there are fewer than the bound.
 abbrev pub FitsList : GtidListEvent → Type 0
 FitsList e = (length e.entries < most_entries) × EachFits gtid_entry.Fits e.entries
 
@@ -127,7 +127,7 @@ unwritable_list e = cond (ltb (length e.entries) most_entries) None (Some (Unwri
 
 -- ---- the written bytes
 
--- The encoding of entries, after none of which two bytes come.
+-- The encoding of entries; of no entries, two zeros.
 abbrev pub entries_written : List MariaGtid → List ℕ
 entries_written [] = 0 ∷ 0 ∷ []
 entries_written (v ∷ vs) = each_written gtid_entry.written (v ∷ vs)

@@ -1,8 +1,8 @@
 -- GTID, type 162, the GTID of the event group after it: sequence number, 8 bytes; domain, 4 bytes; flags, 1 byte; with
--- FL_GROUP_COMMIT_ID the commit id, 8 bytes; with FL_PREPARED_XA or FL_COMPLETED_XA the XA id. Then, where bytes are
--- left, the extra flags, 1 byte; with its bit 1 the number of engines, 1 byte; with its bit 4 or 8 the sequence number
--- of the START ALTER, 8 bytes; with its bit 16 the thread id, 4 bytes; and reserved bytes to the end. Without a commit
--- id and an XA id at least six bytes come after the flags, so that a body has at least 19 bytes.
+-- FL_GROUP_COMMIT_ID the commit id, 8 bytes; with FL_PREPARED_XA or FL_COMPLETED_XA the XA id. Then, if bytes are left,
+-- the extra flags, 1 byte; with its bit 1 the number of engines, 1 byte; with its bit 4 or 8 the sequence number of the
+-- START ALTER, 8 bytes; with its bit 16 the thread id, 4 bytes; and reserved bytes to the end. Without a commit id and
+-- an XA id at least six bytes come after the flags, so that a body has at least 19 bytes.
 -- Source: MariaDB's documentation, "GTID_EVENT", and what its server writes.
 use Rattle.std.specs.Prelude.{◌≡◌, ℕ, ◌+◌, ◌-◌, ◌≤◌, Bool, cond, not, ◌||◌, Option, List, [], take, length, refl}
 use Rattle.std.proofs.Common.{ap, arith, ◌∙◌}
@@ -58,21 +58,23 @@ xa = made xa_of fields_of_xa xa_fields xa_again xa_twice
 
 -- ---- the extra flags
 
--- The parts that the extra flags announce.
+-- Whether the extra flags announce the number of engines.
 abbrev pub has_engines : ℕ → Bool
 has_engines flags = has_bit flags 1
 
+-- Whether the extra flags announce the sequence number of a START ALTER.
 abbrev pub has_alter : ℕ → Bool
 has_alter flags = has_bit flags 4 || has_bit flags 8
 
+-- Whether the extra flags announce a thread id.
 abbrev pub has_thread : ℕ → Bool
 has_thread flags = has_bit flags 16
 
--- The number of bytes of these parts.
+-- The number of bytes of the parts that the extra flags announce.
 abbrev pub parts_len : ℕ → ℕ
 parts_len flags = cond (has_engines flags) 1 0 + cond (has_alter flags) 8 0 + cond (has_thread flags) 4 0
 
--- The parts that these flags announce, and reserved bytes; parts and reserved bytes are at least m bytes.
+-- The parts that these extra flags announce, and reserved bytes: together at least m bytes.
 abbrev pub extra_parts : ℕ → ℕ → Format last (ℕ × (ℕ × (ℕ × List ℕ)))
 extra_parts m flags =
     part (has_engines flags) 0 (number 1)
@@ -80,7 +82,7 @@ extra_parts m flags =
     ⨾ part (has_thread flags) 0 (number 4)
     ⨾ padding (m - parts_len flags)
 
--- The extra flags, their parts, and reserved bytes; at least m bytes come after the flags.
+-- The extra flags, their parts, and reserved bytes; at least m bytes come after the extra flags.
 abbrev pub extra : ℕ → Format last GtidExtra
 extra m = seen_as
     (λ x. record { flags = x.0; engines = x.1.0; alter_sequence = x.1.1.0; thread_id = x.1.1.1.0; padding = x.1.1.1.1 })
@@ -91,16 +93,17 @@ extra m = seen_as
 pub one : 1 ≤ 1
 one = omega arith
 
--- No extra flags, and no reserved bytes.
+-- No bits set, and no reserved bytes.
 abbrev pub no_extra : GtidExtra
 no_extra = record { flags = 0; engines = 0; alter_sequence = 0; thread_id = 0; padding = [] }
 
 -- ---- the body
 
--- The parts that the flags announce.
+-- Whether the flags announce a commit id.
 abbrev pub has_commit_id : ℕ → Bool
 has_commit_id flags = has_bit flags 2
 
+-- Whether the flags announce an XA id.
 abbrev pub has_xa : ℕ → Bool
 has_xa flags = has_bit flags 64 || has_bit flags 128
 
@@ -115,8 +118,8 @@ head = seen_as
     (λ h. (h.sequence, (h.domain, h.flags))) (λ _. refl) (λ _. refl)
     (number 8 ⨾ number 4 ⨾ number 1)
 
--- The extra flags: six bytes with their padding, or more, where neither a commit id nor an XA id is before them; else
--- any, or none.
+-- The extra flags and what follows them. If `short` is true, so that there is neither a commit id nor an XA id, they
+-- are at least six bytes; else they may be absent.
 abbrev pub tail_by : Bool → Format last (Option GtidExtra)
 tail_by short = choose short (supplied no_extra (extra 5)) (optional (extra 0) one)
 

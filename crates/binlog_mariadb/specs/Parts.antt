@@ -1,4 +1,4 @@
--- Parts of a body: a part that a flag announces, a part that is there where bytes are left, and reserved bytes at the
+-- Parts of a body: a part that a flag announces, a part that is present if bytes are left, and reserved bytes at the
 -- end of a body.
 use Rattle.std.proofs.Common.{◌≡◌, ℕ, ◌+◌, ◌-◌, ◌≤◌, Bool, cond, not, eqb, ltb, Option, None, Some, List, [], ◌∷◌, ◌++◌, length, replicate, Ok, Err, refl, sym, ap, subst, ◌∙◌, arith}
 use Rattle.std.specs.Prelude.{bit_and, unwrap_or}
@@ -14,22 +14,22 @@ use Rattle.binlog_numbers.specs.Chosen.{choose}
 abbrev pub has_bit : ℕ → ℕ → Bool
 has_bit flags bit = not (eqb (bit_and flags bit) 0)
 
--- A part that is there where the test holds, and whose value is x elsewhere.
+-- A part that is present if `there` is true; its value is x if it is absent.
 abbrev pub part : {place : Place} {V : Type 0} → Bool → V → Format place V → Format place V
 part there x f = choose there f (silent x)
 
--- A value that is there; None is written as v.
+-- A value that is always present; None is written as v.
 abbrev pub supplied : {place : Place} {V : Type 0} → V → Format place V → Format place (Option V)
 supplied v f = made (λ x. Some x) (λ o. unwrap_or o v) f (λ s a r h. refl) (λ o. refl)
 
--- ---- a part that is there where bytes are left
+-- ---- a part that is present if bytes are left
 
 -- The bytes encode the value, or there are none and there is no value.
 abbrev pub IsOptional : {V : Type 0} → (List ℕ → V → List ℕ → Type 0) → List ℕ → Option V → List ℕ → Type 0
 IsOptional F s (Some v) r = F s v r
 IsOptional F s None r = (s ≡ []) × (r ≡ [])
 
--- Reading a value where bytes are left.
+-- Reading a value if bytes are left.
 abbrev pub optional_at : {V : Type 0} → (List ℕ → Read V) → List ℕ → Read (Option V)
 optional_at f [] = Ok (None, [])
 optional_at f (b ∷ s) = read_as (λ v. Some v) (f (b ∷ s))
@@ -87,7 +87,7 @@ pub optional_long : {V : Type 0} (f : Format last V) (s : List ℕ) (o : Option 
 optional_long f s (Some v) r h = omega (arith, f.long s v r h)
 optional_long f s None r h = rw (h.0, h.1) (omega arith)
 
--- A part at the end of a body that is there where bytes are left. It takes at least one byte.
+-- A part at the end of a body that is present if bytes are left. It takes at least one byte.
 abbrev pub optional : {V : Type 0} (f : Format last V) → 1 ≤ f.least → Format last (Option V)
 optional f some = record {
   spells = IsOptional f.spells;
@@ -141,8 +141,8 @@ padding_writes m v r follows =
     let all : zero_padded m v ++ r ≡ zero_padded m v = ap (λ (t : List ℕ). zero_padded m v ++ t) follows ∙ append-nil (zero_padded m v) in
     (subst (λ (s : List ℕ). m ≤ length s) (sym all) (zero_padded_long m v), (sym all, follows))
 
--- Reserved bytes up to the end of a body, at least m of them, which may have any values. Fewer are written with zeros
--- after them.
+-- Reserved bytes to the end of a body, at least m of them, which may have any values. On writing, zeros are added up to
+-- m bytes.
 abbrev pub padding : (m : ℕ) → Format last (List ℕ)
 padding m = record {
   spells = IsPadding m;

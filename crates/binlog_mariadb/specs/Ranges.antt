@@ -1,4 +1,4 @@
--- Values whose fields are in the ranges of their Rust types.
+-- The fields of values are in the ranges of their Rust types.
 use Rattle.std.proofs.Common.{◌≡◌, ℕ, ◌^◌, ◌<◌, Bool, true, false, Option, Some, None, List, [], ◌∷◌, length, refl, arith}
 use Rattle.std.specs.Prelude.{IfSome}
 use Rattle.std.proofs.lemmas.List.{length-take}
@@ -17,22 +17,27 @@ use Rattle.binlog_mariadb.specs.declared.gtid_event.MariaGtidEvent.{MariaGtidEve
 use Rattle.binlog_mariadb.specs.declared.maria_gtid.MariaGtid.{MariaGtid}
 use Rattle.binlog_mariadb.specs.declared.gtid_list.GtidListEvent.{GtidListEvent}
 
+-- The fields of an ANNOTATE_ROWS event are in range.
 pub record IsAnnotateRowsInRange (e : AnnotateRowsEvent) : Type 0 where
   pub query : IsBytes e.query
 
+-- The fields of a BINLOG_CHECKPOINT event are in range.
 pub record IsCheckpointInRange (e : BinlogCheckpointEvent) : Type 0 where
   pub name : IsBytes e.name
 
+-- The fields of a START_ENCRYPTION event are in range.
 pub record IsEncryptionInRange (e : StartEncryptionEvent) : Type 0 where
   pub scheme : e.scheme < 256
   pub key_version : e.key_version < 256 ^ 4
   pub nonce : length e.nonce ≡ 12
 
+-- The fields of an XA id are in range.
 pub record IsXaInRange (id : XaId) : Type 0 where
   pub format_id : id.format_id < 256 ^ 4
   pub global : IsBytes id.global
   pub branch : IsBytes id.branch
 
+-- The extra flags and their parts are in range.
 pub record IsExtraInRange (e : GtidExtra) : Type 0 where
   pub flags : e.flags < 256
   pub engines : e.engines < 256
@@ -40,6 +45,7 @@ pub record IsExtraInRange (e : GtidExtra) : Type 0 where
   pub thread_id : e.thread_id < 256 ^ 4
   pub padding : IsBytes e.padding
 
+-- The fields of a GTID event are in range.
 pub record IsGtidInRange (e : MariaGtidEvent) : Type 0 where
   pub sequence : e.head.sequence < 256 ^ 8
   pub domain : e.head.domain < 256 ^ 4
@@ -48,11 +54,13 @@ pub record IsGtidInRange (e : MariaGtidEvent) : Type 0 where
   pub xa_id : IsXaInRange e.xa_id
   pub extra : IfSome e.extra IsExtraInRange
 
+-- The fields of an entry of a list are in range.
 pub record IsEntryInRange (g : MariaGtid) : Type 0 where
   pub domain : g.domain < 256 ^ 4
   pub server_id : g.server_id < 256 ^ 4
   pub sequence : g.sequence < 256 ^ 8
 
+-- The fields of a GTID_LIST event are in range.
 pub record IsListInRange (e : GtidListEvent) : Type 0 where
   pub flags : e.flags < 256
   pub entries : EachFits IsEntryInRange e.entries

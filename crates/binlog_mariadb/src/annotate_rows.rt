@@ -14,7 +14,7 @@ use std::borrow::{CowSlice, CowStr};
 
 /// The ANNOTATE_ROWS event (type 160): the statement that the row events after it come from.
 ///
-/// Its body is the statement, to the end. Each body is one, also an empty one.
+/// Its body is the statement, to the end. Any body is accepted, an empty one too.
 ///
 /// Source: "ANNOTATE_ROWS_EVENT" in MariaDB's documentation.
 #[derive(Debug, PartialEq, Eq, Hash, Drop)]
@@ -66,7 +66,7 @@ impl<'a> AnnotateRowsEvent<'a> {
     }
 }
 
-/// No body is refused.
+/// Reading never fails.
 impl<'de> MyDeserialize<'de> for AnnotateRowsEvent<'de> {
     const SIZE: Option<usize> = None;
 

@@ -7,7 +7,7 @@ ghost use Rattle.binlog_mariadb.specs.Flavour.{is_text_byte, version_text, IsMar
 use binlog_description::DescriptionRef;
 use memchr::memmem;
 
-/// Whether a byte of a version is one of its text.
+/// Whether a byte isn't zero, so that it doesn't end the text of a version.
 fn is_text_byte(byte: u8) -> bool
     ensures { result ≡ is_text_byte byte }
 {
@@ -24,7 +24,7 @@ fn text_len(version: &[u8]) -> usize
         .count()
 }
 
-/// The bytes of a version before its first zero, or all where there is none.
+/// The bytes of a version before its first zero, or all if there is none.
 fn version_text(version: &[u8]) -> &[u8]
     ensures { result.now ≡ version_text version.now }
 {
@@ -32,7 +32,7 @@ fn version_text(version: &[u8]) -> &[u8]
     text
 }
 
-/// Whether a server version, such as `10.11.6-MariaDB-log`, is MariaDB's: whether `-MariaDB` is in it, in this case,
+/// Whether a server version, such as `10.11.6-MariaDB-log`, is MariaDB's: `-MariaDB`, in this case, is in the bytes
 /// before the first zero byte.
 pub fn is_maria_version(version: &[u8]) -> bool
     ensures { IsTrue result ↔ IsMariaVersion version.now }
@@ -40,8 +40,8 @@ pub fn is_maria_version(version: &[u8]) -> bool
     memmem::find(version_text(version), b"-MariaDB").is_some()
 }
 
-/// Whether a log is MariaDB's, by the server version of its format description. Events of the types 160 to 171 have
-/// the meaning that this crate gives them in such a log alone.
+/// Whether a log is MariaDB's, by the server version of its format description. Only in such a log do events of the
+/// types 160 to 171 have the formats of this crate.
 pub fn is_maria_log(fde: &DescriptionRef<'_>) -> bool
     ensures { IsTrue result ↔ IsMariaVersion (take 50 (description_of fde.now).server_version) }
 {

@@ -21,10 +21,10 @@ use std::alloc::Global;
 /// The number of bytes before the parts that the flags announce.
 const HEAD_LEN: usize = 13;
 
-/// The number of bytes that follow the extra flags at least, where there is neither a commit id nor an XA id.
+/// The least number of bytes after the extra flags if there is neither a commit id nor an XA id.
 const NEEDED: usize = 5;
 
-/// The sequence number, the domain and the flags of a GTID.
+/// The first three fields of a GTID: the sequence number, the domain and the flags.
 #[derive(Clone, Copy, Debug, PartialEq, Eq, Hash)]
 pub struct GtidHead {
     sequence: u64,
@@ -33,17 +33,18 @@ pub struct GtidHead {
 }
 
 /// The GTID event (type 162): the GTID of the event group after it. The GTID is the domain, the server id of the
-/// event's header, and the sequence number, written `0-7-123`.
+/// event's header, and the sequence number, written as `0-7-123`.
 ///
 /// Its body is, in this order and little-endian:
 ///
 /// - the sequence number, 8 bytes; the domain, 4 bytes; the flags, 1 byte;
 /// - with [`MariaGtidFlags::FL_GROUP_COMMIT_ID`] the commit id, 8 bytes;
 /// - with [`MariaGtidFlags::FL_PREPARED_XA`] or [`MariaGtidFlags::FL_COMPLETED_XA`] the XA id ([`XaId`]);
-/// - where bytes are left, the extra flags and what they announce ([`GtidExtra`]), and reserved bytes, which are kept.
+/// - if bytes are left, the extra flags and the parts that they announce ([`GtidExtra`]), and reserved bytes, which are
+///   kept.
 ///
-/// Where there is neither a commit id nor an XA id, at least six bytes follow the flags: so a body has at least 19
-/// bytes. Zeros are written for those that are missing.
+/// If there is neither a commit id nor an XA id, at least six bytes follow the flags, so a body has at least 19 bytes.
+/// On writing, missing ones are zeros.
 ///
 /// Source: "GTID_EVENT" in MariaDB's documentation.
 #[derive(Debug, PartialEq, Eq, Hash, Drop)]
@@ -89,7 +90,7 @@ fn read_head(buf: &mut ParseBuf<'_>) -> Result<GtidHead, Error>
     })
 }
 
-/// Reads a commit id, where these flags announce it.
+/// Reads a commit id if these flags announce it.
 fn read_commit_id(flags: u8, buf: &mut ParseBuf<'_>) -> Result<u64, Error>
     ensures { Gives ⊥ buf.new result ((part {place = anywhere} (has_commit_id flags) 0 (number 8)).reads buf.old) }
 {
@@ -100,7 +101,7 @@ fn read_commit_id(flags: u8, buf: &mut ParseBuf<'_>) -> Result<u64, Error>
     }
 }
 
-/// Reads an XA id, where these flags announce it.
+/// Reads an XA id if these flags announce it.
 fn read_xa_id<'a>(alloc: Global, flags: u8, buf: &mut ParseBuf<'a>) -> Result<XaId<'a>, Error>
     ensures { Gives ⊥ buf.new result ((part (has_xa flags) no_xa xa).reads buf.old) }
 {
@@ -111,7 +112,7 @@ fn read_xa_id<'a>(alloc: Global, flags: u8, buf: &mut ParseBuf<'a>) -> Result<Xa
     }
 }
 
-/// Reads the extra flags after these flags and the parts that they announce.
+/// Reads the extra flags after these flags, and the parts that they announce.
 fn read_tail<'a>(
     alloc: Global,
     flags: u8,
@@ -145,7 +146,7 @@ impl<'a> MariaGtidEvent<'a> {
         }
     }
 
-    /// Sets the flags. What they don't announce isn't written.
+    /// Sets the flags. A part that they don't announce isn't written.
     pub fn with_flags(mut self, flags: MariaGtidFlags) -> Self
         ensures { result ≡ record self.entry { head = record self.entry.head { flags = flags.0 } } }
     {
@@ -153,7 +154,7 @@ impl<'a> MariaGtidEvent<'a> {
         self
     }
 
-    /// Sets the commit id; it is written where [`MariaGtidFlags::FL_GROUP_COMMIT_ID`] is set.
+    /// Sets the commit id; it is written only if [`MariaGtidFlags::FL_GROUP_COMMIT_ID`] is set.
     pub fn with_commit_id(mut self, commit_id: u64) -> Self
         ensures { result ≡ record self.entry { commit_id = commit_id } }
     {
@@ -161,7 +162,7 @@ impl<'a> MariaGtidEvent<'a> {
         self
     }
 
-    /// Sets the XA id; it is written where [`MariaGtidFlags::FL_PREPARED_XA`] or [`MariaGtidFlags::FL_COMPLETED_XA`]
+    /// Sets the XA id; it is written only if [`MariaGtidFlags::FL_PREPARED_XA`] or [`MariaGtidFlags::FL_COMPLETED_XA`]
     /// is set.
     pub fn with_xa_id(self, xa_id: XaId<'a>) -> Self
         ensures { result ≡ record self.entry { xa_id = xa_id.entry } }
@@ -174,7 +175,7 @@ impl<'a> MariaGtidEvent<'a> {
         }
     }
 
-    /// Sets the extra flags and what they announce.
+    /// Sets the extra flags and the parts that they announce.
     pub fn with_extra(mut self, extra: GtidExtra<'a>) -> Self
         ensures { result ≡ record self.entry { extra = Some extra.entry } }
     {
@@ -196,7 +197,7 @@ impl<'a> MariaGtidEvent<'a> {
         self.head.domain
     }
 
-    /// The flags.
+    /// The known flags.
     pub fn flags(&self) -> MariaGtidFlags
         ensures { result.0 ≡ bit_and self.now.head.flags (known_bits maria_gtid_flags) }
     {
@@ -210,7 +211,7 @@ impl<'a> MariaGtidEvent<'a> {
         self.head.flags
     }
 
-    /// The commit id, where the flags announce it: groups with the same id were committed together.
+    /// The commit id, if the flags announce it. Event groups with the same id were committed together.
     pub fn commit_id(&self) -> Option<u64>
         ensures { result ≡ (if has_commit_id self.now.head.flags then Some self.now.commit_id else None) }
     {
@@ -221,7 +222,7 @@ impl<'a> MariaGtidEvent<'a> {
         }
     }
 
-    /// The XA id, where the flags announce it.
+    /// The XA id, if the flags announce it.
     pub fn xa_id(&self) -> Option<&XaId<'a>>
         ensures { option_copied result ≡ (if has_xa self.now.head.flags then Some self.now.xa_id else None) }
     {
@@ -232,7 +233,7 @@ impl<'a> MariaGtidEvent<'a> {
         }
     }
 
-    /// The extra flags and what they announce, if there are any.
+    /// The extra flags and the parts that they announce, if there are any.
     pub fn extra(&self) -> Option<&GtidExtra<'a>>
         ensures { option_copied result ≡ self.now.extra }
     {
@@ -282,8 +283,8 @@ impl<'a> MariaGtidEvent<'a> {
     }
 }
 
-/// The only error is [`Error::EndOfBody`], where the bytes end within a part that is announced, or where fewer than
-/// six follow flags that announce neither a commit id nor an XA id.
+/// The only error is [`Error::EndOfBody`]: if the bytes end within a part that is announced, or if fewer than six bytes
+/// follow flags that announce neither a commit id nor an XA id.
 impl<'de> MyDeserialize<'de> for MariaGtidEvent<'de> {
     const SIZE: Option<usize> = None;
 
@@ -324,7 +325,7 @@ fn commit_id_len(flags: u8) -> usize
     if has_commit_id(flags) { 8 } else { 0 }
 }
 
-/// Appends a commit id, where these flags announce it. `buf` has room for it.
+/// Appends a commit id if these flags announce it. `buf` has room for it.
 fn put_commit_id(flags: u8, commit_id: u64, buf: &mut Vec<u8>)
     requires { vec_len buf.old + length ((part {place = anywhere} (has_commit_id flags) 0 (number 8)).written commit_id) ≤ vec_capacity buf.old }
     ensures items { buf.new.items ≡ buf.old.items ++ (part {place = anywhere} (has_commit_id flags) 0 (number 8)).written commit_id }
@@ -348,7 +349,7 @@ fn xa_id_len(flags: u8, xa_id: &XaId<'_>) -> usize
     }
 }
 
-/// Appends an XA id, where these flags announce it. `buf` has room for it.
+/// Appends an XA id if these flags announce it. `buf` has room for it.
 fn put_xa_id(flags: u8, xa_id: &XaId<'_>, buf: &mut Vec<u8>)
     requires { vec_len buf.old + length ((part (has_xa flags) no_xa xa).written xa_id.now) ≤ vec_capacity buf.old }
     ensures items { buf.new.items ≡ buf.old.items ++ (part (has_xa flags) no_xa xa).written xa_id.now }
@@ -360,7 +361,7 @@ fn put_xa_id(flags: u8, xa_id: &XaId<'_>, buf: &mut Vec<u8>)
     }
 }
 
-/// The number of bytes written for the extra flags and what they announce.
+/// The number of bytes written for the extra flags and their parts.
 fn tail_len(flags: u8, extra: &Option<GtidExtra<'_>>) -> usize
     ensures count { result ≡ length ((tail flags).written extra.now) }
     ensures small { result ≤ 2 ^ 63 + 14 }
@@ -373,7 +374,7 @@ fn tail_len(flags: u8, extra: &Option<GtidExtra<'_>>) -> usize
     }
 }
 
-/// Appends the extra flags and what they announce. `buf` has room for them.
+/// Appends the extra flags and their parts. `buf` has room for them.
 fn put_tail(flags: u8, extra: &Option<GtidExtra<'_>>, buf: &mut Vec<u8>)
     requires { vec_len buf.old + length ((tail flags).written extra.now) ≤ vec_capacity buf.old }
     ensures items { buf.new.items ≡ buf.old.items ++ (tail flags).written extra.now }

@@ -12,7 +12,7 @@ use binlog_wire::{EofBytes, Error, IntRepr, LeU32, LeU64, MyDeserialize, ParseBu
 use std::alloc::Global;
 use std::borrow::CowSlice;
 
-/// The extra flags of a GTID, and what they announce.
+/// The extra flags of a GTID, and the parts that they announce.
 ///
 /// They are encoded as 1 byte; with its bit 1 the number of engines, 1 byte; with its bit 4 or 8 a sequence number, 8
 /// bytes; with its bit 16 a thread id, 4 bytes; and reserved bytes to the end of the body. A part whose bit isn't set
@@ -60,7 +60,7 @@ fn parts_len(flags: u8) -> usize
     engines + alter + thread
 }
 
-/// Reads the number of engines, where these extra flags announce it.
+/// Reads the number of engines if these extra flags announce it.
 fn read_engines(flags: u8, buf: &mut ParseBuf<'_>) -> Result<u8, Error>
     ensures { Gives ⊥ buf.new result ((part {place = anywhere} (has_engines flags) 0 (number 1)).reads buf.old) }
 {
@@ -71,7 +71,7 @@ fn read_engines(flags: u8, buf: &mut ParseBuf<'_>) -> Result<u8, Error>
     }
 }
 
-/// Reads the sequence number of a START ALTER, where these extra flags announce it.
+/// Reads the sequence number of a START ALTER if these extra flags announce it.
 fn read_alter(flags: u8, buf: &mut ParseBuf<'_>) -> Result<u64, Error>
     ensures { Gives ⊥ buf.new result ((part {place = anywhere} (has_alter flags) 0 (number 8)).reads buf.old) }
 {
@@ -82,7 +82,7 @@ fn read_alter(flags: u8, buf: &mut ParseBuf<'_>) -> Result<u64, Error>
     }
 }
 
-/// Reads a thread id, where these extra flags announce it.
+/// Reads a thread id if these extra flags announce it.
 fn read_thread(flags: u8, buf: &mut ParseBuf<'_>) -> Result<u32, Error>
     ensures { Gives ⊥ buf.new result ((part {place = anywhere} (has_thread flags) 0 (number 4)).reads buf.old) }
 {
@@ -107,7 +107,7 @@ fn read_padding<'a>(
     buf.parse(alloc, ())
 }
 
-/// Appends the number of engines, where these extra flags announce it. `buf` has room for it.
+/// Appends the number of engines if these extra flags announce it. `buf` has room for it.
 fn put_engines(flags: u8, engines: u8, buf: &mut Vec<u8>)
     requires { vec_len buf.old + length ((part {place = anywhere} (has_engines flags) 0 (number 1)).written engines) ≤ vec_capacity buf.old }
     ensures items { buf.new.items ≡ buf.old.items ++ (part {place = anywhere} (has_engines flags) 0 (number 1)).written engines }
@@ -119,7 +119,7 @@ fn put_engines(flags: u8, engines: u8, buf: &mut Vec<u8>)
     }
 }
 
-/// Appends the sequence number of a START ALTER, where these extra flags announce it. `buf` has room for it.
+/// Appends the sequence number of a START ALTER if these extra flags announce it. `buf` has room for it.
 fn put_alter(flags: u8, sequence: u64, buf: &mut Vec<u8>)
     requires { vec_len buf.old + length ((part {place = anywhere} (has_alter flags) 0 (number 8)).written sequence) ≤ vec_capacity buf.old }
     ensures items { buf.new.items ≡ buf.old.items ++ (part {place = anywhere} (has_alter flags) 0 (number 8)).written sequence }
@@ -131,7 +131,7 @@ fn put_alter(flags: u8, sequence: u64, buf: &mut Vec<u8>)
     }
 }
 
-/// Appends a thread id, where these extra flags announce it. `buf` has room for it.
+/// Appends a thread id if these extra flags announce it. `buf` has room for it.
 fn put_thread(flags: u8, thread_id: u32, buf: &mut Vec<u8>)
     requires { vec_len buf.old + length ((part {place = anywhere} (has_thread flags) 0 (number 4)).written thread_id) ≤ vec_capacity buf.old }
     ensures items { buf.new.items ≡ buf.old.items ++ (part {place = anywhere} (has_thread flags) 0 (number 4)).written thread_id }
@@ -145,7 +145,7 @@ fn put_thread(flags: u8, thread_id: u32, buf: &mut Vec<u8>)
 
 static ZEROS: [u8; 5] = [0; 5];
 
-/// As many zeros, at most five.
+/// This number of zeros, at most five.
 fn zeros(count: usize) -> &'static [u8]
     requires { count ≤ 5 }
     ensures zeros { result.now ≡ replicate count 0 }
@@ -154,7 +154,8 @@ fn zeros(count: usize) -> &'static [u8]
     &ZEROS[..count]
 }
 
-/// Appends the bytes, and zeros up to `needed` bytes, at most five. `buf` has room for them.
+/// Appends the bytes and, if there are fewer than `needed`, zeros up to that number, which is at most five. `buf` has
+/// room for them.
 fn put_padding(bytes: &[u8], needed: usize, buf: &mut Vec<u8>)
     requires few { needed ≤ 5 }
     requires room { vec_len buf.old + length (zero_padded needed bytes.now) ≤ vec_capacity buf.old }
@@ -168,20 +169,20 @@ fn put_padding(bytes: &[u8], needed: usize, buf: &mut Vec<u8>)
 }
 
 impl GtidExtra<'_> {
-    /// The bit that says that the number of engines follows.
+    /// The bit set if the number of engines follows.
     pub const FL_EXTRA_MULTI_ENGINE: u8 = 1;
     /// The bit of the first half of an ALTER TABLE in two phases.
     pub const FL_START_ALTER: u8 = 2;
-    /// The bit of the second half of an ALTER TABLE in two phases; the sequence number of the first follows.
+    /// The bit of the second half of an ALTER TABLE in two phases; the sequence number of the first half follows.
     pub const FL_COMMIT_ALTER: u8 = 4;
     /// The bit of an ALTER TABLE that is rolled back; the sequence number of the first half follows.
     pub const FL_ROLLBACK_ALTER: u8 = 8;
-    /// The bit that says that a thread id follows.
+    /// The bit set if a thread id follows.
     pub const FL_EXTRA_THREAD_ID: u8 = 16;
 }
 
 impl<'a> GtidExtra<'a> {
-    /// The flags 0, and no reserved bytes.
+    /// No bits set, and no reserved bytes.
     pub fn empty() -> Self
         ensures { result ≡ no_extra }
     {
@@ -194,7 +195,7 @@ impl<'a> GtidExtra<'a> {
         }
     }
 
-    /// Sets all bits of the flags. What they don't announce isn't written.
+    /// Sets all bits of the flags. A part that they don't announce isn't written.
     pub fn with_flags(mut self, flags: u8) -> Self
         ensures { result ≡ record self.entry { flags = flags } }
     {
@@ -202,7 +203,7 @@ impl<'a> GtidExtra<'a> {
         self
     }
 
-    /// Sets the number of engines; it is written where [`GtidExtra::FL_EXTRA_MULTI_ENGINE`] is set.
+    /// Sets the number of engines; it is written only if [`GtidExtra::FL_EXTRA_MULTI_ENGINE`] is set.
     pub fn with_engines(mut self, engines: u8) -> Self
         ensures { result ≡ record self.entry { engines = engines } }
     {
@@ -210,7 +211,7 @@ impl<'a> GtidExtra<'a> {
         self
     }
 
-    /// Sets the sequence number of the START ALTER; it is written where [`GtidExtra::FL_COMMIT_ALTER`] or
+    /// Sets the sequence number of the START ALTER; it is written only if [`GtidExtra::FL_COMMIT_ALTER`] or
     /// [`GtidExtra::FL_ROLLBACK_ALTER`] is set.
     pub fn with_alter_sequence(mut self, alter_sequence: u64) -> Self
         ensures { result ≡ record self.entry { alter_sequence = alter_sequence } }
@@ -219,7 +220,7 @@ impl<'a> GtidExtra<'a> {
         self
     }
 
-    /// Sets the thread id; it is written where [`GtidExtra::FL_EXTRA_THREAD_ID`] is set.
+    /// Sets the thread id; it is written only if [`GtidExtra::FL_EXTRA_THREAD_ID`] is set.
     pub fn with_thread_id(mut self, thread_id: u32) -> Self
         ensures { result ≡ record self.entry { thread_id = thread_id } }
     {
@@ -242,7 +243,8 @@ impl<'a> GtidExtra<'a> {
         self.flags
     }
 
-    /// The number of engines other than the log that took part, where the flags announce it; 255 if it isn't known.
+    /// The number of storage engines that took part, besides the binary log; 255 if it isn't known. None if the flags
+    /// don't announce it.
     pub fn engines(&self) -> Option<u8>
         ensures { result ≡ (if has_engines self.now.flags then Some self.now.engines else None) }
     {
@@ -253,7 +255,7 @@ impl<'a> GtidExtra<'a> {
         }
     }
 
-    /// The sequence number of the first half of an ALTER TABLE in two phases, where the flags announce it.
+    /// The sequence number of the first half of an ALTER TABLE in two phases. None if the flags don't announce it.
     pub fn alter_sequence(&self) -> Option<u64>
         ensures { result ≡ (if has_alter self.now.flags then Some self.now.alter_sequence else None) }
     {
@@ -264,7 +266,7 @@ impl<'a> GtidExtra<'a> {
         }
     }
 
-    /// The id of the thread that ran the event group, where the flags announce it.
+    /// The id of the thread that ran the event group. None if the flags don't announce it.
     pub fn thread_id(&self) -> Option<u32>
         ensures { result ≡ (if has_thread self.now.flags then Some self.now.thread_id else None) }
     {
@@ -275,7 +277,7 @@ impl<'a> GtidExtra<'a> {
         }
     }
 
-    /// The reserved bytes after the parts, as they are.
+    /// The reserved bytes after the parts.
     pub fn padding_raw(&self) -> &[u8]
         ensures { result.now ≡ self.now.padding }
     {
@@ -312,8 +314,8 @@ impl<'a> GtidExtra<'a> {
         })
     }
 
-    /// Reads extra flags and all that follows them; at least `needed` bytes have to. The only error is
-    /// [`Error::EndOfBody`], where the bytes end within a part, or fewer follow.
+    /// Reads extra flags and all bytes after them, which have to be at least `needed`. The only error is
+    /// [`Error::EndOfBody`], if the bytes end within a part or fewer than `needed` follow.
     pub(crate) fn read(alloc: Global, needed: usize, buf: &mut ParseBuf<'a>) -> Result<Self, Error>
         ensures { Gives ⊥ buf.new result ((extra needed).reads buf.old) }
     {

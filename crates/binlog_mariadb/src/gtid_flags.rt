@@ -12,7 +12,7 @@ pub struct MariaGtidFlags(u8);
 
 bitflag_items! {
     impl MariaGtidFlags: u8 {
-        /// The event group is one event, which no commit ends.
+        /// The event group is a single event, with no COMMIT event after it.
         const FL_STANDALONE = 0x1;
         /// A commit id follows: groups with the same id were committed together.
         const FL_GROUP_COMMIT_ID = 0x2;
@@ -22,11 +22,11 @@ bitflag_items! {
         const FL_ALLOW_PARALLEL = 0x8;
         /// The group waited for a row lock on the source.
         const FL_WAITED = 0x10;
-        /// The group is a statement that defines data.
+        /// The group is a DDL statement.
         const FL_DDL = 0x20;
-        /// An XA id follows: the group is an XA transaction that was prepared.
+        /// An XA id follows: the group prepares an XA transaction.
         const FL_PREPARED_XA = 0x40;
-        /// An XA id follows: the group commits or rolls back an XA transaction that was prepared.
+        /// An XA id follows: the group commits or rolls back a prepared XA transaction.
         const FL_COMPLETED_XA = 0x80;
     }
 }

@@ -16,7 +16,7 @@ use binlog_wire::{
 };
 use std::alloc::Global;
 
-/// The bound on the number of entries, 2^28: a list has fewer.
+/// The bound on the number of entries: a list has fewer than 2^28.
 const MOST_ENTRIES: u32 = 1 << 28;
 
 /// The GTID_LIST event (type 163): for each domain and server the last GTID in earlier logs.
@@ -33,7 +33,7 @@ pub struct GtidListEvent {
 }
 
 impl GtidListEvent {
-    /// The flag of a list that a replica was told to read up to.
+    /// The flag of a list that ends a START REPLICA UNTIL: the replica stops at it.
     pub const FLAG_UNTIL_REACHED: u8 = 1;
     /// The flag of a list whose event groups a replica ignores.
     pub const FLAG_IGN_GTIDS: u8 = 2;
@@ -48,7 +48,7 @@ impl GtidListEvent {
         }
     }
 
-    /// Sets the flags, of which the low four bits are written.
+    /// Sets the flags. Only the low four bits are written.
     pub fn with_flags(mut self, flags: u8) -> Self
         ensures { result ≡ record self { flags = flags } }
     {
@@ -89,7 +89,7 @@ impl GtidListEvent {
         Ok(self)
     }
 
-    /// The first number of the body. [`Error::Unwritable`] if there are 2^28 entries or more.
+    /// The first number of the body. The only error is [`Error::Unwritable`], if there are 2^28 entries or more.
     fn first_number(&self) -> Result<u32, Error>
         ensures { MatchOption (unwritable_list self.now) (result ≡ Ok (first_number self.now)) (λ why. result ≡ Err why) }
     {
@@ -100,7 +100,7 @@ impl GtidListEvent {
         Ok(u32::from(self.flags % 16) * MOST_ENTRIES + count as u32)
     }
 
-    /// The length of the body; `usize::MAX` if it would be more.
+    /// The length of the written body in bytes, at most `usize::MAX`.
     fn written_len(&self) -> usize
         ensures { result ≡ min (length (list_written self.now)) 18446744073709551615 }
     {
@@ -112,7 +112,7 @@ impl GtidListEvent {
     }
 }
 
-/// Reads this number of entries, and two reserved bytes after none.
+/// Reads this number of entries; for none, the two reserved bytes.
 fn read_entries(
     alloc: Global,
     count: u32,
@@ -127,12 +127,12 @@ fn read_entries(
     ValueList::deserialize(alloc, (u64::from(count), ()), buf)
 }
 
-/// Memory grows with the entries that are there, and not by the count.
+/// Memory grows with the entries that are read, and not with the number that is stated.
 ///
 /// # Errors
 ///
-/// - [`Error::EndOfBody`] where the bytes end within the number, an entry, or the two bytes after an empty list.
-/// - [`Error::Memory`] where an allocation fails.
+/// - [`Error::EndOfBody`] if the bytes end within the number, an entry, or the two reserved bytes.
+/// - [`Error::Memory`] if an allocation fails.
 impl<'de> MyDeserialize<'de> for GtidListEvent {
     const SIZE: Option<usize> = None;
 
@@ -152,7 +152,7 @@ impl<'de> MyDeserialize<'de> for GtidListEvent {
     }
 }
 
-/// Appends the entries, and two zeros for none. `buf` has room for them.
+/// Appends the entries; for none, two zeros. `buf` has room for them.
 fn put_entries(entries: &[MariaGtid], buf: &mut Vec<u8>)
     requires { vec_len buf.old + length (each_written gtid_entry.written entries.now) ≤ vec_capacity buf.old }
     ensures items { buf.new.items ≡ buf.old.items ++ each_written gtid_entry.written entries.now }

@@ -1,8 +1,8 @@
-//! MariaDB's own events, which MySQL's logs don't have: types 160 to 171.
+//! MariaDB's own events, types 160 to 171, which MySQL's logs don't have.
 //!
-//! A body is read by [`read_maria_body`] as one type, by [`read_maria_data`] as the body that the event's raw type
-//! states. The bodies of these types are kept as bytes by no other crate of this library: `read_data` answers None.
-//! [`is_maria_version`] and [`is_maria_log`] say by the server version of a description whether MariaDB wrote a log.
+//! [`read_maria_body`] reads a body as one type; [`read_maria_data`] reads the body that the event's raw type states.
+//! [`is_maria_version`] and [`is_maria_log`] state whether MariaDB wrote a log, by the server version of its
+//! description. The other crates of this library don't read these types: their `read_data` returns `Ok(None)`.
 //!
 //! The formats are defined in `specs/`, in a module for each body.
 #![tactic(auto)]

@@ -53,7 +53,7 @@ impl MariaGtid {
     }
 }
 
-/// The only error is [`Error::EndOfBody`], where there are fewer than 16 bytes.
+/// The only error is [`Error::EndOfBody`], if there are fewer than 16 bytes.
 impl<'de> MyDeserialize<'de> for MariaGtid {
     const SIZE: Option<usize> = Some(ENTRY_LEN);
 

@@ -13,10 +13,10 @@ use std::alloc::Global;
 /// The size of the body in bytes.
 const BODY_LEN: usize = 17;
 
-/// The START_ENCRYPTION event (type 164): the events after it are encrypted, each by itself.
+/// The START_ENCRYPTION event (type 164): each event after it is encrypted by itself.
 ///
 /// Its body, in one unit, is the scheme, 1 byte; the version of the key, 4 bytes, little-endian; and the nonce, 12
-/// bytes. Servers write the scheme 1. The key itself is in no log.
+/// bytes. Servers write the scheme 1. The key isn't stored in the log.
 ///
 /// Source: "START_ENCRYPTION_EVENT" in MariaDB's documentation.
 #[derive(Clone, Copy, Debug, PartialEq, Eq, Hash)]
@@ -69,7 +69,7 @@ fn read_nonce(buf: &mut ParseBuf<'_>) -> Result<[u8; 12], Error>
     Ok(*nonce)
 }
 
-/// The only error is [`Error::EndOfBody`], where there are fewer than 17 bytes.
+/// The only error is [`Error::EndOfBody`], if there are fewer than 17 bytes.
 impl<'de> MyDeserialize<'de> for StartEncryptionEvent {
     const SIZE: Option<usize> = Some(BODY_LEN);
 

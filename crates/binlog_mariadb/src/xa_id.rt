@@ -10,13 +10,14 @@ use binlog_wire::{
 use std::alloc::Global;
 use std::borrow::CowSlice;
 
-/// The size in bytes of an id without its parts.
+/// The size in bytes of an id with empty parts.
 const PLAIN_LEN: usize = 6;
 
-/// The id of an XA transaction: the number of its format, and two parts. Servers write parts of at most 64 bytes.
+/// The id of an XA transaction: the number of its format, the global transaction id and the branch qualifier. Servers
+/// write at most 64 bytes for each of the two.
 ///
-/// It is encoded as the number, 4 bytes, little-endian; the length of each part, 1 byte; and the parts. Of a part of
-/// more than 255 bytes the first 255 are shown and written.
+/// It is encoded as the number, 4 bytes, little-endian; the length of each part, 1 byte; and the parts. A part of more
+/// than 255 bytes is cut to 255 when it is returned or written.
 #[derive(Debug, PartialEq, Eq, Hash, Drop)]
 pub struct XaId<'a> {
     format_id: u32,
@@ -36,7 +37,7 @@ impl<'a> XaId<'a> {
         }
     }
 
-    /// The id of no transaction: 0, and empty parts.
+    /// The id if there is no XA transaction: format 0, and empty parts.
     pub(crate) fn empty() -> Self
         ensures { result ≡ no_xa }
     {
@@ -47,7 +48,7 @@ impl<'a> XaId<'a> {
         }
     }
 
-    /// The number of the id's format; MySQL and MariaDB take 1 where a statement states none.
+    /// The number of the id's format; MySQL and MariaDB use 1 if a statement states none.
     pub fn format_id(&self) -> u32
         ensures { result ≡ self.now.format_id }
     {
@@ -97,7 +98,7 @@ impl<'a> XaId<'a> {
     }
 }
 
-/// The only error is [`Error::EndOfBody`], where the bytes end within the id.
+/// The only error is [`Error::EndOfBody`], if the bytes end within the id.
 impl<'de> MyDeserialize<'de> for XaId<'de> {
     const SIZE: Option<usize> = None;
 

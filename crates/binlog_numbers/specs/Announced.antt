@@ -24,6 +24,7 @@ announced_code half v = (cond (eqb v.0 v.1) v.0 (v.0 + half), v.1)
 abbrev pub FitsAnnounced : ℕ → ℕ → ℕ × ℕ → Type 0
 FitsAnnounced k half v = (v.0 < half) × (v.1 < 256 ^ k)
 
+-- The written bytes of an immediate and an original value.
 abbrev pub announced_written : ℕ → ℕ → ℕ × ℕ → List ℕ
 announced_written k half v = cond (eqb v.0 v.1) (little_bytes k v.0) (little_bytes k (v.0 + half) ++ little_bytes k v.1)
 

@@ -23,5 +23,6 @@ choose false f g = g
 
 -- ---- a value that has to pass a test
 
+-- The value if a test holds for it, else the refusal.
 abbrev pub passes : {V : Type 0} → (V → Bool) → Invalid → V → Result V Invalid
 passes test why v = cond (test v) (Ok v) (Err why)

@@ -156,6 +156,7 @@ until f End test law = record {
 
 -- ---- a top bit that announces an original value
 
+-- The same as `announced`, with its written bytes as `chosen` states them.
 abbrev pub announced_plain : {place : Place} (k half : ℕ) → half + half ≡ 256 ^ k → Format place (ℕ × ℕ)
 announced_plain {place} k half e = chosen (announced_of half) (announced_code half) (λ v. v) (FitsAnnounced k half) (announced_fields k half) (announced_choice {place = place} k half e)
 

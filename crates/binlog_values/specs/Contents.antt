@@ -19,19 +19,19 @@ pub data Content : Type 0 where
   of_number : ℕ → Content
   of_bytes : List ℕ → Content
 
--- The number of a content; 0 where there is none.
+-- The number of a content; 0 if it has none.
 abbrev pub number_in : Content → ℕ
 number_in nothing = 0
 number_in (of_number n) = n
 number_in (of_bytes s) = 0
 
--- The bytes of a content; none where it has none.
+-- The bytes of a content; none if it has none.
 abbrev pub bytes_in : Content → List ℕ
 bytes_in nothing = []
 bytes_in (of_number n) = []
 bytes_in (of_bytes s) = s
 
--- The refusal of a value that is complete and out of its range.
+-- The refusal of a value that is complete and out of range.
 abbrev pub out_of_range : Invalid
 out_of_range = FieldRange 0
 
@@ -41,10 +41,11 @@ out_of_range = FieldRange 0
 abbrev pub fraction_len : ℕ → ℕ
 fraction_len digits = (digits + 1) / 2
 
--- A number whose last bytes are a fraction: the fraction, and what is before it.
+-- The fraction in the last bytes of a number.
 abbrev pub fraction_of : ℕ → ℕ → ℕ
 fraction_of digits n = n % 256 ^ fraction_len digits
 
+-- The number before its fraction.
 abbrev pub before_fraction : ℕ → ℕ → ℕ
 before_fraction digits n = n / 256 ^ fraction_len digits
 
@@ -54,20 +55,21 @@ is_below_second digits n = nat_lt (fraction_of digits n) (100 ^ fraction_len dig
 
 -- ---- temporal values
 
--- DATETIME2: the date and the time are above 2^39, as the sign that is always set.
+-- DATETIME2: the date and the time are at least 2^39, since the sign bit is always set, and the fraction is below one
+-- second.
 abbrev pub is_datetime2 : ℕ → ℕ → Bool
 is_datetime2 digits n = nat_le (2 ^ 39) (before_fraction digits n) && is_below_second digits n
 
--- TIME2: the number that stands for zero; below it are the negative times.
+-- TIME2: the number that encodes zero. Smaller numbers are negative times.
 abbrev pub time2_zero : ℕ → ℕ
 time2_zero digits = 2 ^ 23 * 256 ^ fraction_len digits
 
--- The distance from zero, as a time and a fraction. A negative time is the distance over all bytes, so that its fraction
+-- The distance from zero, as a time and a fraction. It is taken over all bytes, so the fraction of a negative time
 -- borrows from the seconds.
 abbrev pub time2_distance : ℕ → ℕ → ℕ
 time2_distance digits n = if nat_lt n (time2_zero digits) then time2_zero digits - n else n - time2_zero digits
 
--- TIME2: a fraction below one second, and a time whose reserved bit isn't set.
+-- TIME2: the fraction is below one second, and the reserved bit of the time isn't set.
 abbrev pub is_time2 : ℕ → ℕ → Bool
 is_time2 digits n = is_below_second digits (time2_distance digits n) && nat_lt (before_fraction digits (time2_distance digits n)) (2 ^ 22)
 
@@ -77,8 +79,8 @@ is_time2 digits n = is_below_second digits (time2_distance digits n) && nat_lt (
 abbrev pub digits_len : ℕ → ℕ
 digits_len digits = if digits == 9 then 4 else (digits + 1) / 2
 
--- The numbers of digits of the groups: those before the point with fewer than nine first, those after it with fewer than
--- nine last.
+-- The number of digits of each group, from left to right. The first group, before the point, and the last one, after
+-- it, have fewer than nine digits, possibly none; all others have nine.
 abbrev pub groups : ℕ → ℕ → List ℕ
 groups precision scale = ((precision - scale) % 9) ∷ (replicate ((precision - scale) / 9 + scale / 9) 9 ++ (scale % 9) ∷ [])
 
@@ -91,23 +93,24 @@ groups_len (digits ∷ others) = digits_len digits + groups_len others
 abbrev pub decimal_len : ℕ → ℕ → ℕ
 decimal_len precision scale = groups_len (groups precision scale)
 
--- The bytes of the digits: without the top bit of the first byte, which is set where the number isn't negative; and all
--- bits complemented where it is negative.
+-- The bytes of the digits. The top bit of the first byte, which is set if the number isn't negative, is removed; in a
+-- negative number all bits are complemented first.
 abbrev pub magnitude : List ℕ → List ℕ
 magnitude [] = []
 magnitude (b ∷ s) = if nat_le 128 b then (b - 128) ∷ s else (127 - b) ∷ map (λ c. 255 - c) s
 
--- Each group is a number with as many digits as it has.
+-- Each group is a number with at most as many digits as the group has.
 abbrev pub groups_fit : List ℕ → List ℕ → Bool
 groups_fit [] s = true
 groups_fit (digits ∷ others) s = nat_lt (big_number (digits_len digits) s) (10 ^ digits) && groups_fit others (drop (digits_len digits) s)
 
+-- The bytes are those of a decimal number of this precision and scale.
 abbrev pub is_decimal_bytes : ℕ → ℕ → List ℕ → Bool
 is_decimal_bytes precision scale s = groups_fit (groups precision scale) (magnitude s)
 
 -- ---- the formats
 
--- No bytes, for no content.
+-- No bytes, and no content.
 abbrev no_content : Format anywhere Content
 no_content = record (silent {place = anywhere} nothing) {
   Fits = λ c. c ≡ nothing;
@@ -137,7 +140,7 @@ as_bytes f = record (bytes_made f) {
   again = λ c fits. (bytes_made f).again c fits.1;
 }
 
--- A number of k bytes, most significant byte first, that has to pass a test.
+-- A number of k bytes, most significant byte first, for which a test holds.
 abbrev pub tested_big : ℕ → (ℕ → Bool) → Format anywhere ℕ
 tested_big k test = tested (big k) (λ _. refl) test out_of_range
 
@@ -161,7 +164,7 @@ time2 digits = tested_big (3 + fraction_len digits) (is_time2 digits)
 abbrev pub decimal : ℕ → ℕ → Format anywhere (List ℕ)
 decimal precision scale = tested (block (decimal_len precision scale)) (λ _. refl) (is_decimal_bytes precision scale) out_of_range
 
--- Bytes after their length in k bytes, which has to pass a test before the bytes are looked for.
+-- Bytes after their length in k bytes. A test has to hold for the length, before the bytes are read.
 abbrev pub counted : ℕ → (ℕ → Bool) → Format anywhere (List ℕ)
 counted k test = made {A = ℕ × List ℕ} (λ x. x.1) (λ t. (length t, t)) ((then) (allowed k test (λ _. out_of_range)) (λ n. block n)) (λ s x r h. ap (λ (n : ℕ). (n, x.1)) h.2.0) (λ t. refl)
 

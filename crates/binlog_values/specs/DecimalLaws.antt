@@ -23,8 +23,8 @@ complemented (suc k) (b ∷ s) fits le =
     let power : 256 ^ suc k ≡ 256 * p = pow-succ' 256 k in
     rw (big_from-cons 0 k (255 - b) (map (λ c. 255 - c) s), big_from-cons 0 k b s) (omega (arith, ih, e, power))
 
--- The number of a group, by its stored number: whether it is the first, whether the number isn't negative, and 256 to the
--- power of the group's length.
+-- The number of a group, from its stored number, if it is the first group, if the number isn't negative, and from 256
+-- to the power of the group's length.
 abbrev pub adjusted : ℕ → Bool → ℕ → ℕ → ℕ
 adjusted zero true all stored = stored - all / 2
 adjusted zero false all stored = all / 2 - 1 - stored

@@ -1,4 +1,4 @@
--- Values as contracts see them: their contents, and what they are values of.
+-- Values as contracts see them: their contents, and what they mean.
 use Rattle.std.specs.Prelude.{◌≡◌, ℕ, ◌==◌, Result, Ok, Err, if◌then◌else◌}
 use Rattle.binlog_wire.specs.declared.error.Error.{Error}
 use Rattle.binlog_columns.specs.Metadata.{Typed, real_number}
@@ -35,12 +35,12 @@ content_of (values.Geometry s) = of_bytes s.now
 content_of (values.Vector s) = of_bytes s.now
 content_of (values.Compressed s) = of_bytes s.now
 
--- An answer, with the content of its value.
+-- The result of a call, with the content of its value.
 abbrev pub answer_content : Result Value Error → Result Content Error
 answer_content (Ok value) = Ok (content_of value)
 answer_content (Err e) = Err e
 
--- What a value is a value of, with the numbers that its column's metadata gives it.
+-- What a value means: its type, and the numbers that the column's metadata states for it.
 pub data Meaning : Type 0 where
   null : Meaning
   integer : ℕ → Meaning
@@ -88,11 +88,11 @@ meaning_of (values.Geometry s) = geometry
 meaning_of (values.Vector s) = vector
 meaning_of (values.Compressed s) = compressed
 
--- The real type of a STRING, an ENUM or a SET that is a number: an ENUM, else a SET.
+-- The meaning of a STRING, an ENUM or a SET that is encoded as a number: an ENUM or a SET.
 abbrev pub listed : ℕ → Meaning
 listed metadata = if real_number metadata == 247 then enumeration else members
 
--- The meaning of a number of so many bytes, in a column of this type and metadata.
+-- The meaning of a number of this many bytes, in a column of this type and metadata.
 abbrev pub number_meaning : ℕ → ColumnType → ℕ → Meaning
 number_meaning len MYSQL_TYPE_FLOAT metadata = float
 number_meaning len MYSQL_TYPE_DOUBLE metadata = double

@@ -9,7 +9,7 @@ use crate::digits::{decimal_len, is_decimal};
 use binlog_wire::{Error, Invalid, ParseBuf};
 use byteorder::{BigEndian, ByteOrder, LittleEndian};
 
-/// The error for a value that is complete and out of its range.
+/// The error for a value that is complete and out of range.
 const OUT_OF_RANGE: Error = Error::InvalidData(Invalid::FieldRange(0));
 
 /// Takes a little-endian number of `len` bytes, 1 to 8, from the start of `buf`.
@@ -93,7 +93,7 @@ fn is_datetime2(digits: u8, number: u64) -> bool
     1 << 39 <= number / pow_256(fraction_len(digits)) && is_below_second(digits, number)
 }
 
-/// The number that stands for zero in a TIME2.
+/// The number that encodes zero in a TIME2.
 pub(crate) fn time2_zero(digits: u8) -> u64
     requires { digits ≤ 6 }
     ensures zero { result ≡ time2_zero digits }

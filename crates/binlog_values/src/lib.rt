@@ -1,7 +1,7 @@
-//! The values of rows: what the bytes of a column are, by the column's type and metadata.
+//! The values of rows: reading the value of a column, whose type and metadata determine how it is encoded.
 //!
-//! The formats of values are defined in `specs/Contents`, by the layouts of `binlog_columns`; what a value means is in
-//! `specs/Values` and `specs/Times`. Nothing here takes memory.
+//! `specs/Contents` defines the formats of values, by the layouts of `binlog_columns`; `specs/Values` and `specs/Times`
+//! define what a value means. Nothing is allocated.
 #![tactic(auto)]
 
 mod content;

@@ -4,8 +4,8 @@ ghost use Rattle.byteorder.specs.Endian.{twos_complement};
 
 /// The value of an integer column of 1, 2, 3, 4 or 8 bytes.
 ///
-/// Neither the column's type nor its metadata says whether the column is UNSIGNED; the optional metadata of a table map
-/// may. So both readings of the bytes are offered.
+/// Neither the column's type nor its metadata states whether the column is UNSIGNED; the optional metadata of a table
+/// map may. The value of a signed column is the two's complement of the same bits, in [`size`](Self::size) bytes.
 #[derive(Clone, Copy, Debug, PartialEq, Eq, Hash)]
 pub struct Integer {
     pub(crate) bits: u64,

@@ -16,7 +16,7 @@ use crate::times::{Date, DateTime, DateTime2, Time, Time2, Timestamp2};
 use binlog_columns::{Column, ColumnType, Layout};
 use binlog_wire::{Error, ParseBuf};
 
-/// The value of a column. It borrows its bytes, and takes no memory.
+/// The value of a column. It borrows its bytes and allocates nothing.
 #[derive(Clone, Copy, Debug, PartialEq, Eq, Hash)]
 pub enum Value<'a> {
     /// NULL: the only value of a column of type NULL, which servers don't write.
@@ -31,7 +31,7 @@ pub enum Value<'a> {
     Decimal(Decimal<'a>),
     /// A date.
     Date(Date),
-    /// A year, below 256: 0 is the year 0, any other number counts from 1900.
+    /// A year, below 256: 0 is the year 0, and any other number is the years since 1900.
     Year(u64),
     /// Seconds since 1970 UTC, below 2^32; 0 is the zero timestamp.
     Timestamp(u64),
@@ -47,12 +47,12 @@ pub enum Value<'a> {
     Time2(Time2),
     /// Bits.
     Bit(Bit),
-    /// The index of an ENUM's member, counted from 1, below 2^16; 0 is the error value. It may be above the number of
-    /// members.
+    /// The index of an ENUM's member, from 1, below 2^16; 0 is the empty string of an invalid value. It may be above
+    /// the number of members.
     Enum(u64),
-    /// The members of a SET: bit 0 is the first. There may be bits beyond the members.
+    /// The members of a SET: bit 0 is the first member. Bits beyond the members may be set.
     Set(u64),
-    /// The bytes of a string. Those of a BINARY column are cut at its trailing zeros.
+    /// The bytes of a string; for a BINARY column without its trailing zeros.
     Bytes(&'a [u8]),
     /// A document in MySQL's binary JSON; not checked.
     Json(&'a [u8]),
@@ -69,8 +69,8 @@ impl<'a> Value<'a> {
     ///
     /// # Errors
     ///
-    /// - [`Error::EndOfBody`] where the bytes end within it.
-    /// - [`Error::InvalidData`] where it is complete and out of its range.
+    /// - [`Error::EndOfBody`] if the bytes end within the value.
+    /// - [`Error::InvalidData`] if the value is complete and out of its range.
     pub fn read(column: &Column, buf: &mut ParseBuf<'a>) -> Result<Self, Error>
         ensures content { Gives ⊥ buf.new (answer_content result) ((content_in (layout_of (typed_of column.now))).reads buf.old) }
         ensures meaning { IfOk result (λ value. meaning_of value ≡ meaning_in (typed_of column.now)) }

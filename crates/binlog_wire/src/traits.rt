@@ -1,3 +1,4 @@
+//! The traits of reading and writing.
 ghost use Rattle.std.specs.Prelude.{◌≡◌, ◌++◌, ◌+◌, ◌≤◌, ℕ, List, length, vec_len, vec_capacity, OnOk, OnErr, IsOk, IsOkUnless, MatchOption, Option, None, Err};
 ghost use Rattle.binlog_wire.specs.declared.error.Error.{Error};
 ghost use Rattle.binlog_wire.specs.declared.error.Error.TheVariants.{Memory};

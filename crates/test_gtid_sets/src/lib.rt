@@ -4,6 +4,8 @@
 #[cfg(test)]
 mod adding;
 #[cfg(test)]
+mod differences;
+#[cfg(test)]
 mod groups;
 #[cfg(test)]
 mod memory;

@@ -1,7 +1,8 @@
 use Rattle.std.proofs.Common.{◌≡◌, refl, rules}
 use Rattle.std.specs.Prelude.{option_copied}
 use Rattle.binlog_gtid_sets.specs.GtidGroups.{pair_of, pair_in, IsAt, IsGapFor}
-use Rattle.binlog_gtid_sets.proofs.GtidGroups.{inserts_at, are_at, adds_in_gap, are_added}
+use Rattle.binlog_gtids.specs.GnoSets.{is_within}
+use Rattle.binlog_gtid_sets.proofs.GtidGroups.{interval, inserts_at, are_at, adds_in_gap, are_added, some_from_interval}
 use Rattle.binlog_gtid_sets.proofs.gtid_tracker.GtidTracker.insert.Goals as goal
 
 pub invariant_of-self : goal.invariant_of-self
@@ -31,7 +32,7 @@ invariant_of-self-in-Err c =
     let made = c.in_ok-group-in-Err.ensures in
     let g = c.in_ok-group-in-Err.group in
     let pair : pair_in g ≡ p = rw (made.sid, made.tag) refl in
-    are_added groups c.self.invariant p c.in-Err.at gap c.args.start c.args.end c.requires.some g pair made.gnos c.add.result _ c.add.ensures.ok c.add.ensures.err
+    are_added groups c.self.invariant p c.in-Err.at gap (is_within (interval c.args.start c.args.end)) g (some_from_interval g.gnos c.args.start c.args.end c.requires.some made.gnos) pair made.gnos c.add.result _ c.add.ensures.ok c.add.ensures.err
 
 pub returns-in_ok-group-in-Err-clause-ok : goal.returns-in_ok-group-in-Err-clause-ok
 returns-in_ok-group-in-Err-clause-ok c =
@@ -42,4 +43,4 @@ returns-in_ok-group-in-Err-clause-ok c =
     let g = c.in_ok-group-in-Err.group in
     let pair : pair_in g ≡ p = rw (made.sid, made.tag) refl in
     rw (← c.self.view_is)
-    (adds_in_gap groups c.self.invariant p c.in-Err.at gap c.args.start c.args.end c.requires.some g pair made.gnos c.add.result _ c.add.ensures.ok)
+    (adds_in_gap groups c.self.invariant p c.in-Err.at gap (is_within (interval c.args.start c.args.end)) g (some_from_interval g.gnos c.args.start c.args.end c.requires.some made.gnos) pair made.gnos c.add.result _ c.add.ensures.ok)

@@ -3,7 +3,7 @@ use Rattle.binlog_gtid_sets.specs.AddedGtids.{bad_gno_listed, is_listed}
 use Rattle.binlog_gtid_sets.specs.GtidGroups.{Pair, is_tracked}
 use Rattle.binlog_gtid_sets.proofs.gtid_tracker.GtidTracker.insert_entries.Given as goal
 
--- the set so far, with the entries to come, is the whole
+-- The set so far and the entries that are left are the whole.
 abbrev pub invariant-loop-entry : goal.invariant-loop-entry
 invariant-loop-entry l = record {
   good : bad_gno_listed (drop l.entry-index l.entries) ≡ None;

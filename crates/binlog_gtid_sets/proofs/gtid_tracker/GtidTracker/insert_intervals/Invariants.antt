@@ -5,7 +5,7 @@ use Rattle.binlog_gtid_sets.specs.AddedGtids.{bad_gno}
 use Rattle.binlog_gtid_sets.specs.GtidGroups.{Pair, pair_of, is_same, is_tracked}
 use Rattle.binlog_gtid_sets.proofs.gtid_tracker.GtidTracker.insert_intervals.Given as goal
 
--- the set so far, with the intervals to come, is the whole
+-- The set so far and the intervals that are left are the whole.
 abbrev pub invariant-loop-interval : goal.invariant-loop-interval
 invariant-loop-interval l = record {
   good : bad_gno (drop l.interval-index l.intervals) ≡ None;
