@@ -10,7 +10,6 @@ ghost use Rattle.binlog_gtids.specs.Untagged.{is_untagged_type};
 
 use crate::gtid_flags::GtidFlags;
 use crate::tagged::read_tagged;
-use crate::untagged::read_untagged;
 use binlog_consts::EventType;
 use binlog_description::{BinlogCtx, BinlogEvent};
 use binlog_numbers::Tag;
@@ -428,7 +427,7 @@ impl<'de> MyDeserialize<'de> for GtidEvent {
         let event = if ctx.event_type_raw == 42 {
             read_tagged(alloc, buf)?
         } else if is_untagged_type(ctx.event_type_raw) {
-            read_untagged(buf)?
+            GtidEvent::read_untagged(buf)?
         } else {
             return Err(Error::WrongEventType(ctx.event_type_raw));
         };

@@ -71,21 +71,27 @@ fn read_clock(event: GtidEvent, buf: &mut ParseBuf<'_>) -> Result<GtidEvent, Err
     })
 }
 
-/// Reads a GTID without a tag.
-pub(crate) fn read_untagged(buf: &mut ParseBuf<'_>) -> Result<GtidEvent, Error>
-    ensures { Gives ⊥ buf.new result (untagged.reads buf.old) }
-{
-    let event = read_head(buf)?;
-    match buf.0.split_first() {
-        Some((2, rest)) => {
-            buf.0 = rest;
-            read_clock(event, buf)
-        }
-        _ => Ok(event),
-    }
-}
-
 impl GtidEvent {
+    /// Reads a GTID without a tag from the start of `buf`, as `deserialize` does under the raw types 33 and 34. Needs no
+    /// allocator.
+    ///
+    /// # Errors
+    ///
+    /// - [`Error::EndOfBody`] if the bytes end within a field.
+    /// - [`Invalid::LenEnc`](binlog_wire::Invalid::LenEnc) if the transaction length begins with `fb` or `ff`.
+    pub fn read_untagged(buf: &mut ParseBuf<'_>) -> Result<Self, Error>
+        ensures { Gives ⊥ buf.new result (untagged.reads buf.old) }
+    {
+        let event = read_head(buf)?;
+        match buf.0.split_first() {
+            Some((2, rest)) => {
+                buf.0 = rest;
+                read_clock(event, buf)
+            }
+            _ => Ok(event),
+        }
+    }
+
     /// Appends flags, source UUID and GNO. `buf` has room for them.
     fn put_head(&self, buf: &mut Vec<u8>)
         requires { vec_len buf.old + 25 ≤ vec_capacity buf.old }

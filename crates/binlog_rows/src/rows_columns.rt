@@ -24,7 +24,6 @@ pub struct RowsColumns<'a> {
 /// The columns-present bitmap of an image, for this many columns; None if the event has no such image.
 #[inline(always)]
 fn read_image<'a>(
-    alloc: Global,
     has_image: bool,
     count: u64,
     buf: &mut ParseBuf<'a>,
@@ -33,7 +32,7 @@ fn read_image<'a>(
     ensures image { IfOk result (λ image. IsImage has_image count image) }
 {
     if has_image {
-        Ok(Some(buf.parse(alloc, count)?))
+        Ok(Some(ColumnBitmap::read(count, buf)?))
     } else {
         Ok(None)
     }
@@ -86,14 +85,14 @@ impl<'a> RowsColumns<'a> {
     /// - [`Error::EndOfBody`] if the bytes end within them.
     /// - [`Invalid::LenEnc`](binlog_wire::Invalid::LenEnc) if the column count begins with `fb` or `ff`.
     #[inline(always)]
-    pub fn read(alloc: Global, form: RowsForm, buf: &mut ParseBuf<'a>) -> Result<Self, Error>
+    pub fn read(form: RowsForm, buf: &mut ParseBuf<'a>) -> Result<Self, Error>
         ensures reads { Gives ⊥ buf.new result ((columns form).reads buf.old) }
         ensures before { IfOk result (λ columns. IsImage form.has_before columns.count columns.before) }
         ensures after { IfOk result (λ columns. IsImage form.has_after columns.count columns.after) }
     {
         let count = LenEnc::read(buf)?;
-        let before = read_image(alloc, form.has_before, count, buf)?;
-        let after = read_image(alloc, form.has_after, count, buf)?;
+        let before = read_image(form.has_before, count, buf)?;
+        let after = read_image(form.has_after, count, buf)?;
         Ok(RowsColumns {
             count,
             before,

@@ -12,8 +12,9 @@ use crate::rows_form::RowsForm;
 use crate::rows_head::RowsHead;
 use binlog_consts::{BinlogVersion, RowsEventFlags};
 use binlog_description::MAX_BODY_LEN;
-use binlog_wire::{BitView, EofBytes, Error, LeU16, ParseBuf, Put, RawBytes, RawFlags};
+use binlog_wire::{BitView, BytesRepr, EofBytes, Error, LeU16, ParseBuf, Put, RawBytes, RawFlags};
 use std::alloc::Global;
+use std::borrow::CowSlice;
 
 /// The rows of a table that an event writes, updates or deletes, for any event type.
 ///
@@ -36,7 +37,6 @@ impl<'a> RowsEvent<'a> {
     #[tactic(auto, unfolding(crate::specs::Rows::rows))]
     #[inline(always)]
     pub(crate) fn read(
-        alloc: Global,
         form: RowsForm,
         post_header: u8,
         buf: &mut ParseBuf<'a>,
@@ -44,13 +44,13 @@ impl<'a> RowsEvent<'a> {
         ensures reads { Gives ⊥ buf.new result ((rows form post_header).reads buf.old) }
         ensures form { IfOk result (λ event. IsOfForm form event) }
     {
-        let head = RowsHead::read(alloc, form, post_header, buf)?;
-        let columns = RowsColumns::read(alloc, form, buf)?;
-        let rows = buf.parse(alloc, ())?;
+        let head = RowsHead::read(form, post_header, buf)?;
+        let columns = RowsColumns::read(form, buf)?;
+        let rows = EofBytes::read((), buf)?;
         Ok(RowsEvent {
             head,
             columns,
-            rows,
+            rows: RawBytes::new(CowSlice::Borrowed(rows)),
         })
     }
 

@@ -2,6 +2,7 @@
 ghost use Rattle.std.specs.Prelude.{◌≡◌, ◌<◌, ◌^◌, Some, bit_and, IfOk, IsOkUnless};
 ghost use Rattle.bitflags.specs.Sets.{known_bits};
 ghost use Rattle.binlog_wire.specs.declared.error.Error.TheVariants.{Memory};
+ghost use Rattle.binlog_wire.specs.Reading.{Gives};
 ghost use Rattle.binlog_consts.specs.Flags.{rows_event_flags};
 ghost use Rattle.binlog_rows.specs.Images.{bitmap_of};
 ghost use Rattle.binlog_rows.specs.Rows.{IsOfForm};
@@ -12,7 +13,7 @@ use crate::rows_kind::{
     UpdateRows, UpdateRowsV1, WriteRows, WriteRowsV1,
 };
 use binlog_consts::{EventType, RowsEventFlags};
-use binlog_description::{BinlogCtx, BinlogEvent};
+use binlog_description::{BinlogCtx, BinlogEvent, DescriptionRef};
 use binlog_wire::{BitView, Error, MyDeserialize, ParseBuf, Put};
 use std::alloc::Global;
 use std::marker::{Model, PhantomData};
@@ -76,6 +77,28 @@ pub type UpdateRowsEventV1<'a> = RowsEventOf<'a, UpdateRowsV1>;
 pub type DeleteRowsEventV1<'a> = RowsEventOf<'a, DeleteRowsV1>;
 
 impl<'a, K: RowsKind> RowsEventOf<'a, K> {
+    ghost use Rattle.binlog_description.specs.DescriptionRefs.{description_of};
+    ghost use Rattle.binlog_description.specs.PostHeaders.{post_header};
+    ghost use Rattle.binlog_rows.specs.Rows.{rows};
+
+    /// Reads an event from the start of `buf` under a format description, as `deserialize` does. Needs no allocator.
+    ///
+    /// # Errors
+    ///
+    /// - [`Error::EndOfBody`] if the bytes end before the rows.
+    /// - [`Invalid::LenEnc`](binlog_wire::Invalid::LenEnc) if the column count begins with `fb` or `ff`.
+    #[inline(always)]
+    pub fn read(fde: DescriptionRef<'_>, buf: &mut ParseBuf<'a>) -> Result<Self, Error>
+        ensures { Gives ⊥ buf.new result ((rows K.FORM (post_header (description_of fde.entry) K.EVENT_TYPE)).reads buf.old) }
+    {
+        let post_header = fde.get_event_type_header_length(K::EVENT_TYPE);
+        let event = RowsEvent::read(K::FORM, post_header, buf)?;
+        Ok(RowsEventOf {
+            event,
+            kind: PhantomData,
+        })
+    }
+
     /// The event, of whatever type.
     pub fn event(&self) -> &RowsEvent<'a>
         ensures same { result.now ≡ self.now }
@@ -184,16 +207,11 @@ impl<'de, K: RowsKind> MyDeserialize<'de> for RowsEventOf<'de, K> {
     ghost grows = { λ _. ⊥ };
 
     fn deserialize(
-        alloc: Global,
+        _alloc: Global,
         ctx: BinlogCtx<'de>,
         buf: &mut ParseBuf<'de>,
     ) -> Result<Self, Error> {
-        let post_header = ctx.fde.get_event_type_header_length(K::EVENT_TYPE);
-        let event = RowsEvent::read(alloc, K::FORM, post_header, buf)?;
-        Ok(RowsEventOf {
-            event,
-            kind: PhantomData,
-        })
+        RowsEventOf::read(ctx.fde, buf)
     }
 }
 

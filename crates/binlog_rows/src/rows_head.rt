@@ -93,16 +93,11 @@ impl<'a> RowsHead<'a> {
     /// Reads the post-header of an event of this form from the start of `buf`, for this stated length. The only error
     /// is [`Error::EndOfBody`], if the bytes end within it.
     #[inline(always)]
-    pub fn read(
-        alloc: Global,
-        form: RowsForm,
-        post_header: u8,
-        buf: &mut ParseBuf<'a>,
-    ) -> Result<Self, Error>
+    pub fn read(form: RowsForm, post_header: u8, buf: &mut ParseBuf<'a>) -> Result<Self, Error>
         ensures reads { Gives ⊥ buf.new result ((head form post_header).reads buf.old) }
         ensures kept { IfOk result (λ head. is_some head.extra ≡ form.has_extra) }
     {
-        let table_id = buf.parse(alloc, post_header)?;
+        let table_id = TableId::read(post_header, buf)?;
         let flags = LeU16::read(buf)?;
         let extra = read_extra_in(form.has_extra, post_header, buf)?;
         Ok(RowsHead {

@@ -307,6 +307,13 @@ refused_name (errors.InvalidData why) s n h = none_counts s (invalid why) n h
 refused_name (errors.WrongEventType number) s n h = none_counts s (other_type number) n h
 refused_name _ s n h = absurd h
 
+-- if names are left to count, the next one isn't refused
+pub none_refused : (e : Error) (s : List ℕ) (left k : ℕ) → Refuses ⊥ e (terminated_at s) → names_len left s ≡ Some k → 0 < left → ⊥
+none_refused e s zero k refused is more = omega (arith, more)
+none_refused e s (suc left) k refused is more =
+    let none : names_len (suc left) s ≡ None = refused_name e s left refused in
+    cc
+
 -- the names still to count, with those counted
 abbrev pub Counts : ℕ → List ℕ → ℕ → List ℕ → Type 0
 Counts count bytes left unread = names_len count bytes ≡ plus (length bytes - length unread) (names_len left unread)

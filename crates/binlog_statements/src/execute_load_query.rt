@@ -3,12 +3,13 @@ ghost use Rattle.std.specs.Prelude.{◌≡◌, [], take, IfOk, IsOkUnless};
 ghost use Rattle.std.specs.Cow.{cow_slice_items, cow_str_bytes};
 ghost use Rattle.std.specs.Str.Lossy.{utf8_lossy};
 ghost use Rattle.binlog_wire.specs.declared.error.Error.TheVariants.{Memory};
+ghost use Rattle.binlog_wire.specs.Reading.{Gives};
 
-use crate::statement::{Statement, StatementHead};
+use crate::statement::{Statement, StatementHead, StatementTexts};
 use crate::status_vars::StatusVars;
 use binlog_consts::{EventType, LoadDuplicateHandling};
 use binlog_description::{BinlogCtx, BinlogEvent};
-use binlog_wire::{Const, Error, IntRepr, LeU32, MyDeserialize, ParseBuf, Put, RawInt};
+use binlog_wire::{Constant, Error, IntRepr, LeU32, MyDeserialize, ParseBuf, Put};
 use std::alloc::Global;
 use std::borrow::{CowSlice, CowStr};
 
@@ -23,6 +24,38 @@ pub struct LoadHead {
     start_pos: u32,
     end_pos: u32,
     dup_handling: LoadDuplicateHandling,
+}
+
+impl LoadHead {
+    ghost use Rattle.binlog_statements.specs.ExecuteLoadQuery.{load_head};
+
+    /// Reads a post-header from the start of `buf`, as `deserialize` does.
+    ///
+    /// # Errors
+    ///
+    /// - [`Error::EndOfBody`] if fewer than 26 bytes are left.
+    /// - [`Error::InvalidData`] if the last of them, the duplicate handling, is above 2.
+    #[inline(always)]
+    fn read(buf: &mut ParseBuf<'_>) -> Result<Self, Error>
+        ensures { Gives ⊥ buf.new result (load_head.reads buf.old) }
+    {
+        if buf.len() < LOAD_HEAD_LEN {
+            return Err(Error::EndOfBody);
+        }
+        let statement = StatementHead::read(buf)?;
+        let file_id = LeU32::read(buf)?;
+        let start_pos = LeU32::read(buf)?;
+        let end_pos = LeU32::read(buf)?;
+        let number = u8::read(buf)?;
+        let dup_handling = LoadDuplicateHandling::from_number(number).map_err(Error::InvalidData)?;
+        Ok(LoadHead {
+            statement,
+            file_id,
+            start_pos,
+            end_pos,
+            dup_handling,
+        })
+    }
 }
 
 /// # Errors
@@ -41,22 +74,8 @@ impl<'de> MyDeserialize<'de> for LoadHead {
 
     ghost size = { Some 26 };
 
-    fn deserialize(alloc: Global, _ctx: (), buf: &mut ParseBuf<'de>) -> Result<Self, Error> {
-        if buf.len() < LOAD_HEAD_LEN {
-            return Err(Error::EndOfBody);
-        }
-        let statement = buf.parse(alloc, ())?;
-        let file_id = buf.parse::<RawInt<LeU32>>(alloc, ())?.0;
-        let start_pos = buf.parse::<RawInt<LeU32>>(alloc, ())?.0;
-        let end_pos = buf.parse::<RawInt<LeU32>>(alloc, ())?.0;
-        let dup_handling = buf.parse::<Const<LoadDuplicateHandling, u8>>(alloc, ())?.0;
-        Ok(LoadHead {
-            statement,
-            file_id,
-            start_pos,
-            end_pos,
-            dup_handling,
-        })
+    fn deserialize(_alloc: Global, _ctx: (), buf: &mut ParseBuf<'de>) -> Result<Self, Error> {
+        LoadHead::read(buf)
     }
 }
 
@@ -101,7 +120,29 @@ pub struct ExecuteLoadQueryEvent<'a> {
 }
 
 impl<'a> ExecuteLoadQueryEvent<'a> {
+    ghost use Rattle.binlog_statements.specs.ExecuteLoadQuery.{execute_load_query};
     ghost use Rattle.binlog_statements.specs.Statements.{new_statement, with_status_vars, with_schema, with_query};
+
+    /// Reads an event from the start of `buf`, as `deserialize` does. Needs no allocator.
+    ///
+    /// # Errors
+    ///
+    /// - [`Error::EndOfBody`] if the bytes end before the statement.
+    /// - [`Error::InvalidData`] if the duplicate handling is above 2.
+    #[inline(always)]
+    pub fn read(buf: &mut ParseBuf<'a>) -> Result<Self, Error>
+        ensures { Gives ⊥ buf.new result (execute_load_query.reads buf.old) }
+    {
+        let head = LoadHead::read(buf)?;
+        let texts = StatementTexts::read(head.statement, buf)?;
+        Ok(ExecuteLoadQueryEvent {
+            statement: Statement::with_head(head.statement, texts),
+            file_id: head.file_id,
+            start_pos: head.start_pos,
+            end_pos: head.end_pos,
+            dup_handling: head.dup_handling,
+        })
+    }
 
     /// An event with an empty statement; all numbers not passed here are 0. Only the first 65,535 bytes of
     /// `status_vars` and the first 255 bytes of `schema` are used.
@@ -347,19 +388,11 @@ impl<'de> MyDeserialize<'de> for ExecuteLoadQueryEvent<'de> {
     ghost reads = { λ _. execute_load_query.reads };
 
     fn deserialize(
-        alloc: Global,
+        _alloc: Global,
         _ctx: BinlogCtx<'de>,
         buf: &mut ParseBuf<'de>,
     ) -> Result<Self, Error> {
-        let head: LoadHead = buf.parse(alloc, ())?;
-        let texts = buf.parse(alloc, head.statement)?;
-        Ok(ExecuteLoadQueryEvent {
-            statement: Statement::with_head(head.statement, texts),
-            file_id: head.file_id,
-            start_pos: head.start_pos,
-            end_pos: head.end_pos,
-            dup_handling: head.dup_handling,
-        })
+        ExecuteLoadQueryEvent::read(buf)
     }
 }
 

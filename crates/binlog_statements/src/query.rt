@@ -3,11 +3,12 @@ ghost use Rattle.std.specs.Prelude.{◌≡◌, [], take, IfOk, IsOkUnless};
 ghost use Rattle.std.specs.Cow.{cow_slice_items, cow_str_bytes};
 ghost use Rattle.std.specs.Str.Lossy.{utf8_lossy};
 ghost use Rattle.binlog_wire.specs.declared.error.Error.TheVariants.{Memory};
+ghost use Rattle.binlog_wire.specs.Reading.{Gives};
 
-use crate::statement::{STATEMENT_HEAD_LEN, Statement, StatementHead};
+use crate::statement::{STATEMENT_HEAD_LEN, Statement, StatementHead, StatementTexts};
 use crate::status_vars::StatusVars;
 use binlog_consts::EventType;
-use binlog_description::{BinlogCtx, BinlogEvent};
+use binlog_description::{BinlogCtx, BinlogEvent, DescriptionRef};
 use binlog_wire::{Error, MyDeserialize, ParseBuf, Put};
 use std::alloc::Global;
 use std::borrow::{CowSlice, CowStr};
@@ -26,7 +27,28 @@ pub struct QueryEvent<'a> {
 }
 
 impl<'a> QueryEvent<'a> {
+    ghost use Rattle.binlog_consts.specs.declared.event_type.EventType.TheVariants.{QUERY_EVENT};
+    ghost use Rattle.binlog_description.specs.DescriptionRefs.{description_of};
+    ghost use Rattle.binlog_description.specs.PostHeaders.{post_header};
+    ghost use Rattle.binlog_statements.specs.Query.{query};
     ghost use Rattle.binlog_statements.specs.Statements.{new_statement, with_status_vars, with_schema, with_query};
+
+    /// Reads an event from the start of `buf` under a format description, as `deserialize` does. Needs no allocator.
+    /// The only error is [`Error::EndOfBody`], if the bytes end before the statement.
+    #[inline(always)]
+    pub fn read(fde: DescriptionRef<'_>, buf: &mut ParseBuf<'a>) -> Result<Self, Error>
+        ensures { Gives ⊥ buf.new result ((query (post_header (description_of fde.entry) QUERY_EVENT)).reads buf.old) }
+    {
+        let head = StatementHead::read(buf)?;
+        let post_header = fde.get_event_type_header_length(EventType::QUERY_EVENT);
+        if !buf.checked_skip(usize::from(post_header).saturating_sub(STATEMENT_HEAD_LEN)) {
+            return Err(Error::EndOfBody);
+        }
+        let texts = StatementTexts::read(head, buf)?;
+        Ok(QueryEvent {
+            statement: Statement::with_head(head, texts),
+        })
+    }
 
     /// An event with an empty statement; all numbers are 0. Only the first 65,535 bytes of `status_vars` and the first
     /// 255 bytes of `schema` are used.
@@ -186,19 +208,11 @@ impl<'de> MyDeserialize<'de> for QueryEvent<'de> {
     ghost reads = { λ ctx. (query (post_header (description_of ctx.fde) QUERY_EVENT)).reads };
 
     fn deserialize(
-        alloc: Global,
+        _alloc: Global,
         ctx: BinlogCtx<'de>,
         buf: &mut ParseBuf<'de>,
     ) -> Result<Self, Error> {
-        let head: StatementHead = buf.parse(alloc, ())?;
-        let post_header = ctx.fde.get_event_type_header_length(EventType::QUERY_EVENT);
-        if !buf.checked_skip(usize::from(post_header).saturating_sub(STATEMENT_HEAD_LEN)) {
-            return Err(Error::EndOfBody);
-        }
-        let texts = buf.parse(alloc, head)?;
-        Ok(QueryEvent {
-            statement: Statement::with_head(head, texts),
-        })
+        QueryEvent::read(ctx.fde, buf)
     }
 }
 

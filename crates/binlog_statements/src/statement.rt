@@ -2,11 +2,12 @@
 ghost use Rattle.std.specs.Prelude.{◌≡◌, ◌∷◌, ◌++◌, ◌+◌, ◌^◌, ◌<◌, ◌≤◌, [], length, take, vec_len, vec_capacity, IfOk, IsOkUnless};
 ghost use Rattle.std.specs.Cow.{cow_slice_items};
 ghost use Rattle.binlog_wire.specs.declared.error.Error.TheVariants.{Memory};
+ghost use Rattle.binlog_wire.specs.Reading.{Gives};
 
 use crate::status_vars::StatusVars;
 use binlog_wire::{
-    BareU8Bytes, EofBytes, Error, IntRepr, LeU16, LeU32, MyDeserialize, ParseBuf, Put, RawBytes,
-    RawInt, Skip,
+    BareU8Bytes, BytesRepr, EofBytes, Error, IntRepr, LeU16, LeU32, MyDeserialize, ParseBuf, Put,
+    RawBytes, Skip,
 };
 use std::alloc::Global;
 use std::borrow::CowSlice;
@@ -24,6 +25,34 @@ pub struct StatementHead {
     status_vars_len: u16,
 }
 
+impl StatementHead {
+    ghost use Rattle.binlog_statements.specs.Statements.{head};
+
+    /// Reads a post-header from the start of `buf`, as `deserialize` does. The only error is [`Error::EndOfBody`], if
+    /// fewer than 13 bytes are left.
+    #[inline(always)]
+    pub fn read(buf: &mut ParseBuf<'_>) -> Result<Self, Error>
+        ensures { Gives ⊥ buf.new result (head.reads buf.old) }
+    {
+        if buf.len() < STATEMENT_HEAD_LEN {
+            return Err(Error::EndOfBody);
+        }
+        let thread_id = LeU32::read(buf)?;
+        let execution_time = LeU32::read(buf)?;
+        let schema_len = u8::read(buf)?;
+        let error_code = LeU16::read(buf)?;
+        let status_vars_len = LeU16::read(buf)?;
+        Ok(StatementHead {
+            thread_id,
+            execution_time,
+            schema_len,
+            error_code,
+            status_vars_len,
+        })
+    }
+}
+
+/// The only error is [`Error::EndOfBody`], if fewer than 13 bytes are left.
 impl<'de> MyDeserialize<'de> for StatementHead {
     ghost use Rattle.std.specs.Prelude.{Some};
     ghost use Rattle.binlog_statements.specs.Statements.{head};
@@ -36,22 +65,8 @@ impl<'de> MyDeserialize<'de> for StatementHead {
 
     ghost size = { Some 13 };
 
-    fn deserialize(alloc: Global, _ctx: (), buf: &mut ParseBuf<'de>) -> Result<Self, Error> {
-        if buf.len() < STATEMENT_HEAD_LEN {
-            return Err(Error::EndOfBody);
-        }
-        let thread_id = buf.parse::<RawInt<LeU32>>(alloc, ())?.0;
-        let execution_time = buf.parse::<RawInt<LeU32>>(alloc, ())?.0;
-        let schema_len = buf.parse::<RawInt<u8>>(alloc, ())?.0;
-        let error_code = buf.parse::<RawInt<LeU16>>(alloc, ())?.0;
-        let status_vars_len = buf.parse::<RawInt<LeU16>>(alloc, ())?.0;
-        Ok(StatementHead {
-            thread_id,
-            execution_time,
-            schema_len,
-            error_code,
-            status_vars_len,
-        })
+    fn deserialize(_alloc: Global, _ctx: (), buf: &mut ParseBuf<'de>) -> Result<Self, Error> {
+        StatementHead::read(buf)
     }
 }
 
@@ -89,6 +104,27 @@ pub struct StatementTexts<'a> {
 }
 
 impl<'a> StatementTexts<'a> {
+    ghost use Rattle.binlog_statements.specs.Statements.{texts};
+
+    /// Reads the texts after this post-header from the start of `buf`, as `deserialize` does. The only error is
+    /// [`Error::EndOfBody`], if the bytes end before the statement.
+    #[inline(always)]
+    pub fn read(head: StatementHead, buf: &mut ParseBuf<'a>) -> Result<Self, Error>
+        ensures { Gives ⊥ buf.new result ((texts head).reads buf.old) }
+    {
+        let status_vars = StatusVars::read(head.status_vars_len, buf)?;
+        let schema = BareU8Bytes::read(usize::from(head.schema_len), buf)?;
+        if !buf.checked_skip(1) {
+            return Err(Error::EndOfBody);
+        }
+        let query = EofBytes::read((), buf)?;
+        Ok(StatementTexts {
+            status_vars,
+            schema: RawBytes::new(CowSlice::Borrowed(schema)),
+            query: RawBytes::new(CowSlice::Borrowed(query)),
+        })
+    }
+
     /// Sets the encoded status variables.
     pub fn with_status_vars(self, status_vars: CowSlice<'a, u8>) -> Self
         ensures { result ≡ record self.entry { status_vars = record { 0 = cow_slice_items status_vars.entry } } }
@@ -158,19 +194,11 @@ impl<'de> MyDeserialize<'de> for StatementTexts<'de> {
     ghost reads = { λ head. (texts head).reads };
 
     fn deserialize(
-        alloc: Global,
+        _alloc: Global,
         head: StatementHead,
         buf: &mut ParseBuf<'de>,
     ) -> Result<Self, Error> {
-        let status_vars = buf.parse(alloc, head.status_vars_len)?;
-        let schema = buf.parse(alloc, usize::from(head.schema_len))?;
-        buf.parse::<Skip<1>>(alloc, ())?;
-        let query = buf.parse(alloc, ())?;
-        Ok(StatementTexts {
-            status_vars,
-            schema,
-            query,
-        })
+        StatementTexts::read(head, buf)
     }
 }
 

@@ -8,7 +8,7 @@ ghost use Rattle.binlog_statements.specs.declared.layout.Layout.TheVariants.{Nam
 use crate::layout::TOO_MANY_NAMES;
 use crate::status_vars::StatusVar;
 use binlog_consts::StatusVarKey;
-use binlog_wire::{Error, NullBytes, ParseBuf, RawBytes, U8Bytes};
+use binlog_wire::{BytesRepr, Error, NullBytes, ParseBuf, RawBytes, U8Bytes};
 use byteorder::{ByteOrder, LittleEndian};
 use std::alloc::Global;
 use std::borrow::CowSlice;
@@ -261,12 +261,13 @@ fn two_texts<'a>(raw: &'a [u8]) -> (RawBytes<'a, U8Bytes>, RawBytes<'a, U8Bytes>
     (text(first), text(second))
 }
 
-/// The null-terminated names. The only error is [`Error::Memory`].
+/// The null-terminated names. Only their list is allocated. The only error is [`Error::Memory`].
 /// Not inlined: inlining costs the other values registers.
 #[inline(never)]
 fn names<'a>(alloc: Global, raw: &'a [u8]) -> Result<Vec<RawBytes<'a, NullBytes>>, Error>
     requires { IsWholeLen Names raw.now }
-    ensures { IfOk result (λ names. AreNames raw.now names.items) }
+    ensures ok { IfOk result (λ names. AreNames raw.now names.items) }
+    ensures memory { IsOkUnless result Memory }
 {
     let mut names = Vec::new(alloc);
     if raw[0] == TOO_MANY_NAMES {
@@ -275,8 +276,8 @@ fn names<'a>(alloc: Global, raw: &'a [u8]) -> Result<Vec<RawBytes<'a, NullBytes>
     let mut unread = ParseBuf(&raw[1..]);
     let mut left = raw[0];
     while left > 0 {
-        let name = unread.parse(alloc, ())?;
-        push_name(&mut names, name)?;
+        let name = NullBytes::read((), &mut unread)?;
+        push_name(&mut names, RawBytes::new(CowSlice::Borrowed(name)))?;
         left -= 1;
     }
     Ok(names)

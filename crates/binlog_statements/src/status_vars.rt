@@ -1,11 +1,13 @@
 //! The status variables of a statement: the session's settings that it depended on.
 ghost use Rattle.std.specs.Prelude.{◌≡◌, length, Some};
+ghost use Rattle.binlog_wire.specs.Reading.{Gives};
 ghost use Rattle.binlog_statements.specs.Layouts.{layout_of, value_len};
 
 use crate::layout::Layout;
 use binlog_consts::StatusVarKey;
-use binlog_wire::{BareU16Bytes, Error, MyDeserialize, ParseBuf, Put, RawBytes};
+use binlog_wire::{BareU16Bytes, BytesRepr, Error, MyDeserialize, ParseBuf, Put, RawBytes};
 use std::alloc::Global;
+use std::borrow::CowSlice;
 
 /// The encoded status variables of a statement: keys and values, of which the first 65,535 bytes are used.
 ///
@@ -17,8 +19,19 @@ pub struct StatusVars<'a>(pub RawBytes<'a, BareU16Bytes>);
 impl<'a> StatusVars<'a> {
     ghost use Rattle.std.specs.Prelude.{take, IfOk, IsOkUnless, MatchOption};
     ghost use Rattle.binlog_wire.specs.declared.error.Error.TheVariants.{Memory};
+    ghost use Rattle.binlog_statements.specs.Statements.{status_vars};
     ghost use Rattle.binlog_statements.specs.StatusVariables.{variables, HasNoKey, IsFirstOfKey};
     ghost use Rattle.binlog_statements.specs.StatusVars.{variable_of};
+
+    /// Reads as many bytes from the start of `buf`, as `deserialize` does. The only error is [`Error::EndOfBody`], if
+    /// fewer are left.
+    #[inline(always)]
+    pub(crate) fn read(len: u16, buf: &mut ParseBuf<'a>) -> Result<Self, Error>
+        ensures { Gives ⊥ buf.new result ((status_vars len).reads buf.old) }
+    {
+        let bytes = BareU16Bytes::read(usize::from(len), buf)?;
+        Ok(StatusVars(RawBytes::new(CowSlice::Borrowed(bytes))))
+    }
 
     /// Iterates over the variables.
     pub fn iter(&self) -> StatusVarsIterator<'_>
@@ -68,8 +81,8 @@ impl<'de> MyDeserialize<'de> for StatusVars<'de> {
 
     ghost reads = { λ len. (status_vars len).reads };
 
-    fn deserialize(alloc: Global, len: u16, buf: &mut ParseBuf<'de>) -> Result<Self, Error> {
-        Ok(StatusVars(buf.parse(alloc, usize::from(len))?))
+    fn deserialize(_alloc: Global, len: u16, buf: &mut ParseBuf<'de>) -> Result<Self, Error> {
+        StatusVars::read(len, buf)
     }
 }
 

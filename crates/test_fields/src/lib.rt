@@ -14,3 +14,5 @@ mod errors;
 mod integers;
 #[cfg(test)]
 mod numbers;
+#[cfg(test)]
+mod sizes;

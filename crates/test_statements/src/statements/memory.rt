@@ -258,6 +258,12 @@ fn copying_borrowed_status_variables_takes_no_memory(rt: HostRuntime) {
     assert!(rt; are_values_copied(rt.alloc(), NUMBERS) == Ok(true));
 }
 
+// One for the list of the two names, which stay borrowed.
+#[test]
+fn reading_names_of_databases_makes_one_allocation(rt: HostRuntime) {
+    assert!(rt; count_of_names(rt.alloc(), NAMES) == Ok(Some(2)));
+}
+
 // Whether the first of these status variables has an empty list of names.
 fn are_too_many_names(alloc: Global, text: &[u8]) -> bool {
     let wanted = StatusVarVal::UpdatedDbNames(Vec::new(alloc));

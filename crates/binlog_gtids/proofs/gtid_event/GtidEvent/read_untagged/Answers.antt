@@ -6,7 +6,7 @@ use Rattle.binlog_numbers.specs.Announced.{behind_at}
 use Rattle.binlog_gtids.specs.declared.gtid_event.GtidEvent.{GtidEvent}
 use Rattle.binlog_gtids.specs.Untagged.{Head, Clock, head, clock, untagged_of, with_clock, without_clock}
 use Rattle.binlog_gtids.specs.Formats.{untagged}
-use Rattle.binlog_gtids.proofs.untagged.read_untagged.Goals as goal
+use Rattle.binlog_gtids.proofs.gtid_event.GtidEvent.read_untagged.Goals as goal
 
 -- the bytes after the head
 abbrev whole : Read Head → Read GtidEvent
