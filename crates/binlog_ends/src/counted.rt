@@ -1,12 +1,11 @@
 //! A reader or a writer of the standard library whose failures are counted.
-ghost use Rattle.std.specs.Prelude.{◌≡◌, ◌<◌, ◌≤◌, ◌↔◌, ℕ, List, Option, Some, None, IsNone, IsSome, Ok, IsOk, IfOk, OnOk, OnErr, MatchResult, length, take, drop};
+ghost use Rattle.std.specs.Prelude.{◌≡◌, ◌<◌, ◌≤◌, ◌↔◌, ℕ, List, Option, Some, None, IsNone, IsSome, Ok, IsOk, IfOk, OnOk, OnErr, MatchResult, length, take};
 ghost use Rattle.std.specs.Io.KnownBytes.{Appends, Consumes, IsAtEnd, Keeps};
 ghost use Rattle.binlog_ends.specs.Counts.{after_failure, AppendsFront, CountsErr};
 
 use crate::failed::Failed;
 use crate::traits::{CountsFailures, ReadCounted, WriteCounted};
-use std::io;
-use std::io::{BufRead, ErrorKind, Write};
+use std::io::{ErrorKind, Read, Write};
 use std::marker::Model;
 
 /// A reader or a writer, with the number of its failures and the kind of the last one.
@@ -86,17 +85,15 @@ impl<T> CountsFailures for Counted<T> {
     }
 }
 
-impl<R: BufRead> ReadCounted for Counted<R> {
+impl<R: Read> ReadCounted for Counted<R> {
     ghost remaining = { λ counted. R.remaining counted.inner };
 
-    /// Copies what the reader shows, as far as there is room. The reader is asked once, and where it shows nothing the
-    /// input is at its end.
+    /// Reads by one call of `Read::read`, which has all of `buf`; where it reads nothing the input is at its end.
     fn read_some(&mut self, buf: &mut [u8]) -> Result<usize, Failed>
         ensures within { IfOk result (λ count. count ≤ length buf.new) }
         ensures took { IfOk result (λ count. Consumes (R.remaining self.old.inner) (R.remaining self.new.inner) (take count buf.new)) }
         ensures end { IfOk result (λ count. count ≡ 0 → 0 < length buf.old → IsAtEnd (R.remaining self.old.inner)) }
         ensures keeps { OnErr result (Keeps (R.remaining self.old.inner) (R.remaining self.new.inner)) }
-        ensures rest { MatchResult result (λ count. drop count buf.new ≡ drop count buf.old) (λ _. buf.new ≡ buf.old) }
         ensures empty { length buf.old ≡ 0 → result ≡ Ok 0 }
         ensures counts { CountsErr result self.old.failures self.new.failures }
         ensures unasked { length buf.old ≡ 0 → self.new ≡ self.old }
@@ -105,7 +102,7 @@ impl<R: BufRead> ReadCounted for Counted<R> {
         if buf.is_empty() {
             return Ok(0);
         }
-        match copy_shown(&mut self.inner, buf) {
+        match self.inner.read(buf) {
             Ok(count) => Ok(count),
             Err(error) => Err(self.fail(error.kind())),
         }
@@ -139,22 +136,6 @@ impl<W: Write> WriteCounted for Counted<W> {
             Err(error) => Err(self.fail(error.kind())),
         }
     }
-}
-
-// Copies what the reader shows, as far as there is room.
-fn copy_shown<R: BufRead>(input: &mut R, buf: &mut [u8]) -> io::Result<usize>
-    requires { 0 < length buf.old }
-    ensures took { IfOk result (λ count. Consumes (R.remaining input.old) (R.remaining input.new) (take count buf.new)) }
-    ensures within { IfOk result (λ count. count ≤ length buf.new) }
-    ensures end { IfOk result (λ count. count ≡ 0 → IsAtEnd (R.remaining input.old)) }
-    ensures rest { MatchResult result (λ count. drop count buf.new ≡ drop count buf.old) (λ _. buf.new ≡ buf.old) }
-    ensures keeps { OnErr result (Keeps (R.remaining input.old) (R.remaining input.new)) }
-{
-    let shown = input.fill_buf()?;
-    let count = shown.len().min(buf.len());
-    buf[..count].copy_from_slice(&shown[..count]);
-    input.consume(count);
-    Ok(count)
 }
 
 // Writes all of the bytes, by as many writes as it takes; refused where one fails or takes none of them.

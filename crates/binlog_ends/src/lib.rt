@@ -5,7 +5,7 @@
 //! is `Rose`, of `specs/Counts`, and [`laws`] has what follows from it.
 //!
 //! - [`ReadCounted`] reads, and [`WriteCounted`] writes. [`Failed`] comes exactly with a failure that was counted.
-//! - [`Counted`] makes one of any `BufRead` or `Write`, and keeps the kind of the last failure.
+//! - [`Counted`] makes one of any `Read` or `Write`, and keeps the kind of the last failure.
 //! - [`SliceReader`] reads bytes in memory, and never fails.
 //! - [`Retrying`] tries an interrupted call again. A file or a pipe is read through `Counted::new(Retrying::new(input))`.
 //!   Without it an interruption is a failure as any other.

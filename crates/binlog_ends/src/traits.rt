@@ -1,5 +1,5 @@
 //! What reads and writes, and counts its failures.
-ghost use Rattle.std.specs.Prelude.{◌≡◌, ℕ, List, [], Option, None, Ok, length, take, drop, ◌<◌, ◌≤◌, IfOk, OnOk, OnErr, IsOk, MatchResult};
+ghost use Rattle.std.specs.Prelude.{◌≡◌, ℕ, List, [], Option, None, Ok, length, take, ◌<◌, ◌≤◌, IfOk, OnOk, OnErr, IsOk};
 ghost use Rattle.std.specs.Io.KnownBytes.{Appends, Consumes, IsAtEnd, Keeps};
 ghost use Rattle.binlog_ends.specs.Counts.{CountsErr, AppendsFront};
 
@@ -21,16 +21,15 @@ pub trait ReadCounted: CountsFailures {
     ghost remaining: { Self → Option (List ℕ) } = { λ _. None };
 
     /// Reads the next bytes into the front of `buf`, as many as are at hand, and answers how many: 0 only at the end of the
-    /// input, or where `buf` is empty. What stands in `buf` behind them stays.
+    /// input, or where `buf` is empty. What `buf` holds behind them isn't known then.
     ///
-    /// An empty `buf` asks the reader nothing. [`Failed`] comes exactly with a failure, which is counted then; nothing is
-    /// read, and `buf` stays.
+    /// An empty `buf` asks the reader nothing. [`Failed`] comes exactly with a failure, which is counted then, and nothing
+    /// is read.
     fn read_some(&mut self, buf: &mut [u8]) -> Result<usize, Failed>
         ensures within { IfOk result (λ count. count ≤ length buf.new) }
         ensures took { IfOk result (λ count. Consumes (remaining self.old) (remaining self.new) (take count buf.new)) }
         ensures end { IfOk result (λ count. count ≡ 0 → 0 < length buf.old → IsAtEnd (remaining self.old)) }
         ensures keeps { OnErr result (Keeps (remaining self.old) (remaining self.new)) }
-        ensures rest { MatchResult result (λ count. drop count buf.new ≡ drop count buf.old) (λ _. buf.new ≡ buf.old) }
         ensures empty { length buf.old ≡ 0 → result ≡ Ok 0 }
         ensures counts { CountsErr result (Self.failures self.old) (Self.failures self.new) };
 }
