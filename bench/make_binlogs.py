@@ -1,13 +1,13 @@
 #!/usr/bin/env python3
-"""Makes the binlogs of the benchmark; those that are there already stay.
+"""Makes the binlogs of the benchmark; files that exist already stay.
 
 Usage: make_binlogs.py FOLDER
 
-Of each kind there is a large file (500 MB) for times and a small one (5 MB)
-for instruction counts, and a start file, `start.binlog` or, of the kinds whose
-events have checksums, `start_crc32.binlog`, that holds only what every file of
-the kind begins with. Of a kind with table maps the start file, `start_KIND.binlog`,
-also holds the first transaction of each table. The contents are the same in every run.
+For each kind there is a large file (500 MB) for times and a small one (5 MB)
+for instruction counts, and a start file, `start.binlog` or, if the events of
+the kind have checksums, `start_crc32.binlog`, which has only what every file of
+the kind begins with. For a kind with table maps the start file, `start_KIND.binlog`,
+also has the first transaction of each table. The contents are the same in every run.
 """
 
 import random
@@ -33,14 +33,14 @@ U32_RANGE = 2**32
 
 SERVER_VERSION = 90_200
 
-# How many table maps are in force in a log whose row events have table maps.
+# The number of table maps in force in a log whose row events have table maps.
 MAPPED_TABLES = [1, 100, 10_000]
 
 CRC32_ALGORITHM = b"\1"
 CHECKSUM = struct.Struct("<I")
 
 
-# A kind is a function that gives the events of one block, which repeats.
+# A kind is a function that makes the events of one block, which repeats.
 
 
 def statement_events(generator):
@@ -92,7 +92,7 @@ def maps_kind(tables):
 
 
 def mapped_row_events(tables):
-    """Transactions, each a table map of 50 bytes and a row event of some 115; the tables take turns."""
+    """Transactions, each a table map of 50 bytes and a row event of some 115; the tables alternate."""
 
     def events(generator):
         for number in range(max(tables, 2048)):
@@ -105,7 +105,7 @@ def mapped_row_events(tables):
 
 
 def table_map_body(table):
-    """A table of a number and a text; the number is without a sign, and the text of the character set 45."""
+    """A table with an unsigned number and a text of character set 45."""
     database, name = b"test", b"t%d" % table
     return b"".join(
         [
@@ -119,7 +119,7 @@ def table_map_body(table):
 
 
 def gtid_times(generator):
-    """The immediate time, in microseconds, and an original one, which half of the time is another."""
+    """The immediate timestamp, in microseconds, and an original one, which differs half of the time."""
     immediate = make_sample.TIMESTAMP * 1_000_000 + generator.randrange(10**9)
     return immediate, immediate - generator.choice([0, generator.randrange(1, 10**6)])
 
@@ -165,7 +165,7 @@ def payload_size(others):
 
 
 def variable(number):
-    """As few bytes as hold it; the low ones of the first say how many bytes follow it."""
+    """In the fewest bytes; the low bits of the first byte state how many bytes follow it."""
     count = max(1, -(-number.bit_length() // 7))
     if count > 8:
         return b"\xff" + number.to_bytes(8, "little")
@@ -173,12 +173,12 @@ def variable(number):
 
 
 def signed(number):
-    """One that isn't negative."""
+    """A signed variable-length integer, of a number that isn't negative."""
     return variable(2 * number)
 
 
 def length_encoded(number):
-    """One from 251 on, and below 2^24."""
+    """A length-encoded number from 251 on, and below 2^24."""
     if number < 1 << 16:
         return b"\xfc" + number.to_bytes(2, "little")
     return b"\xfd" + number.to_bytes(3, "little")
@@ -206,7 +206,7 @@ def start_name(kind):
 
 
 def make_start(folder, kind):
-    """What every file of a kind begins with; of one with table maps, the first transaction of each table too."""
+    """The start of every file of a kind; with table maps, the first transaction of each table too."""
     first = list(islice(KINDS[kind](random.Random(kind)), 2 * tables_of(kind)))
     length = len(file_start(kind)) + sum(map(len, first))
     write_binlog(folder / start_name(kind), kind, first, length)
@@ -266,7 +266,7 @@ def with_room_for_checksum(one):
 
 
 def set_checksums(block, ends):
-    """The last four bytes of each event become the CRC-32 of those before."""
+    """Replaces the last four bytes of each event by the CRC-32 of those before."""
     start = 0
     with memoryview(block) as view:
         for end in ends:
@@ -321,7 +321,7 @@ def set_positions(block, ends, block_start):
 
 
 def used_length(ends, wanted):
-    """The end of the first event with which at least `wanted` bytes are there."""
+    """The end of the first event that ends at or after `wanted`."""
     return next((end for end in ends if end >= wanted), ends[-1])
 
 

@@ -1,12 +1,12 @@
 #!/usr/bin/env python3
-"""Measures the lines of JSON beside `mariadb-binlog`, which prints the same statements; prints a Markdown table.
+"""Measures `binlog_json` and `mariadb-binlog`, which prints the same statements; prints a Markdown table.
 
 Usage: measure_json.py [PROGRAM [FOLDER]]
 
 PROGRAM is the built binlog_json if not given. FOLDER, `work` beside this file if not given, holds the files of
-make_binlogs.py, and those of statements are made where they are missing. `mariadb-binlog` is of Debian's package
-`mariadb-client`; it refuses the other kinds, which are events of MySQL. Times are of the processor, the best of 5, the two
-in turns, output to /dev/null.
+make_binlogs.py; those of statements are made if they are missing. `mariadb-binlog` is part of Debian's package
+`mariadb-client`; it refuses the other kinds, which are events of MySQL. Times are processor times, the best of 5, the two
+in turns, with output to /dev/null.
 """
 
 import os
@@ -26,7 +26,7 @@ COLUMNS = [
 
 
 def seconds(command, path=None):
-    """How long the command takes on the processor."""
+    """The processor time of the command."""
     with open(path or os.devnull, "rb") as file:
         process = subprocess.Popen(command, stdin=file, stdout=subprocess.DEVNULL)
         _, status, usage = os.wait4(process.pid, 0)
@@ -37,7 +37,7 @@ def seconds(command, path=None):
 
 
 def instructions(command, path):
-    """The instructions of a run, or None where valgrind is missing."""
+    """The instructions of a run, or None if valgrind is missing."""
     command = ["valgrind", "--tool=callgrind", "--callgrind-out-file=/dev/null", *command]
     try:
         with open(path, "rb") as file:

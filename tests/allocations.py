@@ -1,17 +1,18 @@
 #!/usr/bin/env python3
-"""Watches what the programs and the tests allocate, and that they free it.
+"""Checks the allocations of the programs and the tests, and that all memory is freed.
 
 Usage: allocations.py
 
-The programs and tests are those that are built in crates/NAME/out. Further events take one buffer each where they are
-owned (probe_owned_events), and nothing where they are borrowed (binlog_list, binlog_json, bench_write_back), also where
-statements and their status variables are read (bench_typed), nor does a checksum. A description that comes into force, and
-a table map, is copied once: one allocation for each of its texts that isn't empty, and one for the description.
+The programs and tests are those that are built in crates/NAME/out. Each further event takes one buffer if it is owned
+(probe_owned_events), and nothing if it is borrowed (binlog_list, binlog_json, bench_write_back), even if statements and
+their status variables are read (bench_typed). Checksums take nothing. A format description that comes into force, and a
+table map, is copied once: one allocation for each of its texts that isn't empty, and one for the description.
 
-No allocation of a program is larger than what came and 65,536 bytes; a table of table maps may have 12 bytes for each byte
-that came. All is freed when a program or a test ends. Where a header states 4,294,967,295 bytes and few have come,
-in pieces of 20, no allocation of a program grows by more than 65,536 bytes, and none of a test does in whose name the word
-`boundless` stands. The last line is `N passed, M failed`; the exit status is 1 if something failed. Without the C compiler
+No allocation of a program is larger than the bytes that came and 65,536 more; the vector of table maps may have 12 bytes
+for each byte that came. All memory is freed when a program or a test ends. Where a header states 4,294,967,295 bytes and
+few come, 20 at a time, no allocation of a program grows by more than 65,536 bytes, nor does one of a test whose name
+contains `boundless`. The last line is `N passed, M failed`; the exit status is 1 if something failed. Without the C
+compiler
 `cc` nothing is run, and both numbers are 0.
 """
 
@@ -38,7 +39,7 @@ def table_map(table_id):
 
 
 def statement_of(count):
-    """A statement that names so many databases."""
+    """A statement that names this many databases."""
     variables = bytes([0x0C, count]) + count * b"a\0"
     head = struct.pack("<IIBHH", 1, 0, 0, 0, len(variables))
     return make_sample.frame(make_sample.QUERY, head + variables + b"\0q", 0)
@@ -51,9 +52,9 @@ DESCRIPTION = make_sample.file_start()[len(MAGIC) :]
 
 
 class Log(NamedTuple):
-    """What a log begins with, the event of each number behind it, how many allocations each of these takes to be kept,
-    how many more where the event is owned, and by how many steps a table grows meanwhile. They aren't counted where a
-    program may list what stands in an event."""
+    """The start of a log, the event of each index after it, the allocations that each event takes to be kept in force,
+    those that it takes in addition if it is owned, and the growths of a vector meanwhile. They aren't counted where a
+    program may list the contents of an event."""
 
     start: bytes
     event: Callable
@@ -72,10 +73,10 @@ LOGS = {
     "events under a description": Log(make_sample.file_start(), lambda _: PLAIN_EVENT),
     "statements": Log(make_sample.file_start(), lambda _: STATEMENT),
     "events with checksums": Log(MAGIC + checksummed_sample.description(), lambda _: CHECKSUMMED_EVENT),
-    # The names, the types and the null bits; there are no metadata.
+    # The names, the types and the null bits; there is no metadata.
     "table maps": Log(MAGIC, table_map, kept=4, growths=8),
     "one table map": Log(MAGIC + table_map(7), lambda _: table_map(7)),
-    # The version, the lengths and the description itself, and the same for the description under which an event stands.
+    # The version, the lengths and the description itself, and the same for the description under which an event is read.
     "descriptions": Log(MAGIC, lambda _: DESCRIPTION, kept=3, owned=3),
     "statements that name databases": Log(MAGIC, lambda _: statement_of(100), is_counted=False),
 }
@@ -89,18 +90,18 @@ WHOLE_LOGS = {
     "each body, cut": json_sample.sample()[:-1],
 }
 
-# How many allocations each program makes for a further event.
+# The number of allocations that each program makes for a further event.
 PROGRAMS = {"binlog_list": 0, "binlog_json": 0, "bench_write_back": 0, "bench_typed": 0, "probe_owned_events": 1}
 
-# The programs that hold a whole log, of which memory may have twice the bytes, and one that prints texts of its own.
+# The programs that hold a whole log, for which a buffer may have twice the bytes, and others.
 HOLDING = {"probe_slice_listing"}
 OTHERS = HOLDING | {"probe_typed_events", "bench_reading"}
 
-# The bytes that a table of table maps may take for each byte of a log: an entry of 216 bytes for an event of 37 bytes, and
-# twice as many as there are.
+# The bytes that the vector of table maps may take for each byte of a log: an entry of 216 bytes for an event of 37 bytes,
+# and twice as many entries as there are events.
 OF_TABLE_MAPS = 12
 
-# The bytes by which an allocation may grow at a time, and those that a read gives where it gives pieces.
+# The most bytes by which an allocation may grow at a time, and the bytes that come at a time.
 LARGEST_GROWTH = 65_536
 PIECE = 20
 
@@ -114,7 +115,7 @@ BOUNDLESS_LOGS = {
 
 
 def counts(name, log, few, many, for_each):
-    """None if each further event makes so many further allocations, else what is wrong."""
+    """None if each further event makes as many further allocations as it should, else what is wrong."""
     further = len(many.allocations) - len(few.allocations)
     wanted = (for_each + log.kept + for_each * log.owned) * (MANY - FEW)
     if wanted <= further <= wanted + log.growths:
@@ -151,7 +152,7 @@ def whole_log_failures(watch, name):
 
 
 def run_over_pieces(watch, command, content):
-    """A run over an input of which each read gives at most a piece."""
+    """A run over an input that gives at most PIECE bytes for each read."""
     sending, receiving = socket.socketpair(socket.AF_UNIX, socket.SOCK_SEQPACKET)
     with sending, receiving:
         for start in range(0, len(content), PIECE):
@@ -169,7 +170,7 @@ def growth_failure(name, run):
 
 
 def total_failure(name, run, came):
-    """None if no allocation is larger than what came and one growth, else what is wrong."""
+    """None if no allocation is larger than the bytes that came and one growth, else what is wrong."""
     largest = max((new for _, new in run.allocations), default=0)
     if largest <= came + LARGEST_GROWTH:
         return None

@@ -1,4 +1,4 @@
-"""Bodies of every type of event, and copies of them that are cut, changed, or longer by a byte."""
+"""Bodies of every event type, and copies of them that are cut, changed, or longer by a byte."""
 
 import make_sample
 import statements_sample
@@ -54,7 +54,7 @@ BODIES = [
 
 
 def copies(body):
-    """The body, its fronts, each byte inverted or one more, and one byte behind it."""
+    """The body, its prefixes, each byte inverted or increased by one, and one byte after it."""
     yield body
     for length in range(len(body)):
         yield body[:length]
@@ -70,6 +70,6 @@ def damaged_events(number, body):
 
 
 def every_type():
-    """Events of each number with few bytes."""
+    """Events of each type number with few bytes."""
     bodies = (b"", b"\x07", bytes(3), bytes(8), bytes(40))
     return b"".join(make_sample.frame(number, body, 0) for number in range(256) for body in bodies)

@@ -15,10 +15,10 @@ from make_sample import SERVER_ID, SUPPRESS_USE, TIMESTAMP, XID, XID_BODY, query
 OFF, CRC32 = 0, 1
 CHECKSUM_LENGTH = 4
 
-IN_USE = 0x1  # flag of the description of a log that is not closed, cleared under its checksum
+IN_USE = 0x1  # flag of the description of a log that is not closed; cleared in the checksummed bytes
 FLAGS_OFFSET = 17
 
-# Post-header lengths of the types from 1 on, as the server states them.
+# Post-header lengths of the types from 1 on, as a server states them.
 POST_HEADER_LENGTHS = bytes.fromhex(
     "38 0d 00 08 00 12 00 04 04 04 04 12 00 00 5f 00 04 1a 08 00 00 00 08 08 08"
     "02 00 00 00 0a 0a 0a 2a 2a 00 12 34 00"
@@ -26,7 +26,7 @@ POST_HEADER_LENGTHS = bytes.fromhex(
 
 
 def crc32(event):
-    """The checksum of an event's bytes in front of it."""
+    """The checksum of the bytes of an event before it."""
     cleared = bytes([event[FLAGS_OFFSET] & ~IN_USE])
     return struct.pack("<I", zlib.crc32(event[:FLAGS_OFFSET] + cleared + event[FLAGS_OFFSET + 1 :]))
 
@@ -46,7 +46,7 @@ def description_body(
 
 
 def event(type_number, body, log_pos=0, flags=0):
-    """An event with its checksum behind the body."""
+    """An event with its checksum after the body."""
     size = HEADER.size + len(body) + CHECKSUM_LENGTH
     front = HEADER.pack(TIMESTAMP, type_number, SERVER_ID, size, log_pos, flags) + body
     return front + crc32(front)

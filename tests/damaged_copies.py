@@ -1,7 +1,7 @@
 #!/usr/bin/env python3
 """Compares the listing program and the listing over a slice with the model on samples and damaged copies of them.
 
-Of encoded events the encoder says, too, what their listing and their lines of JSON are.
+The encoder also gives the listing and the lines of JSON of the events that it encodes.
 
 Usage: damaged_copies.py [--json] [PROGRAM [SAMPLE]]
 
@@ -39,7 +39,7 @@ HEADER_LENGTH = listing_model.HEADER_LENGTH
 SIZE_OFFSET = 9
 
 
-# A case is a name and the bytes of a file, and what has to be printed where the encoder says it.
+# A case is a name, the bytes of a file, and what has to be printed if the encoder gives it.
 
 
 def no_change(sample):
@@ -56,7 +56,7 @@ def with_byte(sample, position, value):
 
 
 def changed_bytes(sample):
-    """Every byte inverted, and every byte changed by a value that goes with its place."""
+    """Every byte inverted, and every byte changed by a value that depends on its position."""
     for position, byte in enumerate(sample):
         inverted = byte ^ 0xFF
         # From 1 to 254: neither the byte itself nor the inverted byte.
@@ -75,7 +75,7 @@ def frame_starts(sample):
 
 
 def changed_sizes(sample):
-    """Sizes at the edges: what a frame needs at least, and one off the true size."""
+    """Sizes around the least size of a frame, and one off the true size."""
     for start in frame_starts(sample):
         position = start + SIZE_OFFSET
         true_low_byte = sample[position]
@@ -85,7 +85,7 @@ def changed_sizes(sample):
 
 
 def frame(size, length=None, fill=0):
-    """A header that says `size`, cut or filled to `length` bytes (`size` if not given)."""
+    """A header that states `size`, cut or filled to `length` bytes (`size` if not given)."""
     header = make_sample.HEADER.pack(1, 2, 3, size, 4, 0x00AF)
     length = size if length is None else length
     return header[:length].ljust(length, bytes([fill]))
@@ -156,7 +156,7 @@ def whole_files(sample):
 DESCRIPTION = make_sample.FORMAT_DESCRIPTION
 EVENT = frame(40, fill=0xC5)
 
-# Texts at the edges of the rule for the first server version with checksums, 5.6.1.
+# Server versions at the edges of the rule for the first one with checksums, 5.6.1.
 SERVER_VERSIONS = [
     b"",
     b".6.1",
@@ -208,7 +208,7 @@ def stated_descriptions():
 
 
 def cut_description(length, server_version):
-    """A description of so many bytes behind its header, all its own."""
+    """A description with this many bytes after its header."""
     body = checksummed_sample.description_body(server_version)
     return make_sample.frame(DESCRIPTION, body[:length].ljust(length, b"\x01"), 0)
 
@@ -222,7 +222,7 @@ def cut_descriptions():
 
 
 def changes_of_description():
-    """A description behind others, each followed by events that it may cut."""
+    """Descriptions after other ones, each followed by events that it may cut."""
     events = EVENT + short_events()
     descriptions = {
         "with checksums": checksummed_sample.description(),
@@ -238,7 +238,7 @@ def changes_of_description():
 
 
 def rotates():
-    """Rotates of few bytes, without and with checksums, each with an event behind it."""
+    """ROTATE events of few bytes, without and with checksums, each with an event after it."""
     for length in range(20):
         rotate = make_sample.frame(make_sample.ROTATE, b"\x04".ljust(length, b"\0")[:length], 0)
         yield f"a rotate of {length} bytes", MAGIC + rotate + EVENT
@@ -248,7 +248,7 @@ def rotates():
 # A table map of id 5: the table `t` of the database `d`, with one column.
 TABLE_MAP_BODY = bytes.fromhex("05 00 00 00 00 00 01 00 01 64 00 01 74 00 01 03 00 01")
 
-# The same of 20 columns, whose types leave something open, with optional metadata.
+# The same with 20 columns, of types that have metadata, and with optional metadata.
 LONG_TABLE_MAP_BODY = b"".join(
     [
         bytes.fromhex("06 00 00 00 00 00 01 00 01 64 00 01 75 00"),
@@ -265,7 +265,7 @@ def table_map(body):
 
 
 def rows_log():
-    """A log of rows: table maps, events of rows, and a rotate that clears the maps."""
+    """A log of rows: table maps, row events, and a ROTATE that clears the maps."""
     rows = make_sample.frame(30, bytes.fromhex("05 00 00 00 00 00 01 00 02 00 01 01 fe 07"), 0)
     rotate = make_sample.frame(make_sample.ROTATE, make_sample.ROTATE_BODY, 0)
     maps = table_map(TABLE_MAP_BODY) + table_map(LONG_TABLE_MAP_BODY)
@@ -274,7 +274,7 @@ def rows_log():
 
 
 def short_table_maps():
-    """Each front of a table map, without and with a checksum, and with one more byte."""
+    """Each prefix of a table map, without and with a checksum, and one with a byte more."""
     for body in (TABLE_MAP_BODY, LONG_TABLE_MAP_BODY):
         for length in range(len(body) + 1):
             front = table_map(body[:length])
@@ -284,7 +284,7 @@ def short_table_maps():
 
 
 def counted_table_maps():
-    """Table maps whose count of columns is spelled otherwise, or is none."""
+    """Table maps whose column count has another encoding, or is malformed."""
     before, behind = TABLE_MAP_BODY[:14], TABLE_MAP_BODY[15:]
     for count in ("fa", "fb", "fc 01 00", "fd 01 00 00", "fe 01" + 7 * " 00", "ff", "fc ff ff", "fe" + 8 * " ff"):
         content = MAGIC + table_map(before + bytes.fromhex(count) + behind) + EVENT
@@ -311,7 +311,7 @@ def table_maps():
     yield from stated_table_maps()
 
 
-# Lengths of post-headers that a description states: none, a server's, and the same for each type.
+# Post-header lengths that a description states: none, a server's, and the same one for each type.
 STATED_LENGTHS = {
     "no": b"",
     "a server's": checksummed_sample.POST_HEADER_LENGTHS,
@@ -320,7 +320,7 @@ STATED_LENGTHS = {
 
 
 def event_data():
-    """Events of each type, and damaged copies of them, under descriptions that state other lengths."""
+    """Events of each type, and damaged copies of them, under descriptions with other lengths."""
     for name, lengths in STATED_LENGTHS.items():
         start = MAGIC + checksummed_sample.description(
             algorithm=checksummed_sample.OFF, type_header_lengths=lengths
@@ -331,7 +331,7 @@ def event_data():
             yield case, start + bodies_sample.damaged_events(number, body)
 
 
-# Texts with characters that JSON escapes, of one to four bytes, and bytes that are no text.
+# Texts with characters that JSON escapes, of one to four bytes, and bytes that aren't UTF-8.
 TEXTS = [
     *(bytes([byte]) for byte in range(256)),
     bytes(range(128)),
@@ -347,7 +347,7 @@ TEXTS = [
 
 
 def texts():
-    """Statements of these texts, and rotates to files of these names."""
+    """Statements with these texts, and ROTATE events with these file names."""
     for text in TEXTS:
         body = make_sample.query_body(text[:255], text)
         query = make_sample.frame(make_sample.QUERY, body, 0)
@@ -356,7 +356,7 @@ def texts():
 
 
 def encoded(is_json):
-    """Logs of encoded events with what the encoder says of them, and logs of damaged copies."""
+    """Logs of encoded events with the encoder's output for them, and logs of damaged copies."""
     for log in encoded_logs.logs():
         stated = log.lines if is_json else log.listing
         yield (log.name, log.content) if stated is None else (log.name, log.content, stated)
@@ -438,7 +438,7 @@ def read_arguments():
 
 
 def compared(arguments):
-    """The program, and the listing over a slice beside the one over a file."""
+    """The program; for the listing also the one over a slice."""
     return [arguments.program] if arguments.json else [arguments.program, SLICE_PROGRAM]
 
 

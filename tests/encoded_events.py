@@ -1,14 +1,14 @@
-"""An encoder of events: from plain values it makes a body and the object of its line of JSON.
+"""An encoder of events: from plain values it makes a body and the `data` object of its JSON line.
 
 Written from the formats of the bodies and of the lines, on its own: nothing here reads bytes. A
-text is a string, or bytes where they aren't UTF-8. Parameters are also what says nothing in a
-body, and which of several spellings a number has.
+text is a string, or bytes if it isn't UTF-8. The parameters also give the reserved bytes of a
+body, and which of several encodings a number has.
 """
 
 from collections import namedtuple
 from uuid import UUID
 
-# The type and its name, the body, and what a line of JSON says of it.
+# The event type and its name, the body, and the `data` object of the JSON line.
 Event = namedtuple("Event", "type name body data")
 
 KEPT_NAMES = {
@@ -37,7 +37,7 @@ IGNORED_NAMES = {
 }
 UNKNOWN_TYPES = [41, *range(44, 256)]
 
-# The number, the name, and whether there are an image before and one after.
+# The type number, the name, and whether there are a before image and an after image.
 ROWS_KINDS = [
     (23, "WRITE_ROWS_EVENT_V1", False, True),
     (24, "UPDATE_ROWS_EVENT_V1", True, True),
@@ -48,10 +48,10 @@ ROWS_KINDS = [
     (39, "PARTIAL_UPDATE_ROWS_EVENT", True, True),
 ]
 
-# Those that keep no extra bytes.
+# The older types, which keep no extra bytes.
 OLDER_ROWS = (23, 24, 25)
 
-# The numbers among the status variables: key and width.
+# The status variables that are numbers: key and width.
 NUMBER_VARIABLES = {
     "Flags2": (0, 4),
     "SqlMode": (1, 8),
@@ -68,7 +68,7 @@ NUMBER_VARIABLES = {
 UNDEFINED_VERSION = 999_999
 
 
-# ---- spellings
+# ---- encodings
 
 
 def number(value, width):
@@ -88,7 +88,7 @@ def counted(text, width=1):
 
 
 def length_encoded(value, width=None):
-    """In so many bytes behind the mark, or 1 without one; where no width is given, the shortest."""
+    """In `width` bytes after the prefix, or in 1 without one; by default in the fewest bytes."""
     if width is None:
         bounds = ((1, 251), (2, 1 << 16), (3, 1 << 24))
         width = next((width for width, bound in bounds if value < bound), 8)
@@ -97,7 +97,7 @@ def length_encoded(value, width=None):
 
 
 def variable(value, width=None):
-    """In so many bytes, 9 with a mark of `ff`; where no width is given, the shortest."""
+    """In `width` bytes, of which 9 begin with `ff`; by default in the fewest bytes."""
     if width is None:
         width = next((width for width in range(1, 9) if value < 1 << 7 * width), 9)
     if width == 9:
@@ -106,7 +106,7 @@ def variable(value, width=None):
 
 
 def bits(flags, fill=False):
-    """One bit for each flag, the least first; the bits behind the last one's are filled."""
+    """One bit for each flag, least significant first; the bits after the last one are `fill`."""
     padded = [*flags, *(-len(flags) % 8 * [fill])]
     return number(sum(flag << place for place, flag in enumerate(padded)), len(padded) // 8)
 
@@ -115,7 +115,7 @@ def uuid(source):
     return str(UUID(bytes=source))
 
 
-# ---- status variables: the bytes, and the member of the list
+# ---- status variables: the bytes, and the element of the JSON array
 
 
 def status_variable(key, name, content, value):
@@ -185,9 +185,9 @@ def explicit_defaults(byte):
 
 
 def statement(head, load, *, status_vars=(), tail=b"", schema="", text="", between=0):
-    """What queries and load queries share: a body whose head ends with `load`, and the members.
+    """The common part of QUERY and EXECUTE_LOAD_QUERY: a body whose head ends with `load`, and its members.
 
-    `tail` stands behind the whole status variables and is none.
+    `tail` comes after the last whole status variable, and isn't one.
     """
     status = b"".join(content for content, _ in status_vars) + tail
     body = number(head["thread_id"], 4) + number(head["execution_time"], 4)
@@ -201,14 +201,14 @@ def statement(head, load, *, status_vars=(), tail=b"", schema="", text="", betwe
 
 
 def query(*, thread_id=0, execution_time=0, error_code=0, skipped=b"", **texts):
-    """`skipped` stands behind the head where the description states as many bytes more."""
+    """`skipped` comes after the head, if the description states a longer post-header."""
     head = {"thread_id": thread_id, "execution_time": execution_time, "error_code": error_code}
     body, data = statement(head, skipped, **texts)
     return Event(2, "QUERY_EVENT", body, data)
 
 
 def execute_load_query(*, ids, file_id, start_pos, end_pos, dup_handling, **texts):
-    """`ids` are the thread, the time and the error."""
+    """`ids` are the thread id, the execution time and the error code."""
     thread_id, execution_time, error_code = ids
     head = {
         "thread_id": thread_id,
@@ -240,7 +240,7 @@ def rows_query(*, text, skipped=0):
 def format_description(
     *, binlog_version=4, server_version, hidden=b"", create_timestamp=0, lengths=b"", algorithm=None
 ):
-    """`hidden` stands behind the version's first zero byte. A footer belongs to the frame."""
+    """`hidden` comes after the version's first zero byte. A footer is part of the frame."""
     version = bytes_of(server_version) + (b"\0" + hidden if hidden else b"")
     body = number(binlog_version, 2) + version.ljust(50, b"\0") + number(create_timestamp, 4)
     data = {
@@ -270,7 +270,7 @@ def rand(*, seed1, seed2):
 
 
 def xid(*, value, skipped=b""):
-    """`skipped` stands before the number where the description states as many bytes."""
+    """`skipped` is the post-header, whose length the description states."""
     return Event(16, "XID_EVENT", skipped + number(value, 8), {"xid": value})
 
 
@@ -296,7 +296,7 @@ def null_user_var(*, name, null=1):
 
 
 def user_var(*, name, value_type, charset_number, value, flags=None):
-    """Without flags the byte of the flags isn't there."""
+    """Without flags there is no flags byte."""
     body = counted(name, 4) + b"\0" + value_type.to_bytes(1, "little", signed=True)
     body += number(charset_number, 4) + counted(value, 4)
     body += b"" if flags is None else number(flags, 1)
@@ -317,7 +317,7 @@ def unknown(number_of_type, body):
 
 
 def refused(event, body, error):
-    """An event of this type with a body that isn't one of the type."""
+    """An event of this type with a body that is malformed."""
     return event._replace(body=body, data={"error": error})
 
 
@@ -327,7 +327,7 @@ GTID_TYPES = {33: "GTID_EVENT", 34: "ANONYMOUS_GTID_EVENT", 42: "GTID_TAGGED_LOG
 
 
 def gtid_data(values):
-    """The members of a GTID of these values; what isn't there has its default."""
+    """The members of a GTID with these values; absent ones have their defaults."""
     time = values.get("immediate_commit_timestamp", 0)
     version = values.get("immediate_server_version", UNDEFINED_VERSION)
     defaults = {
@@ -350,7 +350,7 @@ def gtid_data(values):
 
 
 def with_original(values, name, width):
-    """An immediate value, whose top bit says whether the original one follows, and that one."""
+    """An immediate value, whose top bit states whether the original one follows, and the original one."""
     immediate, original = values.get(f"immediate_{name}"), values.get(f"original_{name}")
     if immediate is None:
         return b""
@@ -360,9 +360,9 @@ def with_original(values, name, width):
 
 
 def parts_behind_clock(parts, length_width):
-    """The times, the transaction's length and the versions, each where it is given.
+    """The timestamps, the transaction length and the versions, each if it is given.
 
-    Which of them are read goes by the bytes that are left, so not every choice can be read.
+    Which of them are read depends on how many bytes are left, so not every choice can be read.
     """
     times = with_original(parts, "commit_timestamp", 7)
     length = length_encoded(parts["tx_length"], length_width) if "tx_length" in parts else b""
@@ -373,7 +373,7 @@ def parts_behind_clock(parts, length_width):
 
 
 def gtid(type_number, *, flags=0, sid, gno, clock=None, length_width=None, **parts):
-    """A GTID without a tag; `clock` are the last committed one's number and the sequence number."""
+    """A GTID without a tag; `clock` are `last_committed` and `sequence_number`."""
     body = number(flags, 1) + sid + number(gno, 8)
     values = {"flags": flags, "sid": sid, "gno": gno}
     if clock is not None:
@@ -385,7 +385,7 @@ def gtid(type_number, *, flags=0, sid, gno, clock=None, length_width=None, **par
     return Event(type_number, GTID_TYPES[type_number], body, gtid_data(values))
 
 
-# The ids of the fields of a GTID with a tag, in their order.
+# The fields of a GTID with a tag, in the order of their ids.
 TAGGED_FIELDS = [
     "flags",
     "sid",
@@ -413,7 +413,7 @@ def tagged_field(name, value, width=None):
 
 
 def counting_itself(behind, width):
-    """The size of these bytes, of one before it, and of itself, in the least width or this one."""
+    """The size of these bytes, of one before it and of itself; in `width` bytes, by default in the fewest."""
     for own in range(1, 10) if width is None else [width]:
         size = 1 + own + len(behind)
         if own == 9 or size < 1 << 7 * own:
@@ -422,7 +422,7 @@ def counting_itself(behind, width):
 
 
 def tagged_gtid(fields, *, last=0, ignorable=b"", size_width=None, width=None):
-    """The fields as they stand, the later of two counts; behind them what may be ignored."""
+    """The fields in this order; the last one of an id counts. `ignorable` comes after them."""
     behind = variable(last, width) + b"".join(tagged_field(*field, width) for field in fields)
     behind += ignorable
     body = b"\2" + counting_itself(behind, size_width) + behind
@@ -440,9 +440,9 @@ def intervals_of_entry(intervals):
 
 
 def previous_gtids(entries, *, form=None, low_byte=0):
-    """Entries are a source's id, a tag or None, and pairs of numbers.
+    """Each entry is a SID, a tag or None, and pairs of numbers.
 
-    A form is the top byte of those that have a place for tags.
+    `form` is the top byte of the form with tags.
     """
     head = len(entries) if form is None else form << 56 | len(entries) << 8 | low_byte
     body, sids = number(head, 8), []
@@ -456,8 +456,8 @@ def previous_gtids(entries, *, form=None, low_byte=0):
 # ---- rows
 
 
-# How a table map is spelled: the width of its id and of its lengths, the bytes that say nothing,
-# and the bits behind the last column's.
+# The encoding of a table map: the width of its id and of its lengths, the reserved bytes,
+# and the bits after the last column's.
 Spelling = namedtuple("Spelling", "id_width width between fill", defaults=[None, 0, False])
 
 
@@ -485,7 +485,7 @@ def table_map(
 
 
 def rows(kind, spelling, *, table_id, flags, extra, before, after, content):
-    """`extra` is the count of extra bytes, or None, and these; an image that the kind lacks isn't used."""
+    """`extra` is the count of extra bytes, or None, and the bytes. An image that the kind lacks isn't written."""
     number_of_type, name, has_before, has_after = kind
     columns = len(before)
     count, extra_bytes = extra
@@ -517,7 +517,7 @@ def quoted(text):
 
 
 def json_text(value):
-    """A value of JSON without spaces, members in the order in which they stand."""
+    """A JSON value without spaces; members keep their order."""
     if isinstance(value, str):
         return quoted(value)
     if isinstance(value, dict):

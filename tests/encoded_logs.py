@@ -1,4 +1,4 @@
-"""Logs of encoded events with their listings and lines of JSON, and logs of damaged copies."""
+"""Logs of encoded events with their listings and JSON lines, and logs of damaged copies."""
 
 from collections import namedtuple
 from itertools import cycle
@@ -7,13 +7,13 @@ import encoded_events as encode
 from checksummed_sample import CHECKSUM_LENGTH, POST_HEADER_LENGTHS, crc32
 from make_sample import FILE_HEADER, HEADER
 
-# A file, and what its listing and its lines of JSON are, where that is known from the encoder.
+# A file, and its listing and its JSON lines, if the encoder gives them.
 Log = namedtuple("Log", "name content listing lines", defaults=[None, None])
 
-# A description that stands before events, and the lengths of post-headers that count under it.
+# A description that comes before events, and the post-header lengths in force under it.
 Described = namedtuple("Described", "name event lengths")
 
-# A format's own lengths, where a description states none.
+# The default lengths, if a description states none.
 OWN_LENGTHS = {2: 13, 16: 0, 19: 8, 23: 8, 24: 8, 25: 8, 30: 10, 31: 10, 32: 10, 39: 10}
 
 # timestamp, server id, position, flags
@@ -22,7 +22,7 @@ HEADERS = [
     (0x4ABB35FC, 1, 1670, 8),
     (0xFFFFFFFF, 0xFFFFFFFF, 0xFFFFFFFF, 0xFFFF),
     (0x01020304, 0x05060708, 0x090A0B0C, 0x0D0E),
-    # Of its two flags only the lower one is cleared under the checksum.
+    # Of its two flags only the lower one is cleared in the checksummed bytes.
     (1, 2, 3, 0x0003),
 ]
 
@@ -36,7 +36,7 @@ def described(name, lengths, server_version="8.0.36", algorithm=None):
 
 
 def other_lengths(others):
-    """A server's lengths but for those of these types."""
+    """A server's lengths, but for those of these types."""
     stated = enumerate(POST_HEADER_LENGTHS)
     return bytes(others.get(place + 1, length) for place, length in stated)
 
@@ -45,7 +45,7 @@ ROWS_TYPES = [kind[0] for kind in encode.ROWS_KINDS]
 SHORT_IDS = other_lengths(dict.fromkeys([19, *ROWS_TYPES], 6))
 LONG_HEADS = other_lengths({2: 15, 16: 2, 19: 10} | dict.fromkeys(ROWS_TYPES, 10))
 
-# The lengths up to a type in the middle of those that have one, so that the others have the format's own.
+# The lengths up to a type in the middle, so that the types after it have the default lengths.
 FIRST_LENGTHS = other_lengths({2: 15, 16: 2})[:19]
 
 DESCRIPTIONS = [
@@ -92,7 +92,7 @@ def numbers(width):
 
 
 def each_variable():
-    """The status variables, one of each key at least."""
+    """Status variables, at least one of each key."""
     for name, (_, width) in encode.NUMBER_VARIABLES.items():
         yield from (encode.number_variable(name, value) for value in numbers(width))
     for text in TEXTS:
@@ -113,7 +113,7 @@ def each_variable():
     yield from (encode.explicit_defaults(byte) for byte in (0, 1, 255))
 
 
-# Behind whole variables: a key that is none, and values that aren't whole.
+# After whole variables: an unknown key, and values that aren't whole.
 TAILS = ["15 00", "00 01 02 03", "05 02 61", "02 01 61", "0b 03 61", "0b 00 01", "0c 01 61", "ff"]
 
 
@@ -223,7 +223,7 @@ def pair(name, immediate, original):
 
 
 def clock_parts():
-    """What stands behind a clock: nothing, some of it, and all."""
+    """The parts after the clock: none, some, and all."""
     yield {}
     yield {"tx_length": 5}
     yield {"tx_length": 300}
@@ -248,7 +248,7 @@ def untagged_gtids(type_number):
             yield encode.gtid(type_number, sid=SOURCES[1], gno=1, clock=(7, 9), **parts)
         whole = encode.gtid(type_number, sid=SOURCES[1], gno=1, clock=(7, 9), **parts)
         short = encode.gtid(type_number, sid=SOURCES[1], gno=1)
-        # A ticket behind the versions isn't of this form, nor is another clock.
+        # A ticket after the versions isn't part of this form, nor is another clock code.
         yield encode.refused(whole, whole.body + bytes(8), 7)
         yield encode.refused(short, short.body + b"\1" + bytes(16), 7)
         yield encode.refused(short, short.body[:-1], 5)
@@ -285,7 +285,7 @@ def tagged_gtids(_lengths):
         yield encode.tagged_gtid(fields[:4], ignorable=encode.variable(99) + b"\xff\xff", last=98)
     for name, values in TAGGED_VALUES.items():
         yield from (encode.tagged_gtid([tag, (name, value)]) for value in values)
-    # The later of two values counts.
+    # The last of repeated fields counts.
     yield encode.tagged_gtid([("gno", 1), tag, ("gno", 2), ("tag", "later")])
     yield from refused_tagged_gtids(tag)
 
@@ -355,7 +355,7 @@ def table_maps(lengths):
 
 
 def extra_bytes(lengths, type_number):
-    """Counts of no extra bytes and of some, with these, where the description has a place for them."""
+    """Counts of no extra bytes and of some, with these bytes, if the type has extra bytes under these lengths."""
     if lengths[type_number] != 10:
         return [(None, b"")]
     contents = (b"\xaa", b"\0", bytes(range(100)))
@@ -387,7 +387,7 @@ def rows_of(kind):
 
 
 def whole_status(length):
-    """Status variables that take so many bytes."""
+    """Status variables that take this many bytes."""
     number_of_modes, left = divmod(length, 9)
     modes = [encode.number_variable("SqlMode", value) for value in range(number_of_modes)]
     return modes + left * [encode.commit_time(14)]
@@ -428,7 +428,7 @@ def long_table_maps(lengths):
 
 
 def long_events(lengths):
-    """Events whose lines don't fit the memory that a line begins with, and texts as long as they may be."""
+    """Events whose lines don't fit into the initial memory of a line, and texts of the largest length."""
     yield from long_queries(lengths)
     yield from long_rows(lengths)
     yield from long_table_maps(lengths)
@@ -454,8 +454,8 @@ def unknown_types(_lengths):
         yield encode.unknown(type_number, CONTENTS[type_number % len(CONTENTS)])
 
 
-# The events of each type from the lengths of post-headers that count: those of rows, those of the
-# other types that are read as fields, and the rest.
+# For each type a function from the post-header lengths to events: those of rows, those of the
+# other typed bodies, and the rest.
 ROWS_KINDS = {
     "table maps": table_maps,
     **{f"rows of type {kind[0]}": rows_of(kind) for kind in encode.ROWS_KINDS},
@@ -483,10 +483,10 @@ PLAIN_KINDS = {
 }
 KINDS = FIELDS_KINDS | ROWS_KINDS | PLAIN_KINDS
 
-# Under which descriptions there are long events.
+# The descriptions under which there are long events.
 LONG_UNDER = [CHECKSUMMED, SHORT]
 
-# Which kinds are damaged under which descriptions: all that have fields, and those that it changes.
+# The kinds that are damaged under each description: all typed bodies, or those that it changes.
 DAMAGED_UNDER = [
     (CHECKSUMMED, FIELDS_KINDS | ROWS_KINDS),
     (SHORT, ROWS_KINDS),
@@ -495,7 +495,7 @@ DAMAGED_UNDER = [
 
 
 def descriptions():
-    """Descriptions of other values, each of which is in force behind it."""
+    """Descriptions with other values, each in force after its own event."""
     describe = encode.format_description
     for version in range(1, 5):
         yield describe(binlog_version=version, server_version="5.6.0-log", lengths=b"\x38")
@@ -535,7 +535,7 @@ def frame(event, header, algorithm):
 
 
 def listed(index, event, header, content, checksum):
-    """The event's line in the listing."""
+    """The event's line of the listing."""
     _, _, position, flags = header
     front = f"{index} {event.type} {len(content)} {position} {flags:04x} {len(event.body)}"
     return f"{front} {'-' if checksum is None else checksum.hex()} {encode.word(event)}\n"
@@ -571,7 +571,7 @@ def log(name, events):
 
 
 def described_events():
-    """Logs of each kind of events behind each description, of all of them, and of long events."""
+    """Logs of each kind of events after each description, of all of them, and of long events."""
     for description in DESCRIPTIONS:
         all_events = [description.event]
         for name, events in KINDS.items():
@@ -585,7 +585,7 @@ def described_events():
 
 
 def undamaged():
-    """Logs of events behind descriptions, and of descriptions."""
+    """Logs of events after descriptions, and of descriptions."""
     yield from described_events()
     followed = [[event, encode.xid(value=11)] for event in descriptions()]
     for number, events in enumerate(followed):
@@ -599,14 +599,14 @@ FRONT, BETWEEN, END = 48, 16, 16
 
 
 def places(body):
-    """All places of a short body; of a long one the first, the last, and some between."""
+    """All positions in a short body; in a long one the first, the last, and some between."""
     end = max(FRONT, len(body) - END)
     between = range(FRONT, end, 1 + (end - FRONT) // BETWEEN)
     return [*range(min(FRONT, len(body))), *between, *range(end, len(body))]
 
 
 def damaged(body):
-    """Copies that are cut, that have another byte, and that have one more."""
+    """Copies that are cut, that have another byte, and that have one byte more."""
     for place in places(body):
         yield body[:place]
         yield with_byte(body, place, body[place] ^ 0xFF)
@@ -624,7 +624,7 @@ def damaged_log(name, first, event):
 
 
 def damaged_descriptions():
-    """Each damaged copy of a description, its checksum too, with an event behind it."""
+    """Each damaged copy of a description and its checksum, with an event after it."""
     behind, _ = framed(16, bytes(12), HEADERS[1], has_checksum=False)
     for number, event in enumerate(descriptions()):
         whole = frame(event, HEADERS[0], None)[0][HEADER.size :]
@@ -635,7 +635,7 @@ def damaged_descriptions():
 
 
 def of_each_length(events):
-    """By the length of the body, an event of that length."""
+    """For each length of a body, an event with that length."""
     return {len(event.body): event for event in events}
 
 

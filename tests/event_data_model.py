@@ -1,30 +1,30 @@
-"""A plain model of event data: whether the data of an event is a body of the event's type, and what it says.
+"""A plain model of event data: whether the data of an event is a body of the event's type, and its fields.
 
-Written from the formats of the bodies. A fault is raised where the data ends within a body or a field isn't allowed; what a
-decoder gives back are the fields of the body, by their names, and the bytes behind it, of which there must be none.
+Written from the formats of the bodies. A fault is raised if the data ends within a body or a field isn't allowed. A
+decoder returns the fields of the body, by their names, and the bytes after it, of which there must be none.
 
 A field is a number, a boolean, None, a list, or one of the kinds of bytes below.
 """
 
 from collections import namedtuple
 
-# Bytes that are text, bytes that aren't, and the 16 bytes of a source's id.
+# Bytes that are text, bytes that aren't, and the 16 bytes of a SID.
 Text = namedtuple("Text", "bytes")
 Bytes = namedtuple("Bytes", "bytes")
 Uuid = namedtuple("Uuid", "bytes")
 
 READ, UNKNOWN, REFUSED = "read", "unknown", "refused"
 
-# Types whose data is kept as it stands, and types whose data isn't looked at.
+# Types whose data is kept as bytes, and types whose data isn't looked at.
 KEPT = {1, 6, 8, 9, 10, 11, 12, 20, 21, 22, 28, 36, 37, 38, 40}
 IGNORED = {0, 3, 7, 27, 43}
 
 XID, TABLE_MAP = 16, 19
-# The rows' types, and whether each has an image before and one after.
+# The types of row events, and whether each has a before image and an after image.
 OLDER_ROWS = {23: (False, True), 24: (True, True), 25: (True, False)}
 ROWS = {30: (False, True), 31: (True, True), 32: (True, False), 39: (True, True)}
 
-# The lengths of post-headers where a description states none, of all types that have a post-header.
+# The default post-header lengths, of all types that have a post-header.
 DEFAULT_LENGTHS = {
     1: 56,  # START_EVENT_V3
     2: 13,  # QUERY_EVENT
@@ -61,11 +61,11 @@ TAG_LETTERS = frozenset(b"0123456789_abcdefghijklmnopqrstuvwxyzABCDEFGHIJKLMNOPQ
 
 
 class Fault(Exception):
-    """A body that isn't one; its argument is the number of the error."""
+    """A malformed body; its argument is the number of the error."""
 
 
 def taken(data, length):
-    """So many bytes and those behind them."""
+    """The first `length` bytes, and those after them."""
     if len(data) < length:
         raise Fault(5)
     return data[:length], data[length:]
@@ -77,13 +77,13 @@ def taken_number(data, width):
 
 
 def taken_text(data, width=1):
-    """A text behind its length."""
+    """A text after its length."""
     length, data = taken_number(data, width)
     return taken(data, length)
 
 
 def taken_length(data):
-    """A length-encoded number."""
+    """A length-encoded integer."""
     mark, data = taken_number(data, 1)
     if mark in (0xFB, 0xFF):
         raise Fault(6)
@@ -92,7 +92,7 @@ def taken_length(data):
 
 
 def taken_variable(data):
-    """A number of variable length: the ones at the end of its first byte count the bytes behind it."""
+    """A variable-length integer: the trailing ones of its first byte count the bytes after it."""
     first, _ = taken_number(data, 1)
     if first == 0xFF:
         number, data = taken_number(data, 9)
@@ -115,7 +115,7 @@ def number_in(data, offset, width):
 
 
 def fixed_value(length, value_of):
-    """A value of so many bytes; None where they aren't there."""
+    """A value of `length` bytes; None if there are fewer."""
 
     def decode(data):
         return (value_of(data[:length]), data[length:]) if len(data) >= length else None
@@ -197,7 +197,7 @@ STATUS_VARIABLES = [
 
 
 def status_variables(data):
-    """The whole variables at the front, and the bytes behind them."""
+    """The whole variables at the start, and the bytes after them."""
     variables = []
     while data and data[0] < len(STATUS_VARIABLES):
         key, value_of = STATUS_VARIABLES[data[0]]
@@ -210,7 +210,7 @@ def status_variables(data):
 
 
 def unless_empty(name, content):
-    """A member of bytes, left out where there are none."""
+    """A member of bytes, left out if there are none."""
     return {name: Bytes(content)} if content else {}
 
 
@@ -306,7 +306,7 @@ def rows_query(data, _header_length):
 
 
 def description(data):
-    """The fields of a description's data that has been accepted; what its footer says stands behind them."""
+    """The fields of an accepted description's data; the algorithm of its footer comes after them."""
     return {
         "binlog_version": number_in(data, 0, 2),
         "server_version": Text(data[2:52].split(b"\0")[0]),
@@ -324,7 +324,7 @@ def taken_table_id(data, header_length):
 
 
 def taken_bits(data, count):
-    """As many bits, the lowest of the first byte first."""
+    """This many bits, the least significant bit of the first byte first."""
     digits, data = taken(data, (count + 7) // 8)
     bits = int.from_bytes(digits, "little")
     return [bits >> place & 1 == 1 for place in range(count)], data
@@ -384,7 +384,7 @@ def rows(has_before, has_after, has_extra):
 
 
 def gtid(**found):
-    """The fields of a GTID, with those that weren't found."""
+    """The fields of a GTID; absent ones have their defaults."""
     time = found.get("immediate_commit_timestamp", 0)
     version = found.get("immediate_server_version", UNDEFINED_VERSION)
     return {
@@ -455,7 +455,7 @@ TAGGED_FIELDS = [
 
 
 def taken_field(identifier, data):
-    """What stands behind the identifier of a field."""
+    """The value after the id of a field."""
     if identifier == 3:
         text, data = taken_tag(data)
         return Text(text), data
@@ -535,12 +535,12 @@ TYPED |= {number: rows(*images, has_extra=True) for number, images in ROWS.items
 
 
 def stated_length(lengths, number):
-    """The length of a type's post-header by the lengths that a description has."""
+    """The post-header length of a type under these stated lengths."""
     return lengths[number - 1] if number <= len(lengths) else DEFAULT_LENGTHS.get(number, 0)
 
 
 def fields(number, data, lengths):
-    """The fields of an event of a type that is read, where a description with these lengths is in force."""
+    """The fields of an event with a typed body, under a description with these lengths."""
     found, rest = TYPED[number](data, stated_length(lengths, number))
     if rest:
         raise Fault(7)
@@ -548,9 +548,9 @@ def fields(number, data, lengths):
 
 
 def word(number, data, lengths):
-    """The word for an event of this type, where a description with these lengths is in force.
+    """The word for an event of this type, under a description with these lengths.
 
-    The data of a description has been looked at already.
+    The data of a description has been checked already.
     """
     if number in KEPT or number in IGNORED or number == 15:
         return READ

@@ -1,13 +1,13 @@
 #!/usr/bin/env python3
-"""Runs the listing on an input that fails, and on an output that fails: its exit status is 3.
+"""Runs the listing with an input that fails, and with an output that fails: its exit status is 3.
 
 Usage: failing_ends.py [--json] [PROGRAM]
 
 PROGRAM lists the binlog on its standard input; its default is the built binlog_list, and with --json, where the listing
-is lines of JSON, the built binlog_json. An input that fails is a folder, a
-closed descriptor, and a terminal that is hung up behind a front of the sample: all events that are whole by then must be
-listed. An output that fails is a full device, a closed descriptor and a pipe that nobody reads, where the listing is
-short, so that the failure shows when it is flushed, and where it is long. The last line is `N passed, M failed`; the
+is lines of JSON, the built binlog_json. An input that fails is a folder, a closed descriptor, and a terminal that hangs
+up after a prefix of the sample: all events that were whole by then must be listed. An output that fails is a full
+device, a closed descriptor and a pipe that nobody reads; the listing is short, so that the failure shows when it is
+flushed, or long. The last line is `N passed, M failed`; the
 exit status is 1 if something failed.
 """
 
@@ -58,7 +58,7 @@ def listed_until_it_fails(program, front):
 
 
 def front_failure(program, model, length):
-    """None if the events that are whole in a front of the sample are listed, else what is wrong."""
+    """None if the whole events in a prefix of the sample are listed, else what is wrong."""
     front = SAMPLE[:length]
     lines, _ = model.expected(front)
     return difference(
@@ -113,7 +113,7 @@ def failing_outputs(program):
 
 
 def lengths():
-    """Of the fronts: each up to the third event, then those that end with an event or a byte beside."""
+    """Prefixes: each up to the third event, then those that end with an event or one byte off."""
     ends = [position for _, position, _, _, _ in make_sample.EVENTS]
     beside = {end + more for end in ends for more in (-1, 0, 1)}
     return sorted(set(range(300)) | {length for length in beside if length <= len(SAMPLE)})

@@ -1,5 +1,5 @@
 #!/usr/bin/env python3
-"""Writes the sample binlog and behind it an event for each body with known values, the last ones with checksums.
+"""Writes the sample binlog and after it an event for each body with known values, the last ones with checksums.
 
 Usage: json_sample.py OUT
 """
@@ -13,19 +13,19 @@ import make_sample
 
 XID_WITH_CHECKSUM = "0b 00 00 00 00 00 00 00 1b 00 00 00"
 
-# A statement with this status text, an empty schema and the text `q`.
+# A statement with these status variables, an empty schema and the text `q`.
 def statement(status):
     length = len(bytes.fromhex(status))
     return 8 * "00" + "00" + "00 00" + f"{length:02x} 00" + status + "00 71"
 
 
-# Each number at its greatest, or where it takes one byte more.
+# Each number at its largest value, or where it begins to take one byte more.
 GREATEST = (
     "02 fe 00" + "00 00" + "02" + bodies_sample.TAGGED_SID + "04 04" + "06 40" + 32 * "61" + "08 ff fe" + 7 * "ff"
     + "0a 1f 00 00 00 00 02" + "0c" + 9 * "ff" + "0e 00" + "10" + 9 * "ff" + "12 fb 11 7a" + "16" + 9 * "ff"
 )
 
-# Bodies that aren't those of `bodies_sample`, and what is no body.
+# Bodies that `bodies_sample` doesn't have, and malformed ones.
 MORE = [
     (33, 16 * "00" + "00" + "01 00 00 00 00 00 00 00" + "01"),
     (33, bodies_sample.UNTAGGED + bodies_sample.CLOCK + "00 00 00 00 00 00 00 05 40 5f 01 00 00 00"),

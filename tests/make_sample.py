@@ -71,7 +71,7 @@ def query_body(schema, query):
 XID_BODY = bytes.fromhex("0b 00 00 00 00 00 00 00")
 ROTATE_BODY = bytes.fromhex("04 00 00 00 00 00 00 00") + b"master-bin.000002"
 
-# The events behind event 0. Sizes and positions are stated, not derived, so
+# The events after event 0. Sizes and positions are stated, not derived, so
 # that building the file checks the table.
 # (size, position, flags, type, body)
 EVENTS = [

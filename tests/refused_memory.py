@@ -1,13 +1,14 @@
 #!/usr/bin/env python3
-"""Refuses each allocation in turn, to the programs and to the tests of refused memory.
+"""Refuses each allocation in turn, in the programs and in the tests of refused memory.
 
 Usage: refused_memory.py
 
 The programs and tests are those that are built in crates/NAME/out. Each runs with its first allocation refused, then with
-its second one, and so on until a run asks for fewer. The listing and the lines of JSON must then have the first lines and the status 3, what is
-written back must be a front of the log, and a program must free all that it got. A test must pass: those run in whose full
-name the word `memory` stands. A test whose name ends in `takes_no_memory` or `take_no_memory` must make no allocation at
-all, also none whose refusal it would hide, and one whose name ends in `makes_one_allocation` exactly one.
+its second one, and so on until a run makes fewer. The listing and the JSON lines must then be a prefix of all lines, with
+status 3; what is written back must be a prefix of the log; and a program must free all its memory. A test must pass;
+those are run whose full name contains `memory`. A test whose name ends in `takes_no_memory` or `take_no_memory` must
+make no allocation, not even one whose refusal it would hide, and one whose name ends in `makes_one_allocation` exactly
+one.
 The last line is `N passed, M failed`, where each run counts; the exit status is 1 if one failed. Without the C compiler `cc`
 nothing is run, and both numbers are 0.
 """
@@ -24,7 +25,7 @@ import watched
 
 SUCCESS, FAILURE, OUTSIDE = 0, 1, 3
 
-# Longer than what a buffer may grow by at a time.
+# More bytes than a buffer may grow by at a time.
 LONG_EVENT = make_sample.frame(make_sample.QUERY, make_sample.query_body(b"test", b"x" * 70_000), 0)
 LOGS = {
     "the sample": make_sample.sample(),
@@ -35,7 +36,7 @@ LOGS = {
 
 
 def failures(watch, name, command, content, fault):
-    """For each allocation, None or what is wrong where it is refused."""
+    """For each allocation, None or what is wrong if it is refused."""
     for number in count(1):
         run = watch.run(command, content, refused=number)
         if not run.is_refused:
@@ -101,7 +102,7 @@ def test_fault(run):
 
 
 def stated_allocations(name):
-    """How many allocations a test makes by its name, or None where the name doesn't say."""
+    """How many allocations a test makes according to its name, or None if the name doesn't state it."""
     if name.endswith(("takes_no_memory", "take_no_memory")):
         return 0
     return 1 if name.endswith("makes_one_allocation") else None

@@ -1,5 +1,5 @@
 #!/usr/bin/env python3
-"""Writes the sample binlog and behind it load queries, user variables, and a statement with each status variable.
+"""Writes the sample binlog and after it load queries, user variables, and a statement with each status variable.
 
 Usage: statements_sample.py OUT
 """
@@ -12,7 +12,7 @@ import make_sample
 
 USER_VAR, EXECUTE_LOAD_QUERY = 14, 18
 
-# One variable of each key, and behind them a variable that isn't whole.
+# One variable of each key, and after them a variable that isn't whole.
 EACH_VARIABLE = [
     "00 00 00 00 80",  # flags2
     "01 00 00 20 54 00 00 00 00",  # sql_mode
@@ -40,7 +40,7 @@ EACH_VARIABLE = [
 
 
 def statement_head(schema, status_variables):
-    """Thread 1, time 2, error 3."""
+    """Thread 1, execution time 2, error code 3."""
     return struct.pack("<IIBHH", 1, 2, len(schema), 3, len(status_variables))
 
 
@@ -49,7 +49,7 @@ def query_body(schema, query, status_variables):
 
 
 def load_body(query):
-    """File 2, named in the places 10 to 18 of the statement, duplicates replaced."""
+    """File 2, whose name is at the positions 10 to 18 of the statement, duplicates replaced."""
     status_variables = bytes.fromhex("07 08 00")
     head = statement_head(b"d", status_variables) + struct.pack("<IIIB", 2, 10, 18, 2)
     return head + status_variables + b"d\0" + query

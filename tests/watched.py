@@ -1,4 +1,4 @@
-"""Runs built programs and tests while their allocations are watched, and refused where that is asked for."""
+"""Runs built programs and tests, records their allocations, and refuses one if asked to."""
 
 import os
 import shutil
@@ -15,8 +15,8 @@ COMPILER = "cc"
 
 
 class Run(NamedTuple):
-    """What came of a run: its output, its status, whether an allocation was refused, the others, for each the bytes that
-    there were and those that were asked for, and how many blocks were not freed, None where the program didn't exit."""
+    """The result of a run: its output, its status, whether an allocation was refused; for each other one the bytes
+    before it and the bytes asked for; and the number of blocks that were not freed, None if the program didn't exit."""
 
     output: bytes
     status: int
@@ -26,7 +26,7 @@ class Run(NamedTuple):
 
 
 class Watch:
-    """Runs programs. Its library is made in a folder of its own, which goes with it."""
+    """Runs programs. Its library is built in a temporary folder, which is deleted with it."""
 
     def __init__(self):
         self.folder = tempfile.TemporaryDirectory()
@@ -41,7 +41,7 @@ class Watch:
         self.folder.cleanup()
 
     def run(self, command, content=b"", refused=0, stdin=None):
-        """A run over the content, or over the descriptor `stdin`, in which the allocation of that number is refused."""
+        """A run over the content, or over the descriptor `stdin`, in which the allocation with this number is refused."""
         with tempfile.TemporaryFile() as report:
             environment = {
                 **os.environ,
@@ -80,7 +80,7 @@ def tests():
 
 
 def main(all_results):
-    """Prints what is wrong among the results, which are None or a message, and how many there are; the exit status."""
+    """Prints the failures among the results, each None or a message, and the counts; returns the exit status."""
     if shutil.which(COMPILER) is None:
         print(f"{COMPILER} is missing, so no allocation is watched")
         print("0 passed, 0 failed")

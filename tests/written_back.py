@@ -1,11 +1,11 @@
 #!/usr/bin/env python3
-"""Writes logs of encoded events back, with each checksum computed anew: they come back as they were.
+"""Writes logs of encoded events back, with each checksum recomputed: the output must be the input.
 
 Usage: written_back.py [PROGRAM]
 
 PROGRAM reads a binlog on standard input and writes it to standard output; its default is the built bench_write_back. The
-checksums of the logs are the encoder's: CRC-32 of the bytes in front of them, in which of the header's flags the lowest
-alone is cleared. The last line is `N passed, M failed`; the exit status is 1 if something failed.
+checksums of the logs are the encoder's: CRC-32 of the bytes before them, with only the lowest of the header's flags
+cleared. The last line is `N passed, M failed`; the exit status is 1 if something failed.
 """
 
 import sys
@@ -19,7 +19,7 @@ COPIER = REPOSITORY / "crates/bench_write_back/out/bench_write_back"
 
 
 def failure(program, log):
-    """None if the log comes back as it was, else what is wrong."""
+    """None if the output is the log, else what is wrong."""
     output, status = run(program, log.content)
     if status != 0:
         return f"{log.name}: status {status}"

@@ -1,9 +1,9 @@
-//! Counts the events of a log; None where an item is an error.
+//! Counts the events of a log; None if an item is an error.
 use binlog_file::{BinlogFile, BinlogSlice};
 use std::io::BufRead;
 
 pub(crate) fn count_lent<R: BufRead + Drop>(mut file: BinlogFile<R>) -> Option<u64> {
-    // Bounded, so that the loop is proved to end; what is lent can't be iterated over.
+    // Bounded, so that the loop is proved to end; borrowed events can't be given by an iterator.
     'events: for count in 0..u64::MAX {
         let Some(item) = file.next_ref() else {
             return Some(count);

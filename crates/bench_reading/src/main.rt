@@ -1,7 +1,7 @@
-//! Reads the binary log on standard input, and prints how many events it has. The benchmark measures it.
+//! Reads the binary log on standard input, and prints the number of its events. The benchmark measures it.
 //!
-//! Without an argument it reads events that a file lends; with `slice` it takes the log into memory, and reads the events
-//! that stand there; with `memory` it does no more than take it into memory.
+//! Without an argument it reads the borrowed events of a file. With `slice` it takes the log into memory, and reads the
+//! events of the slice. With `memory` it only takes the log into memory.
 #![tactic(auto)]
 
 mod count;
@@ -13,10 +13,10 @@ use std::env::Env;
 use std::io::{BufReader, Read};
 use std::process::ExitCode;
 
-/// The size of the input's buffer, in bytes.
+/// The size of the input buffer, in bytes.
 const BUFFER_SIZE: usize = 65_536;
 
-// None where the reader, memory or the arguments fail, or an item is an error.
+// None if the reader, memory or the arguments fail, or an item is an error.
 fn run(rt: &(impl Input + Env + AllocGlobal)) -> Option<u64> {
     let mut input = BufReader::with_capacity(rt.alloc(), BUFFER_SIZE, rt.reader()).ok()?;
     let Some(way) = env::args(rt).ok()?.nth(1) else {

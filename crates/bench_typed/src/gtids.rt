@@ -1,15 +1,15 @@
-//! Sums over what stands in the GTIDs of a log.
+//! Sums over the fields of the GTIDs of a log.
 use binlog_file::GtidEvent;
 use std::fmt;
 
-/// Sums over the GTIDs of a log, modulo 2^64. They are shown one after another, with spaces between.
+/// Sums over the GTIDs of a log, modulo 2^64. They are displayed in order, separated by spaces.
 #[derive(Debug, Default, Drop)]
 pub(crate) struct GtidSums {
-    /// How many GTIDs there are.
+    /// The number of GTIDs.
     gtids: u64,
-    /// How many bytes their tags have.
+    /// The number of bytes in their tags.
     tag_bytes: u64,
-    /// The bytes of their sources, and all their numbers.
+    /// The bytes of their SIDs, and all their integer fields.
     numbers: u64,
 }
 
@@ -29,7 +29,7 @@ impl GtidSums {
     }
 }
 
-// The bytes of the source and the numbers, added up.
+// The sum of the bytes of the SID and the integer fields.
 fn numbers(event: &GtidEvent) -> u64 {
     let numbers = [
         event.gno(),

@@ -1,5 +1,5 @@
-//! Reads the statements of the binary log on standard input, with their status variables, its GTIDs, its table maps and its
-//! row events, and prints a line of sums over what stands in them. The benchmark measures it.
+//! Reads the statements of the binary log on standard input, with their status variables, its GTIDs, its table maps and
+//! its row events, and prints a line of sums over their fields. The benchmark measures it.
 #![tactic(auto)]
 
 mod gtids;
@@ -11,7 +11,7 @@ use std::io::BufReader;
 use std::process::ExitCode;
 use sums::sums_of;
 
-/// The size of the input's buffer, in bytes.
+/// The size of the input buffer, in bytes.
 const BUFFER_SIZE: usize = 65_536;
 
 fn run(rt: &(impl Input + Print + AllocGlobal)) -> Result<(), Error> {

@@ -1,19 +1,19 @@
-//! Sums over what stands in the table maps of a log, and in its row events.
+//! Sums over the fields of the table maps and the row events of a log.
 use binlog_file::{BitView, RowsEvent, TableMapEvent};
 use std::fmt;
 
-/// Sums over the table maps and the row events of a log, modulo 2^64. They are shown one after another, with spaces between.
+/// Sums over the table maps and the row events of a log, modulo 2^64. They are displayed in order, separated by spaces.
 #[derive(Debug, Default, Drop)]
 pub(crate) struct RowSums {
-    /// How many table maps there are.
+    /// The number of table maps.
     maps: u64,
-    /// How many bytes their names, the types of their columns and what else they say of these have.
+    /// The number of bytes in their names, their column types and their other column data.
     map_bytes: u64,
-    /// How many row events there are.
+    /// The number of row events.
     row_events: u64,
-    /// How many bytes their rows and extra bytes have.
+    /// The number of bytes in their rows and extra data.
     row_bytes: u64,
-    /// The numbers of both, and for each set of columns how many there are, and one more where the first is in it.
+    /// The integer fields of both; and for each column bitmap its number of bits, plus one if the first is set.
     numbers: u64,
 }
 
@@ -69,7 +69,7 @@ fn image(columns: Option<BitView<'_>>) -> u64 {
     }
 }
 
-// How many bits there are, and one more where the first is set.
+// The number of bits, plus one if the first is set.
 fn bits(view: BitView<'_>) -> u64 {
     view.len()
         .wrapping_add(u64::from(view.bit(0) == Some(true)))

@@ -1,4 +1,4 @@
-//! Sums over what stands in the statements of a log, its GTIDs, its table maps and its row events.
+//! Sums over the fields of the statements, GTIDs, table maps and row events of a log.
 use crate::gtids::GtidSums;
 use crate::rows::RowSums;
 use binlog_file::{
@@ -10,20 +10,21 @@ use std::alloc::Global;
 use std::fmt;
 use std::io::BufRead;
 
-/// Sums over the statements, the GTIDs and the rows of a log, modulo 2^64. They are shown one after another, with spaces between.
+/// Sums over the statements, the GTIDs and the rows of a log, modulo 2^64. They are displayed in order, separated by
+/// spaces.
 #[derive(Debug, Default, Drop)]
 pub(crate) struct Sums {
-    /// How many statements there are.
+    /// The number of statements.
     statements: u64,
-    /// How many bytes the names of their schemas and their texts have.
+    /// The number of bytes in their schema names and their query texts.
     text_bytes: u64,
-    /// How many status variables they have.
+    /// The number of their status variables.
     variables: u64,
-    /// The numbers of these variables, and for those that are none, how many bytes or names they have.
+    /// The values of these variables; of those that aren't numbers, the number of bytes or names.
     values: u64,
-    /// Those over its GTIDs.
+    /// The sums over the GTIDs.
     gtids: GtidSums,
-    /// Those over its table maps and its row events.
+    /// The sums over the table maps and the row events.
     rows: RowSums,
 }
 
@@ -38,7 +39,7 @@ impl fmt::Display for Sums {
 }
 
 impl Sums {
-    // Counts an event, if it is of a type that is summed up.
+    // Counts an event if its type is one that is summed up.
     fn count_event(&mut self, alloc: Global, event: EventRef<'_>) -> Result<(), Error> {
         match event.header().event_type() {
             Ok(EventType::QUERY_EVENT) => {
@@ -54,7 +55,7 @@ impl Sums {
         Ok(())
     }
 
-    // Counts an event of this type, if it is of rows.
+    // Counts an event of this type if it is a row event.
     fn count_rows(
         &mut self,
         alloc: Global,
@@ -95,7 +96,7 @@ impl Sums {
     }
 }
 
-// The number that a value is, or the sum of its numbers, or how many bytes or names it has.
+// The number that a value is, the sum of its numbers, or the number of its bytes or names.
 fn number(value: &StatusVarVal<'_>) -> u64 {
     match value {
         StatusVarVal::Flags2(bits) => u64::from(*bits),
@@ -134,23 +135,23 @@ fn number(value: &StatusVarVal<'_>) -> u64 {
     }
 }
 
-// The number of these bytes, the lowest first. Not inlined: the bytes come one by one, so that no value of another kind
-// has to stand in memory for them.
+// The little-endian number of these bytes. Not inlined: the bytes come one by one, so that no value of another kind has
+// to be in memory for them.
 #[inline(never)]
 fn little_endian(first: u8, second: u8, third: u8, fourth: u8) -> u64 {
     u64::from(u32::from_le_bytes([first, second, third, fourth]))
 }
 
-/// The sums over a binlog file with a file header before it, up to the first item that is an error.
+/// The sums over a binlog file with a file header, up to the first item that is an error.
 ///
 /// # Errors
 ///
-/// Those of [`BinlogFile`], of reading an event of a type that is summed up, and [`Error::Memory`] where a list of names takes memory that isn't
-/// there.
+/// Those of [`BinlogFile`], of reading an event of a type that is summed up, and [`Error::Memory`] if the allocation of
+/// a list of names fails.
 pub(crate) fn sums_of<R: BufRead + Drop>(alloc: Global, input: R) -> Result<Sums, Error> {
     let mut file = BinlogFile::new(alloc, BinlogVersion::Version4, input)?;
     let mut sums = Sums::default();
-    // Bounded, so that the loop is proved to end; what is lent can't be iterated over.
+    // Bounded, so that the loop is proved to end; borrowed events can't be given by an iterator.
     'items: for _ in 0..u64::MAX {
         let Some(item) = file.next_ref() else {
             return Ok(sums);

@@ -1,5 +1,5 @@
-//! Reads the binary log on standard input, and writes it back to standard output with each checksum computed anew.
-//! The benchmark measures it.
+//! Reads the binary log on standard input, and writes it back to standard output with each checksum recomputed. The
+//! benchmark measures it.
 #![tactic(auto)]
 
 mod write_back;
@@ -10,7 +10,7 @@ use std::io::{BufReader, BufWriter, Write};
 use std::process::ExitCode;
 use write_back::write_back;
 
-/// The size of the buffers of the input and the output, in bytes.
+/// The size of the input buffer and of the output buffer, in bytes.
 const BUFFER_SIZE: usize = 65_536;
 
 fn run(rt: &(impl Input + Print + AllocGlobal)) -> Result<(), Error> {

@@ -1,11 +1,11 @@
--- What a writer has of some bytes.
+-- What was written of some bytes.
 use Rattle.std.proofs.Common.{◌≡◌, ℕ, List, [], ◌++◌, ◌-◌, length, take, drop, Option, Some, None, refl, sym, ap, subst, ◌∙◌, arith, append_assoc, append-nil}
 use Rattle.std.proofs.lemmas.List.{take-append-drop, nil_from_length, take_all, length-drop}
 use Rattle.std.specs.Io.KnownBytes.{Appends, Keeps}
 use Rattle.std.proofs.KnownBytes.{Appends-nil, Appends-trans}
 use Rattle.binlog_ends.specs.Counts.{AppendsFront}
 
--- all but the rest of the bytes is written
+-- All of the bytes but the rest are written.
 pub record IsWritten (old new : Option (List ℕ)) (bytes rest : List ℕ) : Type 0 where
   pub front : List ℕ
   pub whole : bytes ≡ front ++ rest
@@ -14,7 +14,7 @@ pub record IsWritten (old new : Option (List ℕ)) (bytes rest : List ℕ) : Typ
 pub written_none : (old : Option (List ℕ)) (bytes : List ℕ) → IsWritten old old bytes bytes
 written_none old bytes = record { front = []; whole = refl; written = Appends-nil old }
 
--- a write took some of them
+-- One write wrote some of them.
 pub written_more : (old mid new : Option (List ℕ)) (bytes rest after : List ℕ) (count : ℕ) → IsWritten old mid bytes rest → Appends mid new (take count rest) → after ≡ drop count rest → IsWritten old new bytes after
 written_more old mid new bytes rest after count so_far more e = record {
   front = so_far.front ++ take count rest;
@@ -34,7 +34,7 @@ appends_nothing None new kept = tt
 appends_nothing (Some xs) None kept = absurd kept
 appends_nothing (Some xs) (Some ys) kept = kept ∙ sym (append-nil xs)
 
--- a write that failed leaves a front of them
+-- A write that failed leaves a prefix of them written.
 pub written_front : (old mid new : Option (List ℕ)) (bytes rest : List ℕ) → IsWritten old mid bytes rest → Keeps mid new → AppendsFront old new bytes
 written_front old mid new bytes rest so_far kept =
     let all = written_more old mid new bytes rest rest 0 so_far (appends_nothing mid new kept) refl in

@@ -2,19 +2,19 @@
 use Rattle.std.specs.Prelude.{◌≡◌, ℕ, ◌+◌, ◌-◌, ◌^◌, ◌<◌, ◌⊎◌, ◌==◌, if◌then◌else◌, List, ◌++◌, Option, Result, MatchResult}
 use Rattle.std.specs.Io.KnownBytes.{Appends}
 
--- the count behind a failure, where it stood so before
+-- The count after a failure, from the count before it.
 abbrev pub after_failure : ℕ → ℕ
 after_failure count = if count == 2 ^ 64 - 1 then count else count + 1
 
--- A failure was counted since. At the largest number the count can't show it.
+-- A failure was counted since. At the largest value the count can't show it.
 abbrev pub Rose : ℕ → ℕ → Type 0
 Rose old new = (old < new) ⊎ (old ≡ 2 ^ 64 - 1)
 
--- a call that answers so counts one failure at an `Err`, and none at an `Ok`
+-- A call with this result counts one failure for an `Err`, and none for an `Ok`.
 abbrev pub CountsErr : {A E : Type 0} → Result A E → ℕ → ℕ → Type 0
 CountsErr answer old new = MatchResult answer (λ _. new ≡ old) (λ _. new ≡ after_failure old)
 
--- known bytes grow by a front of these bytes
+-- The known bytes grow by a prefix of these bytes.
 pub record AppendsFront (old new : Option (List ℕ)) (bytes : List ℕ) : Type 0 where
   pub front : List ℕ
   pub cut : List ℕ

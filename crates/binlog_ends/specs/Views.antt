@@ -1,8 +1,8 @@
--- What contracts see of the types of this crate.
+-- The models of this crate's types, as contracts see them.
 use Rattle.std.specs.Prelude.{ℕ, Option}
 use Rattle.std.specs.declared.io.ErrorKind.{ErrorKind}
 
--- a reader or a writer, how often it has failed, and of which kind the last failure was
+-- A reader or a writer, the number of its failures, and the kind of the last one.
 pub record CountedView (T : Type 0) : Type 0 where
   pub inner : T
   pub failures : ℕ

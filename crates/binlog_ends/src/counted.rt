@@ -1,20 +1,21 @@
 //! A reader or a writer of the standard library whose failures are counted.
-ghost use Rattle.std.specs.Prelude.{◌≡◌, ◌<◌, ◌≤◌, ◌↔◌, ℕ, List, Option, Some, None, IsNone, IsSome, Ok, IsOk, IfOk, OnOk, OnErr, MatchResult, length, take};
+ghost use Rattle.std.specs.Prelude.{◌≡◌, ◌<◌, ◌≤◌, ◌↔◌, ℕ, List, Option, Some, None, IsNone, IsSome, Ok, IsOk, IfOk, OnOk, OnErr, MatchResult, length, take, drop};
 ghost use Rattle.std.specs.Io.KnownBytes.{Appends, Consumes, IsAtEnd, Keeps};
 ghost use Rattle.binlog_ends.specs.Counts.{after_failure, AppendsFront, CountsErr};
 
 use crate::failed::Failed;
 use crate::traits::{CountsFailures, ReadCounted, WriteCounted};
-use std::io::{ErrorKind, Read, Write};
+use std::io;
+use std::io::{BufRead, ErrorKind, Write};
 use std::marker::Model;
 
 /// A reader or a writer, with the number of its failures and the kind of the last one.
 ///
-/// No contract of the standard library says when a reader or a writer fails, nor whether a flush reached it. So the
-/// contracts say that each [`Failed`] is counted, and that nothing else is; tests say that a failure comes only from the
-/// reader or the writer.
+/// No contract of the standard library states when a reader or a writer fails, or whether a flush called it. So the
+/// contracts state that each [`Failed`] is counted, and that nothing else is. That a failure comes only from the reader
+/// or the writer is tested.
 ///
-/// Contracts see the record of these three.
+/// Contracts see it as a record of these three fields.
 #[derive(Debug, Drop)]
 pub struct Counted<T> {
     inner: T,
@@ -34,7 +35,7 @@ impl<T> Model for Counted<T> {
 }
 
 impl<T> Counted<T> {
-    /// A reader or a writer that hasn't failed so far.
+    /// Wraps a reader or a writer, with no failures so far.
     pub fn new(inner: T) -> Self
         ensures { result ≡ record { inner = inner; failures = 0; last_failure = None } }
     {
@@ -45,21 +46,21 @@ impl<T> Counted<T> {
         }
     }
 
-    /// The reader or writer itself.
+    /// The wrapped reader or writer.
     pub fn get_ref(&self) -> &T
         ensures { result.now ≡ self.now.inner }
     {
         &self.inner
     }
 
-    /// The reader or writer itself. The count is let go of.
+    /// The wrapped reader or writer. The count is dropped.
     pub fn into_inner(self) -> T
         ensures { result ≡ self.inner }
     {
         self.inner
     }
 
-    /// How the last call failed that did, or None where none has.
+    /// The kind of the last failure, or None if there was none.
     pub fn last_failure(&self) -> Option<ErrorKind>
         ensures kind { result ≡ self.now.last_failure }
         ensures none { IsNone result ↔ (self.now.failures ≡ 0) }
@@ -85,15 +86,17 @@ impl<T> CountsFailures for Counted<T> {
     }
 }
 
-impl<R: Read> ReadCounted for Counted<R> {
+impl<R: BufRead> ReadCounted for Counted<R> {
     ghost remaining = { λ counted. R.remaining counted.inner };
 
-    /// Reads by one call of `Read::read`, which has all of `buf`; where it reads nothing the input is at its end.
+    /// Copies bytes from the reader's buffer, as many as `buf` has room for. The reader is called once; if its buffer
+    /// is empty, the input is at its end.
     fn read_some(&mut self, buf: &mut [u8]) -> Result<usize, Failed>
         ensures within { IfOk result (λ count. count ≤ length buf.new) }
         ensures took { IfOk result (λ count. Consumes (R.remaining self.old.inner) (R.remaining self.new.inner) (take count buf.new)) }
         ensures end { IfOk result (λ count. count ≡ 0 → 0 < length buf.old → IsAtEnd (R.remaining self.old.inner)) }
         ensures keeps { OnErr result (Keeps (R.remaining self.old.inner) (R.remaining self.new.inner)) }
+        ensures rest { MatchResult result (λ count. drop count buf.new ≡ drop count buf.old) (λ _. buf.new ≡ buf.old) }
         ensures empty { length buf.old ≡ 0 → result ≡ Ok 0 }
         ensures counts { CountsErr result self.old.failures self.new.failures }
         ensures unasked { length buf.old ≡ 0 → self.new ≡ self.old }
@@ -102,7 +105,7 @@ impl<R: Read> ReadCounted for Counted<R> {
         if buf.is_empty() {
             return Ok(0);
         }
-        match self.inner.read(buf) {
+        match copy_shown(&mut self.inner, buf) {
             Ok(count) => Ok(count),
             Err(error) => Err(self.fail(error.kind())),
         }
@@ -112,7 +115,7 @@ impl<R: Read> ReadCounted for Counted<R> {
 impl<W: Write> WriteCounted for Counted<W> {
     ghost contents = { λ counted. W.contents counted.inner };
 
-    /// Writes until all bytes are taken. A write that takes none of them is a failure, as is one that is interrupted.
+    /// Writes until all bytes are written. A write of 0 bytes is a failure, and so is an interruption.
     fn write_whole(&mut self, bytes: &[u8]) -> Result<(), Failed>
         ensures written { OnOk result (Appends (W.contents self.old.inner) (W.contents self.new.inner) bytes.now) }
         ensures front { OnErr result (AppendsFront (W.contents self.old.inner) (W.contents self.new.inner) bytes.now) }
@@ -138,7 +141,23 @@ impl<W: Write> WriteCounted for Counted<W> {
     }
 }
 
-// Writes all of the bytes, by as many writes as it takes; refused where one fails or takes none of them.
+// Copies bytes from the reader's buffer, as many as `buf` has room for.
+fn copy_shown<R: BufRead>(input: &mut R, buf: &mut [u8]) -> io::Result<usize>
+    requires { 0 < length buf.old }
+    ensures took { IfOk result (λ count. Consumes (R.remaining input.old) (R.remaining input.new) (take count buf.new)) }
+    ensures within { IfOk result (λ count. count ≤ length buf.new) }
+    ensures end { IfOk result (λ count. count ≡ 0 → IsAtEnd (R.remaining input.old)) }
+    ensures rest { MatchResult result (λ count. drop count buf.new ≡ drop count buf.old) (λ _. buf.new ≡ buf.old) }
+    ensures keeps { OnErr result (Keeps (R.remaining input.old) (R.remaining input.new)) }
+{
+    let shown = input.fill_buf()?;
+    let count = shown.len().min(buf.len());
+    buf[..count].copy_from_slice(&shown[..count]);
+    input.consume(count);
+    Ok(count)
+}
+
+// Writes all of the bytes, in as many writes as needed. It fails if a write fails or writes 0 bytes.
 fn write_each<W: Write>(output: &mut W, bytes: &[u8]) -> Result<(), ErrorKind>
     ensures written { OnOk result (Appends (W.contents output.old) (W.contents output.new) bytes.now) }
     ensures front { OnErr result (AppendsFront (W.contents output.old) (W.contents output.new) bytes.now) }

@@ -1,11 +1,11 @@
-//! Laws of the counts, each a function whose contract says it.
+//! Laws of the counts. Each is a function that does nothing and whose contract states the law.
 ghost use Rattle.std.specs.Prelude.{ℕ, List, ◌≤◌, ◌⊎◌};
 ghost use Rattle.binlog_ends.specs.Counts.{after_failure, Rose};
 
 use crate::slice_reader::SliceReader;
 use crate::traits::CountsFailures;
 
-/// A count that counts a failure rises, or stands where it can't.
+/// A count rises at each failure, or stays if it is at its largest value.
 pub fn failures_rise()
     ensures { (count : ℕ) → Rose count (after_failure count) }
 {}
@@ -15,12 +15,12 @@ pub fn counts_never_fall()
     ensures { (count : ℕ) → count ≤ after_failure count }
 {}
 
-/// A count that rose in a part of a call rose in the call.
+/// If a count rose in a part of a call, it rose in the call.
 pub fn rises_in_part()
     ensures { (first second third : ℕ) → first ≤ second → second ≤ third → Rose first second ⊎ Rose second third → Rose first third }
 {}
 
-/// The count of a slice's failures never rises.
+/// The failure count of a slice never rises.
 pub fn slices_never_fail()
     ensures { (before after : List ℕ) → Rose (⟦<SliceReader<'static> as CountsFailures>⟧.failures before) (⟦<SliceReader<'static> as CountsFailures>⟧.failures after) → ⊥ }
 {}

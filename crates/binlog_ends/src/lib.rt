@@ -1,16 +1,16 @@
-//! The ends of a binlog's reader and writer: where its bytes come from, and where they go.
+//! Readers and writers that count their failures.
 //!
-//! Each end counts its failures, and the count only rises ([`CountsFailures`]). So a caller can tell a device that failed
-//! from one that didn't: where a call's count stayed, and isn't `u64::MAX`, nothing failed in that call. In contracts this
-//! is `Rose`, of `specs/Counts`, and [`laws`] has what follows from it.
+//! Each of them counts its failures, and the count never falls ([`CountsFailures`]). So a caller can determine whether
+//! a device failed: if the count is unchanged after a call, and isn't `u64::MAX`, nothing failed in that call. In
+//! contracts this is `Rose`, in `specs/Counts`; [`laws`] has the laws about it.
 //!
-//! - [`ReadCounted`] reads, and [`WriteCounted`] writes. [`Failed`] comes exactly with a failure that was counted.
-//! - [`Counted`] makes one of any `Read` or `Write`, and keeps the kind of the last failure.
+//! - [`ReadCounted`] reads, and [`WriteCounted`] writes. [`Failed`] is returned exactly if a failure was counted.
+//! - [`Counted`] wraps any `BufRead` or `Write`, and keeps the kind of the last failure.
 //! - [`SliceReader`] reads bytes in memory, and never fails.
-//! - [`Retrying`] tries an interrupted call again. A file or a pipe is read through `Counted::new(Retrying::new(input))`.
-//!   Without it an interruption is a failure as any other.
+//! - [`Retrying`] retries an interrupted call. To read a file or a pipe, use `Counted::new(Retrying::new(input))`.
+//!   Without it an interruption is a failure like any other.
 //!
-//! ```
+//! ```text
 //! let mut input = Counted::new(Retrying::new(stdin().lock()));
 //! let mut piece = [0; 512];
 //! match input.read_some(&mut piece) {

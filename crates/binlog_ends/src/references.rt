@@ -1,4 +1,4 @@
-//! A reader or a writer that is borrowed counts on where it stands.
+//! The traits for `&mut T`: a borrowed reader or writer counts its failures in the same count.
 ghost use Rattle.std.specs.Prelude.{◌≡◌};
 
 use crate::failed::Failed;

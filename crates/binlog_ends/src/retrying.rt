@@ -1,15 +1,15 @@
-//! A reader or a writer that tries again after an interruption.
+//! A reader or a writer that retries after an interruption.
 use std::io;
 use std::io::{BufRead, ErrorKind, Read, Write};
 
-/// How often in a row one read, write or flush is tried where each try is interrupted.
+/// The number of attempts at one read, write or flush if each of them is interrupted.
 pub const ATTEMPTS: usize = 64;
 
-/// A reader or a writer that tries an interrupted call again, [`ATTEMPTS`] times in a row at most. Behind them the
-/// interruption is answered.
+/// A reader or a writer that retries an interrupted call, up to [`ATTEMPTS`] attempts. After that it returns the
+/// interruption.
 ///
-/// No contract of the standard library says when a call is interrupted, so how often it is tried is tested and not proved;
-/// that no byte is lost is proved.
+/// No contract of the standard library states when a call is interrupted, so the number of attempts is tested and not
+/// proved. That no byte is lost is proved.
 #[derive(Debug, Drop)]
 pub struct Retrying<T> {
     inner: T,
@@ -18,21 +18,21 @@ pub struct Retrying<T> {
 impl<T> Retrying<T> {
     ghost use Rattle.std.specs.Prelude.{◌≡◌};
 
-    /// A reader or a writer whose interrupted calls are tried again.
+    /// Wraps a reader or a writer.
     pub fn new(inner: T) -> Self
         ensures { result.inner ≡ inner }
     {
         Retrying { inner }
     }
 
-    /// The reader or writer itself.
+    /// The wrapped reader or writer.
     pub fn get_ref(&self) -> &T
         ensures { result.now ≡ self.now.inner }
     {
         &self.inner
     }
 
-    /// The reader or writer itself.
+    /// The wrapped reader or writer.
     pub fn into_inner(self) -> T
         ensures { result ≡ self.inner }
     {
@@ -40,7 +40,7 @@ impl<T> Retrying<T> {
     }
 }
 
-// Whether a call was interrupted, so that it can be tried again.
+// Whether a call was interrupted, so that it can be retried.
 fn is_interrupted(error: &io::Error) -> bool {
     error.kind() == ErrorKind::Interrupted
 }
@@ -62,8 +62,8 @@ impl<R: Read> Read for Retrying<R> {
 impl<R: BufRead> BufRead for Retrying<R> {
     ghost consumable_len = { λ reader. R.consumable_len reader.inner };
 
-    // A reader that shows bytes is asked for them a second time, since those of the first can't be handed on from within
-    // the loop. It has them in its buffer then, so nothing is read for it.
+    // If the reader's buffer has bytes, the reader is called a second time, since the bytes of the first call can't be
+    // returned from within the loop. They are in its buffer by then, so nothing more is read.
     fn fill_buf(&mut self) -> io::Result<&[u8]> {
         'attempts: for _ in 1..ATTEMPTS {
             match self.inner.fill_buf() {

@@ -9,7 +9,7 @@ use std::marker::Model;
 
 /// A reader of bytes in memory, which never fails.
 ///
-/// Contracts see the list of the bytes that are left.
+/// Contracts see it as the list of the bytes that are left.
 #[derive(Debug, Drop)]
 pub struct SliceReader<'a> {
     rest: &'a [u8],

@@ -22,7 +22,7 @@ abbrev pub joined : List GnoInterval → ℕ → ℕ → GnoInterval
 joined [] s e = interval s e
 joined (i ∷ is) s e = cond (ltb i.end s) (joined is s e) (cond (ltb e i.start) (interval s e) (joined is (min s i.start) (max e i.end)))
 
-apart_lower : (is : List GnoInterval) (high low : ℕ) → low ≤ high → AreApart high is → AreApart low is
+pub apart_lower : (is : List GnoInterval) (high low : ℕ) → low ≤ high → AreApart high is → AreApart low is
 apart_lower [] high low le apart = tt
 apart_lower (i ∷ is) high low le apart = (omega (arith, apart.0), apart.1, apart.2, apart.3)
 
@@ -151,12 +151,12 @@ module _ (p : GnoInterval → Bool) where
 
 -- ---- ends and starts ascend
 
-starts_above : (is : List GnoInterval) (low k : ℕ) (d : GnoInterval) → AreApart low is → k < length is → low < (get_or is k d).start
+pub starts_above : (is : List GnoInterval) (low k : ℕ) (d : GnoInterval) → AreApart low is → k < length is → low < (get_or is k d).start
 starts_above [] low k d apart within = absurd (omega arith)
 starts_above (i ∷ is) low zero d apart within = apart.0
 starts_above (i ∷ is) low (suc k) d apart within = omega (arith, apart.0, apart.1, starts_above is i.end k d apart.3 (omega arith))
 
-ends_above : (is : List GnoInterval) (low k : ℕ) (d : GnoInterval) → AreApart low is → k < length is → low < (get_or is k d).end
+pub ends_above : (is : List GnoInterval) (low k : ℕ) (d : GnoInterval) → AreApart low is → k < length is → low < (get_or is k d).end
 ends_above [] low k d apart within = absurd (omega arith)
 ends_above (i ∷ is) low zero d apart within = omega (arith, apart.0, apart.1)
 ends_above (i ∷ is) low (suc k) d apart within = omega (arith, apart.0, apart.1, ends_above is i.end k d apart.3 (omega arith))
@@ -318,7 +318,7 @@ module _ (is : List GnoInterval) (low n : ℕ) (last : GnoInterval) (apart : Are
 -- ---- the numbers of the set
 
 -- numbers below the intervals aren't in the set
-held_above : (is : List GnoInterval) (low n : ℕ) → AreApart low is → n ≤ low → is_held is n ≡ false
+pub held_above : (is : List GnoInterval) (low n : ℕ) → AreApart low is → n ≤ low → is_held is n ≡ false
 held_above [] low n apart le = refl
 held_above (i ∷ is) low n apart le =
     let above = apart.0 in

@@ -1,1 +1,2 @@
 pub mod GnoSets
+pub mod GnoDifferences

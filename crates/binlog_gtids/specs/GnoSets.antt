@@ -1,5 +1,5 @@
 -- Sets of transaction numbers (GNOs) of one source, as lists of intervals.
-use Rattle.std.specs.Prelude.{ℕ, suc, ◌^◌, ◌<◌, ◌≤◌, ⊤, Bool, false, not, ◌&&◌, ◌||◌, List, [], ◌∷◌, nat_lt, nat_le, if◌then◌else◌}
+use Rattle.std.specs.Prelude.{ℕ, Bool, ◌&&◌, nat_lt, nat_le, false, ◌||◌, List, [], ◌∷◌, ◌^◌, ◌<◌, ◌≤◌, ⊤, not, suc, if◌then◌else◌}
 use Rattle.binlog_numbers.specs.declared.gno_interval.GnoInterval.{GnoInterval}
 
 -- n is in the interval.

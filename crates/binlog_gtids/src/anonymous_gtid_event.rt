@@ -2,7 +2,7 @@
 ghost use Rattle.std.specs.Prelude.{◌≡◌, refl, Ok, IfOk, IsOkUnless};
 ghost use Rattle.binlog_wire.specs.declared.error.Error.TheVariants.{Memory};
 ghost use Rattle.binlog_gtids.specs.Gtids.{anonymous, unwritable_anonymous};
-ghost use Rattle.binlog_gtids.specs.Untagged.{untagged};
+ghost use Rattle.binlog_gtids.specs.Formats.{untagged};
 
 use crate::gtid_event::GtidEvent;
 use binlog_consts::EventType;

@@ -1,5 +1,6 @@
 //! The fields after the clock code of a GTID without a tag.
 ghost use Rattle.std.specs.Prelude.{◌≡◌, ◌++◌, ◌+◌, ◌≤◌, ◌<◌, length, vec_len, vec_capacity};
+ghost use Rattle.binlog_wire.specs.Putting.{Puts};
 ghost use Rattle.binlog_wire.specs.Reading.{Gives};
 ghost use Rattle.binlog_numbers.specs.Announced.{announced_written};
 ghost use Rattle.binlog_gtids.specs.Untagged.{logical_times, times_if_left, length_if_left, versions_if_left};
@@ -71,9 +72,7 @@ pub(crate) fn read_versions(buf: &mut ParseBuf<'_>) -> Result<(u32, u32), Error>
 /// Appends `last_committed` and `sequence_number`. `buf` has room for them.
 pub(crate) fn put_logical_times(last_committed: u64, sequence_number: u64, buf: &mut Vec<u8>)
     requires { vec_len buf.old + 16 ≤ vec_capacity buf.old }
-    ensures items { buf.new.items ≡ buf.old.items ++ logical_times.written (last_committed, sequence_number) }
-    ensures len { vec_len buf.new ≡ vec_len buf.old + 16 }
-    ensures capacity { vec_capacity buf.old ≤ vec_capacity buf.new }
+    ensures { Puts buf.old buf.new (logical_times.written (last_committed, sequence_number)) }
 {
     LeU64::put(last_committed, buf);
     LeU64::put(sequence_number, buf);
@@ -91,9 +90,7 @@ pub(crate) fn times_len(immediate: u64, original: u64) -> usize
 pub(crate) fn put_times(immediate: u64, original: u64, buf: &mut Vec<u8>)
     requires time { immediate < 36028797018963968 }
     requires room { vec_len buf.old + length (announced_written 7 36028797018963968 (immediate, original)) ≤ vec_capacity buf.old }
-    ensures items { buf.new.items ≡ buf.old.items ++ announced_written 7 36028797018963968 (immediate, original) }
-    ensures len { vec_len buf.new ≡ vec_len buf.old + length (announced_written 7 36028797018963968 (immediate, original)) }
-    ensures capacity { vec_capacity buf.old ≤ vec_capacity buf.new }
+    ensures { Puts buf.old buf.new (announced_written 7 36028797018963968 (immediate, original)) }
 {
     if immediate == original {
         LeU56::put(immediate, buf);
@@ -115,9 +112,7 @@ pub(crate) fn versions_len(immediate: u32, original: u32) -> usize
 pub(crate) fn put_versions(immediate: u32, original: u32, buf: &mut Vec<u8>)
     requires version { immediate < 2147483648 }
     requires room { vec_len buf.old + length (announced_written 4 2147483648 (immediate, original)) ≤ vec_capacity buf.old }
-    ensures items { buf.new.items ≡ buf.old.items ++ announced_written 4 2147483648 (immediate, original) }
-    ensures len { vec_len buf.new ≡ vec_len buf.old + length (announced_written 4 2147483648 (immediate, original)) }
-    ensures capacity { vec_capacity buf.old ≤ vec_capacity buf.new }
+    ensures { Puts buf.old buf.new (announced_written 4 2147483648 (immediate, original)) }
 {
     if immediate == original {
         LeU32::put(immediate, buf);

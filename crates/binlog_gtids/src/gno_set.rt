@@ -4,6 +4,7 @@ ghost use Rattle.std.specs.List.{insert};
 ghost use Rattle.binlog_wire.specs.declared.error.Error.TheVariants.{Memory};
 ghost use Rattle.binlog_gtids.specs.GnoSets.{is_within, is_held, is_missing, AreApart, ending_below, starting_up_to};
 
+mod difference;
 pub mod laws;
 
 use binlog_numbers::GnoInterval;

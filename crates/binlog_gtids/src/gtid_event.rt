@@ -4,7 +4,8 @@ ghost use Rattle.bitflags.specs.Sets.{known_bits};
 ghost use Rattle.binlog_wire.specs.declared.error.Error.TheVariants.{Memory};
 ghost use Rattle.binlog_consts.specs.declared.event_type.EventType.TheVariants.{GTID_EVENT, GTID_TAGGED_LOG_EVENT};
 ghost use Rattle.binlog_gtids.specs.Flags.{gtid_flags};
-ghost use Rattle.binlog_gtids.specs.Gtids.{gtid, by_tag, raw_type_of, gtid_written, gtid_written_is, unwritable};
+ghost use Rattle.binlog_gtids.specs.Gtids.{gtid, by_tag, raw_type_of, gtid_written, unwritable};
+ghost use Rattle.binlog_gtids.specs.Laws.Gtids.{gtid_written_is};
 ghost use Rattle.binlog_gtids.specs.Untagged.{is_untagged_type};
 
 use crate::gtid_flags::GtidFlags;

@@ -5,7 +5,8 @@ ghost use Rattle.binlog_description.specs.FormatDescription.{default_description
 ghost use Rattle.binlog_numbers.specs.Sized.{Solves, least_size};
 ghost use Rattle.binlog_numbers.specs.Varlen.{IsVarlen};
 ghost use Rattle.binlog_numbers.specs.Repeated.{EachFits};
-ghost use Rattle.binlog_gtids.specs.PreviousGtids.{FitsSid, sids_format, unwritable_sids};
+ghost use Rattle.binlog_gtids.specs.PreviousGtids.{FitsSid, unwritable_sids};
+ghost use Rattle.binlog_gtids.specs.Formats.{sids_format};
 ghost use Rattle.binlog_gtids.specs.Gtids.{gtid, anonymous, raw_type_of, unwritable, unwritable_anonymous, HasTag};
 ghost use Rattle.binlog_gtids.specs.Writable.{InRange};
 ghost use Rattle.binlog_gtids.specs.declared.gtid_event.GtidEvent.{GtidEvent};

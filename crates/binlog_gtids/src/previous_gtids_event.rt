@@ -1,13 +1,15 @@
 //! PREVIOUS_GTIDS_EVENT: the GTIDs of earlier files.
 ghost use Rattle.std.specs.Prelude.{◌≡◌, ◌++◌, ◌+◌, ◌≤◌, ⊤, min, length, refl, IfOk, IsOkUnless, OnOk, MatchOption, Ok, Err, ◌∷◌, [], vec_len, vec_capacity};
+ghost use Rattle.binlog_wire.specs.Putting.{Puts};
 ghost use Rattle.binlog_wire.specs.declared.error.Error.TheVariants.{Memory};
 ghost use Rattle.binlog_numbers.specs.Repeated.{each_written};
-ghost use Rattle.binlog_gtids.specs.PreviousGtids.{previous_gtids, has_tags, count_in, any_tagged, first_number, sid_written, sids_written, unwritable_sids};
+ghost use Rattle.binlog_gtids.specs.Formats.{previous_gtids};
+ghost use Rattle.binlog_gtids.specs.PreviousGtids.{has_tags, count_in, any_tagged, first_number, sid_written, sids_written, unwritable_sids};
 
 use crate::previous_gtids_sid::PreviousGtidsSid;
 use binlog_consts::{BinlogVersion, EventType};
 use binlog_description::{BinlogCtx, BinlogEvent, BinlogStruct, MAX_BODY_LEN};
-use binlog_numbers::Items;
+use binlog_numbers::ValueList;
 use binlog_wire::{Error, Field, IntRepr, LeU64, MyDeserialize, MySerialize, ParseBuf, reserve};
 use std::alloc::Global;
 
@@ -25,7 +27,7 @@ use std::alloc::Global;
 /// Source: MySQL's source documentation, `Gtid_set::encode`.
 #[derive(Debug, PartialEq, Eq, Hash, Drop)]
 pub struct PreviousGtidsEvent<'a> {
-    sids: Items<PreviousGtidsSid<'a>>,
+    sids: ValueList<PreviousGtidsSid<'a>>,
 }
 
 impl<'a> PreviousGtidsEvent<'a> {
@@ -34,7 +36,7 @@ impl<'a> PreviousGtidsEvent<'a> {
         ensures { result ≡ record { sids = sids.entry.items } }
     {
         PreviousGtidsEvent {
-            sids: Items::new(sids),
+            sids: ValueList::new(sids),
         }
     }
 
@@ -56,7 +58,7 @@ impl<'a> PreviousGtidsEvent<'a> {
             push(&mut owned, sid)?;
         }
         Ok(PreviousGtidsEvent {
-            sids: Items::new(owned),
+            sids: ValueList::new(owned),
         })
     }
 
@@ -72,7 +74,7 @@ impl<'a> PreviousGtidsEvent<'a> {
             push(&mut copies, copy)?;
         }
         Ok(PreviousGtidsEvent {
-            sids: Items::new(copies),
+            sids: ValueList::new(copies),
         })
     }
 }
@@ -128,7 +130,7 @@ impl<'de> MyDeserialize<'de> for PreviousGtidsEvent<'de> {
         buf: &mut ParseBuf<'de>,
     ) -> Result<Self, Error> {
         let head = LeU64::read(buf)?;
-        let sids = Items::deserialize(alloc, (count_in(head), has_tags(head)), buf)?;
+        let sids = ValueList::deserialize(alloc, (count_in(head), has_tags(head)), buf)?;
         Ok(PreviousGtidsEvent { sids })
     }
 }
@@ -147,9 +149,7 @@ fn sids_len(sids: &[PreviousGtidsSid<'_>], with_tags: bool) -> usize
 /// Appends the entries, with or without tags. `buf` has room for them.
 fn put_sids(sids: &[PreviousGtidsSid<'_>], with_tags: bool, buf: &mut Vec<u8>)
     requires { vec_len buf.old + length (each_written (sid_written with_tags) sids.now) ≤ vec_capacity buf.old }
-    ensures items { buf.new.items ≡ buf.old.items ++ each_written (sid_written with_tags) sids.now }
-    ensures len { vec_len buf.new ≡ vec_len buf.old + length (each_written (sid_written with_tags) sids.now) }
-    ensures capacity { vec_capacity buf.old ≤ vec_capacity buf.new }
+    ensures { Puts buf.old buf.new (each_written (sid_written with_tags) sids.now) }
 {
     for sid in sids {
         sid.put(with_tags, buf);

@@ -1,13 +1,14 @@
 //! An entry of the GTIDs of earlier files.
 ghost use Rattle.std.specs.Prelude.{◌≡◌, ◌++◌, ◌+◌, ◌≤◌, ⊤, true, min, length, option_copied, IfOk, IsOkUnless, vec_len, vec_capacity};
 ghost use Rattle.binlog_wire.specs.declared.error.Error.TheVariants.{Memory};
+ghost use Rattle.binlog_wire.specs.Putting.{Puts};
 ghost use Rattle.binlog_wire.specs.Reading.{Gives};
 ghost use Rattle.binlog_numbers.specs.GnoIntervals.{gno_interval};
 ghost use Rattle.binlog_numbers.specs.Repeated.{each_written};
 ghost use Rattle.binlog_gtids.specs.PreviousGtids.{tag_if_any, tag_in, intervals, sid_in, tag_written, sid_written};
 
 use crate::sid::read_sid;
-use binlog_numbers::{GnoInterval, Items, Tag, Varlen, read_varlen_text, varlen_uint_size};
+use binlog_numbers::{GnoInterval, Tag, ValueList, Varlen, read_varlen_text, varlen_uint_size};
 use binlog_wire::{Error, IntRepr, LeU64, MyDeserialize, ParseBuf, Put};
 use std::alloc::Global;
 
@@ -23,7 +24,7 @@ const INTERVAL_LEN: usize = 16;
 pub struct PreviousGtidsSid<'a> {
     uuid: [u8; 16],
     tag: Option<Tag<'a>>,
-    intervals: Items<GnoInterval>,
+    intervals: ValueList<GnoInterval>,
 }
 
 impl<'a> PreviousGtidsSid<'a> {
@@ -34,7 +35,7 @@ impl<'a> PreviousGtidsSid<'a> {
         PreviousGtidsSid {
             uuid,
             tag,
-            intervals: Items::new(intervals),
+            intervals: ValueList::new(intervals),
         }
     }
 
@@ -94,7 +95,7 @@ impl<'a> PreviousGtidsSid<'a> {
         Ok(PreviousGtidsSid {
             uuid: self.uuid,
             tag,
-            intervals: Items::new(intervals),
+            intervals: ValueList::new(intervals),
         })
     }
 }
@@ -118,11 +119,11 @@ fn read_tag_in<'a>(with_tags: bool, buf: &mut ParseBuf<'a>) -> Result<Option<Tag
 }
 
 /// Reads the number of intervals and the intervals from the start of `buf`.
-fn read_intervals(alloc: Global, buf: &mut ParseBuf<'_>) -> Result<Items<GnoInterval>, Error>
+fn read_intervals(alloc: Global, buf: &mut ParseBuf<'_>) -> Result<ValueList<GnoInterval>, Error>
     ensures { Gives ⊤ buf.new result (intervals.reads buf.old) }
 {
     let count = LeU64::read(buf)?;
-    Items::deserialize(alloc, (count, ()), buf)
+    ValueList::deserialize(alloc, (count, ()), buf)
 }
 
 /// The context says whether the entry is of the form with tags.
@@ -171,9 +172,7 @@ fn tag_len(tag: &Option<Tag<'_>>, with_tags: bool) -> usize
 /// Appends a tag after its length; the length is 0 for no tag. `buf` has room for them.
 fn put_tag(tag: &Option<Tag<'_>>, buf: &mut Vec<u8>)
     requires { vec_len buf.old + length (tag_written true tag.now) ≤ vec_capacity buf.old }
-    ensures items { buf.new.items ≡ buf.old.items ++ tag_written true tag.now }
-    ensures len { vec_len buf.new ≡ vec_len buf.old + length (tag_written true tag.now) }
-    ensures capacity { vec_capacity buf.old ≤ vec_capacity buf.new }
+    ensures { Puts buf.old buf.new (tag_written true tag.now) }
 {
     match tag {
         None => Varlen::put(0, buf),
@@ -188,9 +187,7 @@ fn put_tag(tag: &Option<Tag<'_>>, buf: &mut Vec<u8>)
 /// Appends the intervals. `buf` has room for them.
 fn put_intervals(intervals: &[GnoInterval], buf: &mut Vec<u8>)
     requires { vec_len buf.old + length (each_written gno_interval.written intervals.now) ≤ vec_capacity buf.old }
-    ensures items { buf.new.items ≡ buf.old.items ++ each_written gno_interval.written intervals.now }
-    ensures len { vec_len buf.new ≡ vec_len buf.old + length (each_written gno_interval.written intervals.now) }
-    ensures capacity { vec_capacity buf.old ≤ vec_capacity buf.new }
+    ensures { Puts buf.old buf.new (each_written gno_interval.written intervals.now) }
 {
     for interval in intervals {
         interval.put(buf);
@@ -209,9 +206,7 @@ impl PreviousGtidsSid<'_> {
     /// Appends the entry, with or without tags. `buf` has room for it.
     pub(crate) fn put(&self, with_tags: bool, buf: &mut Vec<u8>)
         requires { vec_len buf.old + length (sid_written with_tags self.now) ≤ vec_capacity buf.old }
-        ensures items { buf.new.items ≡ buf.old.items ++ sid_written with_tags self.now }
-        ensures len { vec_len buf.new ≡ vec_len buf.old + length (sid_written with_tags self.now) }
-        ensures capacity { vec_capacity buf.old ≤ vec_capacity buf.new }
+        ensures { Puts buf.old buf.new (sid_written with_tags self.now) }
     {
         buf.extend_from_slice(&self.uuid).unwrap();
         if with_tags {

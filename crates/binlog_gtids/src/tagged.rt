@@ -2,7 +2,8 @@
 ghost use Rattle.std.specs.Prelude.{◌≡◌, ◌++◌, ⊤, [], Ok, MatchResult};
 ghost use Rattle.binlog_wire.specs.Fields.{meant};
 ghost use Rattle.binlog_wire.specs.Reading.{Gives, Refuses};
-ghost use Rattle.binlog_gtids.specs.Tagged.{Head, head, tagged};
+ghost use Rattle.binlog_gtids.specs.Tagged.{Head, head};
+ghost use Rattle.binlog_gtids.specs.Formats.{tagged};
 ghost use Rattle.binlog_gtids.specs.Taking.{event_known};
 ghost use Rattle.binlog_gtids.specs.TaggedReading.{payload_at};
 

@@ -3,12 +3,14 @@ ghost use Rattle.std.specs.Prelude.{◌≡◌, ◌≤◌, ◌<◌, refl, ◌⊎�
 ghost use Rattle.binlog_wire.specs.declared.error.Error.TheVariants.{InvalidData};
 ghost use Rattle.binlog_wire.specs.Reading.{Gives, Refuses};
 ghost use Rattle.binlog_wire.specs.declared.error.Invalid.TheVariants as kinds;
-ghost use Rattle.binlog_numbers.specs.Chosen.{tested};
+ghost use Rattle.binlog_numbers.specs.Formats.{tested};
 ghost use Rattle.binlog_numbers.specs.Repeated.{times_at};
 ghost use Rattle.binlog_numbers.specs.Tags.{is_tag};
 ghost use Rattle.binlog_numbers.specs.Varlen.{varlen_at};
 ghost use Rattle.binlog_numbers.specs.VarlenTexts.{varlen_text};
-ghost use Rattle.binlog_gtids.specs.TaggedFields.{Entry, Value, value_of_id, at_most, not_negative, is_tail, fields};
+ghost use Rattle.binlog_gtids.specs.TaggedFields.{Entry, value_of_id, at_most, not_negative};
+ghost use Rattle.binlog_gtids.specs.TaggedValues.{Value, is_tail};
+ghost use Rattle.binlog_gtids.specs.Tagged.{fields};
 ghost use Rattle.binlog_gtids.specs.Taking.{no_fields, with_entry, taken};
 
 use crate::field_id;

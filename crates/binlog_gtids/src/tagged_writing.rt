@@ -1,9 +1,11 @@
 //! Writing a GTID with a tag.
 ghost use Rattle.std.specs.Prelude.{◌≡◌, ◌++◌, ◌+◌, ◌*◌, ◌<◌, ◌≤◌, Some, length, MatchOption, IsOk, Err, vec_len, vec_capacity};
+ghost use Rattle.binlog_wire.specs.Putting.{Puts};
 ghost use Rattle.binlog_numbers.specs.Repeated.{each_written};
 ghost use Rattle.binlog_numbers.specs.Sized.{least_size};
-ghost use Rattle.binlog_numbers.specs.VarlenWriting.{varlen_written};
-ghost use Rattle.binlog_gtids.specs.Tagged.{tagged, written_size, entries_written};
+ghost use Rattle.binlog_numbers.specs.Varlen.{varlen_written};
+ghost use Rattle.binlog_gtids.specs.Formats.{tagged};
+ghost use Rattle.binlog_gtids.specs.Tagged.{written_size, entries_written};
 ghost use Rattle.binlog_gtids.specs.Writable.{unwritable_tagged};
 ghost use Rattle.binlog_gtids.specs.TaggedWriting.{number_field, changed_field, sid_field, tag_field, first_fields, last_fields};
 
@@ -86,9 +88,7 @@ fn tag_len(tag: &Tag<'_>) -> usize
 /// Appends a field with a number. `buf` has room for it.
 fn put_number(id: u64, number: u64, buf: &mut Vec<u8>)
     requires { vec_len buf.old + length (number_field id number) ≤ vec_capacity buf.old }
-    ensures items { buf.new.items ≡ buf.old.items ++ number_field id number }
-    ensures len { vec_len buf.new ≡ vec_len buf.old + length (number_field id number) }
-    ensures capacity { vec_capacity buf.old ≤ vec_capacity buf.new }
+    ensures { Puts buf.old buf.new (number_field id number) }
 {
     Varlen::put(id, buf);
     Varlen::put(number, buf);
@@ -97,9 +97,7 @@ fn put_number(id: u64, number: u64, buf: &mut Vec<u8>)
 /// Appends a field unless it has the default number. `buf` has room for it.
 fn put_changed(id: u64, usual: u64, number: u64, buf: &mut Vec<u8>)
     requires { vec_len buf.old + length (changed_field id usual number) ≤ vec_capacity buf.old }
-    ensures items { buf.new.items ≡ buf.old.items ++ changed_field id usual number }
-    ensures len { vec_len buf.new ≡ vec_len buf.old + length (changed_field id usual number) }
-    ensures capacity { vec_capacity buf.old ≤ vec_capacity buf.new }
+    ensures { Puts buf.old buf.new (changed_field id usual number) }
 {
     if usual != number {
         put_number(id, number, buf);
@@ -109,9 +107,7 @@ fn put_changed(id: u64, usual: u64, number: u64, buf: &mut Vec<u8>)
 /// Appends each byte as a number. `buf` has room for them.
 fn put_bytes(bytes: &[u8], buf: &mut Vec<u8>)
     requires { vec_len buf.old + length (each_written varlen_written bytes.now) ≤ vec_capacity buf.old }
-    ensures items { buf.new.items ≡ buf.old.items ++ each_written varlen_written bytes.now }
-    ensures len { vec_len buf.new ≡ vec_len buf.old + length (each_written varlen_written bytes.now) }
-    ensures capacity { vec_capacity buf.old ≤ vec_capacity buf.new }
+    ensures { Puts buf.old buf.new (each_written varlen_written bytes.now) }
 {
     for byte in bytes {
         Varlen::put(u64::from(*byte), buf);
@@ -121,9 +117,7 @@ fn put_bytes(bytes: &[u8], buf: &mut Vec<u8>)
 /// Appends a source's UUID. `buf` has room for it.
 fn put_sid(sid: &[u8], buf: &mut Vec<u8>)
     requires { vec_len buf.old + length (sid_field sid.now) ≤ vec_capacity buf.old }
-    ensures items { buf.new.items ≡ buf.old.items ++ sid_field sid.now }
-    ensures len { vec_len buf.new ≡ vec_len buf.old + length (sid_field sid.now) }
-    ensures capacity { vec_capacity buf.old ≤ vec_capacity buf.new }
+    ensures { Puts buf.old buf.new (sid_field sid.now) }
 {
     Varlen::put(field_id::SID, buf);
     put_bytes(sid, buf);
@@ -132,9 +126,7 @@ fn put_sid(sid: &[u8], buf: &mut Vec<u8>)
 /// Appends a tag. `buf` has room for it.
 fn put_tag(tag: &Tag<'_>, buf: &mut Vec<u8>)
     requires { vec_len buf.old + length (tag_field tag.now) ≤ vec_capacity buf.old }
-    ensures items { buf.new.items ≡ buf.old.items ++ tag_field tag.now }
-    ensures len { vec_len buf.new ≡ vec_len buf.old + length (tag_field tag.now) }
-    ensures capacity { vec_capacity buf.old ≤ vec_capacity buf.new }
+    ensures { Puts buf.old buf.new (tag_field tag.now) }
 {
     let text = tag.as_str().as_bytes();
     put_number(field_id::TAG, text.len() as u64, buf);
@@ -207,9 +199,7 @@ impl GtidEvent {
         requires last_committed { self.now.last_committed < 9223372036854775808 }
         requires sequence_number { self.now.sequence_number < 9223372036854775808 }
         requires room { vec_len buf.old + length (first_fields self.now tag.now) ≤ vec_capacity buf.old }
-        ensures items { buf.new.items ≡ buf.old.items ++ first_fields self.now tag.now }
-        ensures len { vec_len buf.new ≡ vec_len buf.old + length (first_fields self.now tag.now) }
-        ensures capacity { vec_capacity buf.old ≤ vec_capacity buf.new }
+        ensures { Puts buf.old buf.new (first_fields self.now tag.now) }
     {
         put_number(field_id::GTID_FLAGS, u64::from(self.flags), buf);
         put_sid(&self.sid, buf);
@@ -222,9 +212,7 @@ impl GtidEvent {
     /// Appends the fields from the commit timestamps on. `buf` has room for them.
     fn put_last(&self, buf: &mut Vec<u8>)
         requires room { vec_len buf.old + length (last_fields self.now) ≤ vec_capacity buf.old }
-        ensures items { buf.new.items ≡ buf.old.items ++ last_fields self.now }
-        ensures len { vec_len buf.new ≡ vec_len buf.old + length (last_fields self.now) }
-        ensures capacity { vec_capacity buf.old ≤ vec_capacity buf.new }
+        ensures { Puts buf.old buf.new (last_fields self.now) }
     {
         let (time, version) = (
             self.immediate_commit_timestamp,
@@ -270,9 +258,7 @@ impl GtidEvent {
         requires last_committed { self.now.last_committed < 9223372036854775808 }
         requires sequence_number { self.now.sequence_number < 9223372036854775808 }
         requires room { vec_len buf.old + length (tagged.written self.now) ≤ vec_capacity buf.old }
-        ensures items { buf.new.items ≡ buf.old.items ++ tagged.written self.now }
-        ensures len { vec_len buf.new ≡ vec_len buf.old + length (tagged.written self.now) }
-        ensures capacity { vec_capacity buf.old ≤ vec_capacity buf.new }
+        ensures { Puts buf.old buf.new (tagged.written self.now) }
     {
         let size = self.tagged_len(tag);
         u8::put(Self::TAGGED_SERIALIZATION_VERSION_V2, buf);

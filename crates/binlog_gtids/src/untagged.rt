@@ -1,7 +1,9 @@
 //! Reading and writing a GTID without a tag.
 ghost use Rattle.std.specs.Prelude.{◌≡◌, ◌++◌, ◌+◌, ◌<◌, ◌≤◌, None, length, MatchOption, IsOk, Err, vec_len, vec_capacity};
+ghost use Rattle.binlog_wire.specs.Putting.{Puts};
 ghost use Rattle.binlog_wire.specs.Reading.{Gives, read_as};
-ghost use Rattle.binlog_gtids.specs.Untagged.{untagged, head, clock, clock_of, with_clock, without_clock};
+ghost use Rattle.binlog_gtids.specs.Formats.{untagged};
+ghost use Rattle.binlog_gtids.specs.Untagged.{head, head_of, clock, clock_of, with_clock, without_clock};
 ghost use Rattle.binlog_gtids.specs.Writable.{unwritable_untagged};
 
 use crate::clock::{
@@ -87,9 +89,7 @@ impl GtidEvent {
     /// Appends flags, source UUID and GNO. `buf` has room for them.
     fn put_head(&self, buf: &mut Vec<u8>)
         requires { vec_len buf.old + 25 ≤ vec_capacity buf.old }
-        ensures items { buf.new.items ≡ buf.old.items ++ head.written (self.now.flags, (self.now.sid, self.now.gno)) }
-        ensures len { vec_len buf.new ≡ vec_len buf.old + 25 }
-        ensures capacity { vec_capacity buf.old ≤ vec_capacity buf.new }
+        ensures { Puts buf.old buf.new (head.written (head_of self.now)) }
     {
         u8::put(self.flags, buf);
         buf.extend_from_slice(&self.sid).unwrap();
@@ -113,9 +113,7 @@ impl GtidEvent {
         requires time { self.now.immediate_commit_timestamp < 36028797018963968 }
         requires version { self.now.immediate_server_version < 2147483648 }
         requires room { vec_len buf.old + length (clock.written (clock_of self.now)) ≤ vec_capacity buf.old }
-        ensures items { buf.new.items ≡ buf.old.items ++ clock.written (clock_of self.now) }
-        ensures len { vec_len buf.new ≡ vec_len buf.old + length (clock.written (clock_of self.now)) }
-        ensures capacity { vec_capacity buf.old ≤ vec_capacity buf.new }
+        ensures { Puts buf.old buf.new (clock.written (clock_of self.now)) }
     {
         put_logical_times(self.last_committed, self.sequence_number, buf);
         put_times(
@@ -168,9 +166,7 @@ impl GtidEvent {
     pub(crate) fn put_untagged(&self, buf: &mut Vec<u8>)
         requires writable { unwritable_untagged self.now ≡ None }
         requires room { vec_len buf.old + length (untagged.written self.now) ≤ vec_capacity buf.old }
-        ensures items { buf.new.items ≡ buf.old.items ++ untagged.written self.now }
-        ensures len { vec_len buf.new ≡ vec_len buf.old + length (untagged.written self.now) }
-        ensures capacity { vec_capacity buf.old ≤ vec_capacity buf.new }
+        ensures { Puts buf.old buf.new (untagged.written self.now) }
     {
         self.put_head(buf);
         if self.has_clock {

@@ -15,7 +15,7 @@ unfolding first_bits
 one_more_bit old mid new bytes n so_far e =
     rw add-one (e ∙ ap (λ (t : List Token). t ++ boolean (bit_of bytes n) ∷ []) so_far ∙ append_assoc (old ++ begin_array ∷ []) (first_bits n bytes) (boolean (bit_of bytes n) ∷ []))
 
--- a bit, and the tokens after it
+-- A bit, and the tokens after it.
 pub bit_added : (old mid new : List Token) (bytes : List ℕ) (len n : ℕ) (b : Bool) → mid ≡ old ++ begin_array ∷ [] ++ first_bits n bytes
     → n < len → Some b ≡ bit_in len bytes n → new ≡ mid ++ boolean b ∷ [] → new ≡ old ++ begin_array ∷ [] ++ first_bits (n + 1) bytes
 bit_added old mid new bytes len n b so_far below shown e =

@@ -24,7 +24,7 @@ set_is false (suc x ∷ ys) same = absurd (false≢true (same.1 (λ e. cc)))
 
 -- ---- names
 
--- a name, and those after its terminating zero byte
+-- A name, and those after its terminating zero byte.
 one_name : (front name rest : List ℕ) → HasNoZero name → names_from front ((name ++ 0 ∷ []) ++ rest) ≡ (front ++ name) ∷ names_from [] rest
 one_name front [] rest none = ap (λ (n : List ℕ). n ∷ names_from [] rest) (sym (append-nil front))
 one_name front (zero ∷ name) rest none = absurd none
@@ -45,17 +45,17 @@ names_are value names (inr (few, is, zeros)) = rw (is, differs (length names) 25
 
 -- ---- lengths
 
--- the bytes of the variables
+-- The number of bytes of the variables.
 abbrev pub variables_len : List Variable → ℕ
 variables_len vars = length (flat_map variable_bytes vars)
 
--- the variables have no more bytes than the text
+-- The variables have at most as many bytes as the text.
 pub variables_fit : (text : List ℕ) → variables_len (variables text) ≤ length text
 variables_fit text =
     let begins = variables_begin text in
     omega (arith, ap length begins.1.is, length-append (flat_map variable_bytes (variables text)) begins.0)
 
--- the variables before one, with that one, have no more bytes than the text
+-- The variables up to and including one have at most as many bytes as the text.
 pub one_more_fits : (text : List ℕ) (len : ℕ) (left after : List Variable) (v : Variable)
     → len + variables_len left ≡ variables_len (variables text) → left ≡ v ∷ after → len + (1 + length v.value) ≤ length text
 one_more_fits text len left after v so_far is =

@@ -4,17 +4,17 @@ use Rattle.json.specs.Token.{Token, begin_object, end_object}
 
 -- ---- arrays: the written values and those that are left
 
--- the next value
+-- The next value.
 pub value_added : {X : Type 0} (f : X → List Token) (line new all : List Token) (left after : List X) (x : X) → line ++ flat_map f left ≡ all → left ≡ x ∷ after
     → new ≡ line ++ f x → new ++ flat_map f after ≡ all
 value_added {X = X} f line new all left after x so_far is e =
     ap (λ (t : List Token). t ++ flat_map f after) e ∙ append_assoc line (f x) (flat_map f after) ∙ ap (λ (l : List X). line ++ flat_map f l) (sym is) ∙ so_far
 
--- no value is left
+-- No value is left.
 pub all_added : {X : Type 0} (f : X → List Token) (line all : List Token) (left : List X) → line ++ flat_map f left ≡ all → left ≡ [] → line ≡ all
 all_added {X = X} f line all left so_far none = sym (append-nil line) ∙ ap (λ (l : List X). line ++ flat_map f l) (sym none) ∙ so_far
 
--- an object of four groups of members
+-- An object of four groups of members.
 pub event_parts : (old a b c d : List Token)
     → (((((old ++ begin_object ∷ []) ++ a) ++ b) ++ c) ++ d) ++ end_object ∷ [] ≡ old ++ begin_object ∷ ((((a ++ b) ++ c) ++ d) ++ end_object ∷ [])
 event_parts old a b c d = simp append_assoc

@@ -3,7 +3,7 @@ use Rattle.std.specs.Prelude.{ℕ, zero, suc, List, [], ◌∷◌, ◌++◌}
 use Rattle.json.specs.Token.{Token, begin_array, end_array, boolean}
 use Rattle.binlog_wire.specs.Bits.{bit_of}
 
--- The first n bits.
+-- The first n bits as booleans.
 unfoldable pub first_bits : ℕ → List ℕ → List Token
 first_bits zero bytes = []
 first_bits (suc n) bytes = first_bits n bytes ++ boolean (bit_of bytes n) ∷ []

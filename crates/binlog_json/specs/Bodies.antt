@@ -51,7 +51,8 @@ incident_object e =
 abbrev pub rows_query_object : RowsQueryEvent → List Token
 rows_query_object e = object (member (codes "query") (text_value e.query))
 
--- The bytes before the first zero byte, or all if there is none.
+-- The bytes before the first zero byte, from the result of reading a zero-terminated string; all bytes if there is no
+-- zero byte.
 abbrev pub in_front : List ℕ → Read (List ℕ) → List ℕ
 in_front text (Ok x) = x.0
 in_front text (Err why) = text

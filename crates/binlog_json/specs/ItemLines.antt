@@ -1,8 +1,10 @@
 -- The line of an item: a JSON object.
-use Rattle.std.specs.Prelude.{ℕ, List, ◌++◌, codes, Result, Ok, Err, ⊤}
+use Rattle.std.specs.Prelude.{ℕ, List, [], ◌++◌, codes, Result, Ok, Err, ⊤}
+use Rattle.std.specs.Int.{w32, to_le_bytes}
 use Rattle.json.specs.Print.{print}
 use Rattle.json.specs.Token.{Token}
 use Rattle.binlog_wire.specs.declared.error.Error.{Error}
+use Rattle.binlog_wire.specs.declared.error.Error.TheVariants.{ChecksumMismatch}
 use Rattle.binlog_wire.specs.Errors.{error_number}
 use Rattle.binlog_consts.specs.EventTypes.{event_type_of}
 use Rattle.binlog_description.specs.Headers.{header_of}
@@ -36,9 +38,14 @@ unfoldable pub event_object : ℕ → EventView → List Token
 event_object index event = object
     (member (codes "index") (number_value index) ++ type_members (header_of event.frame).event_type ++ header_members (header_of event.frame) ++ body_members event)
 
+-- The two checksums of a mismatch: the four stored bytes, and those that should be there.
+abbrev pub mismatch_members : Error → List Token
+mismatch_members (ChecksumMismatch stored computed) = member (codes "stored") (bytes_value (to_le_bytes w32 stored)) ++ member (codes "computed") (bytes_value (to_le_bytes w32 computed))
+mismatch_members error = []
+
 -- The object of an error.
 unfoldable pub error_object : ℕ → Error → List Token
-error_object index error = object (member (codes "index") (number_value index) ++ member (codes "error") (number_value (error_number error)))
+error_object index error = object (member (codes "index") (number_value index) ++ member (codes "error") (number_value (error_number error)) ++ mismatch_members error)
 
 -- The object of an item.
 abbrev pub item_object : ℕ → Result EventView Error → List Token

@@ -6,7 +6,7 @@ use binlog_file::BitView;
 use json_line::Line;
 use std::alloc::AllocError;
 
-/// Writes an array of the bits.
+/// Writes the bits as an array of booleans.
 #[tactic(auto, unfolding(crate::specs::Bits::bits_value))]
 pub(crate) fn write_bits(line: &mut Line, bits: BitView<'_>) -> Result<(), AllocError>
     ensures { Adds result line.old line.new (bits_value (bits.entry.len, bits.entry.bytes.now)) }

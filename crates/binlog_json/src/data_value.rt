@@ -2,7 +2,7 @@
 #![tactic(auto, using(std::proofs::Common::append_assoc))]
 
 ghost use Rattle.std.specs.Prelude.{◌≡◌, false, Ok, OnOk};
-ghost use Rattle.binlog_wire.specs.Errors.{error_number, is_outside};
+ghost use Rattle.binlog_wire.specs.Errors.{error_number, is_environment_error};
 ghost use Rattle.binlog_consts.specs.declared.event_type.EventType.TheVariants.{QUERY_EVENT};
 ghost use Rattle.binlog_consts.specs.EventTypes.{event_type_of};
 ghost use Rattle.binlog_description.specs.Headers.{header_of};
@@ -84,9 +84,9 @@ fn write_statement(line: &mut Line, alloc: Global, event: &EventRef<'_>) -> Resu
 // Writes an object with the number of an error. A failed allocation isn't written; it is the result.
 fn write_refusal(line: &mut Line, error: &Error) -> Result<(), AllocError>
     ensures number { Adds result line.old line.new (error_object (error_number error.now)) }
-    ensures inside { OnOk result (is_outside error.now ≡ false) }
+    ensures inside { OnOk result (is_environment_error error.now ≡ false) }
 {
-    if error.is_outside() {
+    if error.is_environment_error() {
         return Err(AllocError);
     }
     line.begin_object()?;

@@ -1,4 +1,4 @@
--- What a listing over a slice has written so far, and what it answers.
+-- What a listing of a slice has written so far, and its results.
 use Rattle.std.proofs.Common.{◌≡◌, inl, inr, ℕ, ◌+◌, ◌<◌, ◌^◌, Bool, true, false, ◌||◌, List, [], ◌∷◌, ◌++◌, length, map, Option, Some, None, Result, Ok, Err, is_err, refl, sym, ap, subst, ◌∙◌, arith, append_assoc, length-append}
 use Rattle.std.proofs.lemmas.List.{map-append}
 use Rattle.std.specs.List.{list_any}
@@ -8,22 +8,22 @@ use Rattle.std.proofs.lemmas.List.Folds.{list_any-append}
 use Rattle.std.proofs.KnownBytes.{Appends-nil, Appends-trans}
 use Rattle.binlog_wire.specs.declared.error.Error.{Error}
 use Rattle.binlog_wire.specs.declared.error.Error.TheVariants.{Memory, Writer}
-use Rattle.binlog_wire.specs.Errors.{is_outside}
+use Rattle.binlog_wire.specs.Errors.{is_environment_error}
 use Rattle.binlog_events.specs.Events.{EventView}
 use Rattle.binlog_events.specs.EventRefs.{item_view}
 use Rattle.binlog_events.specs.declared.event_ref.EventRef.{EventRef}
 use Rattle.binlog_file.specs.declared.slice.BinlogSlice.{BinlogSlice}
 use Rattle.binlog_file.specs.Slices.{slice_fde, SliceGives}
+use Rattle.binlog_file.specs.State.{Handles}
 use Rattle.binlog_file.specs.StreamItems.{AreItems}
-use Rattle.binlog_file.proofs.Iterating.{some_left}
 use Rattle.binlog_file.proofs.WholeSlices.{all_of_slice, items_and_left, few_so_far}
-use Rattle.binlog_lines.specs.Lines.{listing, AppendsFront, ListsFront, ListsItem}
+use Rattle.binlog_lines.specs.Lines.{listing, AppendsFront, ListsFront, LeavesLooked, ListsItem}
 use Rattle.binlog_lines.specs.SliceLines.{state_under, ListsSlice}
-use Rattle.binlog_lines.proofs.Listed.{listing-more, listing-append}
+use Rattle.binlog_lines.proofs.Listed.{listing-more}
 
--- `line` and `takes` are those of the listing
+-- `line` and `takes` are those of the listing.
 module _ (line : ℕ → Result EventView Error → List ℕ) (takes : Result EventView Error → Type 0) where
-  -- one more call
+  -- One more call.
   yields_more : (s : BinlogSlice) (xs : List (Result EventRef Error)) (t : BinlogSlice) (x : Result EventRef Error) (u : BinlogSlice) → Yields SliceGives s xs t → SliceGives t (Some x) u
       → Yields SliceGives s (xs ++ x ∷ []) u
   yields_more s [] t x u given gives = (u, subst (λ (k : BinlogSlice). SliceGives k (Some x) u) (sym given) gives, refl)
@@ -46,18 +46,18 @@ module _ (line : ℕ → Result EventView Error → List ℕ) (takes : Result Ev
   or_false true = refl
   or_false false = refl
 
-  -- before the first item
+  -- Before the first item.
   pub listed_none : (old : Option (List ℕ)) → AreListed [] old old false 0
   listed_none old = record { written = Appends-nil old; errors = refl; count = refl }
 
-  -- the lines of the items so far, and of one more
+  -- The lines of the items so far, and of one more.
   lines_more : (items : List (Result EventRef Error)) (item : Result EventView Error) (index : ℕ) → length items ≡ index
       → listing line 0 (map item_view items ++ item ∷ []) ≡ listing line 0 (map item_view items) ++ line index item
   lines_more items item index count =
       let at : 0 + length (map item_view items) ≡ index = omega (arith, count, length-views items) in
-      listing-more line takes 0 (map item_view items) item ∙ ap (λ i. listing line 0 (map item_view items) ++ line i item) at
+      listing-more line 0 (map item_view items) item ∙ ap (λ i. listing line 0 (map item_view items) ++ line i item) at
 
-  -- one more item and its line
+  -- One more item and its line.
   pub listed_more : (items : List (Result EventRef Error)) (item : Result EventRef Error) (old mid new : Option (List ℕ)) (failed is : Bool) (index : ℕ)
       → AreListed items old mid failed index → ListsItem line takes index (Some (item_view item)) mid new (Ok (Some is)) → AreListed (items ++ item ∷ []) old new (failed || is) (index + 1)
   listed_more items item old mid new failed is index so_far lists =
@@ -73,43 +73,38 @@ module _ (line : ℕ → Result EventView Error → List ℕ) (takes : Result Ev
         count = omega (arith, so_far.count, length-append items (item ∷ []));
       }
 
-  -- no item is left
+  -- No item is left.
   all_listed : (slice end : BinlogSlice) (items : List (Result EventRef Error)) (old new : Option (List ℕ)) (failed : Bool) (index : ℕ) → slice.is_ended ≡ false
       → YieldsThen SliceGives slice items None end → AreListed items old new failed index → ListsSlice line takes slice old (Ok failed) new
   all_listed slice end items old new failed index goes given listed =
       let whole = all_of_slice slice end items goes given in
       record {
         after = state_under (slice_fde end);
-        left = Some end.rest.now;
+        behind = Some end.rest.now;
         ended = end.is_ended;
         lists = (record { items = map item_view items; are = whole.are; written = listed.written; errors = listed.errors }, whole.ends);
       }
 
-  -- the writer failed in the line of an item
+  -- The writer failed in the line of an item.
   front_listed : (slice then next : BinlogSlice) (items : List (Result EventRef Error)) (item : Result EventRef Error) (old mid new : Option (List ℕ)) (failed : Bool) (index : ℕ)
       → slice.is_ended ≡ false → Yields SliceGives slice items then → SliceGives then (Some item) next → AreListed items old mid failed index → AppendsFront mid new (line index (item_view item))
-      → ListsFront line (state_under (slice_fde slice)) slice.rest.now false old new
+      → ListsFront Handles LeavesLooked line takes (state_under (slice_fde slice)) slice.rest.now false old new
   front_listed slice then next items item old mid new failed index goes given gives listed wrote =
       let views = map item_view items in
       let view = item_view item in
-      let more = some_left (slice_fde next) next.rest.now next.is_ended in
-      let behind = listing line (index + 1) more.0 in
       let at : 0 + length views ≡ index = omega (arith, listed.count, length-views items) in
-      let lines : listing line 0 (views ++ view ∷ more.0) ≡ listing line 0 views ++ (line index view ++ behind) =
-      listing-append line takes 0 views (view ∷ more.0) ∙ ap (λ (i : ℕ). listing line 0 views ++ (line i view ++ listing line (i + 1) more.0)) at in
-      let all : map item_view (items ++ item ∷ []) ++ more.0 ≡ views ++ view ∷ more.0 =
-      ap (λ (l : List (Result EventView Error)). l ++ more.0) (views-more items item) ∙ append_assoc views (view ∷ []) more.0 in
+      let lines : listing line 0 (map item_view (items ++ item ∷ [])) ≡ listing line 0 views ++ line index view =
+      ap (listing line 0) (views-more items item) ∙ listing-more line 0 views view ∙ ap (λ (i : ℕ). listing line 0 views ++ line i view) at in
       record {
-        items = views ++ view ∷ more.0;
-        are =
-            subst (AreItems (slice_fde slice) slice.rest.now) all
-            (items_and_left slice next (items ++ item ∷ []) more.0 goes (yields_more slice items then item next given gives) more.1);
+        items = map item_view (items ++ item ∷ []);
+        state = state_under (slice_fde next);
+        unread = next.rest.now;
+        ended = next.is_ended;
+        before = λ more are. items_and_left slice next (items ++ item ∷ []) more goes (yields_more slice items then item next given gives) are;
         written = record {
           front = listing line 0 views ++ wrote.front;
-          cut = wrote.cut ++ behind;
-          whole =
-              lines ∙ ap (λ (l : List ℕ). listing line 0 views ++ l) (ap (λ (l : List ℕ). l ++ behind) wrote.whole ∙ append_assoc wrote.front wrote.cut behind)
-              ∙ sym (append_assoc (listing line 0 views) wrote.front (wrote.cut ++ behind));
+          cut = wrote.cut;
+          whole = lines ∙ ap (λ (l : List ℕ). listing line 0 views ++ l) wrote.whole ∙ sym (append_assoc (listing line 0 views) wrote.front wrote.cut);
           written = Appends-trans old mid new _ _ listed.written wrote.written;
         };
       }
@@ -121,12 +116,12 @@ module _ (line : ℕ → Result EventView Error → List ℕ) (takes : Result Ev
       subst (λ (e : Error). ListsSlice line takes slice old (Err e) new) (sym writer)
       (record {
         after = state_under (slice_fde next);
-        left = Some next.rest.now;
+        behind = Some next.rest.now;
         ended = next.is_ended;
         lists = front_listed slice then next items item old mid new failed index goes given gives listed wrote;
       })
 
-  -- memory ran out for the line of the next item
+  -- An allocation failed for the line of the next item.
   memory_listed : (slice then next : BinlogSlice) (items : List (Result EventRef Error)) (item : Result EventRef Error) (old new : Option (List ℕ)) (failed : Bool) (index : ℕ) (error : Error)
       → slice.is_ended ≡ false → Yields SliceGives slice items then → SliceGives then (Some item) next → AreListed items old new failed index → error ≡ Memory
       → takes (item_view item) → ListsSlice line takes slice old (Err error) new
@@ -135,14 +130,14 @@ module _ (line : ℕ → Result EventView Error → List ℕ) (takes : Result Ev
       subst (λ (e : Error). ListsSlice line takes slice old (Err e) new) (sym memory)
       (record {
         after = state_under (slice_fde next);
-        left = Some next.rest.now;
+        behind = Some next.rest.now;
         ended = next.is_ended;
         lists = inr (record {
           items = views;
           item = item_view item;
           grows = grows;
           unread = next.rest.now;
-          behind = refl;
+          stands = refl;
           before = λ more are.
               subst (AreItems (slice_fde slice) slice.rest.now)
               (ap (λ (l : List (Result EventView Error)). l ++ more) (views-more items item) ∙ append_assoc views (item_view item ∷ []) more)
@@ -151,13 +146,13 @@ module _ (line : ℕ → Result EventView Error → List ℕ) (takes : Result Ev
         });
       })
 
-  outside_item : (old new : BinlogSlice) (item : Result EventRef Error) (error : Error) → SliceGives old (Some item) new → item_view item ≡ Err error → is_outside error ≡ true → ⊥
+  outside_item : (old new : BinlogSlice) (item : Result EventRef Error) (error : Error) → SliceGives old (Some item) new → item_view item ≡ Err error → is_environment_error error ≡ true → ⊥
   outside_item old new (Ok event) error gives is outside = cc
   outside_item old new (Err why) error gives is outside =
       let same : why ≡ error = cc in
-      let inside : is_outside error ≡ false = subst (λ (e : Error). is_outside e ≡ false) same gives.inside in cc
+      let inside : is_environment_error error ≡ false = subst (λ (e : Error). is_environment_error e ≡ false) same gives.inside in cc
 
-  -- the listing ends with the error of an item's line
+  -- The listing ends with the error of an item's line.
   stopped : (slice then next : BinlogSlice) (items : List (Result EventRef Error)) (item : Result EventRef Error) (old mid new : Option (List ℕ)) (failed : Bool) (index : ℕ) (error : Error)
       → slice.is_ended ≡ false → Yields SliceGives slice items then → SliceGives then (Some item) next → AreListed items old mid failed index
       → ListsItem line takes index (Some (item_view item)) mid new (Err error) → ListsSlice line takes slice old (Err error) new
@@ -187,7 +182,7 @@ module _ (line : ℕ → Result EventView Error → List ℕ) (takes : Result Ev
       subst (λ (s : BinlogSlice). ListsSlice line takes s old (Err error) new) begins
       (stopped begun then next items item old mid new failed index error (goes_on slice begun begins goes) given gives listed lists)
 
-  -- there are fewer items than bytes
+  -- There are fewer items than bytes.
   pub index_fits : (slice begun then : BinlogSlice) (items : List (Result EventRef Error)) (old new : Option (List ℕ)) (failed : Bool) (index : ℕ) → begun ≡ slice → slice.is_ended ≡ false
       → Yields SliceGives begun items then → AreListed items old new failed index → length slice.rest.now < 2 ^ 64 → index + 1 < 2 ^ 64
   index_fits slice begun then items old new failed index begins goes given listed few =

@@ -1,4 +1,4 @@
--- What a writer has of some bytes.
+-- What was written of some bytes.
 use Rattle.std.proofs.Common.{◌≡◌, ℕ, List, [], ◌++◌, ◌-◌, length, take, drop, Option, Some, None, Result, Ok, Err, OnErr, refl, sym, ap, subst, ◌∙◌, arith, append_assoc, append-nil}
 use Rattle.std.proofs.lemmas.List.{take-append-drop, nil_from_length, take_all, length-drop}
 use Rattle.std.specs.Io.KnownBytes.{Appends, Keeps}
@@ -6,7 +6,7 @@ use Rattle.std.proofs.KnownBytes.{Appends-nil, Appends-trans}
 use Rattle.binlog_wire.specs.declared.error.Error.{Error}
 use Rattle.binlog_lines.specs.Lines.{AppendsFront}
 
--- all but the rest of the bytes is written
+-- All bytes but the rest are written.
 pub record IsWritten (old new : Option (List ℕ)) (bytes rest : List ℕ) : Type 0 where
   pub front : List ℕ
   pub whole : bytes ≡ front ++ rest
@@ -15,7 +15,7 @@ pub record IsWritten (old new : Option (List ℕ)) (bytes rest : List ℕ) : Typ
 pub written_none : (old : Option (List ℕ)) (bytes : List ℕ) → IsWritten old old bytes bytes
 written_none old bytes = record { front = []; whole = refl; written = Appends-nil old }
 
--- a write took some of them
+-- One call wrote some of them.
 pub written_more : (old mid new : Option (List ℕ)) (bytes rest after : List ℕ) (count : ℕ) → IsWritten old mid bytes rest → Appends mid new (take count rest) → after ≡ drop count rest → IsWritten old new bytes after
 written_more old mid new bytes rest after count so_far more e = record {
   front = so_far.front ++ take count rest;
@@ -38,12 +38,12 @@ appends_nothing None new kept = tt
 appends_nothing (Some xs) None kept = absurd kept
 appends_nothing (Some xs) (Some ys) kept = kept ∙ sym (append-nil xs)
 
--- a write that failed leaves what there is
+-- A call that failed leaves the output unchanged.
 pub written_kept : (old mid new : Option (List ℕ)) (bytes rest after : List ℕ) → IsWritten old mid bytes rest → Keeps mid new → after ≡ rest → IsWritten old new bytes after
 written_kept old mid new bytes rest after so_far kept e =
     written_more old mid new bytes rest after 0 so_far (appends_nothing mid new kept) e
 
--- a front of what is behind a front that was written
+-- A prefix of the bytes that come after those already written.
 pub front_behind : {A : Type 0} (old mid new : Option (List ℕ)) (bytes : List ℕ) (count : ℕ) (answer : Result A Error) → Appends old mid (take count bytes)
     → OnErr answer (AppendsFront mid new (take (length bytes - count) (drop count bytes))) → OnErr answer (AppendsFront old new bytes)
 front_behind old mid new bytes count (Ok x) first behind = tt

@@ -1,4 +1,5 @@
-//! A line for each item of a log, whatever the line says: the loop over the items, and what stands written where it ends.
+//! Writes a line for each item of a log, for any kind of line. The contracts state which lines are written, for every
+//! result.
 #![tactic(auto)]
 
 mod item_lines;
@@ -7,5 +8,5 @@ mod output;
 mod slice_listing;
 
 pub use item_lines::ItemLines;
-pub use listing::{list, list_items, status};
+pub use listing::{list, list_items, list_verified, status};
 pub use slice_listing::list_slice;

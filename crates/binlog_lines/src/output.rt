@@ -6,9 +6,8 @@ ghost use Rattle.binlog_lines.specs.Lines.{AppendsFront};
 use binlog_file::Error;
 use std::io::{ErrorKind, Write};
 
-/// Writes a line, and tries again after an interruption. Where the writer fails, it has a front of the line.
-///
-/// Refused by [`Error::Writer`] alone.
+/// Writes a line, and retries after an interruption. The only error is [`Error::Writer`]; a prefix of the line is then
+/// written.
 #[inline(always)]
 pub(crate) fn write_line<W: Write>(output: &mut W, line: &[u8]) -> Result<(), Error>
     ensures ok { OnOk result (Appends (W.contents output.old) (W.contents output.new) line.now) }
@@ -18,14 +17,14 @@ pub(crate) fn write_line<W: Write>(output: &mut W, line: &[u8]) -> Result<(), Er
     let Some(count) = write_front(output, line) else {
         return Err(Error::Writer);
     };
-    // As a rule one write takes the whole line.
+    // Usually one call writes the whole line.
     if count == line.len() {
         return Ok(());
     }
     write_rest(output, &line[count..])
 }
 
-// Writes what is left of a line.
+// Writes the rest of a line.
 #[inline(never)]
 fn write_rest<W: Write>(output: &mut W, line: &[u8]) -> Result<(), Error>
     ensures ok { OnOk result (Appends (W.contents output.old) (W.contents output.new) line.now) }
@@ -46,7 +45,7 @@ fn write_rest<W: Write>(output: &mut W, line: &[u8]) -> Result<(), Error>
     Err(Error::Writer)
 }
 
-// Writes a front of the bytes, and answers how long it is, 0 where the writer was interrupted; None where it failed.
+// Writes a prefix of the bytes, and returns its length, which is 0 if the writer was interrupted; None if it failed.
 #[inline(always)]
 fn write_front<W: Write>(output: &mut W, bytes: &[u8]) -> Option<usize>
     ensures within { IfSome result (λ count. count ≤ length bytes.now) }

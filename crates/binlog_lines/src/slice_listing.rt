@@ -1,6 +1,6 @@
-//! The loop over the items of a log in memory.
+//! The listing of a log in memory.
 ghost use Rattle.std.specs.Prelude.{◌≡◌, false, Some, IfErr};
-ghost use Rattle.binlog_wire.specs.Errors.{is_outside};
+ghost use Rattle.binlog_wire.specs.Errors.{is_environment_error};
 ghost use Rattle.binlog_events.specs.EventRefs.{item_view};
 ghost use Rattle.binlog_lines.specs.Lines.{Lists, ListsItem};
 ghost use Rattle.binlog_lines.specs.SliceLines.{ListsSlice, answered};
@@ -11,15 +11,15 @@ use binlog_file::{BinlogSlice, BinlogVersion, Error, EventRef};
 use std::alloc::Global;
 use std::io::Write;
 
-/// Writes the line of each item of a binlog file in memory, the same as [`list`](crate::list) does of a file that is read,
-/// and answers whether an item was an error. It doesn't flush the output.
+/// Writes the line of each item of a binlog file in memory, as [`list`](crate::list) does for a reader. The result is
+/// whether an item was an error. The output isn't flushed.
 ///
 /// # Errors
 ///
-/// - [`Error::EndOfInput`] where there are fewer than four bytes, and [`Error::InvalidFileHeader`] where the first four
-///   aren't `fe 62 69 6e`; nothing is written then.
-/// - [`Error::Memory`] where memory ran out for a line, after the lines of all items before.
-/// - [`Error::Writer`] where the writer failed; it has a front of the listing.
+/// - [`Error::EndOfInput`] if there are fewer than four bytes; nothing is written.
+/// - [`Error::InvalidFileHeader`] if the first four bytes aren't `fe 62 69 6e`; nothing is written.
+/// - [`Error::Memory`] if an allocation failed for a line. The lines of all items before it are written.
+/// - [`Error::Writer`] if the writer failed; a prefix of the listing is written.
 pub fn list_slice<W: Write, L: ItemLines>(
     alloc: Global,
     bytes: &[u8],
@@ -32,7 +32,7 @@ pub fn list_slice<W: Write, L: ItemLines>(
     list_items(alloc, slice, lines, output)
 }
 
-// Writes the line of each item of a slice, indexed from 0.
+// Writes the line of each item of a slice, with indexes from 0.
 fn list_items<W: Write, L: ItemLines>(
     alloc: Global,
     slice: BinlogSlice<'_>,
@@ -51,7 +51,7 @@ fn list_items<W: Write, L: ItemLines>(
     Ok(has_errors)
 }
 
-// Writes the line of an item, and answers whether the item is an error.
+// Writes the line of an item. The result is whether the item is an error.
 #[inline(always)]
 fn list_item<W: Write, L: ItemLines>(
     alloc: Global,
@@ -60,7 +60,7 @@ fn list_item<W: Write, L: ItemLines>(
     lines: &mut L,
     output: &mut W,
 ) -> Result<bool, Error>
-    requires { IfErr item (λ e. is_outside e ≡ false) }
+    requires { IfErr item (λ e. is_environment_error e ≡ false) }
     ensures { ListsItem L.line L.takes index (Some (item_view item.entry)) (W.contents output.old) (W.contents output.new) (answered result) }
 {
     match item {

@@ -1,4 +1,4 @@
--- Hexadecimal digits by a table, byte by byte.
+-- Hexadecimal digits from a table, byte by byte.
 use Rattle.std.proofs.Common.{◌≡◌, ℕ, zero, suc, ◌+◌, ◌-◌, ◌*◌, ◌/◌, ◌%◌, ◌<◌, Bool, true, ◌&&◌, T, eqb, List, [], ◌∷◌, ◌++◌, length, slice_index, refl, inl, inr, arith, eq-zero-or-pos, eqb→eq, append_assoc}
 use lib.Ieee.Fits.{and_l, and_r}
 use Rattle.hex.specs.Hex.{encode_lower, encode_with, lower_digits}
@@ -17,12 +17,12 @@ below (suc n) b t h =
       | inr g ↦ below n b (and_r _ (are_bytes n) t) (omega arith)
     ]
 
--- the table holds the two digits of each byte
+-- The table holds the two digits of each byte.
 pub HEX_DIGITS_at : (b : ℕ) (rest : List ℕ) → b < 256 → slice_index HEX_DIGITS (b * 2) ∷ slice_index HEX_DIGITS (b * 2 + 1) ∷ rest ≡ encode_lower (b ∷ []) ++ rest
 unfolding encode_with
 HEX_DIGITS_at b rest h = let at = below 256 b tt h in rw (at.0, at.1)
 
--- two bytes, and four, one after the other
+-- Two bytes, and four, one after the other.
 pub two_bytes : (bytes rest : List ℕ) → length bytes ≡ 2
     → encode_lower (slice_index bytes 0 ∷ []) ++ (encode_lower (slice_index bytes 1 ∷ []) ++ rest) ≡ encode_lower bytes ++ rest
 unfolding encode_with
@@ -35,7 +35,7 @@ unfolding encode_with
 four_bytes (a ∷ b ∷ c ∷ d ∷ []) rest h = refl
 four_bytes bytes rest h = absurd (omega arith)
 
--- the parts of a line, from its end
+-- The parts of a line, from its end.
 pub error_parts : (index word number new_line : List ℕ) → index ++ (word ++ (number ++ new_line)) ≡ index ++ word ++ number ++ new_line
 error_parts index word number new_line = simp append_assoc refl
 

@@ -1,9 +1,9 @@
--- The word for what reading an event's data answered.
+-- The word for the result of reading an event's data.
 use Rattle.std.proofs.Common.{◌≡◌, ℕ, true, false, ◌<◌, List, [], ◌∷◌, length, Option, Some, None, Result, Ok, Err, refl, sym, subst, arith}
 use Rattle.binlog_wire.specs.Reading.{Read}
 use Rattle.binlog_wire.specs.declared.error.Error.{Error}
 use Rattle.binlog_wire.specs.declared.error.Error.TheVariants as errors
-use Rattle.binlog_wire.specs.Errors.{is_outside}
+use Rattle.binlog_wire.specs.Errors.{is_environment_error}
 use Rattle.binlog_consts.specs.EventTypes.{event_type_of}
 use Rattle.binlog_consts.specs.declared.event_type.EventType.{EventType}
 use Rattle.binlog_consts.specs.declared.event_type.UnknownEventType.{UnknownEventType}
@@ -28,12 +28,12 @@ unknown_by : (d : FormatDescriptionEvent) (s : List ℕ) (type : Result EventTyp
 unknown_by d s (Err unknown) reads = refl
 unknown_by d s (Ok type) reads = absurd reads
 
--- bytes are left behind the value
+-- Bytes are left after the value.
 left_over : (r : List ℕ) (x : EventData) (read : Read EventData) → read ≡ Ok (x, r) → 0 < length r → read_whole read ≡ words.Refused
 left_over [] x read is some = absurd (omega arith)
 left_over (b ∷ rest) x read is some = rw is refl
 
-refused_whole : (grows : Type 0) (e : Error) (read : Read EventData) → is_outside e ≡ false → GivesWhole grows (Err e) read → read_whole read ≡ words.Refused
+refused_whole : (grows : Type 0) (e : Error) (read : Read EventData) → is_environment_error e ≡ false → GivesWhole grows (Err e) read → read_whole read ≡ words.Refused
 refused_whole grows (errors.RemainingBytes n) read inside (x, r, is, count, some) = left_over r x read is (omega (arith, count))
 refused_whole grows errors.EndOfBody read inside gives = rw gives refl
 refused_whole grows (errors.InvalidData why) read inside gives = rw gives refl
@@ -41,11 +41,11 @@ refused_whole grows (errors.WrongEventType number) read inside gives = rw gives 
 refused_whole grows errors.Memory read inside gives = absurd cc
 refused_whole grows e read inside gives = absurd gives
 
-refused_by : (d : FormatDescriptionEvent) (s : List ℕ) (type : Result EventType UnknownEventType) (e : Error) → is_outside e ≡ false → ReadsAs d s type (Err e) → word_by d s type ≡ words.Refused
+refused_by : (d : FormatDescriptionEvent) (s : List ℕ) (type : Result EventType UnknownEventType) (e : Error) → is_environment_error e ≡ false → ReadsAs d s type (Err e) → word_by d s type ≡ words.Refused
 refused_by d s (Err unknown) e inside reads = absurd cc
 refused_by d s (Ok type) e inside reads = refused_whole (TakesMemory type) e _ inside reads
 
-memory_whole : (grows : Type 0) (e : Error) (read : Read EventData) → is_outside e ≡ true → GivesWhole grows (Err e) read → (e ≡ errors.Memory) × grows
+memory_whole : (grows : Type 0) (e : Error) (read : Read EventData) → is_environment_error e ≡ true → GivesWhole grows (Err e) read → (e ≡ errors.Memory) × grows
 memory_whole grows (errors.RemainingBytes n) read outside gives = absurd cc
 memory_whole grows errors.EndOfBody read outside gives = absurd cc
 memory_whole grows (errors.InvalidData why) read outside gives = absurd cc
@@ -53,14 +53,14 @@ memory_whole grows (errors.WrongEventType number) read outside gives = absurd cc
 memory_whole grows errors.Memory read outside gives = (refl, gives)
 memory_whole grows e read outside gives = absurd gives
 
-memory_by : (d : FormatDescriptionEvent) (s : List ℕ) (type : Result EventType UnknownEventType) (e : Error) → is_outside e ≡ true → ReadsAs d s type (Err e)
+memory_by : (d : FormatDescriptionEvent) (s : List ℕ) (type : Result EventType UnknownEventType) (e : Error) → is_environment_error e ≡ true → ReadsAs d s type (Err e)
     → (e ≡ errors.Memory) × MayTakeMemory type
 memory_by d s (Err unknown) e outside reads = absurd cc
 memory_by d s (Ok type) e outside reads = memory_whole (TakesMemory type) e _ outside reads
 
 -- ---- of an event
 
--- the word by a type that is the event's
+-- The word for a type that is the event's.
 word_at : (event : EventView) (type : Result EventType UnknownEventType) (word : Word) → type ≡ event_type_of (header_of event.frame).event_type
     → word_by event.fde (data_of event.fde.footer event.frame) type ≡ word → word ≡ word_of event
 unfolding word_of
@@ -74,11 +74,11 @@ pub unknown_word : (event : EventView) (answer : Result (Option EventData) Error
     → words.Unknown ≡ word_of event
 unknown_word event answer is (type, same, reads) = word_at event type words.Unknown same (unknown_by _ _ type (subst (ReadsAs _ _ type) is reads))
 
-pub refused_word : (event : EventView) (answer : Result (Option EventData) Error) (e : Error) → answer ≡ Err e → is_outside e ≡ false
+pub refused_word : (event : EventView) (answer : Result (Option EventData) Error) (e : Error) → answer ≡ Err e → is_environment_error e ≡ false
     → ReadsEventData event answer → words.Refused ≡ word_of event
 refused_word event answer e is inside (type, same, reads) = word_at event type words.Refused same (refused_by _ _ type e inside (subst (ReadsAs _ _ type) is reads))
 
-pub no_memory : (event : EventView) (answer : Result (Option EventData) Error) (e : Error) → answer ≡ Err e → is_outside e ≡ true
+pub no_memory : (event : EventView) (answer : Result (Option EventData) Error) (e : Error) → answer ≡ Err e → is_environment_error e ≡ true
     → ReadsEventData event answer → (e ≡ errors.Memory) × TakesMemoryFor event
 unfolding TakesMemoryFor
 no_memory event answer e is outside (type, same, reads) =

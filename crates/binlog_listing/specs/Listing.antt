@@ -12,16 +12,16 @@ use Rattle.binlog_listing.specs.declared.word.Word.{Word}
 
 -- ---- lines
 
--- four lower-case hexadecimal digits
+-- A number as four lower-case hexadecimal digits.
 abbrev pub four_digits : ℕ → List ℕ
 four_digits flags = encode_lower (to_be_bytes w16 flags)
 
--- the four stored bytes of a checksum, in order, as eight lower-case hexadecimal digits, or `-` where there is none
+-- The four stored bytes of a checksum, in order, as eight lower-case hexadecimal digits, or `-` if there is none.
 abbrev pub checksum_text : Option (List ℕ) → List ℕ
 checksum_text None = codes "-"
 checksum_text (Some checksum) = encode_lower checksum
 
--- `index type size log_pos flags data_len checksum word`
+-- The line of an event: `index type size log_pos flags data_len checksum word`.
 unfoldable pub event_line : ℕ → EventView → Word → List ℕ
 event_line index event word =
     let header = header_of event.frame in
@@ -31,15 +31,16 @@ event_line index event word =
     ++ codes " " ++ checksum_text (checksum_of event.fde.footer event.frame)
     ++ codes " " ++ word_text word ++ codes "\n"
 
--- `index error E<number>`
+-- The line of an error: `index error E<number>`.
 unfoldable pub error_line : ℕ → Error → List ℕ
 error_line index error = decimal index ++ codes " error E" ++ decimal (error_number error) ++ codes "\n"
 
+-- The line of an item.
 abbrev pub item_line : ℕ → Result EventView Error → List ℕ
 item_line index (Ok event) = event_line index event (word_of event)
 item_line index (Err error) = error_line index error
 
--- making the line of the item may take memory: for reading the event's data
+-- Making the line of the item may allocate, for reading the event's data.
 abbrev pub MayGrow : Result EventView Error → Type 0
 MayGrow (Ok event) = TakesMemoryFor event
 MayGrow (Err error) = ⊥

@@ -1,8 +1,8 @@
-//! Lists the items of a binary log, a line for each.
+//! Lists the items of a binary log, one line for each.
 #![tactic(auto)]
 
 mod line;
 mod listing;
 mod word;
 
-pub use listing::{TextLines, list, list_slice};
+pub use listing::{TextLines, list, list_slice, list_verified};

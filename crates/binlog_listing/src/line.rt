@@ -1,6 +1,6 @@
-//! The texts of a line. A line is built from its end: each text is written in front of those that stand already.
+//! The texts of a line. A line is built from its end: each text is written before those that are already there.
 //!
-//! Each function writes its text so that it ends where `end` is, and returns where it starts.
+//! Each function writes its text so that it ends at the index `end`, and returns the index where it starts.
 ghost use Rattle.std.specs.Prelude.{◌≡◌, ◌+◌, ◌≤◌, ◌∷◌, [], ◌++◌, length, drop, decimal};
 ghost use Rattle.hex.specs.Hex.{encode_lower};
 ghost use Rattle.binlog_listing.specs.Listing.{four_digits, checksum_text};
@@ -50,7 +50,7 @@ pub(crate) fn write_text(text: &str, bytes: &mut [u8], end: usize) -> usize
     start
 }
 
-/// Writes a number in decimal digits.
+/// Writes a number as decimal digits.
 #[inline(always)]
 pub(crate) fn write_number(number: u64, bytes: &mut [u8], end: usize) -> usize
     requires { (20 ≤ end) × (end ≤ length bytes.old) }
@@ -61,7 +61,7 @@ pub(crate) fn write_number(number: u64, bytes: &mut [u8], end: usize) -> usize
     write_digits(number, bytes, end)
 }
 
-// Writes a byte in two lower-case hexadecimal digits.
+// Writes a byte as two lower-case hexadecimal digits.
 #[inline(always)]
 fn write_two_digits(byte: u8, bytes: &mut [u8], end: usize) -> usize
     requires { (2 ≤ end) × (end ≤ length bytes.old) }
@@ -73,7 +73,7 @@ fn write_two_digits(byte: u8, bytes: &mut [u8], end: usize) -> usize
     write_byte(HEX_DIGITS[first], bytes, middle)
 }
 
-/// Writes a number in four lower-case hexadecimal digits.
+/// Writes a number as four lower-case hexadecimal digits.
 #[inline(always)]
 pub(crate) fn write_four_digits(number: u16, bytes: &mut [u8], end: usize) -> usize
     requires { (4 ≤ end) × (end ≤ length bytes.old) }
@@ -85,7 +85,7 @@ pub(crate) fn write_four_digits(number: u16, bytes: &mut [u8], end: usize) -> us
     write_two_digits(high, bytes, middle)
 }
 
-/// Writes the four bytes of a checksum in eight lower-case hexadecimal digits, or `-` where there is none.
+/// Writes the four bytes of a checksum as eight lower-case hexadecimal digits, or `-` if there is none.
 #[inline(always)]
 pub(crate) fn write_checksum(checksum: Option<[u8; 4]>, bytes: &mut [u8], end: usize) -> usize
     requires { (8 ≤ end) × (end ≤ length bytes.old) }

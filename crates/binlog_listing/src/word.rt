@@ -13,14 +13,14 @@ use std::alloc::Global;
 pub(crate) enum Word {
     /// The data is a body of the event's type.
     Read,
-    /// The event's type isn't known.
+    /// The event's type is unknown.
     Unknown,
     /// The data isn't a body of the event's type.
     Refused,
 }
 
 impl Word {
-    /// The word of an event; refused by [`Error::Memory`] alone, for GTIDs with a tag and previous GTIDs.
+    /// The word of an event. The only error is [`Error::Memory`], only for GTIDs with a tag and previous GTIDs.
     pub(crate) fn of(alloc: Global, event: &EventRef<'_>) -> Result<Word, Error>
         ensures ok { IfOk result (λ word. word ≡ word_of (view_of event.now)) }
         ensures memory { IfErr result (λ e. (e ≡ Memory) × TakesMemoryFor (view_of event.now)) }
@@ -32,7 +32,7 @@ impl Word {
             }
             Ok(None) => Ok(Word::Unknown),
             Err(error) => {
-                if error.is_outside() {
+                if error.is_environment_error() {
                     return Err(error);
                 }
                 Ok(Word::Refused)
@@ -41,7 +41,7 @@ impl Word {
     }
 }
 
-/// Writes the word so that it ends where `end` is, and returns where it starts.
+/// Writes the word so that it ends at the index `end`, and returns the index where it starts.
 #[inline(always)]
 pub(crate) fn write_word(word: Word, bytes: &mut [u8], end: usize) -> usize
     requires { (7 ≤ end) × (end ≤ length bytes.old) }

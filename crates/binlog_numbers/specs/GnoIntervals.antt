@@ -1,7 +1,6 @@
 -- Intervals of GNOs: the first number, 8 bytes, and the number after the last, 8 bytes.
 -- Source: MySQL's source documentation, `Gtid_set::encode`.
-use Rattle.std.proofs.Common.{◌≡◌, ℕ, ◌+◌, List, length, refl, arith}
-use Rattle.binlog_wire.specs.Laws.Numbers.{length-number}
+use Rattle.std.proofs.Common.{ℕ, refl}
 use Rattle.binlog_wire.specs.Formats.{Format, anywhere, number, unit, ◌⨾◌, seen_as}
 use Rattle.binlog_numbers.specs.declared.gno_interval.GnoInterval.{GnoInterval}
 
@@ -16,6 +15,3 @@ interval_of fields = record { start = fields.0; end = fields.1 }
 -- The format of an interval, one unit of 16 bytes.
 abbrev pub gno_interval : Format anywhere GnoInterval
 gno_interval = seen_as interval_of ends_of (λ _. refl) (λ _. refl) (unit (number 8 ⨾ number 8))
-
-pub interval_long : (s : List ℕ) (i : GnoInterval) (r : List ℕ) → gno_interval.spells s i r → length s ≡ 16 + length r
-interval_long s i r h = omega (arith, length-number 8 s i.start h.0 h.1, length-number 8 h.0 i.end r h.2)

@@ -2,7 +2,7 @@
 -- Source: MySQL's documentation of its serialization library, "String encoding".
 use Rattle.std.proofs.Common.{ℕ, List, length, refl, ap}
 use Rattle.binlog_wire.specs.Formats.{Format, anywhere, block, then, made}
-use Rattle.binlog_numbers.specs.VarlenWriting.{varlen}
+use Rattle.binlog_numbers.specs.Formats.{varlen}
 
 -- A length and then as many bytes.
 abbrev pub varlen_text : Format anywhere (List ℕ)

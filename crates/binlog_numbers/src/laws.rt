@@ -2,15 +2,14 @@
 ghost use Rattle.std.specs.Prelude.{◌≡◌, ◌++◌, ◌+◌, ◌^◌, ◌<◌, ◌≤◌, ℕ, List, None, Some, length};
 ghost use Rattle.binlog_wire.specs.Laws.{KeepsTo};
 ghost use Rattle.binlog_numbers.specs.LenEnc.{IsLenEnc, lenenc_at, lenenc_written};
-ghost use Rattle.binlog_numbers.specs.Varlen.{IsVarlen, varlen_at};
-ghost use Rattle.binlog_numbers.specs.VarlenWriting.{varlen_written};
+ghost use Rattle.binlog_numbers.specs.Varlen.{IsVarlen, varlen_at, varlen_written};
 ghost use Rattle.binlog_numbers.specs.Signed.{IsVarlenSigned, varlen_signed_at};
 ghost use Rattle.binlog_numbers.specs.GnoIntervals.{gno_interval};
 ghost use Rattle.binlog_numbers.specs.declared.gno_interval.GnoInterval.{GnoInterval};
 
 use crate::gno_interval::GnoInterval;
-use crate::items::Items;
 use crate::lenenc::LenEnc;
+use crate::value_list::ValueList;
 use crate::varlen::{Varlen, VarlenSigned};
 use binlog_wire::{IntRepr, MyDeserialize};
 
@@ -42,7 +41,7 @@ pub fn intervals_take_16_bytes()
 /// The size of each type, where it is fixed.
 pub fn sizes()
     ensures interval { ⟦<GnoInterval as MyDeserialize<'static>>⟧.size ≡ Some 16 }
-    ensures items { ⟦<Items<GnoInterval> as MyDeserialize<'static>>⟧.size ≡ None }
+    ensures value_list { ⟦<ValueList<GnoInterval> as MyDeserialize<'static>>⟧.size ≡ None }
 {
     prove!(matches!(GnoInterval::SIZE, Some(16)));
     prove!(matches!(LenEnc::SIZE, None));

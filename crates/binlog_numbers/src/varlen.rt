@@ -3,10 +3,9 @@ ghost use Rattle.std.specs.Prelude.{◌≡◌, ◌++◌, ◌+◌, ◌-◌, ◌*�
 ghost use Rattle.std.specs.Int.{w8, trailing_ones};
 ghost use Rattle.byteorder.specs.Endian.{little_bytes};
 ghost use Rattle.binlog_wire.specs.declared.error.Error.TheVariants.{Memory};
+ghost use Rattle.binlog_wire.specs.Putting.{Puts};
 ghost use Rattle.binlog_wire.specs.Reading.{Read, Gives, read_as};
-ghost use Rattle.binlog_numbers.specs.Varlen.{varlen_at};
-ghost use Rattle.binlog_numbers.specs.VarlenReading.{number_of};
-ghost use Rattle.binlog_numbers.specs.VarlenWriting.{varlen_written};
+ghost use Rattle.binlog_numbers.specs.Varlen.{varlen_at, number_of, varlen_written};
 ghost use Rattle.binlog_numbers.specs.Signed.{zigzag, unzigzag, varlen_signed_at, signed_written};
 
 use binlog_wire::{Error, IntRepr, LeU64, ParseBuf, reserve};
@@ -143,9 +142,7 @@ fn marked(number: u64, width: usize) -> u64
 fn put_low_bytes(number: u64, width: usize, buf: &mut Vec<u8>)
     requires few { width ≤ 8 }
     requires room { vec_len buf.old + width ≤ vec_capacity buf.old }
-    ensures items { buf.new.items ≡ buf.old.items ++ little_bytes width number }
-    ensures len { vec_len buf.new ≡ vec_len buf.old + width }
-    ensures capacity { vec_capacity buf.old ≤ vec_capacity buf.new }
+    ensures { Puts buf.old buf.new (little_bytes width number) }
 {
     buf.extend_from_slice(&number.to_le_bytes()[..width])
         .unwrap();

@@ -1,8 +1,8 @@
 -- What table maps and row events share: table ids and column bitmaps.
 -- Source: MySQL's documentation of its source code, `mysql::binlog::event::Table_map_event` and `Rows_event`.
-use Rattle.std.specs.Prelude.{◌≡◌, ℕ, ◌==◌, List, length, refl, if◌then◌else◌}
-use Rattle.binlog_wire.specs.Bits.{bytes_of_bits}
+use Rattle.std.specs.Prelude.{ℕ, ◌==◌, if◌then◌else◌, List, ◌≡◌, length, refl}
 use Rattle.binlog_wire.specs.Formats.{Format, anywhere, number, block, made}
+use Rattle.binlog_wire.specs.Bits.{bytes_of_bits}
 
 -- The length of a table id for a post-header of this length: 4 bytes if that is 6, else 6 bytes.
 abbrev pub id_width : ℕ → ℕ

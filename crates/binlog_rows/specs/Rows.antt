@@ -3,13 +3,14 @@
 -- columns, length-encoded; for each row image of the type a bitmap, whose bit is set if the column is in that image;
 -- the rows, to the end. Types 23 to 25 are the older ones (V1), which keep no extra bytes.
 -- Source: MySQL's documentation of its source code, `mysql::binlog::event::Rows_event`.
-use Rattle.std.specs.Prelude.{◌≡◌, ℕ, ◌+◌, ◌-◌, ◌==◌, Bool, true, false, Option, Some, None, is_some, unwrap_or, IfSome, List, [], ◌++◌, length, take, Ok, refl}
-use Rattle.std.proofs.Common.{ap, arith}
-use Rattle.std.proofs.lemmas.List.{length-take, take_all}
+use Rattle.std.specs.Prelude.{ℕ, ◌+◌, List, length, Ok, Option, Some, unwrap_or, refl, Bool, true, false, None, [], ◌==◌, ◌≡◌, is_some, IfSome, ◌++◌}
+use Rattle.binlog_wire.specs.Formats.{Format, Place, made, anywhere, silent, number, ◌⨾◌, seen_as, then, last, rest}
 use Rattle.binlog_wire.specs.Fields.{little_bytes}
-use Rattle.binlog_wire.specs.Formats.{Format, Place, anywhere, last, number, block, rest, silent, then, ◌⨾◌, seen_as, made}
-use Rattle.binlog_numbers.specs.Chosen.{chosen, choose, IsChoice}
-use Rattle.binlog_numbers.specs.LenEnc.{lenenc, lenenc_written}
+use Rattle.binlog_numbers.specs.Formats.{chosen, lenenc}
+use Rattle.binlog_numbers.specs.Chosen.{choose}
+use Rattle.binlog_numbers.specs.LenEnc.{lenenc_written}
+use Rattle.binlog_rows.specs.ExtraBytes.{kept_extra, counted}
+use Rattle.binlog_rows.specs.Laws.ExtraBytes.{extra_choice, forgotten_choice}
 use Rattle.binlog_rows.specs.Columns.{table_id, Bitmap, bitmap}
 use Rattle.binlog_rows.specs.declared.rows_form.RowsForm.{RowsForm}
 use Rattle.binlog_rows.specs.declared.rows_head.RowsHead.{RowsHead}
@@ -18,37 +19,9 @@ use Rattle.binlog_rows.specs.declared.rows_event.RowsEvent.{RowsEvent}
 
 -- ---- extra bytes
 
--- The extra bytes that are used: at most 65,533, since their 2-byte length includes itself.
-abbrev pub kept_extra : List ℕ → List ℕ
-kept_extra = take 65533
-
--- A length that includes itself, and the bytes; the lengths 0 and 1 also mean no bytes.
-abbrev pub counted : {place : Place} → Format place (ℕ × List ℕ)
-counted = then (number 2) (λ count. block (count - 2))
-
-pub extra_choice : {place : Place} → IsChoice (counted {place = place}) (λ x. Ok x.1) (λ s. (2 + length (kept_extra s), kept_extra s)) kept_extra (λ s. Unit {0})
-extra_choice = record {
-  fits = λ s fits. (omega (arith, length-take 65533 s), omega (arith, length-take 65533 s));
-  shows = λ s fits. refl;
-  settled = λ s a r b h d.
-      let same : a.1 ≡ b = cc in
-      take_all 65533 b (rw (← same) (omega (arith, h.1.0, h.2.0)));
-  twice = λ s. take_all 65533 (kept_extra s) (omega (arith, length-take 65533 s));
-  again = λ s fits. ap (λ (t : List ℕ). little_bytes 2 (2 + length t) ++ t) (take_all 65533 (kept_extra s) (omega (arith, length-take 65533 s)));
-}
-
 -- Extra bytes after a length that includes itself.
 abbrev pub extra : {place : Place} → Format place (List ℕ)
 extra = chosen (λ x. Ok x.1) (λ s. (2 + length (kept_extra s), kept_extra s)) kept_extra (λ s. Unit {0}) counted extra_choice
-
-pub forgotten_choice : {place : Place} {V W : Type 0} (x : W) (v : V) (f : Format place V) → IsChoice f (λ u. Ok x) (λ w. v) (λ w. x) (λ w. f.Fits v)
-forgotten_choice {V = V} {W = W} x v f = record {
-  fits = λ w fits. fits;
-  shows = λ w fits. refl;
-  settled = λ s a r b h d. let same : x ≡ b = cc in same;
-  twice = λ w. refl;
-  again = λ w fits. refl;
-}
 
 -- A value that isn't kept: it is read as x whatever its bytes, and written as v.
 abbrev pub forgotten : {place : Place} {V W : Type 0} → W → V → Format place V → Format place W

@@ -1,5 +1,5 @@
 -- The column definitions of a table map.
-use Rattle.std.specs.Prelude.{◌≡◌, ℕ, ◌+◌, ◌^◌, ◌<◌, List, length}
+use Rattle.std.specs.Prelude.{ℕ, List, ◌≡◌, ◌+◌, ◌^◌, ◌<◌, length}
 use Rattle.binlog_rows.specs.Columns.{Bitmap}
 
 -- The column definitions of a table map, without the number of columns.

@@ -161,7 +161,7 @@ impl Put for MappedColumns<'_> {
         Ok(())
     }
 
-    #[tactic(auto, using(binlog_numbers::specs::LenEncTexts::lenenc_text_most))]
+    #[tactic(auto, using(binlog_numbers::specs::Laws::LenEncTexts::lenenc_text_most))]
     fn written_len(&self) -> usize
         ensures count { result ≡ length (columns.written self.now) }
         ensures small { result < 2 ^ 63 + 2 ^ 5 }

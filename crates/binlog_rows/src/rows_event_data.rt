@@ -152,12 +152,12 @@ impl Put for RowsEventData<'_> {
         Ok(())
     }
 
-    #[tactic(auto, using(crate::specs::RowsLaws::rows_written_is))]
+    #[tactic(auto, using(crate::specs::Laws::RowsWriting::rows_written_is))]
     fn written_len(&self) -> usize {
         self.event().written_len()
     }
 
-    #[tactic(auto, using(crate::specs::RowsLaws::rows_written_is))]
+    #[tactic(auto, using(crate::specs::Laws::RowsWriting::rows_written_is))]
     fn put(&self, buf: &mut Vec<u8>) {
         self.event().put(buf);
     }

@@ -208,12 +208,12 @@ impl<K: RowsKind> Put for RowsEventOf<'_, K> {
         Ok(())
     }
 
-    #[tactic(auto, using(crate::specs::RowsLaws::rows_written_is))]
+    #[tactic(auto, using(crate::specs::Laws::RowsWriting::rows_written_is))]
     fn written_len(&self) -> usize {
         self.event.written_len()
     }
 
-    #[tactic(auto, using(crate::specs::RowsLaws::rows_written_is))]
+    #[tactic(auto, using(crate::specs::Laws::RowsWriting::rows_written_is))]
     fn put(&self, buf: &mut Vec<u8>) {
         self.event.put(buf);
     }
@@ -224,7 +224,7 @@ impl<'a, K: RowsKind> BinlogEvent<'a> for RowsEventOf<'a, K> {
     ghost use Rattle.binlog_consts.specs.EventTypes.{event_number};
     ghost use Rattle.binlog_description.specs.PostHeaders.{post_header};
     ghost use Rattle.binlog_rows.specs.Rows.{rows};
-    ghost use Rattle.binlog_rows.specs.RowsLaws.{rows_written_under};
+    ghost use Rattle.binlog_rows.specs.Laws.RowsWriting.{rows_written_under};
 
     const EVENT_TYPE: EventType = K::EVENT_TYPE;
 

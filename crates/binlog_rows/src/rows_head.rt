@@ -1,6 +1,7 @@
 //! The table id, the flags and the extra bytes of a row event.
 ghost use Rattle.std.specs.Prelude.{◌≡◌, ◌+◌, ◌++◌, ◌≤◌, length, is_some, vec_len, vec_capacity, IfOk, IsOkUnless};
 ghost use Rattle.binlog_wire.specs.declared.error.Error.TheVariants.{Memory};
+ghost use Rattle.binlog_wire.specs.Putting.{Puts};
 ghost use Rattle.binlog_wire.specs.Reading.{Gives, result_now};
 ghost use Rattle.binlog_wire.specs.Formats.{anywhere};
 ghost use Rattle.binlog_rows.specs.Rows.{extra, extra_in, extra_written, head, head_written};
@@ -79,9 +80,7 @@ fn extra_len(extra: &Option<RawBytes<'_, BareBytes<MAX_EXTRA_LEN>>>) -> usize
 #[tactic(auto, using(std::proofs::Common::append_assoc))]
 fn put_extra(extra: &Option<RawBytes<'_, BareBytes<MAX_EXTRA_LEN>>>, buf: &mut Vec<u8>)
     requires { vec_len buf.old + length (extra_written extra.now) ≤ vec_capacity buf.old }
-    ensures items { buf.new.items ≡ buf.old.items ++ extra_written extra.now }
-    ensures len { vec_len buf.new ≡ vec_len buf.old + length (extra_written extra.now) }
-    ensures capacity { vec_capacity buf.old ≤ vec_capacity buf.new }
+    ensures { Puts buf.old buf.new (extra_written extra.now) }
 {
     if let Some(extra) = extra {
         let len = COUNT_LEN + extra.written_len();

@@ -1,9 +1,10 @@
+pub mod ExecuteLoadQuery
+pub mod Laws
 pub mod Layouts
+pub mod Query
+pub mod Ranges
+pub mod Statements
+pub mod StatusVarValues
 pub mod StatusVariables
 pub mod StatusVars
-pub mod StatusVarValues
-pub mod Statements
-pub mod Query
-pub mod ExecuteLoadQuery
 pub mod UserVar
-pub mod Ranges

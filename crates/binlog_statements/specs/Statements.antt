@@ -38,13 +38,15 @@ new_statement status_vars schema = record {
   texts = record { status_vars = record { 0 = status_vars }; schema = schema; query = [] };
 }
 
--- The statement with one of its texts replaced.
+-- The statement with its status variables replaced.
 abbrev pub with_status_vars : Statement → List ℕ → Statement
 with_status_vars e status_vars = record e { texts = record e.texts { status_vars = record { 0 = status_vars } } }
 
+-- The statement with its schema replaced.
 abbrev pub with_schema : Statement → List ℕ → Statement
 with_schema e schema = record e { texts = record e.texts { schema = schema } }
 
+-- The statement with its query replaced.
 abbrev pub with_query : Statement → List ℕ → Statement
 with_query e query = record e { texts = record e.texts { query = query } }
 

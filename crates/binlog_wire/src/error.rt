@@ -59,65 +59,70 @@ pub enum Field {
 /// Each error has a number, [`Error::number`], which a listing prints after an `E`.
 #[derive(Clone, Copy, Debug, PartialEq, Eq, Error)]
 pub enum Error {
-    /// E1: the input ends within the file header or within a frame.
+    /// The input ends within the file header or within a frame.
     #[error("the input ends within a file header or an event")]
     EndOfInput,
-    /// E2: the first four bytes of a file aren't `fe 62 69 6e`.
+    /// The first four bytes of a file aren't `fe 62 69 6e`.
     #[error("the file does not begin as a binlog")]
     InvalidFileHeader,
-    /// E3: an event header states this event size, which is below the header's own 19 bytes.
+    /// An event header states this event size, which is below the header's own 19 bytes.
     #[error("an event states the size {0}, and its header alone takes 19 bytes")]
     EventSizeTooSmall(u32),
-    /// E4: the body has fewer bytes than the checksum that is due.
+    /// The body has fewer bytes than the checksum that is due.
     #[error("an event is too short for its checksum")]
     TooShortForChecksum,
-    /// E5: a body ends within a unit.
+    /// A body ends within a unit.
     #[error("an event's body ends within a field")]
     EndOfBody,
-    /// E6: a unit of a body is complete, and its value isn't allowed.
+    /// A unit of a body is complete, and its value isn't allowed.
     #[error("an event's body has a value that is not allowed: {0:?}")]
     InvalidData(Invalid),
-    /// E7: a body was read, and this many bytes are left after it.
-    #[error("{0} bytes are left behind an event's body")]
+    /// A body was read, and this many bytes are left after it.
+    #[error("{0} bytes are left after an event's body")]
     RemainingBytes(usize),
-    /// E8: a GTID was asked for under this raw event type, which isn't a GTID event's.
+    /// A GTID was asked for under this raw event type, which isn't a GTID event's.
     #[error("an event of type {0} holds no GTID")]
     WrongEventType(u8),
-    /// E9: an event was to be written under this unknown checksum algorithm.
+    /// An event was to be written under this unknown checksum algorithm.
     #[error("the checksum algorithm {0} is not known")]
     UnknownChecksumAlg(u8),
-    /// E10: an event of more than 4,294,967,276 bytes was to be written.
+    /// An event of more than 4,294,967,276 bytes was to be written.
     #[error("an event is too long to be written")]
     EventTooLong,
-    /// E11: a value to be written doesn't fit its encoding.
+    /// A value to be written doesn't fit its encoding.
     #[error("the value of {0:?} can not be written")]
     Unwritable(Field),
-    /// E12: an allocation failed; a frame that was being read has been taken whole from the input.
+    /// An allocation failed; a frame that was being read has been taken whole from the input.
     #[error("out of memory")]
     Memory,
-    /// E13: an allocation failed within a frame.
+    /// An allocation failed within a frame.
     #[error("out of memory within an event")]
     FrameMemory,
-    /// E14: the reader failed in the file header or before the first byte of a frame.
+    /// The reader failed in the file header or before the first byte of a frame.
     #[error("the reader failed between events")]
     Reader,
-    /// E15: the reader failed within a frame.
+    /// The reader failed within a frame.
     #[error("the reader failed within an event")]
     ReaderInFrame,
-    /// E16: the writer failed, and it isn't known how much was written.
+    /// The writer failed, and it isn't known how much was written.
     #[error("the writer failed")]
     Writer,
-    /// E17: the stored checksum of an event isn't the computed one. Only reading that verifies checksums gives it. Both
+    /// The stored checksum of an event isn't the computed one. Only reading that verifies checksums gives it. Both
     /// are numbers of four little-endian bytes; the text shows these bytes in their order.
     #[error("checksum mismatch: stored {:08x}, computed {:08x}", .stored.swap_bytes(), .computed.swap_bytes())]
-    ChecksumMismatch { stored: u32, computed: u32 },
-    /// E18: this transaction number (GNO) isn't in 1 to 2^63 - 1, so that no set of GTIDs holds it.
+    ChecksumMismatch {
+        /// The checksum that the event stores.
+        stored: u32,
+        /// The checksum of the event's bytes.
+        computed: u32,
+    },
+    /// This transaction number (GNO) isn't in 1 to 2^63 - 1, so that no set of GTIDs holds it.
     #[error("the transaction number {0} is not in 1 to 9223372036854775807")]
     BadGno(u64),
 }
 
 impl Error {
-    ghost use Rattle.binlog_wire.specs.Errors.{error_number, is_within_frame, is_outside};
+    ghost use Rattle.binlog_wire.specs.Errors.{error_number, is_within_frame, is_environment_error};
 
     /// The number of the error, 1 to 18, as listings print it.
     pub fn number(&self) -> u8
@@ -162,8 +167,8 @@ impl Error {
     /// Whether an allocation, a reader or a writer failed, and the bytes or the value aren't at fault: true of
     /// [`Error::Memory`], [`Error::FrameMemory`], [`Error::Reader`], [`Error::ReaderInFrame`] and [`Error::Writer`]
     /// alone.
-    pub fn is_outside(&self) -> bool
-        ensures { result ≡ is_outside self.now }
+    pub fn is_environment_error(&self) -> bool
+        ensures { result ≡ is_environment_error self.now }
     {
         matches!(
             self,

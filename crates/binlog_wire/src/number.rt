@@ -1,3 +1,4 @@
+//! Little-endian numbers at an offset in bytes.
 ghost use Rattle.std.specs.Prelude.{◌≡◌, ◌+◌, ◌≤◌, length};
 ghost use Rattle.binlog_wire.specs.Numbers.{u16_at, u32_at};
 

@@ -1,7 +1,9 @@
+//! The traits of reading and writing.
 ghost use Rattle.std.specs.Prelude.{◌≡◌, ◌++◌, ◌+◌, ◌≤◌, ℕ, List, length, vec_len, vec_capacity, OnOk, OnErr, IsOk, IsOkUnless, MatchOption, Option, None, Err};
 ghost use Rattle.binlog_wire.specs.declared.error.Error.{Error};
 ghost use Rattle.binlog_wire.specs.declared.error.Error.TheVariants.{Memory};
 ghost use Rattle.binlog_wire.specs.Reading.{Read, Gives};
+ghost use Rattle.binlog_wire.specs.Putting.{Puts};
 
 use crate::error::Error;
 use crate::parse_buf::ParseBuf;
@@ -82,9 +84,7 @@ pub trait Put {
     fn put(&self, buf: &mut Vec<u8>)
         requires writable { refusal self.now ≡ None }
         requires room { vec_len buf.old + length (bytes self.now) ≤ vec_capacity buf.old }
-        ensures items { buf.new.items ≡ buf.old.items ++ bytes self.now }
-        ensures len { vec_len buf.new ≡ vec_len buf.old + length (bytes self.now) }
-        ensures capacity { vec_capacity buf.old ≤ vec_capacity buf.new };
+        ensures { Puts buf.old buf.new (bytes self.now) };
 }
 
 impl<T: Put> MySerialize for T {

@@ -9,7 +9,7 @@ use Rattle.std.specs.Int.RustNames.{bit_xor}
 abbrev pub polynomial : ℕ
 polynomial = 0xedb88320
 
--- Shifts the lowest bit out of the register and, where it is set, adds the polynomial.
+-- Shifts the lowest bit out of the register and, if it is set, adds the polynomial.
 unfoldable pub after_bit : ℕ → ℕ
 after_bit c = bit_xor (c / 2) (c % 2 * polynomial)
 

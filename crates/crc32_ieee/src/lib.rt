@@ -8,7 +8,7 @@ ghost use Rattle.std.specs.Prelude.{◌≡◌, ◌+◌, ◌*◌, ◌<◌};
 ghost use Rattle.std.specs.Int.RustNames.{bit_xor};
 ghost use Rattle.crc32_ieee.specs.Crc32.{after_bit, after_bits, crc32, AreEntries};
 
-/// The polynomial, bits reversed.
+/// The polynomial with its bits reversed.
 const POLYNOMIAL: u32 = 0xedb8_8320;
 
 /// The number of bytes processed at a time.
@@ -23,7 +23,7 @@ const ENTRIES: usize = WORD * BYTES;
 /// Computes CRC-32 checksums. It holds its lookup tables, 8 KiB: create one, and use it for any number of checksums.
 #[derive(Drop)]
 pub struct Crc32 {
-    // eight tables of 256 entries: for the last byte of a word, for the byte before it, and so on
+    // Eight tables of 256 entries: for the last byte of a word, for the byte before it, and so on.
     tables: [u32; ENTRIES],
     ghost are_entries: { AreEntries 2048 tables },
 }
@@ -42,7 +42,7 @@ impl Crc32 {
         Crc32 { tables }
     }
 
-    /// The CRC-32 of the bytes, 0 for none. It reads them once, and no memory is allocated.
+    /// The CRC-32 of the bytes, 0 for no bytes. They are read once, and nothing is allocated.
     pub fn checksum(&self, bytes: &[u8]) -> u32
         ensures { result ≡ crc32 bytes.now }
     {

@@ -1,7 +1,7 @@
 use super::Crc32;
 use std::process::Abort;
 
-// The first is the check value in catalogues of CRCs, and all are what zlib's `crc32` gives.
+// The first is the check value of CRC-32 in catalogues of CRCs; all are the values of zlib's `crc32`.
 #[test]
 fn gives_known_checksums(rt: HostRuntime) {
     let rows: [(&[u8], u32); 12] = [

@@ -1,4 +1,4 @@
-//! How to go through a log of which parts may be damaged.
+//! How to read a log that may be damaged in part.
 use binlog_file::{BinlogFile, BinlogVersion, Error};
 use std::alloc::Global;
 use std::io::BufRead;
@@ -6,11 +6,11 @@ use std::io::BufRead;
 /// What was found in a log.
 #[derive(Clone, Copy, Debug, Default, PartialEq, Eq)]
 pub struct Findings {
-    /// How many events could be read.
+    /// The number of events that could be read.
     pub events: u64,
-    /// How many events are damaged, each with the next event behind it.
+    /// The number of damaged events. After each the file goes on with the next event.
     pub damaged: u64,
-    /// Whether an event states an impossible size, so that no event can be found behind it.
+    /// Whether an event states an impossible size, so that no event can be found after it.
     pub is_broken_off: bool,
 }
 
@@ -18,9 +18,9 @@ pub struct Findings {
 ///
 /// # Errors
 ///
-/// - [`Error::EndOfInput`] and [`Error::InvalidFileHeader`] where the input is no binary log.
-/// - [`Error::Memory`] and [`Error::FrameMemory`] where memory ran out, [`Error::Reader`] and [`Error::ReaderInFrame`]
-///   where the reader failed.
+/// - [`Error::EndOfInput`] and [`Error::InvalidFileHeader`] if the input isn't a binary log.
+/// - [`Error::Memory`] and [`Error::FrameMemory`] if memory ran out, [`Error::Reader`] and [`Error::ReaderInFrame`] if
+///   the reader failed.
 pub fn examine<R: BufRead + Drop>(alloc: Global, input: R) -> Result<Findings, Error> {
     let file = BinlogFile::new(alloc, BinlogVersion::Version4, input)?;
     let mut findings = Findings::default();
@@ -31,7 +31,7 @@ pub fn examine<R: BufRead + Drop>(alloc: Global, input: R) -> Result<Findings, E
             Err(Error::TooShortForChecksum | Error::EndOfBody | Error::InvalidData(_)) => {
                 findings.damaged = findings.damaged.saturating_add(1);
             }
-            // The file gives no item behind it.
+            // The file gives no item after it.
             Err(Error::EventSizeTooSmall(_)) => findings.is_broken_off = true,
             // Memory ran out, or the reader failed.
             Err(error) => return Err(error),

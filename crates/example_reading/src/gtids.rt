@@ -1,15 +1,15 @@
-//! How to list the identifiers of a log's transactions.
+//! How to list the GTIDs of a log.
 use binlog_file::{BinlogFile, BinlogVersion, Error, EventType, GtidEvent};
 use std::alloc::Global;
 use std::io::{BufRead, Write};
 use uuid::Uuid;
 
-/// Writes a line for each transaction of a log that has a global transaction identifier: the source, the tag if there is
-/// one, and the number, with colons between.
+/// Writes a line for each transaction of a log that has a GTID: the source's UUID, the tag if there is one, and the
+/// transaction number, separated by colons.
 ///
 /// # Errors
 ///
-/// Those of [`BinlogFile`] and of reading a GTID event; [`Error::Writer`] where the writer failed.
+/// Those of [`BinlogFile`] and of reading a GTID event; [`Error::Writer`] if the writer failed.
 pub fn list_gtids<R: BufRead + Drop, W: Write>(
     alloc: Global,
     input: R,

@@ -1,21 +1,21 @@
-//! How to follow the events that a source sends, which have no file header before them.
+//! How to follow the events that a source sends, which come without a file header.
 use binlog_file::{BinlogVersion, Error, Event, EventStreamReader, EventType, RotateEvent};
 use std::alloc::Global;
 
-/// A place in the logs of a source, from which its events can be asked for again.
+/// A position in the logs of a source, from which its events can be requested again.
 #[derive(Debug, PartialEq, Eq, Drop)]
 pub struct Place {
     /// The name of the log.
     pub log: Vec<u8>,
-    /// The first byte of the next event in it.
+    /// The position of the next event in it.
     pub position: u64,
 }
 
-/// The place behind these events.
+/// The position after these events.
 ///
 /// # Errors
 ///
-/// Those of [`EventStreamReader::read`] and of reading a rotate.
+/// Those of [`EventStreamReader::read`] and of reading a ROTATE event.
 pub fn follow(alloc: Global, events: &[u8]) -> Result<Place, Error> {
     let mut reader = EventStreamReader::new(alloc, BinlogVersion::Version4);
     let mut rest = events;
@@ -34,7 +34,7 @@ pub fn follow(alloc: Global, events: &[u8]) -> Result<Place, Error> {
 }
 
 impl Place {
-    // Goes to the place behind an event.
+    // Moves to the position after an event.
     fn go_behind(&mut self, alloc: Global, event: &Event) -> Result<(), Error> {
         let header = event.header();
         if let Ok(EventType::ROTATE_EVENT) = header.event_type() {
@@ -42,7 +42,7 @@ impl Place {
             self.log = Vec::from_slice(alloc, rotate.name_raw())?;
             self.position = rotate.position();
         } else if header.log_pos() != 0 {
-            // Events that the source made for the stream alone state 0.
+            // Artificial events have log position 0.
             self.position = u64::from(header.log_pos());
         }
         Ok(())

@@ -1,4 +1,4 @@
-//! How to write a log with `binlog_file`, a module for each task. Each test runs its task over a small log.
+//! How to write a log with `binlog_file`, one module for each task. Each test runs its task over a small log.
 #![tactic(auto)]
 
 pub mod filtering;

@@ -1,8 +1,8 @@
--- Writing that ends at an index, as writing that begins at one.
+-- Writing that ends at an index, in terms of writing that begins at one.
 use Rattle.std.proofs.Common.{◌≡◌, ℕ, ◌+◌, ◌-◌, ◌≤◌, List, ◌++◌, length, take, drop, refl, ap, sym, ◌∙◌, arith, length-append, length-drop, length-take-le, take-add, take_at, take-append-drop}
 use Rattle.json.specs.Filled.{Placed}
 
--- the digits end at `end`, and no other byte changes
+-- The digits end at `end`, and no other byte changes.
 pub ending_at : (old new digits : List ℕ) (start end : ℕ) → start + length digits ≡ end → end ≤ length old
     → drop start new ≡ digits ++ drop end old → take start new ≡ take start old → Placed old new start digits end
 ending_at old new digits start end long fits written before =

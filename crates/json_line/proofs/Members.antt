@@ -16,7 +16,7 @@ use Rattle.json_line.proofs.OneMore.{text_begun, pushed, pushed_tokens}
 pub number_utf8 : (n : ℕ) → n < 2 ^ 64 → IsUtf8 (decimal n)
 number_utf8 n fits = IsUtf8-from_ascii _ (IsAscii-decimal_wide n (omega arith))
 
--- a member's name and its number
+-- The name of a member and its number.
 module _ (old : List ℕ) (after_value : Bool) (line : IsLine old after_value) (name : List ℕ) (plain : IsPlainText name) (utf8 : IsUtf8 name) (n : ℕ) (fits : n < 2 ^ 64)
     (new : List ℕ) (is : new ≡ old ++ (comma after_value ++ (34 ∷ (name ++ 34 ∷ 58 ∷ [])) ++ decimal n)) where
   abbrev named : List ℕ
@@ -39,7 +39,7 @@ module _ (old : List ℕ) (after_value : Bool) (line : IsLine old after_value) (
       pushed_tokens named false name_added (number (decimal n)) (IsNumber-decimal n fits) (number_utf8 n fits) new true refl (text_begun named new false (number (decimal n)) _ refl refl behind_name)
       ∙ ap (λ l. l ++ number (decimal n) ∷ []) name_tokens ∙ append_assoc (tokens old) (key name ∷ []) (number (decimal n) ∷ [])
 
--- an object's key, and the name of its value
+-- The key of an object, and the name of its value.
 module _ (old : List ℕ) (after_value : Bool) (line : IsLine old after_value) (text : List ℕ) (plain : IsPlainText text) (utf8 : IsUtf8 text)
     (new : List ℕ) (is : new ≡ old ++ (comma after_value ++ (codes "{\"key\":\"" ++ (text ++ codes "\",\"value\":")))) where
   abbrev begun : List ℕ

@@ -15,7 +15,7 @@ shows_printed text after_value line = ap tokens line.is ∙ tokens-print line.pr
 pub print_shown : (text : List ℕ) (after_value : Bool) (line : IsLine text after_value) → text ≡ print (tokens text)
 print_shown text after_value line = line.is ∙ ap print (sym (shows_printed text after_value line))
 
--- the empty line
+-- The empty line.
 pub empty : IsLine [] false
 unfolding print_from ArePrintable
 empty = record { printed = []; printable = tt; is = refl; place = refl; utf8 = IsUtf8-nil }
@@ -24,13 +24,13 @@ pub nothing_shown : tokens [] ≡ []
 unfolding empty
 nothing_shown = shows_printed [] false empty
 
--- the written bytes of a token that begins a value or a member
+-- The written bytes of a token that begins a value or a member.
 pub text_begun : (old new : List ℕ) (after_value : Bool) (token : Token) (bytes : List ℕ) → begins token ≡ true → bytes ≡ token_text token
     → new ≡ old ++ (comma after_value ++ bytes) → new ≡ old ++ (separator after_value token ++ token_text token)
 text_begun old new true token bytes begun is written = rw begun (written ∙ ap (λ l. old ++ 44 ∷ l) is)
 text_begun old new false token bytes begun is written = written ∙ ap (λ l. old ++ l) is
 
--- the written bytes of a closing bracket
+-- The written bytes of a closing bracket.
 pub text_ended : (old new : List ℕ) (after_value : Bool) (token : Token) (bytes : List ℕ) → begins token ≡ false → bytes ≡ token_text token
     → new ≡ old ++ bytes → new ≡ old ++ (separator after_value token ++ token_text token)
 text_ended old new true token bytes ended is written = rw ended (written ∙ ap (λ l. old ++ l) is)
@@ -51,7 +51,7 @@ module _ (old : List ℕ) (after_value : Bool) (line : IsLine old after_value) (
   unfolding pushed
   pushed_tokens = shows_printed new after pushed ∙ ap (λ l. l ++ token ∷ []) (sym (shows_printed old after_value line))
 
--- a single token
+-- A single token.
 pub alone : (token : Token) → print (token ∷ []) ≡ token_text token
 unfolding print_from
 alone token = append-nil (token_text token)

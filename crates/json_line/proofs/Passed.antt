@@ -1,4 +1,4 @@
--- From a vector's mask to bytes that are ASCII and need no escape.
+-- From the mask of a vector to bytes that are ASCII and need no escape.
 use Rattle.std.proofs.Common.{◌≡◌, ℕ, zero, suc, ◌+◌, ◌-◌, ◌%◌, ◌^◌, ◌<◌, ◌≤◌, nat_lt, Bool, true, false, not, cond, ◌==◌, List, [], ◌∷◌, length, drop, get_or, map, replicate, eqb, ltb, leb, T, ◌&&◌, ◌⊎◌, inl, inr, subst, ap₂, Fits, w8, refl, sym, ap, ◌∙◌, arith, get_or-take, get_or-drop}
 use Rattle.std.proofs.lemmas.Bool.{cases_order, or_parts, not-true, eqb-true, ltb-false}
 use Rattle.std.proofs.lemmas.Simd.{length-chunk, leading_from_mask_l, chunk-fits, zip2_splat, zip2_splat_left, mask_l-mod}
@@ -93,7 +93,7 @@ on_true : (b : Bool) (P : Type 0) → (b ≡ true → P) → OnTrue b P
 on_true true P f = f refl
 on_true false P f = tt
 
--- the four tests of a vector of n lanes, as in the code
+-- The four tests of a vector of n lanes, as in the code.
 pub passed_from_lanes : (d : List ℕ) (i n : ℕ) → i + n ≤ length d → n ≤ 64 → ((k : ℕ) → Fits w8 (get_or d k 0))
     → OnTrue (mask_l (map (top 7) (zip2 bit_or (zip2 bit_or (zip2 bit_or (zip2 hit (chunk i n d) (replicate n 34)) (zip2 hit (chunk i n d) (replicate n 92))) (zip2 below (chunk i n d) (replicate n 32))) (zip2 at_most (replicate n 128) (chunk i n d)))) % 2 ^ 64 == 0)
     (PassedBetween d i (i + n))

@@ -10,7 +10,7 @@ use Rattle.hex.proofs.HexLemmas.{IsAscii-encode_with}
 use Rattle.json.specs.Token.{string}
 use Rattle.json_line.specs.Tokens.{text_value}
 
--- each byte is below 128
+-- Each byte is below 128.
 abbrev are_below : List ℕ → Bool
 are_below [] = true
 are_below (b ∷ bs) = ltb b 128 && are_below bs
@@ -22,10 +22,10 @@ from_test (b ∷ bs) h = IsAscii-cons b bs (lit< (and_l _ (are_below bs) h)) (fr
 are_digits : IsAscii lower_digits
 are_digits = from_test lower_digits tt
 
--- hexadecimal digits are UTF-8
+-- Hexadecimal digits are UTF-8.
 pub digits_are_text : (bytes : List ℕ) → IsUtf8 (encode_lower bytes)
 digits_are_text bytes = IsUtf8-from_ascii _ (IsAscii-encode_with lower_digits bytes are_digits)
 
--- bytes that are UTF-8 are printed as a string
+-- Bytes that are UTF-8 are printed as a string.
 pub text_is_string : (text : List ℕ) → IsUtf8 text → text_value text ≡ string text ∷ []
 text_is_string text is = rw (eq-eqb _ _ (utf8_valid_len-IsUtf8 text is)) refl

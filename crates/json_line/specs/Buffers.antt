@@ -9,7 +9,7 @@ pub record Buffered : Type 0 where
   pub room : ℕ
   pub next : List ℕ
 
--- It is encoded as its fields.
+-- A buffer as the tuple of its fields.
 abbrev pub buffered_code : Coded Buffered
 buffered_code =
     code_by (List ℕ × (ℕ × List ℕ)) (coded× (coded_list coded_ℕ) (coded× coded_ℕ (coded_list coded_ℕ)))
@@ -19,6 +19,6 @@ buffered_code =
 abbrev pub comma : Bool → List ℕ
 comma wanted = cond wanted (44 ∷ []) []
 
--- The bytes are appended to the others, or nothing is.
+-- The bytes are appended, or nothing is if an allocation failed.
 abbrev pub Puts : {A E : Type 0} → Result A E → Buffered → Buffered → List ℕ → Type 0
 Puts result old new bytes = MatchResult result (λ _. new.text ≡ old.text ++ bytes) (λ _. new.text ≡ old.text)

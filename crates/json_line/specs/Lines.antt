@@ -4,7 +4,7 @@ use Rattle.json.specs.Token.{Token}
 use Rattle.json.specs.Run.{is_plain}
 use Rattle.json.specs.Print.{print, ends_value, ArePrintable}
 
--- The text is some tokens, printed; and it is known whether a value has just ended.
+-- The text is the print of some tokens, and `after_value` says whether a value has just ended.
 pub record IsLine (text : List ℕ) (after_value : Bool) : Type 0 where
   pub printed : List Token
   pub printable : ArePrintable printed

@@ -112,7 +112,8 @@ impl Buffer {
         self.len = place_bytes(memory, at, text);
     }
 
-    /// Writes a comma if wanted, and the bytes.
+    /// Writes a comma if wanted, and the bytes. The only error is a failed allocation, which leaves the written bytes
+    /// unchanged.
     #[inline(always)]
     pub(crate) fn add(&mut self, after_value: bool, text: &[u8]) -> Result<(), AllocError>
         ensures { Puts result self.old self.new (comma after_value ++ text.now) }

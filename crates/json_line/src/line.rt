@@ -57,7 +57,9 @@ fn token_writer(token: &mut Vec<u8>, alloc: Global) -> Writer<Global>
 
 /// Each writing call appends its tokens, or fails with [`AllocError`] if an allocation fails. After a failure the line
 /// is unchanged, except in calls that write several tokens one after another: [`Line::text`] with bytes that aren't
-/// UTF-8, and the members with a text or bytes. There the first tokens may have been written.
+/// UTF-8, and the members with a text or with bytes. There the first tokens may have been written.
+///
+/// The calls don't check that the tokens form a JSON value: a caller has to end what it begins.
 impl Line {
     /// An empty line. No memory is allocated.
     pub fn new(alloc: Global) -> Self
@@ -95,7 +97,7 @@ impl Line {
         Ok(self.text.with_next())
     }
 
-    /// `{`
+    /// Begins an object: `{`.
     #[inline]
     pub fn begin_object(&mut self) -> Result<(), AllocError>
         ensures added { Adds result self.old self.new (tokens.begin_object ∷ []) }
@@ -106,7 +108,7 @@ impl Line {
         Ok(())
     }
 
-    /// `}`
+    /// Ends an object: `}`.
     #[inline]
     pub fn end_object(&mut self) -> Result<(), AllocError>
         ensures added { Adds result self.old self.new (tokens.end_object ∷ []) }
@@ -117,7 +119,7 @@ impl Line {
         Ok(())
     }
 
-    /// `[`
+    /// Begins an array: `[`.
     #[inline]
     pub fn begin_array(&mut self) -> Result<(), AllocError>
         ensures added { Adds result self.old self.new (tokens.begin_array ∷ []) }
@@ -128,7 +130,7 @@ impl Line {
         Ok(())
     }
 
-    /// `]`
+    /// Ends an array: `]`.
     #[inline]
     pub fn end_array(&mut self) -> Result<(), AllocError>
         ensures added { Adds result self.old self.new (tokens.end_array ∷ []) }
@@ -139,7 +141,8 @@ impl Line {
         Ok(())
     }
 
-    /// The name of a member and a colon. The name must need no escape.
+    /// Writes the name of a member and a colon. The name must need no escape: it has no quotation mark, backslash or
+    /// control character.
     #[inline(always)]
     pub fn key(&mut self, name: &str) -> Result<(), AllocError>
         requires { IsPlainText name.now }
@@ -151,7 +154,7 @@ impl Line {
         Ok(())
     }
 
-    /// `null`
+    /// Writes `null`.
     #[inline]
     pub fn null(&mut self) -> Result<(), AllocError>
         ensures added { Adds result self.old self.new (tokens.null ∷ []) }
@@ -162,7 +165,7 @@ impl Line {
         Ok(())
     }
 
-    /// `true` or `false`
+    /// Writes `true` or `false`.
     #[inline]
     pub fn boolean(&mut self, value: bool) -> Result<(), AllocError>
         ensures added { Adds result self.old self.new (tokens.boolean value ∷ []) }
@@ -173,7 +176,7 @@ impl Line {
         Ok(())
     }
 
-    /// A string that needs no escape.
+    /// Writes a string that needs no escape, as a name for [`Line::key`].
     #[inline]
     pub fn plain_string(&mut self, text: &str) -> Result<(), AllocError>
         requires { IsPlainText text.now }
@@ -183,7 +186,7 @@ impl Line {
         self.string_as_it_is(text.as_bytes())
     }
 
-    /// A string.
+    /// Writes a string, escaped where needed.
     #[inline]
     pub fn string(&mut self, text: &str) -> Result<(), AllocError>
         ensures added { Adds result self.old self.new (tokens.string text.now ∷ []) }
@@ -220,7 +223,7 @@ impl Line {
         Ok(())
     }
 
-    /// An unsigned number with all its digits.
+    /// Writes an unsigned number with all its digits.
     #[inline(always)]
     pub fn number(&mut self, number: u64) -> Result<(), AllocError>
         ensures added { Adds result self.old self.new (number_value number) }
@@ -231,7 +234,7 @@ impl Line {
         Ok(())
     }
 
-    /// A signed number, with a minus sign if it is negative.
+    /// Writes a signed number with all its digits, and a minus sign if it is negative.
     pub fn signed_number(&mut self, number: i64) -> Result<(), AllocError>
         ensures added { Adds result self.old self.new (tokens.number (signed_decimal number) ∷ []) }
         ensures unchanged { OnErr result (self.new ≡ self.old) }
@@ -244,7 +247,7 @@ impl Line {
         Ok(())
     }
 
-    /// Bytes as a string of hexadecimal digits.
+    /// Writes bytes as a string of lower-case hexadecimal digits.
     #[inline]
     pub fn bytes(&mut self, bytes: &[u8]) -> Result<(), AllocError>
         ensures added { Adds result self.old self.new (bytes_value bytes.now) }
@@ -255,7 +258,7 @@ impl Line {
         Ok(())
     }
 
-    /// A string if the bytes are UTF-8, else an object with their hexadecimal digits: `{"hex":"ff"}`.
+    /// Writes a string if the bytes are UTF-8, else an object with their hexadecimal digits: `{"hex":"ff"}`.
     #[inline(always)]
     pub fn text(&mut self, text: &[u8]) -> Result<(), AllocError>
         ensures { Adds result self.old self.new (text_value text.now) }
@@ -287,7 +290,7 @@ impl Line {
         self.end_object()
     }
 
-    /// A UUID in lower case with hyphens.
+    /// Writes a UUID as a string, in lower case with hyphens.
     pub fn uuid(&mut self, bytes: [u8; 16]) -> Result<(), AllocError>
         ensures added { Adds result self.old self.new (uuid_value bytes) }
         ensures unchanged { OnErr result (self.new ≡ self.old) }
@@ -299,7 +302,7 @@ impl Line {
         self.string(text)
     }
 
-    /// A byte as a number, or null.
+    /// Writes a byte as a number, or `null`.
     #[inline]
     pub fn byte_or_null(&mut self, number: Option<u8>) -> Result<(), AllocError>
         ensures added { Adds result self.old self.new (or_null number_value number) }
@@ -311,7 +314,7 @@ impl Line {
         }
     }
 
-    /// Four bytes as hexadecimal digits, or null.
+    /// Writes four bytes as a string of hexadecimal digits, or `null`.
     #[inline]
     pub fn checksum_or_null(&mut self, checksum: Option<[u8; 4]>) -> Result<(), AllocError>
         ensures added { Adds result self.old self.new (or_null bytes_value checksum) }
@@ -323,7 +326,7 @@ impl Line {
         }
     }
 
-    /// Begins an object with a key, which must need no escape, and the name of its value: `{"key":"Flags2","value":`
+    /// Begins an object with a key and the name of its value: `{"key":"Flags2","value":`. The key must need no escape.
     #[inline(always)]
     pub fn begin_entry(&mut self, key: &str) -> Result<(), AllocError>
         requires { IsPlainText key.now }
@@ -340,7 +343,7 @@ impl Line {
         Ok(())
     }
 
-    /// An object's member with a number.
+    /// Writes a member of an object with a number. The name must need no escape, as in the members below.
     #[inline(always)]
     pub fn number_member(&mut self, name: &str, number: u64) -> Result<(), AllocError>
         requires { IsPlainText name.now }
@@ -353,7 +356,7 @@ impl Line {
         Ok(())
     }
 
-    /// An object's member with a text, as [`Line::text`] writes it.
+    /// Writes a member of an object with a text, as [`Line::text`] writes it.
     #[inline(always)]
     pub fn text_member(&mut self, name: &str, text: &[u8]) -> Result<(), AllocError>
         requires { IsPlainText name.now }
@@ -363,7 +366,7 @@ impl Line {
         self.text(text)
     }
 
-    /// An object's member with bytes as hexadecimal digits.
+    /// Writes a member of an object with bytes as hexadecimal digits.
     #[inline(always)]
     pub fn bytes_member(&mut self, name: &str, bytes: &[u8]) -> Result<(), AllocError>
         requires { IsPlainText name.now }
@@ -373,7 +376,7 @@ impl Line {
         self.bytes(bytes)
     }
 
-    /// An object's member with bytes as hexadecimal digits; nothing if there are none.
+    /// Writes a member of an object with bytes as hexadecimal digits; nothing if there are none.
     #[inline(always)]
     pub fn bytes_member_if_any(&mut self, name: &str, bytes: &[u8]) -> Result<(), AllocError>
         requires { IsPlainText name.now }

@@ -1,5 +1,5 @@
-//! Reads each event of the binary log on standard input into memory of its own, as a program does that keeps events.
-//! The test of allocations counts what that takes.
+//! Reads each event of the binary log on standard input as an owned event, as a program that keeps events does. The
+//! test of allocations counts them.
 #![tactic(auto)]
 
 use binlog_file::{BinlogFile, BinlogVersion, Error};
@@ -7,7 +7,7 @@ use std::alloc::Global;
 use std::io::{BufRead, BufReader};
 use std::process::ExitCode;
 
-/// The size of the input's buffer, in bytes.
+/// The size of the input buffer, in bytes.
 const BUFFER_SIZE: usize = 65_536;
 
 // Reads events up to the first item that is an error.

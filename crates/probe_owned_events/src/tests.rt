@@ -1,5 +1,5 @@
-//! Events that state more bytes than come, which come in pieces of 20. The test of allocations watches how memory grows
-//! meanwhile.
+//! Events that state more bytes than come; the bytes come 20 at a time. The test of allocations watches how memory
+//! grows.
 use super::read_events;
 use binlog_file::{BinlogVersion, Error, Event, EventStreamReader, FormatDescriptionEvent};
 use std::alloc::AllocError;
@@ -8,13 +8,13 @@ use std::io::BufReader;
 use std::process::Abort;
 use std::sync::Arc;
 
-/// How many bytes come at a time.
+/// The number of bytes that come at a time.
 const PIECE: usize = 20;
 
 /// The header of an event that states 4,294,967,295 bytes.
 const HEADER: [u8; 19] = *b"\0\0\0\0\x02\x01\0\0\0\xff\xff\xff\xff\0\0\0\0\0\0";
 
-// 100 bytes of that event.
+// The first 100 bytes of that event.
 fn boundless() -> [u8; 100] {
     let mut bytes = [0; 100];
     bytes[..19].copy_from_slice(&HEADER);

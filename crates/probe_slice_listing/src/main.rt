@@ -1,7 +1,7 @@
-//! Lists the binary log on standard input as `binlog_list` does, but takes it into memory whole and goes over it there.
-//! A test compares the two, and the benchmark measures this one.
+//! Lists the binary log on standard input as `binlog_list` does, but takes it into memory first and reads it as a
+//! slice. A test compares the two, and the benchmark measures this one.
 //!
-//! With the argument `memory` it does no more than take the log into memory.
+//! With the argument `memory` it only takes the log into memory.
 #![tactic(auto)]
 
 use binlog_file::Error;
@@ -12,7 +12,7 @@ use std::io::{BufReader, BufWriter, Read, Write};
 use std::process::ExitCode;
 use std::{env, io};
 
-/// The size of the buffers of the input and the output, in bytes.
+/// The size of the input buffer and of the output buffer, in bytes.
 const BUFFER_SIZE: usize = 65_536;
 
 fn read_log(rt: &(impl Input + AllocGlobal)) -> Result<Vec<u8>, Error> {

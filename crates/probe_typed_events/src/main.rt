@@ -1,5 +1,5 @@
-//! Prints the statements, load queries and user variables of the binary log on standard input. Its stored run shows each
-//! of them, with the status variables of statements, by the types that a caller reads.
+//! Prints the QUERY, EXECUTE_LOAD_QUERY and USER_VAR events of the binary log on standard input. Its stored run shows
+//! each of them, with the status variables of statements, as a caller reads them.
 #![tactic(auto)]
 
 mod printing;

@@ -3,11 +3,11 @@ use binlog_file::{Error, EventRef, EventType};
 use binlog_statements::{ExecuteLoadQueryEvent, QueryEvent, StatusVars, UserVarEvent};
 use std::io;
 
-/// Prints an event, if it is a statement, a load query or a user variable.
+/// Prints an event, if it is a QUERY, EXECUTE_LOAD_QUERY or USER_VAR.
 ///
 /// # Errors
 ///
-/// Those of reading it, [`Error::Memory`], and [`Error::Writer`] where standard output failed.
+/// Those of reading it, [`Error::Memory`], and [`Error::Writer`] if standard output failed.
 pub(crate) fn print_event(
     rt: &(impl Print + AllocGlobal),
     event: EventRef<'_>,
@@ -22,7 +22,7 @@ pub(crate) fn print_event(
     }
 }
 
-// What a failed line is answered by.
+// The result for a printed line: a failure is [`Error::Writer`].
 fn printed(answer: io::Result<()>) -> Result<(), Error> {
     answer.map_err(|_| Error::Writer)
 }

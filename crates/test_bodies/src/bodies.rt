@@ -1,5 +1,5 @@
-//! What the bodies of events are read as and written as, by rows from outside. What holds values is asked in functions
-//! without a runtime: their proofs are short.
+//! Reading and writing of event bodies. The expected bytes and values don't come from this code. Owned values are
+//! compared in functions that take no runtime, which keeps the proofs short.
 use binlog_bodies::{
     BeginLoadQueryEvent, Error, IncidentEvent, IntvarEvent, Invalid, RandEvent, RotateEvent,
     RowsQueryEvent, XidEvent, laws,
@@ -14,22 +14,22 @@ use testkit_bodies::{
     refusal_under, stating, told_len,
 };
 
-/// Eight bytes of 11.
+/// The number 11 in eight bytes.
 pub(crate) const ELEVEN: &[u8] = b"\x0b\0\0\0\0\0\0\0";
 
-/// A rotate to the start of a second file.
+/// A ROTATE to the start of a second file.
 const ROTATE: &[u8] = b"\x04\0\0\0\0\0\0\0master-bin.000002";
 
 /// Seeds of 11 and 2^63.
 const SEEDS: &[u8] = b"\x0b\0\0\0\0\0\0\0\0\0\0\0\0\0\0\x80";
 
-/// The statement that made row events.
+/// The statement that row events come from.
 const STATEMENT: &[u8] = b"\0insert into t1 values (1)";
 
-/// The first five bytes of a file.
+/// A block of the first five bytes of a file.
 const BLOCK: &[u8] = b"\x01\x02\0\0block";
 
-/// A message that is too long, and its front that isn't.
+/// A message that is too long, and its first 255 bytes.
 const MESSAGE: [u8; 300] = [b'm'; 300];
 
 const CUT_MESSAGE: [u8; 255] = [b'm'; 255];
@@ -39,7 +39,7 @@ fn rotate() -> RotateEvent<'static> {
     RotateEvent::new(4, CowSlice::Borrowed(b"master-bin.000002"))
 }
 
-// Whether a rotate goes to this position of this file, and whether it is fake.
+// Whether a ROTATE has this position, file name and `is_fake`.
 fn goes_to(event: RotateEvent<'_>, position: u64, name: &[u8], is_fake: bool) -> bool {
     let goes_to = event.position() == position
         && event.name_raw() == name
@@ -48,7 +48,7 @@ fn goes_to(event: RotateEvent<'_>, position: u64, name: &[u8], is_fake: bool) ->
     goes_to
 }
 
-// Whether the name of its file is this text.
+// Whether its file name as text is this one.
 fn is_named(alloc: Global, event: RotateEvent<'_>, name: &str) -> Result<bool, Error> {
     let is_text = is_text(event.name(alloc), name);
     drop(event);
@@ -68,7 +68,7 @@ fn rotate_is_written(rt: HostRuntime) {
     assert!(rt; is_rewritten::<RotateEvent>(rt.alloc(), ROTATE, ROTATE) == Ok(true));
 }
 
-// Whether the rotate is equal to a copy of it that owns its bytes.
+// Whether the event is equal to an owned copy.
 fn is_rotate_copied(alloc: Global) -> Result<bool, Error> {
     let event = rotate();
     let is_copied = is_same(event.clone(alloc)?.into_owned(alloc), &event);
@@ -81,7 +81,7 @@ fn rotate_is_copied(rt: HostRuntime) {
     assert!(rt; is_rotate_copied(rt.alloc()) == Ok(true));
 }
 
-// A rotate that no server has written to its own file.
+// An artificial ROTATE, with position 0. Its name isn't UTF-8.
 fn fake() -> RotateEvent<'static> {
     rotate()
         .with_position(0)
@@ -94,7 +94,7 @@ fn rotate_to_position_0_is_fake(rt: HostRuntime) {
     assert!(rt; is_named(rt.alloc(), fake(), "a\u{fffd}") == Ok(true));
 }
 
-// Whether the rotate is shown so.
+// Whether `Debug` shows the event as this text.
 fn is_rotate_shown(alloc: Global, wanted: &str) -> Result<bool, Error> {
     let event = rotate();
     let text = format!(in alloc; "{event:?}");
@@ -138,10 +138,10 @@ fn xid_is_read_and_written(rt: HostRuntime) {
     assert!(rt; told_len(XidEvent { xid: 11 }) == 8);
 }
 
-/// Post-header lengths of 0, and of 2 for the end of a transaction.
+/// Post-header lengths: 2 for XID (type 16), and 0 for the types before it.
 const XID_OF_TWO: &[u8] = &[0, 0, 0, 0, 0, 0, 0, 0, 0, 0, 0, 0, 0, 0, 0, 2];
 
-// Whether a body is read as that end of a transaction where those lengths are stated.
+// Whether a body is read as XID 11 under a description with these lengths.
 fn is_eleven_behind_two(alloc: Global, body: &[u8]) -> bool {
     let fde = stating(XID_OF_TWO);
     let is_eleven = is_read_as(alloc, fde.as_ref(), body, XidEvent { xid: 11 });
@@ -149,7 +149,7 @@ fn is_eleven_behind_two(alloc: Global, body: &[u8]) -> bool {
     is_eleven
 }
 
-// Why a body is refused there.
+// The error of a body under such a description.
 fn refusal_behind_two(alloc: Global, body: &[u8]) -> Option<Error> {
     let fde = stating(XID_OF_TWO);
     let refusal = refusal_under::<XidEvent>(alloc, fde.as_ref(), body);
@@ -190,7 +190,7 @@ fn integer_variables_are_read(rt: HostRuntime) {
     }
 }
 
-// An integer variable, set by its parts.
+// An INTVAR event that is set field by field.
 fn last_insert_id() -> IntvarEvent {
     IntvarEvent::new(IntvarEventType::INVALID_INT_EVENT, 0)
         .with_subtype(IntvarEventType::LAST_INSERT_ID_EVENT)
@@ -219,7 +219,7 @@ fn seeds() -> RandEvent {
     }
 }
 
-// Whether they are equal to a copy of them.
+// Whether the event is equal to its copy.
 fn are_seeds_copied() -> Result<bool, Error> {
     let copy = seeds().clone()?;
     let is_copied = copy == seeds();
@@ -235,12 +235,12 @@ fn random_seeds(rt: HostRuntime) {
     assert!(rt; told_len(seeds()) == 16);
 }
 
-// An incident with the message that is too long.
+// An INCIDENT with the message that is too long.
 fn incident<'a>() -> IncidentEvent<'a> {
     IncidentEvent::new(IncidentType::LOST_EVENTS, CowSlice::Borrowed(&MESSAGE))
 }
 
-// How many bytes a text has.
+// The number of bytes of a text.
 fn len_of(text: Result<CowStr<'_, Global>, Error>) -> Result<usize, Error> {
     let text = text?;
     let len = text.as_str().len();
@@ -248,7 +248,7 @@ fn len_of(text: Result<CowStr<'_, Global>, Error>) -> Result<usize, Error> {
     Ok(len)
 }
 
-// Whether an incident has this message, and a text of as many bytes.
+// Whether an INCIDENT has this message, and a text of as many bytes.
 fn has_message(alloc: Global, event: IncidentEvent<'_>, message: &[u8]) -> Result<bool, Error> {
     let is_raw = event.message_raw() == message;
     let len = len_of(event.message(alloc));
@@ -262,7 +262,7 @@ fn message_of_an_incident_is_cut_at_255_bytes(rt: HostRuntime) {
     assert!(rt; told_len(incident()) == 258);
 }
 
-// Whether what is written of that incident is this front and the cut message, which are read as another.
+// Whether that INCIDENT is written as this prefix and the cut message, which are read as a different event.
 fn is_cut_written(alloc: Global, front: &[u8]) -> Result<bool, Error> {
     let mut wanted = Vec::from_slice(alloc, front)?;
     wanted.extend_from_slice(&CUT_MESSAGE)?;
@@ -279,7 +279,7 @@ fn cut_message_of_an_incident_is_written(rt: HostRuntime) {
     assert!(rt; is_cut_written(rt.alloc(), b"\x01\0\xff") == Ok(true));
 }
 
-// Whether that incident is equal to a copy of it that owns its bytes.
+// Whether that INCIDENT is equal to an owned copy.
 fn is_incident_copied(alloc: Global) -> Result<bool, Error> {
     let event = incident();
     let is_copied = is_same(event.clone(alloc)?.into_owned(alloc), &event);
@@ -292,7 +292,7 @@ fn incident_is_copied(rt: HostRuntime) {
     assert!(rt; is_incident_copied(rt.alloc()) == Ok(true));
 }
 
-// The type of an incident.
+// The type of an INCIDENT.
 fn type_of(event: IncidentEvent<'_>) -> Result<IncidentType, UnknownIncidentType> {
     let incident_type = event.incident_type();
     drop(event);
@@ -318,7 +318,7 @@ fn statement() -> RowsQueryEvent<'static> {
     RowsQueryEvent::new(CowSlice::Borrowed(b"insert into t1 values (1)"))
 }
 
-// Whether its statement is this text.
+// Whether its statement as text is this one.
 fn is_statement(alloc: Global, wanted: &str) -> Result<bool, Error> {
     let event = statement();
     let is_raw = event.query_raw() == wanted.as_bytes();
@@ -341,7 +341,7 @@ fn statement_of_rows_is_written(rt: HostRuntime) {
     assert!(rt; told_len(statement()) == 26);
 }
 
-// Whether the statement is equal to a copy of it that owns its bytes.
+// Whether the event is equal to an owned copy.
 fn is_statement_copied(alloc: Global) -> Result<bool, Error> {
     let event = statement();
     let is_copied = is_same(event.clone(alloc)?.into_owned(alloc), &event);
@@ -361,7 +361,7 @@ fn block() -> BeginLoadQueryEvent<'static> {
         .with_block_data(CowSlice::Borrowed(b"block"))
 }
 
-// Whether its getters answer what it was given.
+// Whether the getters return the values that were set.
 fn has_its_parts(event: BeginLoadQueryEvent<'_>) -> bool {
     let has_its_parts = event.file_id() == 513 && event.block_data() == b"block".as_slice();
     drop(event);
@@ -380,7 +380,7 @@ fn first_block_of_a_file_is_written(rt: HostRuntime) {
     assert!(rt; told_len(block()) == 9);
 }
 
-// Whether the block is equal to a copy of it that owns its bytes.
+// Whether the event is equal to an owned copy.
 fn is_block_copied(alloc: Global) -> Result<bool, Error> {
     let event = block();
     let is_copied = is_same(event.clone(alloc)?.into_owned(alloc), &event);

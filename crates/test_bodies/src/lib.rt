@@ -1,5 +1,5 @@
-//! Tests of `binlog_description` and `binlog_bodies`: what is read and written of headers, footers, descriptions and the
-//! bodies of smaller events.
+//! Tests of `binlog_description` and `binlog_bodies`: reading and writing of headers, footers, format descriptions and
+//! the bodies of smaller events.
 #![tactic(auto)]
 
 #[cfg(test)]

@@ -1,5 +1,5 @@
-//! What takes memory, and what refused memory leaves. These tests pass wherever an allocation is refused: a refusal is
-//! the call's error, and no answer changes.
+//! What allocates, and the state after a failed allocation. These tests pass whichever allocation fails: the call
+//! returns the failure as its error, and no other result changes.
 use crate::bodies::ELEVEN;
 use crate::descriptions::DESCRIPTION;
 use binlog_bodies::{
@@ -13,7 +13,7 @@ use testkit_bodies::{
     is_granted, is_read, is_read_as, is_rewritten_behind, is_same, is_text, read, read_under,
 };
 
-/// A rotate whose name is no text.
+/// A ROTATE whose name isn't UTF-8.
 const ROTATE: &[u8] = b"\x04\0\0\0\0\0\0\0a\xff";
 
 #[test]
@@ -21,7 +21,7 @@ fn a_refused_write_leaves_what_was_there(rt: HostRuntime) {
     assert!(rt; is_granted(is_rewritten_behind::<RotateEvent>(rt.alloc(), ROTATE, ROTATE)));
 }
 
-// Whether the name of that rotate is this text.
+// Whether the name of that ROTATE as text is this one.
 fn is_named(alloc: Global, name: &str) -> Result<bool, Error> {
     let event: RotateEvent = read(alloc, ROTATE)?;
     let is_text = is_text(event.name(alloc), name);
@@ -34,7 +34,7 @@ fn refused_texts_are_errors(rt: HostRuntime) {
     assert!(rt; is_granted(is_named(rt.alloc(), "a\u{fffd}")));
 }
 
-// A copy of a copy that owns its bytes.
+// An owned copy of a copy.
 fn copied(alloc: Global, event: &RotateEvent<'_>) -> Result<RotateEvent<'static>, Error> {
     let owned = event.clone(alloc)?.into_owned(alloc)?;
     let copy = owned.clone(alloc);
@@ -42,7 +42,7 @@ fn copied(alloc: Global, event: &RotateEvent<'_>) -> Result<RotateEvent<'static>
     copy
 }
 
-// Whether that rotate is equal to such a copy.
+// Whether that ROTATE is equal to such a copy.
 fn is_copied(alloc: Global) -> Result<bool, Error> {
     let event: RotateEvent = read(alloc, ROTATE)?;
     let is_copied = is_same(copied(alloc, &event), &event);
@@ -55,7 +55,7 @@ fn a_copy_is_equal_or_refused_for_memory(rt: HostRuntime) {
     assert!(rt; is_granted(is_copied(rt.alloc())));
 }
 
-// Whether a body is read as this event under the description of the sample, which is lent.
+// Whether a body is read as this event under the sample as a borrowed description.
 fn is_read_lent<'a, T: BinlogEvent<'a> + PartialEq + Drop>(
     alloc: Global,
     body: &'a [u8],
@@ -67,7 +67,7 @@ fn is_read_lent<'a, T: BinlogEvent<'a> + PartialEq + Drop>(
     }
 }
 
-// It asks for no memory at all.
+// No memory is allocated.
 #[test]
 fn reading_numbers_takes_no_memory(rt: HostRuntime) {
     assert!(rt; is_read_lent(rt.alloc(), ELEVEN, XidEvent { xid: 11 }));
@@ -84,7 +84,7 @@ fn reading_texts_takes_no_memory(rt: HostRuntime) {
     assert!(rt; is_read::<BeginLoadQueryEvent>(rt.alloc(), b"\x01\0\0\0b"));
 }
 
-// Whether a description is read as it is lent.
+// Whether a description that is read is equal to the borrowed one.
 fn is_lent_and_read(alloc: Global) -> Result<bool, Error> {
     let fde = DescriptionRef::read(DESCRIPTION)?;
     let lent = fde.to_event();

@@ -1,4 +1,4 @@
-//! Tests of `binlog_ends`: readers and writers that fail, are interrupted, and take less than they are given.
+//! Tests of `binlog_ends`: readers and writers that fail, are interrupted, and take a part of what they are given.
 #![tactic(auto)]
 
 #[cfg(test)]

@@ -5,7 +5,8 @@ use std::io::ErrorKind;
 
 const BYTES: &[u8] = b"abcd";
 
-// Reads to the end, past each failure, and answers the bytes and behind how many of them the last failure came.
+// Reads to the end, after each failure as well. Returns the bytes, their number, and how many had been read before the
+// last failure.
 fn read_all<R: ReadCounted>(input: &mut R) -> ([u8; 4], usize, Option<usize>) {
     let mut bytes = [0; 4];
     let mut len = 0;
@@ -27,7 +28,7 @@ fn read_all<R: ReadCounted>(input: &mut R) -> ([u8; 4], usize, Option<usize>) {
     (bytes, len, failed_behind)
 }
 
-// Whether all bytes come where the call behind this many fails, and one failure is counted.
+// Whether all bytes are read, and one failure is counted, if one call fails after this many.
 fn loses_nothing(calls_before: usize) -> bool {
     let plan = Plan {
         calls_before,
@@ -82,7 +83,7 @@ fn a_slice_is_read_in_pieces(rt: HostRuntime) {
     assert!(rt; is_at_end && failures == 0);
 }
 
-// What the first call answers, and how many failures are counted behind it.
+// The result of the first call, and the number of failures after it.
 fn first_answer<R: ReadCounted>(input: &mut R) -> (Result<usize, Failed>, u64) {
     let answer = input.read_some(&mut [0; 3]);
     (answer, input.failures())

@@ -4,7 +4,7 @@ use binlog_ends::{ATTEMPTS, Counted, CountsFailures, Failed, ReadCounted, Retryi
 use std::alloc::Global;
 use std::io::{ErrorKind, Read};
 
-// Interrupts so many calls in a row, behind so many that go well.
+// After this many calls, this many in a row are interrupted.
 fn interrupted(calls_before: usize, failures: usize) -> Plan {
     Plan {
         calls_before,
@@ -13,7 +13,8 @@ fn interrupted(calls_before: usize, failures: usize) -> Plan {
     }
 }
 
-// How many bytes come before the end where a reader of three bytes keeps to this plan, how many failures, and the last.
+// The number of bytes that are read of three up to the end, the number of failures, and the kind of the last one, under
+// this plan.
 fn reads(plan: Plan) -> (usize, u64, Option<ErrorKind>) {
     let mut input = Counted::new(Retrying::new(ByteReader::new(b"abc", plan)));
     let mut len: usize = 0;
@@ -62,7 +63,7 @@ fn a_read_without_a_buffer_is_tried_again(rt: HostRuntime) {
     assert!(rt; count == 1 && piece == *b"a\0");
 }
 
-// Whether four bytes are written and flushed where a writer keeps to this plan.
+// Whether four bytes are written and flushed under this plan.
 fn is_written(alloc: Global, plan: Plan) -> bool {
     let mut output = Counted::new(Retrying::new(ByteWriter::new(alloc, 4, plan)));
     let is_whole = output.write_whole(b"abcd") == Ok(());

@@ -1,11 +1,11 @@
-//! Writers that fail, and such as take a part.
+//! Writers that fail, and writers that take a part of the bytes.
 use crate::devices::{ByteWriter, Plan};
 use binlog_ends::{Counted, CountsFailures, Failed, WriteCounted};
 use std::alloc::Global;
 use std::io::ErrorKind;
 
-// What comes of writing four bytes, and of writing them again, where the call behind so many fails: the answers, and
-// whether these bytes are written.
+// Writes four bytes and then four others, where one call fails after this many. Returns whether each write was Ok, the
+// failure count, the kind of the last failure, and whether these bytes were written.
 fn writes(
     alloc: Global,
     calls_before: usize,

@@ -1,5 +1,5 @@
-//! Tests of `binlog_file`: what is read of an event, written of it and lent. Short ones, since what proves a function grows
-//! by the square of its length.
+//! Tests of `binlog_file`: reading, writing and borrowing of events. The functions are short, since the time of a proof
+//! grows with the square of a function's length.
 #![tactic(auto)]
 
 #[cfg(test)]

@@ -1,8 +1,8 @@
-//! A reader of one byte a call, one call of which fails.
+//! A reader that gives one byte for each call, one of whose calls fails.
 use std::io;
 use std::io::{BufRead, ErrorKind, Read};
 
-/// Shows one byte at a time. One call fails, before which so many go well, as all do behind it.
+/// Shows one byte at a time. One call fails, after some calls without failures, and all later ones don't.
 #[derive(Drop)]
 pub struct FailingReader<'a> {
     bytes: &'a [u8],
@@ -11,7 +11,7 @@ pub struct FailingReader<'a> {
 }
 
 impl<'a> FailingReader<'a> {
-    /// A reader of these bytes, whose call behind so many fails, in this way.
+    /// A reader of these bytes, whose call after this many fails, with this kind of error.
     pub fn new(bytes: &'a [u8], calls_before: usize, kind: ErrorKind) -> FailingReader<'a> {
         FailingReader {
             bytes,

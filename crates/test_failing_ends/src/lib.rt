@@ -1,4 +1,4 @@
-//! Tests of readings and writings whose reader or writer counts its failures.
+//! Tests of reading and writing with readers and writers that count their failures.
 #![tactic(auto)]
 
 #[cfg(test)]

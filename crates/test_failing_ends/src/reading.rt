@@ -7,7 +7,7 @@ use std::alloc::Global;
 use std::io::ErrorKind;
 use testkit_logs::{COUNTED_XID, FILE_HEADER};
 
-// The number of the error that reading the file header answers where the reader fails behind so many bytes, or 0, and how
+// The number of the error that reading the file header returns if the reader fails after this many bytes, or 0, and how
 // many failures are counted.
 fn header_refusal(taken: usize, kind: ErrorKind) -> (u8, u64) {
     let mut input = Counted::new(FailingReader::new(FILE_HEADER, taken, kind));
@@ -21,7 +21,7 @@ fn header_refusal(taken: usize, kind: ErrorKind) -> (u8, u64) {
 }
 
 #[test]
-fn a_file_header_counts_what_it_answers(rt: HostRuntime) {
+fn a_failure_in_the_file_header_is_counted(rt: HostRuntime) {
     for kind in [ErrorKind::Other, ErrorKind::Interrupted] {
         for taken in 0..4 {
             assert!(rt; header_refusal(taken, kind) == (14, 1));
@@ -30,7 +30,7 @@ fn a_file_header_counts_what_it_answers(rt: HostRuntime) {
     }
 }
 
-// The same of reading an event of 31 bytes.
+// The same for reading an event of 31 bytes.
 fn event_refusal(alloc: Global, taken: usize, kind: ErrorKind) -> (u8, u64) {
     let mut input = Counted::new(FailingReader::new(COUNTED_XID, taken, kind));
     let mut reader = EventStreamReader::new(alloc, BinlogVersion::Version4);
@@ -48,7 +48,7 @@ fn event_refusal(alloc: Global, taken: usize, kind: ErrorKind) -> (u8, u64) {
 }
 
 #[test]
-fn a_stream_counts_what_it_answers(rt: HostRuntime) {
+fn a_failure_in_a_stream_is_counted(rt: HostRuntime) {
     for kind in [ErrorKind::Other, ErrorKind::Interrupted] {
         assert!(rt; event_refusal(rt.alloc(), 0, kind) == (14, 1));
         for taken in 1..31 {
@@ -58,7 +58,7 @@ fn a_stream_counts_what_it_answers(rt: HostRuntime) {
     }
 }
 
-// Whether a slice is read as one event, and then is at its end, and no failure is counted.
+// Whether a slice is read as one event, is at its end after it, and counts no failure.
 fn reads_slice(alloc: Global) -> Result<bool, Error> {
     let mut input = SliceReader::new(COUNTED_XID);
     let mut reader = EventStreamReader::new(alloc, BinlogVersion::Version4);

@@ -3,8 +3,8 @@ use binlog_file::{BinlogVersion, Counted, CountsFailures, Error};
 use std::alloc::Global;
 use testkit_logs::{COUNTED_XID, FailingWriter, count, first_event};
 
-// The number of the error that writing an event answers where the writer fails behind so many calls, or 0, how many
-// failures are counted, and how many bytes are written.
+// The number of the error that writing an event returns if the writer fails after this many calls, or 0, how many failures
+// are counted, and how many bytes are written.
 fn written(alloc: Global, calls_before: usize) -> Result<(u8, u64, usize), Error> {
     let event = first_event(alloc, COUNTED_XID)?;
     let mut output = Counted::new(FailingWriter::new(alloc, calls_before));

@@ -1,4 +1,4 @@
-//! Byte strings, of each way in which their length is known.
+//! Byte strings, by each way to state their length.
 use binlog_wire::{
     BareU8Bytes, BareU16Bytes, EofBytes, Error, FixedLengthText, MySerialize, NullBytes, ParseBuf,
     RawBytes, U8Bytes, U32Bytes,

@@ -1,10 +1,10 @@
-//! The numbers and the texts of errors.
+//! The numbers and the messages of errors.
 use binlog_wire::{Error, Field, Invalid};
 use std::test::Fail;
 
 #[test]
 fn sorts_each_error(rt: HostRuntime) {
-    // number, within a frame, outside
+    // number, is_within_frame, is_environment_error
     let rows = [
         (Error::EndOfInput, 1, true, false),
         (Error::InvalidFileHeader, 2, false, false),
@@ -33,10 +33,14 @@ fn sorts_each_error(rt: HostRuntime) {
         ),
         (Error::BadGno(0), 18, false, false),
     ];
-    for (error, number, within_frame, is_outside) in rows {
+    for (error, number, within_frame, is_environment_error) in rows {
         assert_eq!(rt; error.number(), number, "of {error:?}");
         assert_eq!(rt; error.within_frame(), within_frame, "of {error:?}");
-        assert_eq!(rt; error.is_outside(), is_outside, "of {error:?}");
+        assert_eq!(rt;
+            error.is_environment_error(),
+            is_environment_error,
+            "of {error:?}"
+        );
     }
 }
 
@@ -67,7 +71,7 @@ fn says_what_is_wrong(rt: HostRuntime) -> Result<(), Fail> {
         ),
         (
             Error::RemainingBytes(2),
-            "2 bytes are left behind an event's body",
+            "2 bytes are left after an event's body",
         ),
         (
             Error::WrongEventType(16),

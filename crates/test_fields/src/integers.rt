@@ -1,11 +1,11 @@
-//! Numbers that stand in bytes, and how many bytes each takes.
+//! Integers as fields, and the number of bytes of each.
 use binlog_wire::{
     EofBytes, IntRepr, LeU16, LeU32, LeU48, LeU56, LeU64, MyDeserialize, MySerialize, ParseBuf,
     RawBytes, RawInt, Skip,
 };
 use std::test::Fail;
 
-/// Three numbers, of 2, of 1 and of 7 bytes.
+/// Three numbers, of 2, 1 and 7 bytes.
 const NUMBERS: &[u8] = &[2, 1, 0xfe, 1, 2, 3, 4, 5, 6, 7];
 
 #[test]

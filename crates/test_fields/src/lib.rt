@@ -1,4 +1,5 @@
-//! Tests of the lowest crates: the fields of `binlog_wire`, the tables of `binlog_consts`, the numbers of `binlog_numbers`.
+//! Tests of the lowest crates: the fields of `binlog_wire`, the tables of `binlog_consts`, the integers of
+//! `binlog_numbers`.
 #![tactic(auto)]
 
 #[cfg(test)]

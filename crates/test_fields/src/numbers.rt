@@ -1,4 +1,4 @@
-//! Spellings with exact bytes, as MySQL's documentation and upstream's tests have them.
+//! Encodings of integers, with the bytes from MySQL's documentation and upstream's tests.
 use binlog_numbers::{
     GnoInterval, LenEnc, Tag, lenenc_int_len, read_varlen_int, read_varlen_uint, varlen_uint_size,
     write_varlen_int, write_varlen_uint,
@@ -8,7 +8,8 @@ use std::borrow::CowStr;
 use std::string::String;
 use std::test::Fail;
 
-/// Whether the number is written as these bytes, counted so, and read back, with nothing left and with bytes behind it.
+/// Whether the number is written as these bytes, its size is theirs, and it is read back, with and without bytes after
+/// it.
 fn is_spelled(rt: &HostRuntime, number: u64, bytes: &[u8]) -> Result<bool, Fail> {
     let mut buf = Vec::new(rt.alloc());
     write_varlen_uint(&mut buf, number)?;
@@ -138,8 +139,8 @@ fn intervals_are_spelled(rt: HostRuntime) -> Result<(), Fail> {
     Ok(())
 }
 
-// Where one allocation is refused (tests/refused_memory.py), the answer to the call that asked for it is want of memory, and
-// what stood there before stays; every other answer is as ever.
+// If one allocation fails (tests/refused_memory.py), the call that asked for it returns `Error::Memory` and leaves the
+// buffer unchanged; every other result is the same as ever.
 #[test]
 fn refused_memory_changes_nothing(rt: HostRuntime) -> Result<(), Fail> {
     let mut buf = Vec::new(rt.alloc());

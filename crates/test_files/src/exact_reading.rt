@@ -1,11 +1,11 @@
-//! No reader is asked for more behind the last byte of an event: one over a socket would block there.
+//! No reader is called again after the last byte of an event: a reader over a socket would block there.
 use binlog_file::{BinlogFile, BinlogVersion, Error, Event, EventStreamReader};
 use std::alloc::Global;
 use std::io;
 use std::io::{BufRead, ErrorKind, Read};
 use testkit_logs::{PLAIN_XID, default_description, next_item};
 
-// Shows its bytes, so many at a time at most. A call behind them fails, and is noted.
+// Shows at most `most` bytes at a time. A call after the last byte fails, and is recorded.
 #[derive(Drop)]
 struct ExactReader {
     bytes: &'static [u8],
@@ -46,13 +46,13 @@ impl BufRead for ExactReader {
     }
 }
 
-/// An event of 19 bytes, which is its header.
+/// An event of 19 bytes: a header without a body.
 const BARE: &[u8] = b"\0\0\0\0\x03\x01\0\0\0\x13\0\0\0\0\0\0\0\0\0";
 
-/// So many bytes are shown at a time: one, a header, and all.
+/// How many bytes are shown at a time: one, a header, and all.
 const SHOWN: [usize; 3] = [1, 19, 1000];
 
-// Whether an event of these bytes is read without a call behind them.
+// Whether an event of these bytes is read without a call after its last byte.
 fn reads_event(alloc: Global, bytes: &'static [u8], most: usize) -> Result<bool, Error> {
     let mut input = ExactReader::new(bytes, most);
     let event = Event::read(alloc, &default_description(alloc)?, &mut input)?;
@@ -68,12 +68,12 @@ fn an_event_is_read_without_a_call_behind_it(rt: HostRuntime) {
     }
 }
 
-// Reads the next event of a stream; false where there is none.
+// Reads the next event of a stream; false if there is none.
 fn read_next(reader: &mut EventStreamReader, input: &mut ExactReader) -> Result<bool, Error> {
     Ok(reader.read(input)?.is_some())
 }
 
-// Whether both events of these bytes are read without a call behind them.
+// Whether both events of these bytes are read without a call after the last byte.
 fn reads_stream(alloc: Global, bytes: &'static [u8], most: usize) -> Result<bool, Error> {
     let mut input = ExactReader::new(bytes, most);
     let mut reader = EventStreamReader::new(alloc, BinlogVersion::Version4);
@@ -81,7 +81,7 @@ fn reads_stream(alloc: Global, bytes: &'static [u8], most: usize) -> Result<bool
     Ok(are_read && !input.is_asked_behind)
 }
 
-/// An event and a bare one.
+/// An event, and one without a body.
 const STREAM: &[u8] = b"\0\0\0\0\x10\x01\0\0\0\x1b\0\0\0\0\0\0\0\0\0\x0b\0\0\0\0\0\0\0\
     \0\0\0\0\x03\x01\0\0\0\x13\0\0\0\0\0\0\0\0\0";
 
@@ -92,11 +92,12 @@ fn a_stream_is_read_without_a_call_behind_its_last_event(rt: HostRuntime) {
     }
 }
 
-/// The same events behind a file header.
+/// The same events after a file header.
 const FILE: &[u8] = b"\xfebin\0\0\0\0\x10\x01\0\0\0\x1b\0\0\0\0\0\0\0\0\0\x0b\0\0\0\0\0\0\0\
     \0\0\0\0\x03\x01\0\0\0\x13\0\0\0\0\0\0\0\0\0";
 
-// Whether a file gives both events, which are all that its reader has: a call behind them would be an error in place of one.
+// Whether a file gives both events. The reader has no other bytes: a call after them would give an error in place of an
+// event.
 fn reads_file(alloc: Global, most: usize) -> Result<bool, Error> {
     let input = ExactReader::new(FILE, most);
     let mut file = BinlogFile::new(alloc, BinlogVersion::Version4, input)?;

@@ -4,10 +4,10 @@ use std::alloc::Global;
 use std::test::Fail;
 use testkit_logs::{FILE_HEADER, count, default_description, joined, lent_item, next_item};
 
-/// How many bytes the body of the large event has: 8 MiB and one.
+/// The size of the large event's body: 8 MiB and one byte.
 const LARGE: usize = 8_388_609;
 
-/// The header of an event of type 3 with that body, whose size is 8,388,628.
+/// The header of the large event, whose type is 3 and whose size is 8,388,628.
 const LARGE_HEADER: &[u8] = b"\0\0\0\0\x03\x01\0\0\0\x14\0\x80\0\0\0\0\0\0\0";
 
 // The large event.
@@ -16,7 +16,7 @@ fn large_frame(alloc: Global) -> Result<Vec<u8>, Error> {
     joined(alloc, &[LARGE_HEADER, body.as_slice()])
 }
 
-// Whether the large event is read, and written as it stood.
+// Whether the large event is read, and written unchanged.
 fn is_read_and_written(alloc: Global) -> Result<bool, Error> {
     let frame = large_frame(alloc)?;
     let mut input = frame.as_slice();
@@ -31,7 +31,7 @@ fn an_event_of_more_than_8_mebibytes_is_read_and_written(rt: HostRuntime) {
     assert!(rt; is_read_and_written(rt.alloc()) == Ok(true));
 }
 
-// Whether a file of the large event gives it, and lends it.
+// Whether a file of the large event gives it, owned and borrowed.
 fn is_given_and_lent(alloc: Global) -> Result<bool, Error> {
     let frame = large_frame(alloc)?;
     let log = joined(alloc, &[FILE_HEADER, frame.as_slice()])?;
@@ -50,10 +50,10 @@ fn a_file_gives_and_lends_an_event_of_more_than_8_mebibytes(rt: HostRuntime) {
 const MAP: [u8; 37] = *b"\0\0\0\0\x13\x01\0\0\0\x25\0\0\0\0\0\0\0\0\0\
     \0\0\0\0\0\0\x01\0\x01d\0\x01t\0\x01\x03\0\x01";
 
-/// The place of the id in it.
+/// The offset of the id in it.
 const TABLE_ID: usize = 19;
 
-// The same with another id.
+// The same table map with another id.
 fn table_map(id: u16) -> [u8; 37] {
     let mut frame = MAP;
     let [low, high] = id.to_le_bytes();
@@ -62,7 +62,7 @@ fn table_map(id: u16) -> [u8; 37] {
     frame
 }
 
-// Reads the table map of an id.
+// Reads a table map with this id.
 fn read_map(reader: &mut EventStreamReader, id: u16) -> Result<(), Error> {
     let frame = table_map(id);
     let mut input = frame.as_slice();
@@ -70,7 +70,7 @@ fn read_map(reader: &mut EventStreamReader, id: u16) -> Result<(), Error> {
     Ok(())
 }
 
-// Whether the table map of an id is in force.
+// Whether a table map of this id is in force.
 fn is_in_force(reader: &EventStreamReader, id: u16) -> bool {
     match reader.get_tme(u64::from(id)) {
         Some(map) => map.table_id() == u64::from(id),
@@ -78,7 +78,7 @@ fn is_in_force(reader: &EventStreamReader, id: u16) -> bool {
     }
 }
 
-// A reader of the table maps of each id of two bytes, 65,536.
+// A reader that has read a table map of each of the 65,536 ids of two bytes.
 fn reader_of_all(alloc: Global) -> Result<EventStreamReader, Error> {
     let mut reader = EventStreamReader::new(alloc, BinlogVersion::Version4);
     for id in 0..=u16::MAX {

@@ -1,5 +1,5 @@
-//! Tests of `binlog_file`: where events begin and end, which description is in force, what a caller does, large
-//! values, and what refused memory leaves.
+//! Tests of `binlog_file`: where events begin and end, which description is in force, the README's example, large
+//! values, and failed allocations.
 #![tactic(auto)]
 
 #[cfg(test)]

@@ -1,14 +1,14 @@
-//! Sets of transaction numbers.
+//! Sets of transaction numbers (GNOs).
 use binlog_gtids::GnoSet;
 use binlog_numbers::GnoInterval;
 use binlog_wire::Error;
 use std::alloc::Global;
 use testkit_bodies::is_granted;
 
-/// The number behind the greatest.
+/// The end of the largest interval: the largest GNO plus one.
 const END: u64 = 1 << 63;
 
-// Adds an interval, where it is one of such numbers.
+// Inserts an interval, if it is one of GNOs.
 fn add(set: &mut GnoSet, start: u64, end: u64) -> Result<(), Error> {
     if 1 <= start && start < end && end <= END {
         set.insert(start, end)?;
@@ -25,7 +25,7 @@ fn set_of(alloc: Global, intervals: &[(u64, u64)]) -> Result<GnoSet, Error> {
     Ok(set)
 }
 
-// Whether these are the intervals.
+// Whether these intervals are the wanted ones.
 fn are(intervals: &[GnoInterval], wanted: &[(u64, u64)]) -> bool {
     intervals.len() == wanted.len()
         && intervals.iter().zip(wanted.iter()).all(|(interval, wanted)| (
@@ -34,7 +34,7 @@ fn are(intervals: &[GnoInterval], wanted: &[(u64, u64)]) -> bool {
         ) == *wanted)
 }
 
-// Whether a set of intervals keeps these.
+// Whether the set of some intervals has the wanted ones.
 fn keeps(alloc: Global, intervals: &[(u64, u64)], wanted: &[(u64, u64)]) -> Result<bool, Error> {
     let set = set_of(alloc, intervals)?;
     let keeps = are(set.intervals(), wanted);
@@ -42,7 +42,7 @@ fn keeps(alloc: Global, intervals: &[(u64, u64)], wanted: &[(u64, u64)]) -> Resu
     Ok(keeps)
 }
 
-// Whether a set of intervals has these gaps.
+// Whether the set of these intervals has these gaps.
 fn lacks(alloc: Global, intervals: &[(u64, u64)], wanted: &[(u64, u64)]) -> Result<bool, Error> {
     let set = set_of(alloc, intervals)?;
     let gaps = set.gaps();
@@ -109,7 +109,7 @@ fn union_holds_the_numbers_of_both(rt: HostRuntime) {
     assert!(rt; is_union(rt.alloc(), &[(1, 6)], other, &[(1, 8), (10, 11)]) == Ok(true));
 }
 
-// Whether a set holds a number, and its copy does.
+// Whether a set contains a number, and its copy does too.
 fn is_held(alloc: Global, intervals: &[(u64, u64)], gno: u64) -> Result<bool, Error> {
     let set = set_of(alloc, intervals)?;
     let is_held = set.contains(gno);
@@ -128,10 +128,10 @@ fn ends_are_not_held(rt: HostRuntime) {
     assert!(rt; is_held(rt.alloc(), &[(1, 6), (8, 9)], 8) == Ok(true));
 }
 
-/// As many intervals as a set keeps before it grows again.
+/// As many intervals as a set has room for before it grows again.
 const FOUR: &[(u64, u64)] = &[(10, 12), (20, 22), (30, 32), (40, 42)];
 
-// Whether a set of four gets a fifth, or is as it was where that is refused.
+// Whether a fifth interval is added to a set of four, or, if the allocation fails, the set is unchanged.
 fn is_whole(alloc: Global) -> Result<bool, Error> {
     let mut set = set_of(alloc, FOUR)?;
     let wanted: &[(u64, u64)] = match add(&mut set, 15, 17) {
@@ -154,7 +154,7 @@ fn gaps_and_copies_are_whole_or_refused_for_memory(rt: HostRuntime) {
     assert!(rt; is_granted(is_held(rt.alloc(), &[(1, 6)], 5)));
 }
 
-// The allocation is that of the first interval.
+// The only allocation is for the first interval.
 #[test]
 fn a_set_of_touching_intervals_makes_one_allocation(rt: HostRuntime) {
     assert!(rt; lacks(rt.alloc(), &[(1, 6), (6, 8), (2, 9)], &[]) == Ok(true));

@@ -1,4 +1,4 @@
-//! Tests of `binlog_gtids`: GTIDs with and without a tag, and those of earlier files.
+//! Tests of `binlog_gtids`: GTIDs with and without a tag, previous GTIDs, and sets of transaction numbers.
 #![tactic(auto)]
 
 #[cfg(test)]

@@ -1,20 +1,20 @@
-//! What takes memory, and what refused memory leaves. These tests pass wherever an allocation is refused: a refusal is
-//! the call's error, and no answer changes.
+//! What allocates, and the state after a failed allocation. These tests pass whichever allocation fails: the call
+//! returns the failure as its error, and no other result changes.
 use crate::gtids::{BACKUP, HEAD, TAGGED_SID, read_tagged};
 use binlog_gtids::{AnonymousGtidEvent, GtidEvent, PreviousGtidsEvent};
 use binlog_wire::Error;
 use std::alloc::Global;
 use testkit_bodies::{is_granted, is_rewritten_behind, is_same, is_written_behind, read, refusal};
 
-/// A new GTID: no tag, the number 1, and a clock of zeros.
+/// A new GTID: no tag, GNO 1, and zeros for the clock and all later parts.
 const NEW: &[u8] =
     b"\0\0\0\0\0\0\0\0\0\0\0\0\0\0\0\0\0\x01\0\0\0\0\0\0\0\x02\0\0\0\0\0\0\0\0\0\0\0\0\0\0\0\0\0\0\0\0\0\0\0\0\0\0\0\0";
 
-/// One entry without a tag whose count of intervals is the greatest.
+/// One entry without a tag, whose count of intervals is the largest possible.
 const COUNTED_INTERVALS: &[u8] =
     b"\x01\0\0\0\0\0\0\0\xab\xab\xab\xab\xab\xab\xab\xab\xab\xab\xab\xab\xab\xab\xab\xab\xff\xff\xff\xff\xff\xff\xff\xff";
 
-// Whether a tagged body is written again behind what is there.
+// Whether a tagged body is read, and written again after what the buffer holds.
 fn is_tagged_written(alloc: Global, body: &[u8]) -> Result<bool, Error> {
     let event = read_tagged(alloc, body)?;
     let is_written = is_written_behind(alloc, &event, body);
@@ -41,7 +41,7 @@ fn a_refused_write_of_previous_gtids_leaves_what_was_there(rt: HostRuntime) {
     assert!(rt; is_granted(none));
 }
 
-// A copy of a copy that owns its bytes.
+// An owned copy of a copy.
 fn tagged_copied(alloc: Global, event: &GtidEvent) -> Result<GtidEvent, Error> {
     let owned = event.clone(alloc)?.into_owned(alloc)?;
     let copy = owned.clone(alloc);
@@ -59,7 +59,7 @@ fn previous_copied(
     copy
 }
 
-// Whether a body's event is equal to its copy, owned and copied again.
+// Whether the event of a tagged body is equal to its copy, owned and copied again.
 fn is_tagged_copied(alloc: Global) -> Result<bool, Error> {
     let event = read_tagged(alloc, BACKUP)?;
     let is_copied = is_same(tagged_copied(alloc, &event), &event);
@@ -80,7 +80,7 @@ fn a_copy_is_equal_or_refused_for_memory(rt: HostRuntime) {
     assert!(rt; is_granted(are_previous_copied(rt.alloc())));
 }
 
-// Whether a GTID without a tag is read, and equal to its copy.
+// Whether a GTID without a tag is read, and is equal to its copy.
 fn is_untagged_copied(alloc: Global) -> Result<bool, Error> {
     let event: GtidEvent = read(alloc, HEAD)?;
     let is_copied = is_same(tagged_copied(alloc, &event), &event);
@@ -88,19 +88,19 @@ fn is_untagged_copied(alloc: Global) -> Result<bool, Error> {
     is_copied
 }
 
-// It asks for no memory at all.
+// No memory is allocated.
 #[test]
 fn reading_takes_no_memory(rt: HostRuntime) {
     assert!(rt; is_untagged_copied(rt.alloc()) == Ok(true));
 }
 
-// It asks for none either.
+// Nor is any here.
 #[test]
 fn reading_an_anonymous_gtid_takes_no_memory(rt: HostRuntime) {
     assert!(rt; refusal::<AnonymousGtidEvent>(rt.alloc(), HEAD) == None);
 }
 
-// They say more than the bytes carry; no memory is asked for them.
+// The counts are larger than the bytes carry. No memory is reserved for them.
 #[test]
 fn reading_counts_alone_takes_no_memory(rt: HostRuntime) {
     let ends = Some(Error::EndOfBody);

@@ -1,4 +1,4 @@
-//! The GTIDs of earlier files.
+//! Previous GTIDs.
 use crate::gtids::{TAGGED_SID, UUID};
 use crate::memory::are_previous_copied;
 use binlog_gtids::{PreviousGtidsEvent, PreviousGtidsSid};
@@ -9,14 +9,14 @@ use testkit_bodies::{
     are_fronts_refused, is_rewritten, is_same, is_written, joined, read, refusal, told_len, written,
 };
 
-/// An entry without a tag, behind its source: the numbers 1 to 5.
+/// An entry without a tag, after its SID: the GNOs 1 to 5.
 const ONE_TO_FIVE: &[u8] = b"\x01\0\0\0\0\0\0\0\x01\0\0\0\0\0\0\0\x06\0\0\0\0\0\0\0";
 
-/// One entry in the form with tags, without a tag and without intervals: any top byte but 0 is that form.
+/// One entry in the form with tags, without a tag and without intervals. Any top byte other than 0 states that form.
 const NO_TAG: &[u8] =
     b"\x05\x01\0\0\0\0\0\x07\xab\xab\xab\xab\xab\xab\xab\xab\xab\xab\xab\xab\xab\xab\xab\xab\0\0\0\0\0\0\0\0\0";
 
-// One entry of this tag and the numbers 1 to 5.
+// One entry with this tag and the GNOs 1 to 5.
 fn one_sid(alloc: Global, tag: Option<Tag<'static>>) -> Result<PreviousGtidsEvent<'static>, Error> {
     let mut intervals = Vec::new(alloc);
     intervals
@@ -28,12 +28,12 @@ fn one_sid(alloc: Global, tag: Option<Tag<'static>>) -> Result<PreviousGtidsEven
     Ok(PreviousGtidsEvent::new(sids))
 }
 
-// The entry of the tag `test`.
+// The entry with the tag `test`.
 fn tagged_sid(alloc: Global) -> Result<PreviousGtidsEvent<'static>, Error> {
     one_sid(alloc, Some(Tag::from_bytes(b"test")?))
 }
 
-// Whether an event is written as this body, which is read as it.
+// Whether an event is written as this body, which is read as the same event.
 fn goes_round(
     alloc: Global,
     event: Result<PreviousGtidsEvent<'static>, Error>,
@@ -46,7 +46,7 @@ fn goes_round(
     Ok(is_written? && is_read?)
 }
 
-// Whether a body of these parts is refused so.
+// Whether the body of these parts is refused with this error.
 fn are_refused(alloc: Global, parts: &[&[u8]], why: Error) -> Result<bool, Error> {
     let body = joined(alloc, parts)?;
     let refusal = refusal::<PreviousGtidsEvent>(alloc, body.as_slice());
@@ -54,7 +54,7 @@ fn are_refused(alloc: Global, parts: &[&[u8]], why: Error) -> Result<bool, Error
     Ok(refusal == Some(why))
 }
 
-// Whether what a body is read as is written as these parts.
+// Whether a body is read, and written as these parts.
 fn is_rewritten_as(alloc: Global, body: &[u8], parts: &[&[u8]]) -> Result<bool, Error> {
     let wanted = joined(alloc, parts)?;
     let is_rewritten = is_rewritten::<PreviousGtidsEvent>(alloc, body, wanted.as_slice());
@@ -77,7 +77,7 @@ fn previous_gtids_with_a_tag(rt: HostRuntime) {
     assert!(rt; rewritten == Ok(true));
 }
 
-// Whether an entry without a tag is written, and read, as it stands in the format.
+// Whether an entry without a tag is written and read as the format states.
 fn untagged_goes_round(alloc: Global) -> Result<bool, Error> {
     let body = joined(alloc, &[b"\x01\0\0\0\0\0\0\0", &UUID, ONE_TO_FIVE])?;
     let goes_round = goes_round(alloc, one_sid(alloc, None), body.as_slice());
@@ -90,7 +90,7 @@ fn previous_gtids_without_a_tag(rt: HostRuntime) {
     assert!(rt; untagged_goes_round(rt.alloc()) == Ok(true));
 }
 
-// Whether an event has one entry, of that source alone.
+// Whether an event has one entry, with the SID `UUID` and nothing else.
 fn is_source_alone(event: PreviousGtidsEvent<'_>) -> bool {
     let is_source_alone = match event.sids() {
         [sid] => sid.uuid() == UUID && sid.tag().is_none() && sid.intervals().is_empty(),
@@ -115,10 +115,10 @@ fn tagged_form_is_written_for_a_tag_alone(rt: HostRuntime) {
     assert!(rt; is_rewritten_as(rt.alloc(), NO_TAG, parts) == Ok(true));
 }
 
-/// How many intervals are more than 64 KiB, at 16 bytes each.
+/// A number of intervals that take more than 64 KiB, at 16 bytes each.
 const MANY: u64 = 5_000;
 
-// An entry without a tag and so many intervals, each of its own.
+// An entry without a tag and with this many intervals that don't touch.
 fn many_intervals(alloc: Global) -> Result<PreviousGtidsEvent<'static>, Error> {
     let mut intervals = Vec::new(alloc);
     for start in 0..MANY {
@@ -132,7 +132,7 @@ fn many_intervals(alloc: Global) -> Result<PreviousGtidsEvent<'static>, Error> {
     Ok(PreviousGtidsEvent::new(sids))
 }
 
-// Whether an event is written in so many bytes, which are read as it.
+// Whether an event is written in this many bytes, which are read as the same event.
 fn is_read_back(
     alloc: Global,
     event: Result<PreviousGtidsEvent<'static>, Error>,
@@ -147,7 +147,7 @@ fn is_read_back(
     Ok(is_long && is_read?)
 }
 
-// Eight bytes for the count of entries, sixteen for the source, eight for the count of intervals, and the intervals.
+// Eight bytes for the count of entries, sixteen for the SID, eight for the count of intervals, and the intervals.
 #[test]
 fn more_than_64_kib_of_intervals_are_written_and_read(rt: HostRuntime) {
     assert!(rt; is_read_back(rt.alloc(), many_intervals(rt.alloc()), 80_032) == Ok(true));

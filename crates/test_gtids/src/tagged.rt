@@ -10,15 +10,15 @@ use testkit_bodies::{
     is_same, is_unwritable, is_written, is_written_as, is_written_with, joined, told_len,
 };
 
-/// What stands behind the payload size of this body.
+/// The body of `long_event` with the sequence number 2^34, after its payload size.
 const LONG_FIELDS: &[u8] =
     b"\0\0\0\x02\xad\x02\xad\x02\xad\x02\xad\x02\xad\x02\xad\x02\xad\x02\xad\x02\xad\x02\xad\x02\xad\x02\xad\x02\xad\x02\xad\x02\xad\x02\xad\x02\x04\x04\x06\x40abcdefghijklmnopqrstuvwxyz012345\x08\xff\xfe\xff\xff\xff\xff\xff\xff\xff\x0a\x1f\0\0\0\0\x02\x0c\xff\xff\xff\xff\xff\xff\xff\xff\xff\x0e\0\x10\xff\xff\xff\xff\xff\xff\xff\xff\xff\x12\xfb\x11\x7a\x16\xff\xff\xff\xff\xff\xff\xff\xff\xff";
 
-/// A tagged body of 42 bytes: the tag `test`, and zeros else.
+/// A tagged body of 42 bytes: the tag `test`, and zeros otherwise.
 const TEST: &[u8] =
     b"\x02\x54\0\0\0\x02\0\0\0\0\0\0\0\0\0\0\0\0\0\0\0\0\x04\0\x06\x08test\x08\0\x0a\0\x0c\0\x10\0\x12\xfb\x11\x7a";
 
-// The GTID of this tag, the source of all `ab`, and the number 1.
+// The GTID with this tag, the SID `UUID`, and GNO 1.
 fn tagged(alloc: Global, tag: &'static [u8]) -> Result<GtidEvent, Error> {
     Ok(GtidEvent::new_tagged(UUID, Tag::from_bytes(tag)?.into_owned(alloc)?, 1))
 }
@@ -34,7 +34,7 @@ fn backup(alloc: Global) -> Result<GtidEvent, Error> {
     )
 }
 
-// A body of 127 bytes with this sequence number in the second row of a size of one byte.
+// An event whose body has 127 bytes with the sequence number 2^34, and 129 bytes with 2^41.
 fn long_event(alloc: Global, sequence_number: u64) -> Result<GtidEvent, Error> {
     Ok(
         tagged(alloc, b"abcdefghijklmnopqrstuvwxyz012345")?
@@ -47,7 +47,7 @@ fn long_event(alloc: Global, sequence_number: u64) -> Result<GtidEvent, Error> {
     )
 }
 
-// Why a body is refused.
+// The error of a body.
 fn why(alloc: Global, body: &[u8]) -> Option<Error> {
     match read_tagged(alloc, body) {
         Ok(event) => {
@@ -58,7 +58,7 @@ fn why(alloc: Global, body: &[u8]) -> Option<Error> {
     }
 }
 
-// Whether what a body is read as is written as wanted.
+// Whether a body is read, and written as these bytes.
 fn is_rewritten(alloc: Global, body: &[u8], wanted: &[u8]) -> Result<bool, Error> {
     let event = read_tagged(alloc, body)?;
     let is_written = is_written(alloc, &event, wanted);
@@ -78,7 +78,7 @@ fn is_made_of(
     is_made_of
 }
 
-// Whether parts are read as this event.
+// Whether the concatenated parts are read as this event.
 fn are_read_as(
     alloc: Global,
     parts: &[&[u8]],
@@ -100,7 +100,7 @@ fn tagged_gtid_is_read(rt: HostRuntime) {
     assert!(rt; are_read_as(rt.alloc(), &[BACKUP], backup(rt.alloc())) == Ok(true));
 }
 
-// The type that a GTID is written as, and the length that it tells.
+// The event type under which a GTID is written, and its `len`.
 fn told(event: Result<GtidEvent, Error>) -> Result<(EventType, usize), Error> {
     let event = event?;
     let event_type = event.event_type();
@@ -113,7 +113,7 @@ fn tagged_gtid_tells_its_length_and_its_type(rt: HostRuntime) {
     assert!(rt; told == Ok((EventType::GTID_TAGGED_LOG_EVENT, 68)));
 }
 
-// Whether a GTID is equal to a copy of it that owns its bytes.
+// Whether a GTID is equal to an owned copy.
 fn is_copied(alloc: Global, event: Result<GtidEvent, Error>) -> Result<bool, Error> {
     let event = event?;
     let is_copied = is_same(event.clone(alloc)?.into_owned(alloc), &event);
@@ -133,7 +133,7 @@ fn payload_size_counts_itself(rt: HostRuntime) {
     assert!(rt; are_read_as(rt.alloc(), parts, long_event(rt.alloc(), 1 << 34)) == Ok(true));
 }
 
-// Whether an event is written with so many bytes, which begin with these, and tells so many beforehand.
+// Whether an event is written with this length and this prefix, and `len` is this length.
 fn begins_with(
     alloc: Global,
     event: Result<GtidEvent, Error>,
@@ -163,7 +163,7 @@ fn payload_size_may_take_two_bytes(rt: HostRuntime) {
     assert!(rt; longer == Ok(true));
 }
 
-// A body of 128 bytes says so in two, though 127 in one would do.
+// A payload size of 128 in two bytes, though 127 in one byte would do.
 #[test]
 fn payload_size_is_not_the_least(rt: HostRuntime) {
     let parts: &[&[u8]] = &[b"\x02\x01\x02", LONG_FIELDS];
@@ -186,7 +186,7 @@ fn tagged_bodies_are_refused(rt: HostRuntime) {
         (b"\x02\x06\0", Invalid::MissingTag),
         (b"\x02\x16\0\x06\x08test\x04\x02", Invalid::Negative(2)),
         (b"\x02\x0e\xc8\0\0\xc6\0", Invalid::UnknownField(99)),
-        // Flags of 256, a byte of the source's id of 256, and a version of 2^32.
+        // Flags 256, a SID byte 256, and a server version 2^32.
         (b"\x02\x0c\0\0\x01\x04", Invalid::FieldRange(0)),
         (b"\x02\x0c\0\x02\x01\x04", Invalid::FieldRange(1)),
         (b"\x02\x12\0\x12\x0f\0\0\0\x20", Invalid::FieldRange(9)),
@@ -209,7 +209,7 @@ fn tagged_numbers_may_be_spelled_long(rt: HostRuntime) {
     assert!(rt; is_rewritten(rt.alloc(), b"\x02\x29\0\0\x06\x08test", TEST) == Ok(true));
 }
 
-// The number of a GTID with a tag.
+// The GNO of a GTID with a tag.
 fn gno_of(alloc: Global, body: &[u8]) -> Result<u64, Error> {
     let event = read_tagged(alloc, body)?;
     let gno = event.gno();
@@ -229,7 +229,7 @@ fn tagged_bodies_are_written_as_they_were(rt: HostRuntime) {
     assert!(rt; is_rewritten(rt.alloc(), TEST, TEST) == Ok(true));
 }
 
-// Whether each front of a body is refused for its end.
+// Whether each proper prefix of a body is refused as `EndOfBody`.
 fn are_fronts_refused(alloc: Global, body: &[u8]) -> bool {
     for len in 0..body.len() {
         let front = body.get(..len).unwrap_or(body);
@@ -240,7 +240,7 @@ fn are_fronts_refused(alloc: Global, body: &[u8]) -> bool {
     true
 }
 
-// Why a body with one byte more is refused.
+// The error of a body with one byte more.
 fn why_longer(alloc: Global, body: &[u8]) -> Result<Option<Error>, Error> {
     let longer = joined(alloc, &[body, &[0]])?;
     let why = why(alloc, longer.as_slice());
@@ -254,18 +254,18 @@ fn cut_tagged_bodies_are_refused(rt: HostRuntime) {
     assert!(rt; why_longer(rt.alloc(), BACKUP) == Ok(Some(Error::RemainingBytes(1))));
 }
 
-/// A tagged body whose number, `last_committed` and `sequence_number` are 2^63 - 1.
+/// A tagged body whose GNO, `last_committed` and `sequence_number` are 2^63 - 1.
 const GREATEST: &[u8] =
     b"\x02\xa4\0\0\0\x02\xad\x02\xad\x02\xad\x02\xad\x02\xad\x02\xad\x02\xad\x02\xad\x02\xad\x02\xad\x02\xad\x02\xad\x02\xad\x02\xad\x02\xad\x02\xad\x02\x04\xff\xfe\xff\xff\xff\xff\xff\xff\xff\x06\x08test\x08\xff\xfe\xff\xff\xff\xff\xff\xff\xff\x0a\xff\xfe\xff\xff\xff\xff\xff\xff\xff\x0c\0\x10\0\x12\xfb\x11\x7a";
 
-/// A number, a `last_committed` and a `sequence_number`, and the first of these that doesn't fit.
+/// A GNO, a `last_committed` and a `sequence_number`, and the first of these that can't be written.
 const LATE: [(u64, u64, u64, Field); 3] = [
     (1 << 63, 1 << 63, 1 << 63, Field::Gno),
     (1, 1 << 63, 1 << 63, Field::LastCommitted),
     (1, 1, 1 << 63, Field::SequenceNumber),
 ];
 
-// A GTID with a tag, of these.
+// A GTID with a tag and these numbers.
 fn numbered(
     alloc: Global,
     gno: u64,
@@ -280,14 +280,15 @@ fn numbered(
     )
 }
 
-// Whether a value is refused for this field.
+// Whether a value is unwritable because of this field.
 fn is_refused<T: MySerialize + Drop>(alloc: Global, value: T, field: Field) -> Result<bool, Error> {
     let is_refused = is_unwritable(alloc, &value, field);
     drop(value);
     is_refused
 }
 
-// Whether a GTID with a tag, of these, is refused for this field, and for its tag as an anonymous one.
+// Whether a GTID with a tag and these numbers is unwritable because of this field, and an anonymous one because of its
+// tag.
 fn is_late(alloc: Global, gno: u64, last: u64, own: u64, field: Field) -> Result<bool, Error> {
     let is_late = is_refused(alloc, numbered(alloc, gno, last, own)?, field);
     let anonymous = AnonymousGtidEvent(numbered(alloc, gno, last, own)?);
@@ -311,13 +312,13 @@ fn greatest_numbers_are_written(rt: HostRuntime) {
     assert!(rt; are_read_as(rt.alloc(), &[GREATEST], event) == Ok(true));
 }
 
-// The allocation is that of the tag.
+// The only allocation is for the tag.
 #[test]
 fn reading_a_tag_makes_one_allocation(rt: HostRuntime) {
     assert!(rt; gno_of(rt.alloc(), BACKUP) == Ok(1));
 }
 
-// How many bytes are written for a GTID of the tag `test`, which is lent.
+// The number of bytes that are written for a GTID with the borrowed tag `test`.
 fn lent_tag_len(alloc: Global) -> Result<usize, Error> {
     written_len(
         alloc,

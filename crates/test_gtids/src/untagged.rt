@@ -13,18 +13,18 @@ use testkit_bodies::{
 /// [`HEAD`] without its last byte.
 const SHORT_HEAD: &[u8] = b"\0\0\0\0\0\0\0\0\0\0\0\0\0\0\0\0\0\x01\0\0\0\0\0\0";
 
-/// The zeros of a new GTID behind its head, which say that it has a clock.
+/// The rest of a new GTID after its head: a clock code, and zeros.
 const NO_TIMES: &[u8] = b"\x02\0\0\0\0\0\0\0\0\0\0\0\0\0\0\0\0\0\0\0\0\0\0\0\0\0\0\0\0";
 
-/// A clock of zeros: its typecode, and two numbers.
+/// A clock code and a clock of zeros, two numbers.
 const CLOCK: &[u8] = b"\x02\0\0\0\0\0\0\0\0\0\0\0\0\0\0\0\0";
 
-// A GTID whose parts are those of a new one.
+// A new GTID of a SID of zeros.
 fn new_gtid() -> GtidEvent {
     GtidEvent::new([0; 16], 1)
 }
 
-// A GTID whose parts all differ from those of a new one.
+// A GTID of which all parts differ from those of a new one.
 fn other_gtid() -> GtidEvent {
     new_gtid()
         .with_flags(GtidFlags::MAY_HAVE_SBR)
@@ -40,7 +40,7 @@ fn other_gtid() -> GtidEvent {
         .with_lc_typecode()
 }
 
-// Whether these parts, one behind the other, are refused so.
+// Whether the concatenated parts are refused with this error.
 fn is_refused(alloc: Global, parts: &[&[u8]], why: Error) -> bool {
     match read_gtid(alloc, 33, parts) {
         Ok(event) => {
@@ -51,7 +51,7 @@ fn is_refused(alloc: Global, parts: &[&[u8]], why: Error) -> bool {
     }
 }
 
-// Whether an event is written as these parts, which are read as it.
+// Whether an event is written as these parts, which are read as the same event.
 fn goes_round(alloc: Global, event: GtidEvent, parts: &[&[u8]]) -> Result<bool, Error> {
     let is_written = is_written_as(alloc, &event, parts);
     let is_read = is_same(read_gtid(alloc, 33, parts), &event);
@@ -70,10 +70,11 @@ fn new_gtid_tells_its_length_and_its_type(rt: HostRuntime) {
     assert!(rt; new_gtid().event_type() == EventType::GTID_EVENT);
 }
 
-/// What the getters answer: the typecode, the number, the immediate time, the length, and both versions.
+/// The clock code, the GNO, the immediate timestamp, the transaction length, and both versions, as the getters return
+/// them.
 type Says = (Option<u8>, u64, u64, u64, u32, u32);
 
-// What a body of this raw type says.
+// These values of a body of this raw type.
 fn says(alloc: Global, raw_type: u8, parts: &[&[u8]]) -> Result<Says, Error> {
     let event = read_gtid(alloc, raw_type, parts)?;
     let says = (
@@ -135,14 +136,14 @@ fn cut_parts_are_refused(rt: HostRuntime) {
     assert!(rt; is_refused(rt.alloc(), &[HEAD, cut_clock], Error::EndOfBody));
 }
 
-// Whether a GTID that is late in this way is refused for this field.
+// Whether a GTID is unwritable because of this field.
 fn is_late(alloc: Global, event: GtidEvent, field: Field) -> bool {
     let is_late = is_unwritable(alloc, &event, field) == Ok(true);
     drop(event);
     is_late
 }
 
-/// The immediate and the original time, the immediate version, and the first of these that doesn't fit.
+/// The immediate and the original timestamp, the immediate version, and the first of these that can't be written.
 const LATE: [(u64, u64, u32, Field); 5] = [
     (1 << 55, 1 << 56, 1 << 31, Field::ImmediateCommitTimestamp),
     (1 << 55, 1 << 55, 0, Field::ImmediateCommitTimestamp),
@@ -151,7 +152,7 @@ const LATE: [(u64, u64, u32, Field); 5] = [
     (0, 0, 1 << 31, Field::ImmediateServerVersion),
 ];
 
-// A GTID of these times and this version.
+// A GTID with these timestamps and this version.
 fn late_gtid(immediate: u64, original: u64, version: u32) -> GtidEvent {
     new_gtid()
         .with_immediate_commit_timestamp(immediate)
@@ -166,7 +167,7 @@ fn first_field_that_does_not_fit_is_named(rt: HostRuntime) {
     }
 }
 
-// Whether an anonymous GTID that is late in this way is refused for this field.
+// Whether an anonymous GTID is unwritable because of this field.
 fn is_anonymous_late(alloc: Global, event: GtidEvent, field: Field) -> bool {
     let event = AnonymousGtidEvent(event);
     let is_late = is_unwritable(alloc, &event, field) == Ok(true);
@@ -181,7 +182,7 @@ fn first_field_of_an_anonymous_gtid_that_does_not_fit_is_named(rt: HostRuntime) 
     }
 }
 
-// Bit 55 of the immediate time and bit 31 of the immediate version say that an original one follows.
+// Bit 55 of the immediate timestamp and bit 31 of the immediate version state that an original one follows.
 #[test]
 fn latest_times_and_versions_are_written(rt: HostRuntime) {
     let event = late_gtid((1 << 55) - 1, (1 << 56) - 1, (1 << 31) - 1).with_original_server_version(
@@ -191,7 +192,7 @@ fn latest_times_and_versions_are_written(rt: HostRuntime) {
     assert!(rt; goes_round(rt.alloc(), event, parts) == Ok(true));
 }
 
-// Whether a GTID without a clock is written so, whatever its time is.
+// Whether a GTID without a clock code is written without its timestamp, which would be unwritable.
 fn is_written_without_clock(alloc: Global) -> Result<bool, Error> {
     let late = read_gtid(alloc, 33, &[HEAD])?.with_immediate_commit_timestamp(1 << 55);
     let is_written = is_written_as(alloc, &late, &[HEAD]);
@@ -204,7 +205,7 @@ fn times_without_a_clock_are_not_written(rt: HostRuntime) {
     assert!(rt; is_written_without_clock(rt.alloc()) == Ok(true));
 }
 
-// Whether a body of this raw type is refused as neither of the two events without a tag.
+// Whether a body of this raw type is refused by both events without a tag.
 fn is_other(alloc: Global, raw_type: u8) -> bool {
     let refusal = Some(Error::WrongEventType(raw_type));
     let gtid = read_typed::<GtidEvent>(alloc, by_default(), raw_type, HEAD).err();
@@ -219,7 +220,7 @@ fn other_types_hold_no_gtid(rt: HostRuntime) {
     }
 }
 
-// Whether the getters of that GTID answer what it was given.
+// Whether the getters return the values that were set.
 fn has_its_parts(event: GtidEvent) -> bool {
     let has_its_parts = event.flags_raw() == 1
         && event.flags() == GtidFlags::MAY_HAVE_SBR
@@ -236,7 +237,7 @@ fn gtid_has_the_parts_that_it_was_given(rt: HostRuntime) {
     assert!(rt; has_its_parts(other_gtid()));
 }
 
-// Whether that GTID is equal to a copy of it that owns its bytes.
+// Whether that GTID is equal to an owned copy.
 fn is_copied(alloc: Global, event: GtidEvent) -> Result<bool, Error> {
     let is_copied = is_same(event.clone(alloc)?.into_owned(alloc), &event);
     drop(event);
@@ -259,7 +260,7 @@ fn anonymous_gtid_is_copied(rt: HostRuntime) {
     assert!(rt; is_anonymous_copied(rt.alloc(), AnonymousGtidEvent(other_gtid())) == Ok(true));
 }
 
-// Whether what is written of an anonymous GTID is read as that event; its length is told beforehand.
+// Whether an anonymous GTID is written with the length of its `len`, and read back as the same event.
 fn is_anonymous_read_back(alloc: Global, event: AnonymousGtidEvent) -> Result<bool, Error> {
     let bytes = written(alloc, &event)?;
     let is_told = event.len(BinlogVersion::Version4) == bytes.len();

@@ -1,4 +1,4 @@
-//! Tests of `binlog_rows` and `binlog_event_data`: table maps, the events of rows, and the data of an event of any type.
+//! Tests of `binlog_rows` and `binlog_event_data`: table maps, row events, and the data of an event of any type.
 #![tactic(auto)]
 
 #[cfg(test)]

@@ -1,4 +1,4 @@
-//! A file that goes from event to event: its events are borrowed beside its reader, which knows their table maps.
+//! `advance` and `event`: the events of a file are borrowed beside its reader, which has their table maps.
 use binlog_file::{BinlogFile, Error, WriteRowsEventV1};
 use std::alloc::Global;
 use std::io::BufRead;
@@ -11,7 +11,7 @@ const MAP_OF_T: &[u8] = b"\0\0\0\0\x13\x01\0\0\0\x25\0\0\0\0\0\0\0\0\0\
 const MAP_OF_U: &[u8] = b"\0\0\0\0\x13\x01\0\0\0\x25\0\0\0\0\0\0\0\0\0\
     \x05\0\0\0\0\0\x01\0\x01d\0\x01u\0\x01\x03\0\x01";
 
-/// One row for the table of id 5, and one for that of id 7: the number 1.
+/// One row for the table of id 5, and one for that of id 7. The row is the number 1.
 const ROWS_OF_5: &[u8] = b"\0\0\0\0\x17\x01\0\0\0\x22\0\0\0\0\0\0\0\0\0\
     \x05\0\0\0\0\0\x01\0\x01\x01\0\x01\0\0\0";
 
@@ -27,7 +27,7 @@ const ROWS: &[&[u8]] = &[
     ROWS_OF_7,
 ];
 
-// The name of the table whose rows the event holds at which the file stands.
+// The name of the table of the file's current event, a row event.
 fn table_of_rows<R: BufRead + Drop>(alloc: Global, file: &BinlogFile<R>) -> Option<u8> {
     let event = file.event()?;
     let rows: WriteRowsEventV1<'_> = event.read_event(alloc).ok()?;
@@ -35,7 +35,7 @@ fn table_of_rows<R: BufRead + Drop>(alloc: Global, file: &BinlogFile<R>) -> Opti
     map.table_name_raw().first().copied()
 }
 
-// The same behind so many items of the file.
+// The same after this many items of the file.
 fn table_behind(alloc: Global, items: usize) -> Result<Option<u8>, Error> {
     let mut file = file_of(alloc, ROWS)?;
     for _ in 0..items {
@@ -51,18 +51,18 @@ fn rows_stand_beside_their_table_map(rt: HostRuntime) {
     assert!(rt; table_behind(rt.alloc(), 5) == Ok(None));
 }
 
-// The type of the event at which the file stands.
+// The type of the file's current event.
 fn kind<R: BufRead + Drop>(file: &BinlogFile<R>) -> Option<u8> {
     Some(file.event()?.header().event_type_raw())
 }
 
-// Goes to the next item, and answers the type of its event.
+// Goes to the next item, and returns the type of its event.
 fn next_kind<R: BufRead + Drop>(file: &mut BinlogFile<R>) -> Option<u8> {
     let _ = file.advance();
     kind(file)
 }
 
-// The types of the events at which a file of these parts stands, before the first call and behind three.
+// The types of the current event of a file of these parts, before the first call and after each of three.
 fn kinds(alloc: Global, parts: &[&[u8]]) -> Result<[Option<u8>; 4], Error> {
     let mut file = file_of(alloc, parts)?;
     let first = kind(&file);
@@ -92,7 +92,7 @@ fn a_file_stands_at_no_event_behind_an_error(rt: HostRuntime) {
     assert!(rt; kinds(rt.alloc(), WITH_ERROR) == wanted);
 }
 
-// The types of the events at which a file stands behind `next_ref` and `next`.
+// The types of the current event after `next_ref` and after `next`.
 fn kinds_behind_both(alloc: Global) -> Result<[Option<u8>; 2], Error> {
     let mut file = file_of(alloc, &[FILE_HEADER, PLAIN_XID, MAP_OF_T])?;
     let _ = file.next_ref();
@@ -106,7 +106,7 @@ fn next_hands_its_event_over(rt: HostRuntime) {
     assert!(rt; kinds_behind_both(rt.alloc()) == Ok([Some(16), None]));
 }
 
-// What `advance` answers three times: 0 for an event, the number of an error, none at the end.
+// The results of three calls of `advance`: 0 for an event, the number of an error, None at the end.
 fn answers(alloc: Global, parts: &[&[u8]]) -> Result<[Option<u8>; 3], Error> {
     let mut file = file_of(alloc, parts)?;
     Ok([answer(&mut file), answer(&mut file), answer(&mut file)])

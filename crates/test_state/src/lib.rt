@@ -1,4 +1,4 @@
-//! Tests of `binlog_file`: which table maps are in force, files that go from event to event, and slices, which take no memory.
+//! Tests of `binlog_file`: which table maps are in force, `advance` and `event`, and slices, which take no memory.
 #![tactic(auto)]
 
 #[cfg(test)]

@@ -1,4 +1,4 @@
-//! Tests of `binlog_statements`: queries, load queries, user variables and status variables.
+//! Tests of `binlog_statements`: QUERY, EXECUTE_LOAD_QUERY, USER_VAR and status variables.
 #![tactic(auto)]
 
 #[cfg(test)]

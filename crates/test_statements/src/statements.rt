@@ -1,5 +1,6 @@
-//! What the bodies of statements and the texts of status variables are read as and written as, by rows from outside.
-//! What holds values is asked in functions without a runtime, and tests are small: their proofs are short.
+//! Reading and writing of the bodies of statements and of status variables. The expected bytes and values don't come
+//! from this code. Owned values are compared in functions that take no runtime, and tests are small, which keeps the
+//! proofs short.
 
 mod load_queries;
 mod memory;
@@ -15,9 +16,9 @@ const CREATE_TABLE: &[u8] =
 /// Its status variables.
 const STATUS: &[u8] = b"\0\0\x40\0\0\x01\0\0\0\0\0\0\0\0\x06\x03std\x04\x08\0\x08\0\x08\0";
 
-/// A load query: thread 1, schema `d`, the locale 8, file 2, the places 3 and 4, duplicates replaced.
+/// An EXECUTE_LOAD_QUERY: thread 1, schema `d`, locale 8, file 2, positions 3 and 4, duplicates replaced.
 const LOAD: &[u8] =
     b"\x01\0\0\0\0\0\0\0\x01\0\0\x03\0\x02\0\0\0\x03\0\0\0\x04\0\0\0\x02\x07\x08\0d\0LOAD";
 
-/// The user variable `a`, an integer of one byte, without a byte of flags.
+/// The user variable `a`, an integer of one byte, without a flags byte.
 const INTEGER: &[u8] = b"\x01\0\0\0a\0\x02\x3f\0\0\0\x01\0\0\0\x07";

@@ -11,7 +11,7 @@ pub fn is_same<T: PartialEq + Drop>(made: Result<T, Error>, value: &T) -> Result
     Ok(is_same)
 }
 
-/// Whether a text was made, and is this one.
+/// Whether a text was made, and is equal to this one.
 pub fn is_text(text: Result<CowStr<'_, Global>, Error>, wanted: &str) -> Result<bool, Error> {
     let text = text?;
     let is_text = text.as_str() == wanted;

@@ -1,5 +1,5 @@
-//! What the tests of bodies share: bodies from bytes and back, and what refused memory leaves. What holds values is asked
-//! here in functions without a runtime that answer plainly, so that tests are small and their proofs short.
+//! Helpers for the tests of bodies: reading and writing bodies, and failed allocations. They compare owned values and
+//! return plain ones, and take no runtime, which keeps the tests small and their proofs short.
 #![tactic(auto)]
 
 mod copies;

@@ -1,16 +1,17 @@
-//! Answers that hold wherever an allocation is refused.
+//! Results that hold whichever allocation fails.
 use crate::reading::read;
 use binlog_consts::BinlogVersion;
 use binlog_description::BinlogEvent;
 use binlog_wire::{Error, MySerialize};
 use std::alloc::Global;
 
-/// Whether the answer is yes, or memory was refused for it.
+/// Whether the result is true, or an allocation failed.
 pub fn is_granted(answer: Result<bool, Error>) -> bool {
     matches!(answer, Ok(true) | Err(Error::Memory))
 }
 
-/// Whether a value is written as wanted behind one byte; where memory is refused, that byte has to be all that is left.
+/// Whether a value is written as these bytes after one byte. If an allocation fails, the buffer has to be that one
+/// byte.
 pub fn is_written_behind<T: MySerialize>(
     alloc: Global,
     value: &T,
@@ -27,7 +28,7 @@ pub fn is_written_behind<T: MySerialize>(
     Ok(is_left)
 }
 
-/// The same of what a body is read as under the default description; its length is told beforehand.
+/// The same for a body that is read under the default description. Its `len` has to be right too.
 pub fn is_rewritten_behind<'a, T: BinlogEvent<'a> + Drop>(
     alloc: Global,
     body: &'a [u8],

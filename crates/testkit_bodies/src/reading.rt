@@ -1,4 +1,4 @@
-//! Whole bodies from bytes.
+//! Reading of whole bodies.
 use crate::descriptions::by_default;
 use binlog_description::{BinlogCtx, BinlogEvent, BinlogEventHeader, DescriptionRef, read_body};
 use binlog_wire::Error;
@@ -29,7 +29,7 @@ pub fn read<'a, T: BinlogEvent<'a> + Drop>(alloc: Global, body: &'a [u8]) -> Res
     read_under(alloc, by_default(), body)
 }
 
-/// Why a body is refused under this description, where it is.
+/// The error of a body under this description, if it has one.
 pub fn refusal_under<'a, T: BinlogEvent<'a> + Drop>(
     alloc: Global,
     fde: DescriptionRef<'a>,
@@ -38,12 +38,12 @@ pub fn refusal_under<'a, T: BinlogEvent<'a> + Drop>(
     read_under::<T>(alloc, fde, body).err()
 }
 
-/// Why a body is refused under the default description, where it is.
+/// The error of a body under the default description, if it has one.
 pub fn refusal<'a, T: BinlogEvent<'a> + Drop>(alloc: Global, body: &'a [u8]) -> Option<Error> {
     refusal_under::<T>(alloc, by_default(), body)
 }
 
-/// Whether a body is read under the default description.
+/// Whether a body is read without an error under the default description.
 pub fn is_read<'a, T: BinlogEvent<'a> + Drop>(alloc: Global, body: &'a [u8]) -> bool {
     refusal::<T>(alloc, body).is_none()
 }
@@ -66,7 +66,7 @@ pub fn is_read_as<'a, T: BinlogEvent<'a> + PartialEq + Drop>(
     }
 }
 
-/// Whether each front of a body of fewer bytes than these is refused for its end.
+/// Whether each prefix of a body that is shorter than this is refused as `EndOfBody`.
 pub fn are_fronts_refused<'a, T: BinlogEvent<'a> + Drop>(
     alloc: Global,
     body: &'a [u8],

@@ -1,4 +1,4 @@
-//! What is written of values.
+//! Writing of values.
 use crate::descriptions::by_default;
 use crate::reading::read_under;
 use binlog_consts::BinlogVersion;
@@ -6,7 +6,7 @@ use binlog_description::{BinlogEvent, BinlogStruct, DescriptionRef};
 use binlog_wire::{Error, Field, MySerialize};
 use std::alloc::Global;
 
-/// The parts, one behind the other.
+/// The concatenated parts.
 pub fn joined(alloc: Global, parts: &[&[u8]]) -> Result<Vec<u8>, Error> {
     let mut bytes = Vec::new(alloc);
     for part in parts {
@@ -15,14 +15,14 @@ pub fn joined(alloc: Global, parts: &[&[u8]]) -> Result<Vec<u8>, Error> {
     Ok(bytes)
 }
 
-/// What is written for a value.
+/// The bytes that are written for a value.
 pub fn written<T: MySerialize>(alloc: Global, value: &T) -> Result<Vec<u8>, Error> {
     let mut bytes = Vec::new(alloc);
     value.serialize(alloc, &mut bytes)?;
     Ok(bytes)
 }
 
-/// Whether a value is written as wanted, behind what is there.
+/// Whether a value is written as these bytes, after what the buffer holds.
 pub fn is_written<T: MySerialize>(alloc: Global, value: &T, wanted: &[u8]) -> Result<bool, Error> {
     let mut bytes = Vec::from_slice(alloc, b"x")?;
     value.serialize(alloc, &mut bytes)?;
@@ -31,7 +31,7 @@ pub fn is_written<T: MySerialize>(alloc: Global, value: &T, wanted: &[u8]) -> Re
     Ok(is_written)
 }
 
-/// Whether a value is written as these parts, one behind the other, behind what is there.
+/// Whether a value is written as the concatenated parts, after what the buffer holds.
 pub fn is_written_as<T: MySerialize>(
     alloc: Global,
     value: &T,
@@ -43,7 +43,7 @@ pub fn is_written_as<T: MySerialize>(
     is_written
 }
 
-/// Whether a value is written with so many bytes, which begin with these.
+/// Whether a value is written with this length and this prefix.
 pub fn is_written_with<T: MySerialize + Drop>(
     alloc: Global,
     value: T,
@@ -60,7 +60,7 @@ pub fn is_written_with<T: MySerialize + Drop>(
     }
 }
 
-/// Whether a value is refused for this field where it is to be written, and nothing is written of it.
+/// Whether a value is unwritable because of this field, and the buffer is unchanged.
 pub fn is_unwritable<T: MySerialize>(
     alloc: Global,
     value: &T,
@@ -74,12 +74,12 @@ pub fn is_unwritable<T: MySerialize>(
     Ok(is_refused)
 }
 
-/// How many bytes a value tells beforehand that are written for it.
+/// The `len` of a value.
 pub fn told_len<'a, T: BinlogStruct<'a> + Drop>(value: T) -> usize {
     value.len(BinlogVersion::Version4)
 }
 
-/// Whether what a body is read as under this description is written as wanted; its length is told beforehand.
+/// Whether a body is read under this description, and written as these bytes, of which `len` is the number.
 pub fn is_rewritten_under<'a, T: BinlogEvent<'a> + Drop>(
     alloc: Global,
     fde: DescriptionRef<'a>,

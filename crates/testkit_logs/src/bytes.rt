@@ -1,13 +1,13 @@
-//! Events in bytes, and their parts.
+//! Events as bytes, and their parts.
 use binlog_file::BinlogChecksumAlg;
 
-/// The algorithm of MySQL's checksums.
+/// CRC-32, the only algorithm of MySQL's checksums.
 pub const CRC32: BinlogChecksumAlg = BinlogChecksumAlg::BINLOG_CHECKSUM_ALG_CRC32;
 
-/// What a file begins with.
+/// The file header.
 pub const FILE_HEADER: &[u8] = b"\xfebin";
 
-/// The body of an event that gives the transaction number 11.
+/// The body of an XID event, 11.
 pub const XID_BODY: &[u8] = b"\x0b\0\0\0\0\0\0\0";
 
 /// A format description of server 5.6.1 without its algorithm byte and its checksum.
@@ -20,13 +20,13 @@ pub const REFUSED_DESCRIPTION: &[u8] = b"\0\0\0\0\x0f\x01\0\0\0\x51\0\0\0\0\0\0\
     \x04\0\x35.6.1\0\0\0\0\0\0\0\0\0\0\0\0\0\0\0\0\0\0\0\0\0\0\0\0\0\0\0\0\0\0\0\0\0\0\0\0\0\0\0\0\0\0\0\0\0\
     \0\0\0\0\x12";
 
-/// The end of a description of algorithm 1: that byte, and as checksum the number of the bytes before it, 77.
+/// The end of a description with algorithm 1: that byte, and as the checksum the number of bytes before it, 77.
 pub const COUNTED: &[u8] = b"\x01\x4d\0\0\0";
 
-/// The end of a description of algorithm 0, and the same checksum.
+/// The end of a description with algorithm 0, and the same checksum.
 pub const OFF: &[u8] = b"\0\x4d\0\0\0";
 
-/// An event of 31 bytes, whose last four are the number of the bytes before them, 27.
+/// An event of 31 bytes, whose checksum is the number of bytes before it, 27.
 pub const COUNTED_XID: &[u8] =
     b"\0\0\0\0\x10\x01\0\0\0\x1f\0\0\0\0\0\0\0\0\0\x0b\0\0\0\0\0\0\0\x1b\0\0\0";
 

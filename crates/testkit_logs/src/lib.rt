@@ -1,4 +1,4 @@
-//! What the tests of `binlog_file` share: logs and events in bytes, what they are read as, and a writer that fails.
+//! Helpers for the tests of `binlog_file`: logs and events as bytes, their items, and a writer that fails.
 #![tactic(auto)]
 
 mod bytes;

@@ -2,12 +2,13 @@
 ghost use Rattle.std.specs.Prelude.{◌≡◌, [], IfOk, IsOkUnless, refl};
 ghost use Rattle.std.specs.Cow.{cow_slice_items};
 ghost use Rattle.binlog_wire.specs.declared.error.Error.TheVariants.{Memory};
+ghost use Rattle.binlog_wire.specs.Reading.{Gives};
 ghost use Rattle.binlog_bodies.specs.BeginLoadQuery.{begin_load_query};
 
 use binlog_consts::EventType;
 use binlog_description::{BinlogCtx, BinlogEvent};
 use binlog_wire::{
-    EofBytes, Error, IntRepr, LeU32, MyDeserialize, ParseBuf, Put, RawBytes, RawInt,
+    BytesRepr, EofBytes, Error, IntRepr, LeU32, MyDeserialize, ParseBuf, Put, RawBytes,
 };
 use std::alloc::Global;
 use std::borrow::CowSlice;
@@ -24,6 +25,21 @@ pub struct BeginLoadQueryEvent<'a> {
 }
 
 impl<'a> BeginLoadQueryEvent<'a> {
+    /// Reads an event from the start of `buf`, as `deserialize` does. Needs no allocator.
+    ///
+    /// The only error is [`Error::EndOfBody`], where there are fewer than 4 bytes.
+    #[inline(always)]
+    pub fn read(buf: &mut ParseBuf<'a>) -> Result<Self, Error>
+        ensures { Gives ⊥ buf.new result (begin_load_query.reads buf.old) }
+    {
+        let file_id = LeU32::read(buf)?;
+        let block_data = EofBytes::read((), buf)?;
+        Ok(BeginLoadQueryEvent {
+            file_id,
+            block_data: RawBytes::new(CowSlice::Borrowed(block_data)),
+        })
+    }
+
     /// The event of an empty block of the file with this id.
     pub fn new(file_id: u32) -> Self
         ensures { result ≡ record { file_id = file_id; block_data = [] } }
@@ -97,13 +113,12 @@ impl<'de> MyDeserialize<'de> for BeginLoadQueryEvent<'de> {
 
     ghost reads = { λ _. begin_load_query.reads };
 
-    fn deserialize(alloc: Global, _ctx: Self::Ctx, buf: &mut ParseBuf<'de>) -> Result<Self, Error> {
-        let file_id = buf.parse::<RawInt<LeU32>>(alloc, ())?.0;
-        let block_data = buf.parse(alloc, ())?;
-        Ok(BeginLoadQueryEvent {
-            file_id,
-            block_data,
-        })
+    fn deserialize(
+        _alloc: Global,
+        _ctx: Self::Ctx,
+        buf: &mut ParseBuf<'de>,
+    ) -> Result<Self, Error> {
+        BeginLoadQueryEvent::read(buf)
     }
 }
 

@@ -1,10 +1,11 @@
 //! INTVAR: the last insert id, or an auto-increment value.
 ghost use Rattle.std.specs.Prelude.{◌≡◌, Some, refl};
+ghost use Rattle.binlog_wire.specs.Reading.{Gives};
 ghost use Rattle.binlog_bodies.specs.Intvar.{intvar};
 
 use binlog_consts::{EventType, IntvarEventType};
 use binlog_description::{BinlogCtx, BinlogEvent};
-use binlog_wire::{Const, Error, IntRepr, LeU64, MyDeserialize, ParseBuf, Put, RawInt};
+use binlog_wire::{Constant, Error, IntRepr, LeU64, MyDeserialize, ParseBuf, Put};
 use std::alloc::Global;
 
 /// The size of the body in bytes.
@@ -22,6 +23,25 @@ pub struct IntvarEvent {
 }
 
 impl IntvarEvent {
+    /// Reads an event from the start of `buf`, as `deserialize` does. Needs no allocator.
+    ///
+    /// # Errors
+    ///
+    /// - [`Error::EndOfBody`] where there are fewer than 9 bytes;
+    /// - else [`Error::InvalidData`] where the subtype is above 2 (`Subtype`).
+    #[inline(always)]
+    pub fn read(buf: &mut ParseBuf<'_>) -> Result<Self, Error>
+        ensures { Gives ⊥ buf.new result (intvar.reads buf.old) }
+    {
+        if buf.len() < INTVAR_LEN {
+            return Err(Error::EndOfBody);
+        }
+        let number = u8::read(buf)?;
+        let subtype = IntvarEventType::from_number(number).map_err(Error::InvalidData)?;
+        let value = LeU64::read(buf)?;
+        Ok(IntvarEvent { subtype, value })
+    }
+
     /// The event of this variable and value.
     pub fn new(subtype: IntvarEventType, value: u64) -> Self
         ensures { result ≡ record { subtype = subtype; value = value } }
@@ -73,13 +93,12 @@ impl<'de> MyDeserialize<'de> for IntvarEvent {
 
     ghost size = { Some 9 };
 
-    fn deserialize(alloc: Global, _ctx: Self::Ctx, buf: &mut ParseBuf<'de>) -> Result<Self, Error> {
-        if buf.len() < INTVAR_LEN {
-            return Err(Error::EndOfBody);
-        }
-        let subtype = buf.parse::<Const<IntvarEventType, u8>>(alloc, ())?.0;
-        let value = buf.parse::<RawInt<LeU64>>(alloc, ())?.0;
-        Ok(IntvarEvent { subtype, value })
+    fn deserialize(
+        _alloc: Global,
+        _ctx: Self::Ctx,
+        buf: &mut ParseBuf<'de>,
+    ) -> Result<Self, Error> {
+        IntvarEvent::read(buf)
     }
 }
 

@@ -1,10 +1,11 @@
 //! RAND: the seeds of `RAND()`.
 ghost use Rattle.std.specs.Prelude.{Some, refl};
+ghost use Rattle.binlog_wire.specs.Reading.{Gives};
 ghost use Rattle.binlog_bodies.specs.Rand.{rand};
 
 use binlog_consts::EventType;
 use binlog_description::{BinlogCtx, BinlogEvent};
-use binlog_wire::{Error, LeU64, MyDeserialize, ParseBuf, Put, RawInt};
+use binlog_wire::{Error, IntRepr, LeU64, MyDeserialize, ParseBuf, Put, RawInt};
 use std::alloc::Global;
 
 /// The size of the body in bytes.
@@ -23,6 +24,26 @@ pub struct RandEvent {
     pub seed2: RawInt<LeU64>,
 }
 
+impl RandEvent {
+    /// Reads an event from the start of `buf`, as `deserialize` does. Needs no allocator.
+    ///
+    /// The only error is [`Error::EndOfBody`], where there are fewer than 16 bytes.
+    #[inline(always)]
+    pub fn read(buf: &mut ParseBuf<'_>) -> Result<Self, Error>
+        ensures { Gives ⊥ buf.new result (rand.reads buf.old) }
+    {
+        if buf.len() < RAND_LEN {
+            return Err(Error::EndOfBody);
+        }
+        let seed1 = LeU64::read(buf)?;
+        let seed2 = LeU64::read(buf)?;
+        Ok(RandEvent {
+            seed1: RawInt::new(seed1),
+            seed2: RawInt::new(seed2),
+        })
+    }
+}
+
 /// The only error is [`Error::EndOfBody`], where there are fewer than 16 bytes.
 impl<'de> MyDeserialize<'de> for RandEvent {
     const SIZE: Option<usize> = Some(16);
@@ -33,13 +54,12 @@ impl<'de> MyDeserialize<'de> for RandEvent {
 
     ghost size = { Some 16 };
 
-    fn deserialize(alloc: Global, _ctx: Self::Ctx, buf: &mut ParseBuf<'de>) -> Result<Self, Error> {
-        if buf.len() < RAND_LEN {
-            return Err(Error::EndOfBody);
-        }
-        let seed1 = buf.parse(alloc, ())?;
-        let seed2 = buf.parse(alloc, ())?;
-        Ok(RandEvent { seed1, seed2 })
+    fn deserialize(
+        _alloc: Global,
+        _ctx: Self::Ctx,
+        buf: &mut ParseBuf<'de>,
+    ) -> Result<Self, Error> {
+        RandEvent::read(buf)
     }
 }
 

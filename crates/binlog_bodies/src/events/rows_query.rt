@@ -3,11 +3,12 @@ ghost use Rattle.std.specs.Prelude.{◌≡◌, IfOk, IsOkUnless, refl};
 ghost use Rattle.std.specs.Cow.{cow_slice_items, cow_str_bytes};
 ghost use Rattle.std.specs.Str.Lossy.{utf8_lossy};
 ghost use Rattle.binlog_wire.specs.declared.error.Error.TheVariants.{Memory};
+ghost use Rattle.binlog_wire.specs.Reading.{Gives};
 ghost use Rattle.binlog_bodies.specs.RowsQuery.{rows_query};
 
 use binlog_consts::EventType;
 use binlog_description::{BinlogCtx, BinlogEvent};
-use binlog_wire::{EofBytes, Error, IntRepr, MyDeserialize, ParseBuf, Put, RawBytes, Skip};
+use binlog_wire::{BytesRepr, EofBytes, Error, IntRepr, MyDeserialize, ParseBuf, Put, RawBytes};
 use std::alloc::Global;
 use std::borrow::{CowSlice, CowStr};
 
@@ -22,6 +23,22 @@ pub struct RowsQueryEvent<'a> {
 }
 
 impl<'a> RowsQueryEvent<'a> {
+    /// Reads an event from the start of `buf`, as `deserialize` does. Needs no allocator.
+    ///
+    /// The only error is [`Error::EndOfBody`], where there are no bytes.
+    #[inline(always)]
+    pub fn read(buf: &mut ParseBuf<'a>) -> Result<Self, Error>
+        ensures { Gives ⊥ buf.new result (rows_query.reads buf.old) }
+    {
+        if !buf.checked_skip(1) {
+            return Err(Error::EndOfBody);
+        }
+        let query = EofBytes::read((), buf)?;
+        Ok(RowsQueryEvent {
+            query: RawBytes::new(CowSlice::Borrowed(query)),
+        })
+    }
+
     /// The event of this statement.
     pub fn new(query: CowSlice<'a, u8>) -> Self
         ensures { result ≡ record { query = cow_slice_items query.entry } }
@@ -73,10 +90,12 @@ impl<'de> MyDeserialize<'de> for RowsQueryEvent<'de> {
 
     ghost reads = { λ _. rows_query.reads };
 
-    fn deserialize(alloc: Global, _ctx: Self::Ctx, buf: &mut ParseBuf<'de>) -> Result<Self, Error> {
-        buf.parse::<Skip<1>>(alloc, ())?;
-        let query = buf.parse(alloc, ())?;
-        Ok(RowsQueryEvent { query })
+    fn deserialize(
+        _alloc: Global,
+        _ctx: Self::Ctx,
+        buf: &mut ParseBuf<'de>,
+    ) -> Result<Self, Error> {
+        RowsQueryEvent::read(buf)
     }
 }
 

@@ -1,12 +1,13 @@
 //! XID: the commit of a transaction.
 ghost use Rattle.std.specs.Prelude.{refl};
+ghost use Rattle.binlog_wire.specs.Reading.{Gives};
 ghost use Rattle.binlog_consts.specs.declared.event_type.EventType.TheVariants.{XID_EVENT};
 ghost use Rattle.binlog_description.specs.DescriptionRefs.{description_of};
 ghost use Rattle.binlog_description.specs.PostHeaders.{post_header};
 ghost use Rattle.binlog_bodies.specs.Xid.{xid};
 
 use binlog_consts::EventType;
-use binlog_description::{BinlogCtx, BinlogEvent};
+use binlog_description::{BinlogCtx, BinlogEvent, DescriptionRef};
 use binlog_wire::{Error, IntRepr, LeU64, MyDeserialize, ParseBuf, Put};
 use std::alloc::Global;
 
@@ -25,6 +26,23 @@ pub struct XidEvent {
     pub xid: u64,
 }
 
+impl XidEvent {
+    /// Reads an event from the start of `buf` under a format description, as `deserialize` does. Needs no allocator.
+    ///
+    /// The only error is [`Error::EndOfBody`], where there are fewer bytes than the post-header and 8.
+    #[inline(always)]
+    pub fn read(fde: DescriptionRef<'_>, buf: &mut ParseBuf<'_>) -> Result<Self, Error>
+        ensures { Gives ⊥ buf.new result ((xid (post_header (description_of fde.entry) XID_EVENT)).reads buf.old) }
+    {
+        let post_header = fde.get_event_type_header_length(EventType::XID_EVENT);
+        if !buf.checked_skip(usize::from(post_header)) {
+            return Err(Error::EndOfBody);
+        }
+        let xid = buf.checked_eat_u64_le().ok_or(Error::EndOfBody)?;
+        Ok(XidEvent { xid })
+    }
+}
+
 /// The only error is [`Error::EndOfBody`], where there are fewer bytes than the post-header and 8.
 impl<'de> MyDeserialize<'de> for XidEvent {
     const SIZE: Option<usize> = None;
@@ -34,12 +52,7 @@ impl<'de> MyDeserialize<'de> for XidEvent {
     ghost reads = { λ ctx. (xid (post_header (description_of ctx.fde) XID_EVENT)).reads };
 
     fn deserialize(_alloc: Global, ctx: Self::Ctx, buf: &mut ParseBuf<'de>) -> Result<Self, Error> {
-        let post_header = ctx.fde.get_event_type_header_length(EventType::XID_EVENT);
-        if !buf.checked_skip(usize::from(post_header)) {
-            return Err(Error::EndOfBody);
-        }
-        let xid = buf.checked_eat_u64_le().ok_or(Error::EndOfBody)?;
-        Ok(XidEvent { xid })
+        XidEvent::read(ctx.fde, buf)
     }
 }
 

@@ -3,6 +3,7 @@ ghost use Rattle.std.specs.Prelude.{◌≡◌, ◌++◌, ◌+◌, ◌^◌, ◌<�
 ghost use Rattle.std.specs.Int.{w8, cast_signed, cast_unsigned};
 ghost use Rattle.byteorder.specs.Endian.{little_bytes};
 ghost use Rattle.binlog_wire.specs.declared.error.Error.TheVariants.{Memory};
+ghost use Rattle.binlog_wire.specs.Putting.{Puts};
 ghost use Rattle.binlog_wire.specs.Reading.{Read, Gives, read_as};
 ghost use Rattle.binlog_wire.specs.Fields.{number_at};
 
@@ -41,9 +42,7 @@ pub trait IntRepr {
     /// Appends the encoding of the integer; `buf` has the capacity.
     fn put(number: Self::Primitive, buf: &mut Vec<u8>)
         requires { vec_len buf.old + length (written number) ≤ vec_capacity buf.old }
-        ensures items { buf.new.items ≡ buf.old.items ++ written number }
-        ensures len { vec_len buf.new ≡ vec_len buf.old + length (written number) }
-        ensures capacity { vec_capacity buf.old ≤ vec_capacity buf.new };
+        ensures { Puts buf.old buf.new (written number) };
 }
 
 /// An unsigned integer in one byte.

@@ -5,14 +5,15 @@ use testkit_logs::{
     COUNTED, COUNTED_XID, DESCRIPTION, FILE_HEADER, REFUSED_DESCRIPTION, SHORT, joined,
 };
 
-/// A rotate whose position has seven bytes, with a checksum.
+/// A ROTATE event whose position has seven bytes, with a checksum.
 const SHORT_ROTATE: &[u8] =
     b"\0\0\0\0\x04\x01\0\0\0\x1e\0\0\0\0\0\0\0\0\0\x04\0\0\0\0\0\0\x1a\0\0\0";
 
-/// The header of an event that states 18 bytes, one fewer than a header has.
+/// The header of an event that states 18 bytes, one byte less than a header has.
 const UNDERSIZED: &[u8] = b"\0\0\0\0\x10\x01\0\0\0\x12\0\0\0\0\0\0\0\0\0";
 
-/// A description and a transaction's end, and between them three damaged events. Behind them no event can be found.
+/// A format description and an XID event, with three damaged events in between. Then an event of an impossible size,
+/// after which no event can be found.
 const DAMAGED: &[&[u8]] = &[
     FILE_HEADER,
     DESCRIPTION,

@@ -3,15 +3,15 @@ use binlog_file::Error;
 use std::alloc::Global;
 use testkit_logs::{FILE_HEADER, PLAIN_XID, joined};
 
-/// The transaction 23 of the source that MySQL's reference manual has as an example.
+/// Transaction 23 of the source UUID that MySQL's reference manual uses as an example.
 const GTID: &[u8] = b"\0\0\0\0\x21\x01\0\0\0\x2c\0\0\0\0\0\0\0\0\0\
     \x01\x3e\x11\xfa\x47\x71\xca\x11\xe1\x9e\x33\xc8\x0a\xa9\x42\x95\x62\x17\0\0\0\0\0\0\0";
 
-/// The transaction 0 of the source of zeros with the tag `test`.
+/// Transaction 0 with the tag `test`; the source UUID is all zeros.
 const TAGGED: &[u8] = b"\0\0\0\0\x2a\x01\0\0\0\x1f\0\0\0\0\0\0\0\0\0\
     \x02\x18\x12\x06\x08test\xc6\xff\xff";
 
-/// A line for each of them.
+/// The lines of both.
 const LINES: &[u8] = b"3e11fa47-71ca-11e1-9e33-c80aa9429562:23\n\
     00000000-0000-0000-0000-000000000000:test:0\n";
 

@@ -3,13 +3,13 @@ use binlog_file::Error;
 use std::alloc::Global;
 use testkit_logs::SAMPLE;
 
-// Whether these events lead to this place.
+// Whether these events lead to this log and position.
 fn leads_to(alloc: Global, events: &[u8], log: &[u8], position: u64) -> Result<bool, Error> {
     let place = follow(alloc, events)?;
     Ok(place.log.as_slice() == log && place.position == position)
 }
 
-// The stored log behind its file header, to the end of the transaction 11 and to its own end.
+// The stored log without its file header, up to the end of transaction 11, and up to its own end.
 #[test]
 fn events_of_a_stream_are_followed(rt: HostRuntime) {
     assert!(rt; leads_to(rt.alloc(), &SAMPLE[4..580], b"", 580) == Ok(true));

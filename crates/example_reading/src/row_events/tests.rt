@@ -3,11 +3,11 @@ use binlog_file::Error;
 use std::alloc::Global;
 use testkit_logs::{FILE_HEADER, joined};
 
-/// A table map of id 5: the table `t` of the database `d`, with one column.
+/// A TABLE_MAP of id 5: the table `t` of the database `d`, with one column.
 const MAP: &[u8] = b"\0\0\0\0\x13\x01\0\0\0\x25\0\0\0\0\0\0\0\0\0\
     \x05\0\0\0\0\0\x01\0\x01d\0\x01t\0\x01\x03\0\x01";
 
-/// A row is inserted into the table of id 5, and one is deleted from that of id 6.
+/// One row is inserted into the table of id 5, and one is deleted from that of id 6.
 const WRITE_ROWS: &[u8] = b"\0\0\0\0\x1e\x01\0\0\0\x21\0\0\0\0\0\0\0\0\0\
     \x05\0\0\0\0\0\x01\0\x02\0\x01\x01\xfe\x07";
 

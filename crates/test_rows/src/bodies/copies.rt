@@ -1,4 +1,5 @@
-//! Copies with memory at hand: of the data of each type, of tables of more than 255 columns, and of more than 64 KiB.
+//! Copies without failed allocations: of the data of each type, of tables of more than 255 columns, and of more than 64
+//! KiB.
 use super::memory::{copied, map_copied};
 use super::{OF_ONE_IMAGE, UPDATE, UPDATE_V1, WRITE};
 use binlog_rows::{
@@ -15,13 +16,13 @@ const ID: &[u8] = b"\x05\0\0\0\0\0\x01\0";
 /// The names of a database and of a table, `d` and `t`.
 const NAMES: &[u8] = b"\x01d\0\x01t\0";
 
-/// The count of no extra bytes.
+/// The count of extra bytes if there are none.
 const NO_EXTRA: &[u8] = b"\x02\0";
 
 /// 300 as a length-encoded number.
 const COUNT: &[u8] = b"\xfc\x2c\x01";
 
-/// How long the bodies are.
+/// The length of a long body.
 const LONG: usize = 70_000;
 
 // A row event of this type.
@@ -37,7 +38,7 @@ fn data(alloc: Global, raw_type: u8) -> Result<RowsEventData<'static>, Error> {
     })
 }
 
-// A copy of a copy that owns its bytes.
+// An owned copy of a copy.
 fn data_copied(alloc: Global, data: &RowsEventData<'_>) -> Result<RowsEventData<'static>, Error> {
     let owned = data.clone(alloc)?.into_owned(alloc)?;
     let copy = owned.clone(alloc);
@@ -59,14 +60,14 @@ fn data_of_each_type_is_copied(rt: HostRuntime) {
     }
 }
 
-// These parts, one behind the other, and as many bytes behind them as a long body has.
+// The concatenated parts, and as many bytes after them as a long body needs.
 fn long_body(alloc: Global, parts: &[&[u8]]) -> Result<Vec<u8>, Error> {
     let mut body = joined(alloc, parts)?;
     body.resize(LONG, 0xff)?;
     Ok(body)
 }
 
-// Whether a long event of 300 columns is equal to such a copy, and written as it was.
+// Whether a long event of 300 columns is equal to such a copy, and written unchanged.
 fn is_long_copied<K: RowsKind>(alloc: Global, body: &[u8]) -> Result<bool, Error> {
     let event: RowsEventOf<'_, K> = read(alloc, body)?;
     let is_wide = event.num_columns() == 300;
@@ -76,7 +77,7 @@ fn is_long_copied<K: RowsKind>(alloc: Global, body: &[u8]) -> Result<bool, Error
     Ok(is_wide && is_copied? && is_written?)
 }
 
-// The same of a body whose columns stand behind this count of extra bytes.
+// The same for a body whose columns come after this count of extra bytes.
 fn are_rows_copied<K: RowsKind>(alloc: Global, extra: &[u8]) -> Result<bool, Error> {
     let body = long_body(alloc, &[ID, extra, COUNT])?;
     let is_copied = is_long_copied::<K>(alloc, body.as_slice());
@@ -99,7 +100,7 @@ fn long_older_row_events_are_copied(rt: HostRuntime) {
     assert!(rt; are_rows_copied::<DeleteRowsV1>(rt.alloc(), b"") == Ok(true));
 }
 
-// Whether a table map of 300 columns, with as many bytes of metadata, is equal to such a copy, and written as it was.
+// Whether a table map of 300 columns, with as many bytes of metadata, is equal to such a copy, and written unchanged.
 fn is_wide_map_copied(alloc: Global, body: &[u8]) -> Result<bool, Error> {
     let map: TableMapEvent = read(alloc, body)?;
     let is_wide = map.columns_count() == 300 && map.columns_metadata_raw().len() == 300;

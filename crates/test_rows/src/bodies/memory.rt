@@ -1,5 +1,5 @@
-//! What refused memory leaves. These tests pass wherever an allocation is refused: a refusal is the call's error, and no
-//! answer changes.
+//! The state after a failed allocation. These tests pass whichever allocation fails: the call returns the failure as
+//! its error, and no other result changes.
 use super::{NINE_COLUMNS, ONE_COLUMN, UPDATE, WRITE, WRITTEN};
 use binlog_rows::{
     RowsEvent, RowsEventData, RowsEventOf, RowsKind, TableMapEvent, UpdateRowsEvent, WriteRowsEvent,
@@ -47,7 +47,7 @@ fn a_write_of_any_type_refused_for_memory_leaves_what_was_there(rt: HostRuntime)
     assert!(rt; is_granted(is_written_with_its_type(rt.alloc())));
 }
 
-// A copy of a copy that owns its bytes.
+// An owned copy of a copy.
 pub(crate) fn map_copied(
     alloc: Global,
     map: &TableMapEvent<'_>,
@@ -112,7 +112,7 @@ fn a_copy_of_rows_is_equal_or_refused_for_memory(rt: HostRuntime) {
     assert!(rt; is_granted(are_written_rows_copied(rt.alloc())));
 }
 
-// Whether the names of a table are these as text.
+// Whether the names of a table as text are these.
 pub(crate) fn is_database(alloc: Global, body: &[u8], name: &str) -> Result<bool, Error> {
     let map: TableMapEvent = read(alloc, body)?;
     let is_text = is_text(map.database_name(alloc), name);

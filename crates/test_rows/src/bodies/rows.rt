@@ -1,4 +1,4 @@
-//! Row events of one type.
+//! Row events, each of one type.
 use super::memory::{are_updated_rows_copied, are_written_rows_copied};
 use super::{OF_ONE_IMAGE, OF_SIX, OF_TEN, UPDATE, UPDATE_V1, WRITE, WRITTEN, has_bits};
 use binlog_consts::EventType;
@@ -15,25 +15,25 @@ use testkit_bodies::{
     are_fronts_refused, by_default, is_rewritten, is_rewritten_under, read_under, refusal, stating,
 };
 
-/// [`WRITE`] with its id in four bytes and without a count of extra bytes.
+/// [`WRITE`] with its table id in four bytes and without a count of extra bytes.
 const SHORT_ID: &[u8] = b"\x05\0\0\0\x01\0\x01\x01\xfe\x07";
 
-/// [`WRITE`] with one byte more, and the same as it is written.
+/// [`WRITE`] with one byte more, and as it is written.
 const LONGER: &[u8] = b"\x05\0\0\0\0\0\x01\0\0\0\x01\x01\xfe\x07\0";
 
 const LONGER_WRITTEN: &[u8] = b"\x05\0\0\0\0\0\x01\0\x02\0\x01\x01\xfe\x07\0";
 
-/// Eight columns, of which the last is in the image.
+/// Eight columns, the last of which is in the image.
 const EIGHT: &[u8] = b"\x05\0\0\0\0\0\x01\0\x02\0\x08\x80\x07";
 
-/// Nine columns, of which the last two are in the image, and bits set behind the ninth.
+/// Nine columns, the last two of which are in the image, and bits set after the ninth.
 const NINE: &[u8] = b"\x05\0\0\0\0\0\x01\0\x02\0\x09\x80\xff\x07";
 
-/// A count of columns, 2^64 - 1, that the bytes don't carry.
+/// A count of columns, 2^64 - 1, that is larger than the bytes carry.
 const MANY: &[u8] = b"\x05\0\0\0\0\0\x01\0\x02\0\xfe\xff\xff\xff\xff\xff\xff\xff\xff\x01\xfe\x07";
 
-/// What the getters of an event of table 5 that ends its statement answer: the number of columns, the bits of the two images,
-/// the rows and the extra bytes.
+/// The values that the getters return for an event of table 5 with the end-of-statement flag: the number of columns,
+/// the bitmaps of the two images, the rows and the extra bytes.
 #[derive(Clone, Copy)]
 struct Says {
     columns: u64,
@@ -43,7 +43,7 @@ struct Says {
     extra: Option<&'static [u8]>,
 }
 
-/// What [`WRITE`] says of written rows.
+/// [`WRITE`] as inserted rows.
 const WRITE_SAYS: Says = Says {
     columns: 1,
     before: None,
@@ -52,7 +52,7 @@ const WRITE_SAYS: Says = Says {
     extra: Some(b""),
 };
 
-/// The same of deleted rows.
+/// [`WRITE`] as deleted rows.
 const DELETE_SAYS: Says = Says {
     columns: 1,
     before: Some(b"1-"),
@@ -61,7 +61,7 @@ const DELETE_SAYS: Says = Says {
     extra: Some(b""),
 };
 
-/// What [`UPDATE`] says.
+/// [`UPDATE`].
 const UPDATE_SAYS: Says = Says {
     columns: 2,
     before: Some(b"11-"),
@@ -70,7 +70,7 @@ const UPDATE_SAYS: Says = Says {
     extra: Some(b"\xaa\xbb"),
 };
 
-/// The same of an older type.
+/// [`UPDATE_V1`].
 const UPDATE_V1_SAYS: Says = Says {
     columns: 2,
     before: Some(b"11-"),
@@ -79,7 +79,7 @@ const UPDATE_V1_SAYS: Says = Says {
     extra: None,
 };
 
-/// What [`OF_ONE_IMAGE`] says of written rows.
+/// [`OF_ONE_IMAGE`] as inserted rows.
 const WRITE_V1_SAYS: Says = Says {
     columns: 1,
     before: None,
@@ -88,7 +88,7 @@ const WRITE_V1_SAYS: Says = Says {
     extra: None,
 };
 
-/// The same of deleted rows.
+/// [`OF_ONE_IMAGE`] as deleted rows.
 const DELETE_V1_SAYS: Says = Says {
     columns: 1,
     before: Some(b"1-"),
@@ -97,7 +97,7 @@ const DELETE_V1_SAYS: Says = Says {
     extra: None,
 };
 
-/// What [`EIGHT`] says.
+/// [`EIGHT`].
 const EIGHT_SAYS: Says = Says {
     columns: 8,
     before: None,
@@ -106,7 +106,7 @@ const EIGHT_SAYS: Says = Says {
     extra: Some(b""),
 };
 
-/// What [`NINE`] says.
+/// [`NINE`].
 const NINE_SAYS: Says = Says {
     columns: 9,
     before: None,
@@ -115,7 +115,7 @@ const NINE_SAYS: Says = Says {
     extra: Some(b""),
 };
 
-// What [`WRITE`] says with other rows.
+// [`WRITE`] with other rows.
 fn with_rows(rows: &'static [u8]) -> Says {
     Says {
         columns: 1,
@@ -126,7 +126,7 @@ fn with_rows(rows: &'static [u8]) -> Says {
     }
 }
 
-// Whether an image has these columns, or there is none.
+// Whether an image has these columns, or both are None.
 fn is_image(image: Option<BitView<'_>>, wanted: Option<&[u8]>) -> bool {
     match (image, wanted) {
         (Some(image), Some(wanted)) => has_bits(image, wanted),
@@ -134,7 +134,7 @@ fn is_image(image: Option<BitView<'_>>, wanted: Option<&[u8]>) -> bool {
     }
 }
 
-// Whether an event says this.
+// Whether the getters of an event return these values.
 fn event_says<K: RowsKind>(event: &RowsEventOf<'_, K>, wanted: &Says) -> bool {
     event.table_id() == 5
         && event.flags_raw() == 1
@@ -143,7 +143,7 @@ fn event_says<K: RowsKind>(event: &RowsEventOf<'_, K>, wanted: &Says) -> bool {
         && event.rows_data() == wanted.rows
 }
 
-// Whether the event of any type in it says the same.
+// Whether the getters of the `RowsEvent` in it return the same values.
 fn says_of_any_type(event: &RowsEvent<'_>, wanted: &Says) -> bool {
     event.table_id() == 5
         && event.flags_raw() == 1
@@ -152,14 +152,14 @@ fn says_of_any_type(event: &RowsEvent<'_>, wanted: &Says) -> bool {
         && event.rows_data() == wanted.rows
 }
 
-// Whether that event has these extra bytes and these images.
+// Whether the `RowsEvent` has these extra bytes and these images.
 fn has_parts(event: &RowsEvent<'_>, wanted: &Says) -> bool {
     event.extra_data() == wanted.extra
         && is_image(event.columns_before_image(), wanted.before)
         && is_image(event.columns_after_image(), wanted.after)
 }
 
-// Whether an event and the one in it say this.
+// Whether an event and the `RowsEvent` in it have these values.
 fn both_say<K: RowsKind>(event: RowsEventOf<'_, K>, wanted: &Says) -> bool {
     let both_say = event_says(&event, wanted)
         && says_of_any_type(event.event(), wanted)
@@ -168,7 +168,7 @@ fn both_say<K: RowsKind>(event: RowsEventOf<'_, K>, wanted: &Says) -> bool {
     both_say
 }
 
-// Whether a body is read as an event that says this.
+// Whether a body is read as an event with these values.
 fn is_read_as<'a, K: RowsKind>(
     alloc: Global,
     fde: DescriptionRef<'a>,
@@ -179,7 +179,7 @@ fn is_read_as<'a, K: RowsKind>(
     Ok(both_say(event, wanted))
 }
 
-// The same where these post-header lengths are stated.
+// The same under these post-header lengths.
 fn is_read_where<K: RowsKind>(
     alloc: Global,
     lengths: &[u8],
@@ -192,7 +192,7 @@ fn is_read_where<K: RowsKind>(
     is_read
 }
 
-// Whether what a body is read as there is written as wanted.
+// Whether a body is read under these post-header lengths, and written as these bytes.
 fn is_rewritten_where<K: RowsKind>(
     alloc: Global,
     lengths: &[u8],
@@ -205,21 +205,21 @@ fn is_rewritten_where<K: RowsKind>(
     is_written
 }
 
-// Whether the image before an event has these columns.
+// Whether the before image has these columns.
 fn is_before<K: HasBeforeImage>(event: RowsEventOf<'_, K>, columns: &[u8]) -> bool {
     let is_before = has_bits(event.columns_before_image(), columns);
     drop(event);
     is_before
 }
 
-// Whether the image after an event has these columns.
+// Whether the after image has these columns.
 fn is_after<K: HasAfterImage>(event: RowsEventOf<'_, K>, columns: &[u8]) -> bool {
     let is_after = has_bits(event.columns_after_image(), columns);
     drop(event);
     is_after
 }
 
-// Whether a body is read as an event with these columns before it.
+// Whether a body is read as an event with this before image.
 fn has_before<'a, K: HasBeforeImage>(
     alloc: Global,
     fde: DescriptionRef<'a>,
@@ -230,7 +230,7 @@ fn has_before<'a, K: HasBeforeImage>(
     Ok(is_before(event, columns))
 }
 
-// Whether a body is read as an event with these columns after it.
+// Whether a body is read as an event with this after image.
 fn has_after<'a, K: HasAfterImage>(
     alloc: Global,
     fde: DescriptionRef<'a>,
@@ -241,7 +241,7 @@ fn has_after<'a, K: HasAfterImage>(
     Ok(is_after(event, columns))
 }
 
-// Whether an older update has these images where each post-header has 10 bytes.
+// Whether an update of the older type has these images under post-header lengths of 10.
 fn has_older_images(alloc: Global, before: &[u8], after: &[u8]) -> Result<bool, Error> {
     let stated = stating(OF_TEN);
     let has_before = has_before::<UpdateRowsV1>(alloc, stated.as_ref(), UPDATE, before);
@@ -339,8 +339,8 @@ fn what_is_written_of_older_types(rt: HostRuntime) {
     }
 }
 
-// A count of extra bytes of 1 means none; the number of columns may stand in more bytes than it needs; rows go to the end;
-// and bits behind the last column are kept.
+// A count of extra bytes of 1 means none. The number of columns may be encoded in more bytes than it needs. The rows go
+// to the end, and bits after the last column are kept.
 #[test]
 fn what_is_written_of_other_spellings(rt: HostRuntime) {
     for (body, wanted) in [
@@ -386,7 +386,7 @@ fn row_events_have_no_size(rt: HostRuntime) {
     }
 }
 
-// Where a post-header of 6 bytes is stated, ids take 4 bytes and no extra bytes stand.
+// Under a post-header length of 6 the table id takes 4 bytes and there are no extra bytes.
 #[test]
 fn ids_in_four_bytes_are_written_in_six(rt: HostRuntime) {
     let written = is_rewritten_where::<WriteRows>(rt.alloc(), OF_SIX, SHORT_ID, WRITTEN);
@@ -446,14 +446,14 @@ fn counts_that_begin_no_number_are_invalid(rt: HostRuntime) {
     }
 }
 
-// It asks for no memory at all.
+// No memory is allocated.
 #[test]
 fn reading_a_count_of_too_many_columns_takes_no_memory(rt: HostRuntime) {
     assert!(rt; refusal::<WriteRowsEvent>(rt.alloc(), MANY) == Some(Error::EndOfBody));
     assert!(rt; refusal::<UpdateRowsEvent>(rt.alloc(), MANY) == Some(Error::EndOfBody));
 }
 
-// It asks for no memory at all.
+// No memory is allocated.
 #[test]
 fn reading_rows_takes_no_memory(rt: HostRuntime) {
     let (alloc, fde) = (rt.alloc(), by_default());
@@ -461,7 +461,7 @@ fn reading_rows_takes_no_memory(rt: HostRuntime) {
     assert!(rt; is_read_as::<DeleteRows>(alloc, fde, WRITE, &DELETE_SAYS) == Ok(true));
 }
 
-// It asks for no memory at all.
+// No memory is allocated.
 #[test]
 fn reading_updated_rows_takes_no_memory(rt: HostRuntime) {
     let (alloc, fde) = (rt.alloc(), by_default());
@@ -469,7 +469,7 @@ fn reading_updated_rows_takes_no_memory(rt: HostRuntime) {
     assert!(rt; is_read_as::<PartialUpdateRows>(alloc, fde, UPDATE, &UPDATE_SAYS) == Ok(true));
 }
 
-// It asks for no memory at all.
+// No memory is allocated.
 #[test]
 fn reading_older_rows_takes_no_memory(rt: HostRuntime) {
     let (alloc, fde) = (rt.alloc(), by_default());
@@ -477,7 +477,7 @@ fn reading_older_rows_takes_no_memory(rt: HostRuntime) {
     assert!(rt; is_read_as::<DeleteRowsV1>(alloc, fde, OF_ONE_IMAGE, &DELETE_V1_SAYS) == Ok(true));
 }
 
-// It asks for no memory at all.
+// No memory is allocated.
 #[test]
 fn reading_older_updated_rows_takes_no_memory(rt: HostRuntime) {
     let is_read = is_read_as::<UpdateRowsV1>(rt.alloc(), by_default(), UPDATE_V1, &UPDATE_V1_SAYS);

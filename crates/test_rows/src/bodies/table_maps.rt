@@ -10,10 +10,10 @@ use testkit_bodies::{
     read, read_under, refusal, stating,
 };
 
-/// [`ONE_COLUMN`] with its id in four bytes.
+/// [`ONE_COLUMN`] with its table id in four bytes.
 const SHORT_ID: &[u8] = b"\x05\0\0\0\x01\0\x01d\0\x01t\0\x01\x03\0\x01";
 
-/// The same with its count of columns in three bytes.
+/// The same with its column count in three bytes.
 const LONG_COUNT: &[u8] = b"\x05\0\0\0\0\0\x01\0\x01d\0\x01t\0\xfc\x01\0\x03\0\x01";
 
 /// The same with one byte more.
@@ -23,8 +23,8 @@ const ONE_MORE: &[u8] = b"\x05\0\0\0\0\0\x01\0\x01d\0\x01t\0\x01\x03\0\x01\0";
 const NINE_WRITTEN: &[u8] = b"\xff\xff\xff\xff\xff\xff\0\0\x02\xc3\xa4\0\x01\xff\0\x09\
     \x01\x02\x03\x0f\x05\x06\x07\x08\x09\x02\x40\0\x81\xff\x01\x01\x80";
 
-/// What the getters of a table map answer: the id of the table, its flags and its names, of the columns the number, the types,
-/// the metadata and which may hold nulls, and what follows.
+/// The values that the getters return: the table id, the flags and the names; the number of columns, their types, their
+/// metadata and their null bits; and the optional metadata.
 struct Says {
     table: (u64, u16),
     names: (&'static [u8], &'static [u8]),
@@ -35,7 +35,7 @@ struct Says {
     optional: &'static [u8],
 }
 
-/// What [`ONE_COLUMN`] says.
+/// [`ONE_COLUMN`].
 const ONE_SAYS: Says = Says {
     table: (5, 1),
     names: (b"d", b"t"),
@@ -46,7 +46,7 @@ const ONE_SAYS: Says = Says {
     optional: b"",
 };
 
-/// What [`ONE_MORE`] says.
+/// [`ONE_MORE`].
 const ONE_MORE_SAYS: Says = Says {
     table: (5, 1),
     names: (b"d", b"t"),
@@ -57,7 +57,7 @@ const ONE_MORE_SAYS: Says = Says {
     optional: b"\0",
 };
 
-/// What [`NINE_COLUMNS`] says.
+/// [`NINE_COLUMNS`].
 const NINE_SAYS: Says = Says {
     table: (0xffff_ffff_ffff, 0),
     names: (b"\xc3\xa4", b"\xff"),
@@ -76,7 +76,7 @@ fn is_named(map: &TableMapEvent<'_>, wanted: &Says) -> bool {
         && map.table_name_raw() == wanted.names.1
 }
 
-// Whether it has these columns, and this follows.
+// Whether it has these columns and this optional metadata.
 fn has_columns(map: &TableMapEvent<'_>, wanted: &Says) -> bool {
     map.columns_count() == wanted.columns
         && map.columns_type_raw() == wanted.types
@@ -85,14 +85,14 @@ fn has_columns(map: &TableMapEvent<'_>, wanted: &Says) -> bool {
         && map.optional_metadata_raw() == wanted.optional
 }
 
-// Whether a table map says this.
+// Whether the getters of a table map return these values.
 fn map_says(map: TableMapEvent<'_>, wanted: &Says) -> bool {
     let map_says = is_named(&map, wanted) && has_columns(&map, wanted);
     drop(map);
     map_says
 }
 
-// Whether a body is read as a table map that says this.
+// Whether a body is read as a table map with these values.
 fn is_read_as<'a>(
     alloc: Global,
     fde: DescriptionRef<'a>,
@@ -103,7 +103,7 @@ fn is_read_as<'a>(
     Ok(map_says(map, wanted))
 }
 
-// The same where a post-header of 6 bytes is stated.
+// The same under a post-header length of 6.
 fn is_read_where_six(alloc: Global, body: &[u8], wanted: &Says) -> Result<bool, Error> {
     let fde = stating(OF_SIX);
     let is_read = is_read_as(alloc, fde.as_ref(), body, wanted);
@@ -111,7 +111,7 @@ fn is_read_where_six(alloc: Global, body: &[u8], wanted: &Says) -> Result<bool, 
     is_read
 }
 
-// Whether what a body is read as there is written as wanted.
+// Whether a body is read under a post-header length of 6, and written as these bytes.
 fn is_rewritten_where_six(alloc: Global, body: &[u8], wanted: &[u8]) -> Result<bool, Error> {
     let fde = stating(OF_SIX);
     let is_written = is_rewritten_under::<TableMapEvent>(alloc, fde.as_ref(), body, wanted);
@@ -142,7 +142,7 @@ fn what_follows_is_optional_metadata(rt: HostRuntime) {
     assert!(rt; is_read_as(rt.alloc(), by_default(), ONE_MORE, &ONE_MORE_SAYS) == Ok(true));
 }
 
-// The shortest count is written, and zeros where a byte says nothing.
+// The shortest count is written, and reserved bytes are written as zeros.
 #[test]
 fn what_is_written_of_table_maps(rt: HostRuntime) {
     for (body, wanted) in [
@@ -161,7 +161,7 @@ fn a_count_in_three_bytes_is_the_same(rt: HostRuntime) {
     assert!(rt; are_equal(rt.alloc(), LONG_COUNT, ONE_COLUMN) == Ok(true));
 }
 
-// Where a post-header of 6 bytes is stated.
+// Under a post-header length of 6.
 #[test]
 fn an_id_in_four_bytes(rt: HostRuntime) {
     assert!(rt; is_read_where_six(rt.alloc(), SHORT_ID, &ONE_SAYS) == Ok(true));
@@ -194,7 +194,7 @@ fn bytes_that_begin_no_number(rt: HostRuntime) {
     }
 }
 
-// It asks for no memory at all.
+// No memory is allocated.
 #[test]
 fn reading_table_maps_takes_no_memory(rt: HostRuntime) {
     for body in [ONE_COLUMN, NINE_COLUMNS] {
@@ -202,7 +202,7 @@ fn reading_table_maps_takes_no_memory(rt: HostRuntime) {
     }
 }
 
-// It asks for no memory at all, whatever the body counts.
+// No memory is allocated, whatever counts the body states.
 #[test]
 fn reading_counts_that_lie_takes_no_memory(rt: HostRuntime) {
     for body in [
@@ -213,7 +213,7 @@ fn reading_counts_that_lie_takes_no_memory(rt: HostRuntime) {
     }
 }
 
-// Whether a table map is written so where nothing is yet.
+// Whether a table map is written as these bytes into an empty buffer.
 fn is_written_alone(alloc: Global, body: &[u8], wanted: &[u8]) -> Result<bool, Error> {
     let map: TableMapEvent = read(alloc, body)?;
     Ok(is_written_with(alloc, map, wanted.len(), wanted))

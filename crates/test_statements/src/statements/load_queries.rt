@@ -1,4 +1,4 @@
-//! The events of statements that load a file.
+//! EXECUTE_LOAD_QUERY events.
 use super::LOAD;
 use super::memory::{has_texts, is_load_query_copied};
 use binlog_consts::LoadDuplicateHandling;
@@ -10,7 +10,7 @@ use testkit_bodies::{
     are_fronts_refused, by_default, is_read_as, is_written_with, refusal, told_len,
 };
 
-// The event of `LOAD`, a field at a time.
+// The event of `LOAD`, set field by field.
 fn made<'a>() -> ExecuteLoadQueryEvent<'a> {
     ExecuteLoadQueryEvent::new(
         0,
@@ -37,12 +37,12 @@ fn with_many_variables<'a>(alloc: Global) -> Result<ExecuteLoadQueryEvent<'a>, E
     Ok(made().with_status_vars(CowSlice::Owned(status)))
 }
 
-// How many bytes of variables that event keeps, and how many bytes it has.
+// The number of bytes of status variables that this event keeps, and the size of its body.
 fn lengths_with_many_variables(alloc: Global) -> Result<(usize, usize), Error> {
     with_many_variables(alloc).map(|event| (event.status_vars_raw().len(), told_len(event)))
 }
 
-// Whether that event is written with so many bytes, which begin with these.
+// Whether this event is written with this size and this prefix.
 fn are_many_variables_written(alloc: Global, len: usize, front: &[u8]) -> bool {
     match with_many_variables(alloc) {
         Ok(event) => is_written_with(alloc, event, len, front),
@@ -79,7 +79,7 @@ fn variables_are_written_in_65_535_bytes(rt: HostRuntime) {
     assert!(rt; are_many_variables_written(rt.alloc(), 65_567, front));
 }
 
-// Behind 31 bytes the statement begins, which goes to the end.
+// The statement begins after 31 bytes, and goes to the end.
 #[test]
 fn fronts_of_a_load_query_are_refused(rt: HostRuntime) {
     assert!(rt; are_fronts_refused::<ExecuteLoadQueryEvent>(rt.alloc(), LOAD, 31));

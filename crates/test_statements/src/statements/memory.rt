@@ -1,5 +1,5 @@
-//! What takes memory, and what refused memory leaves. These tests pass wherever an allocation is refused: a refusal is
-//! the call's error, and no answer changes.
+//! What allocates, and the state after a failed allocation. These tests pass whichever allocation fails: the call
+//! returns the failure as its error, and no other result changes.
 use super::{CREATE_TABLE, INTEGER, LOAD, STATUS};
 use binlog_statements::{
     ExecuteLoadQueryEvent, QueryEvent, StatusVarVal, StatusVarsIterator, UserVarEvent,
@@ -8,18 +8,18 @@ use binlog_wire::Error;
 use std::alloc::Global;
 use testkit_bodies::{is_granted, is_read, is_rewritten_behind, is_same, is_text, read};
 
-/// A body whose schema and statement are no text.
+/// A body whose schema and statement aren't UTF-8.
 const NO_TEXT: &[u8] = b"\x01\0\0\0\x02\0\0\0\x01\x03\0\0\0\xff\0\xfe";
 
-/// A catalog with a zero byte, a time zone, a catalog and an invoker.
+/// A catalog with a zero byte after it, a time zone, a catalog and an invoker.
 const TEXTS: &[u8] = b"\x02\x03std\0\x05\x03UTC\x06\x03std\x0b\x01a\x01b";
 
-/// The variables of fixed length that are not in the sample: the keys 3, 7 to 10 and 13 to 20.
+/// The variables of fixed size that aren't in the sample: the keys 3, 7 to 10 and 13 to 20.
 const NUMBERS: &[u8] =
     b"\x03\x01\0\x01\0\x07\x08\0\x08\x08\0\x09\x01\0\0\0\0\0\0\0\x0a\x01\0\0\0\x0d\x01\0\0\x0e\x0f\x10\x01\
     \x11\x01\0\0\0\0\0\0\0\x12\xff\0\x13\x01\x14\x01";
 
-/// Two names of databases.
+/// Two database names.
 const NAMES: &[u8] = b"\x0c\x02a\0bc\0";
 
 #[test]
@@ -43,7 +43,7 @@ fn a_refused_write_of_a_variable_leaves_what_was_there(rt: HostRuntime) {
     assert!(rt; is_granted(integer));
 }
 
-// A copy of a copy that owns its bytes.
+// An owned copy of a copy.
 fn query_copied(alloc: Global, event: &QueryEvent<'_>) -> Result<QueryEvent<'static>, Error> {
     let owned = event.clone(alloc)?.into_owned(alloc)?;
     let copy = owned.clone(alloc);
@@ -71,7 +71,7 @@ fn variable_copied(
     copy
 }
 
-// Whether a body's event is equal to its copy, owned and copied again.
+// Whether the event of a body is equal to its copy, owned and copied again.
 pub(crate) fn is_query_copied(alloc: Global, body: &[u8]) -> Result<bool, Error> {
     let event: QueryEvent = read(alloc, body)?;
     let is_copied = is_same(query_copied(alloc, &event), &event);
@@ -105,7 +105,7 @@ fn a_copy_of_a_variable_is_equal_or_refused_for_memory(rt: HostRuntime) {
     assert!(rt; is_granted(is_variable_copied(rt.alloc(), b"\0\0\0\0\x01")));
 }
 
-// Whether the schema of a body is this text.
+// Whether the schema of a body as text is this one.
 pub(crate) fn is_schema(alloc: Global, body: &[u8], wanted: &str) -> Result<bool, Error> {
     let event: QueryEvent = read(alloc, body)?;
     let is_text = is_text(event.schema(alloc), wanted);
@@ -113,7 +113,7 @@ pub(crate) fn is_schema(alloc: Global, body: &[u8], wanted: &str) -> Result<bool
     is_text
 }
 
-// Whether the statement of a body is this text.
+// Whether the statement of a body as text is this one.
 pub(crate) fn is_query(alloc: Global, body: &[u8], wanted: &str) -> Result<bool, Error> {
     let event: QueryEvent = read(alloc, body)?;
     let is_text = is_text(event.query(alloc), wanted);
@@ -121,7 +121,7 @@ pub(crate) fn is_query(alloc: Global, body: &[u8], wanted: &str) -> Result<bool,
     is_text
 }
 
-// Whether the schema and the statement of a body that loads a file are these texts.
+// Whether the schema and the statement of an EXECUTE_LOAD_QUERY body as text are these.
 pub(crate) fn has_texts(
     alloc: Global,
     body: &[u8],
@@ -135,7 +135,7 @@ pub(crate) fn has_texts(
     Ok(is_schema? && is_query?)
 }
 
-// Whether the name of a user variable is this text.
+// Whether the name of a user variable as text is this one.
 pub(crate) fn is_name(alloc: Global, body: &[u8], wanted: &str) -> Result<bool, Error> {
     let event: UserVarEvent = read(alloc, body)?;
     let is_text = is_text(event.name(alloc), wanted);
@@ -150,7 +150,7 @@ fn refused_texts_are_errors(rt: HostRuntime) {
     assert!(rt; is_granted(is_name(rt.alloc(), b"\x01\0\0\0\xff\x01", "\u{fffd}")));
 }
 
-// How many names of databases a value has.
+// The number of database names in a value.
 fn count(value: StatusVarVal<'_>) -> Option<usize> {
     match value {
         StatusVarVal::UpdatedDbNames(names) => Some(names.len()),
@@ -158,7 +158,7 @@ fn count(value: StatusVarVal<'_>) -> Option<usize> {
     }
 }
 
-// How many names of databases the first variable of a text has, or its bytes where it gives no value.
+// The number of database names in the first of these status variables, or its bytes if it has no value.
 fn count_of_names<'a>(alloc: Global, text: &'a [u8]) -> Result<Option<usize>, &'a [u8]> {
     match StatusVarsIterator::new(text).next() {
         Some(var) => Ok(count(var.get_value(alloc)?)),
@@ -174,7 +174,7 @@ fn refused_names_are_answered_by_their_bytes(rt: HostRuntime) {
     }
 }
 
-// It asks for no memory at all.
+// No memory is allocated.
 #[test]
 fn reading_statements_takes_no_memory(rt: HostRuntime) {
     assert!(rt; is_read::<QueryEvent>(rt.alloc(), CREATE_TABLE));
@@ -182,7 +182,7 @@ fn reading_statements_takes_no_memory(rt: HostRuntime) {
     assert!(rt; is_read::<UserVarEvent>(rt.alloc(), INTEGER));
 }
 
-// How many variables of a text give a value.
+// The number of these status variables that have a value.
 fn count_of_values(alloc: Global, text: &[u8]) -> usize {
     let mut count: usize = 0;
     for var in StatusVarsIterator::new(text) {
@@ -193,7 +193,7 @@ fn count_of_values(alloc: Global, text: &[u8]) -> usize {
     count
 }
 
-// It asks for no memory at all.
+// No memory is allocated.
 #[test]
 fn reading_status_variables_takes_no_memory(rt: HostRuntime) {
     assert!(rt; count_of_values(rt.alloc(), STATUS) == 4);
@@ -201,7 +201,7 @@ fn reading_status_variables_takes_no_memory(rt: HostRuntime) {
     assert!(rt; count_of_values(rt.alloc(), NUMBERS) == 13);
 }
 
-// Whether the first variable of a text has this value.
+// Whether the first of these status variables has this value.
 fn is_first_value(alloc: Global, text: &[u8], wanted: &StatusVarVal<'_>) -> bool {
     match StatusVarsIterator::new(text).next() {
         Some(var) => is_value(var.get_value(alloc), wanted),
@@ -209,7 +209,7 @@ fn is_first_value(alloc: Global, text: &[u8], wanted: &StatusVarVal<'_>) -> bool
     }
 }
 
-// Whether a value was given, and is this one.
+// Whether a value was returned, and is this one.
 fn is_value(answer: Result<StatusVarVal<'_>, &[u8]>, wanted: &StatusVarVal<'_>) -> bool {
     match answer {
         Ok(value) => {
@@ -228,7 +228,7 @@ fn is_value_copied(alloc: Global, value: &StatusVarVal<'_>) -> Result<bool, Erro
     Ok(is_copied)
 }
 
-// Whether the value of each variable of a text is equal to its copy.
+// Whether the value of each of these status variables is equal to its copy.
 pub(crate) fn are_values_copied(alloc: Global, text: &[u8]) -> Result<bool, Error> {
     for var in StatusVarsIterator::new(text) {
         match var.get_value(alloc) {
@@ -250,7 +250,7 @@ fn a_copy_of_a_status_variable_is_equal_or_refused_for_memory(rt: HostRuntime) {
     assert!(rt; is_granted(are_values_copied(rt.alloc(), NAMES)));
 }
 
-// It asks for no memory at all, since its texts stay borrowed.
+// No memory is allocated, since the texts stay borrowed.
 #[test]
 fn copying_borrowed_status_variables_takes_no_memory(rt: HostRuntime) {
     assert!(rt; are_values_copied(rt.alloc(), STATUS) == Ok(true));
@@ -258,7 +258,7 @@ fn copying_borrowed_status_variables_takes_no_memory(rt: HostRuntime) {
     assert!(rt; are_values_copied(rt.alloc(), NUMBERS) == Ok(true));
 }
 
-// Whether the first variable of a text has a list of names that is empty.
+// Whether the first of these status variables has an empty list of names.
 fn are_too_many_names(alloc: Global, text: &[u8]) -> bool {
     let wanted = StatusVarVal::UpdatedDbNames(Vec::new(alloc));
     let are_too_many = is_first_value(alloc, text, &wanted);
@@ -266,7 +266,7 @@ fn are_too_many_names(alloc: Global, text: &[u8]) -> bool {
     are_too_many
 }
 
-// It asks for no memory at all, since its list stays empty.
+// No memory is allocated, since the list stays empty.
 #[test]
 fn reading_a_count_of_too_many_names_takes_no_memory(rt: HostRuntime) {
     assert!(rt; are_too_many_names(rt.alloc(), b"\x0c\xfe"));

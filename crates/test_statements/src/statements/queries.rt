@@ -1,4 +1,4 @@
-//! The events of statements.
+//! QUERY events.
 use super::memory::{is_query, is_query_copied, is_schema};
 use super::{CREATE_TABLE, STATUS};
 use binlog_statements::QueryEvent;
@@ -10,19 +10,19 @@ use testkit_bodies::{
     refusal_under, stating, told_len,
 };
 
-/// Thread 1, time 2, error 3, schema `d`, no variables, the statement `q`.
+/// Thread 1, execution time 2, error code 3, schema `d`, no status variables, the statement `q`.
 const SHORT: &[u8] = b"\x01\0\0\0\x02\0\0\0\x01\x03\0\0\0d\0q";
 
 /// The same with two bytes more in its post-header.
 const LONGER_HEAD: &[u8] = b"\x01\0\0\0\x02\0\0\0\x01\x03\0\0\0\xff\xffd\0q";
 
-/// A front of such a body that ends within its post-header.
+/// A prefix of such a body that ends within the post-header.
 const FRONT_OF_HEAD: &[u8] = b"\x01\0\0\0\x02\0\0\0\0\x03\0\0\0\xff";
 
 /// A schema that is one byte too long.
 const LONG_SCHEMA: &[u8] = &[b's'; 256];
 
-// The statement of both, a field at a time.
+// The statement of both, set field by field.
 fn made<'a>() -> QueryEvent<'a> {
     QueryEvent::new(CowSlice::Borrowed(b""), CowSlice::Borrowed(b""))
         .with_thread_id(1)
@@ -46,13 +46,13 @@ fn with_long_schema<'a>() -> QueryEvent<'a> {
     QueryEvent::new(CowSlice::Borrowed(b""), CowSlice::Borrowed(LONG_SCHEMA))
 }
 
-// Whether that event keeps this schema and tells this length.
+// Whether that event keeps this schema and has this length.
 fn keeps_schema(schema: &[u8], len: usize) -> bool {
     let event = with_long_schema();
     event.schema_raw() == schema && told_len(event) == len
 }
 
-// Whether a body is read as the statement where these post-header lengths are stated.
+// Whether a body is read as the statement under these post-header lengths.
 fn is_made_of(alloc: Global, lengths: &[u8], body: &[u8]) -> bool {
     let fde = stating(lengths);
     let is_made = is_read_as(alloc, fde.as_ref(), body, made());
@@ -60,7 +60,7 @@ fn is_made_of(alloc: Global, lengths: &[u8], body: &[u8]) -> bool {
     is_made
 }
 
-// Why a body is refused there.
+// The error of a body under these post-header lengths.
 fn refusal_of(alloc: Global, lengths: &[u8], body: &[u8]) -> Option<Error> {
     let fde = stating(lengths);
     let refusal = refusal_under::<QueryEvent>(alloc, fde.as_ref(), body);
@@ -68,7 +68,7 @@ fn refusal_of(alloc: Global, lengths: &[u8], body: &[u8]) -> Option<Error> {
     refusal
 }
 
-// Whether a body is read as the same with another statement.
+// Whether a body is read as the same event with another statement.
 fn is_made_with(alloc: Global, body: &[u8], query: &[u8]) -> bool {
     let wanted = made().with_query(CowSlice::Borrowed(query));
     is_read_as(alloc, by_default(), body, wanted)
@@ -119,7 +119,7 @@ fn a_schema_is_written_in_255_bytes(rt: HostRuntime) {
     assert!(rt; is_written_with(rt.alloc(), with_long_schema(), 269, front));
 }
 
-// Behind 44 bytes the statement begins, which goes to the end.
+// The statement begins after 44 bytes, and goes to the end.
 #[test]
 fn fronts_of_a_statement_are_refused(rt: HostRuntime) {
     assert!(rt; are_fronts_refused::<QueryEvent>(rt.alloc(), CREATE_TABLE, 44));
@@ -138,7 +138,7 @@ fn texts_of_a_statement(rt: HostRuntime) {
     assert!(rt; is_query(rt.alloc(), SHORT, "q") == Ok(true));
 }
 
-// Whether a borrowed statement of so many bytes is equal to its copy that owns them.
+// Whether a borrowed statement of this length is equal to an owned copy.
 fn is_long_query_owned(alloc: Global, len: usize) -> Result<bool, Error> {
     let mut query = Vec::new(alloc);
     query.resize(len, b'q')?;

@@ -1,4 +1,4 @@
-//! The events of user variables.
+//! USER_VAR events.
 use super::INTEGER;
 use super::memory::{is_name, is_variable_copied};
 use binlog_consts::{ItemResult, UnknownItemResultType, UserVarFlags};
@@ -7,10 +7,10 @@ use binlog_wire::Error;
 use std::alloc::Global;
 use testkit_bodies::{are_fronts_refused, is_rewritten, read, refusal};
 
-/// A null `a`.
+/// The variable `a`, which is null.
 const NULL: &[u8] = b"\x01\0\0\0a\x02";
 
-/// A variable without a name, of a type that isn't known, with all known flags and one more.
+/// A variable without a name, of an unknown type, with all known flags and one unknown flag.
 const UNKNOWN: &[u8] = b"\0\0\0\0\0\xff\x3f\0\0\0\0\0\0\0\x03";
 
 /// Whether a variable is null, its type, its charset, its value and its flags.
@@ -33,7 +33,7 @@ fn parts<'a>(event: &'a UserVarEvent<'_>) -> Parts<'a> {
     )
 }
 
-// Whether a body is read as a variable of this name and these parts.
+// Whether a body is read as a variable with this name and these parts.
 fn has_parts(alloc: Global, body: &[u8], name: &[u8], wanted: Parts<'_>) -> bool {
     match read::<UserVarEvent>(alloc, body) {
         Ok(event) => {
@@ -45,7 +45,7 @@ fn has_parts(alloc: Global, body: &[u8], name: &[u8], wanted: Parts<'_>) -> bool
     }
 }
 
-// Whether a body is read as a variable of these known flags.
+// Whether a body is read as a variable with these known flags.
 fn has_flags(alloc: Global, body: &[u8], wanted: UserVarFlags) -> bool {
     match read::<UserVarEvent>(alloc, body) {
         Ok(event) => {

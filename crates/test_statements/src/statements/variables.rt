@@ -1,4 +1,4 @@
-//! Which status variables a text has.
+//! Splitting status variables.
 use super::STATUS;
 use super::memory::are_values_copied;
 use binlog_consts::StatusVarKey;
@@ -7,7 +7,7 @@ use binlog_wire::{Error, RawBytes};
 use std::alloc::Global;
 use std::borrow::CowSlice;
 
-// Whether a text has variables of these keys, and then none for good.
+// Whether the bytes have variables of these keys, and then only None.
 fn has_keys(text: &[u8], keys: &[StatusVarKey]) -> bool {
     let mut vars = StatusVarsIterator::new(text);
     for key in keys.iter() {
@@ -23,7 +23,7 @@ fn has_keys(text: &[u8], keys: &[StatusVarKey]) -> bool {
     vars.next().is_none() && vars.next().is_none()
 }
 
-// Whether the first variable of this key in a text has this value, or there is none.
+// Whether the first variable of this key has this value, or there is none.
 fn has_value(text: &[u8], key: StatusVarKey, wanted: Option<&[u8]>) -> bool {
     let vars = StatusVars(RawBytes::new(CowSlice::Borrowed(text)));
     let has_value = match vars.get_status_var(key) {
@@ -101,7 +101,7 @@ fn names_of_databases_are_copied(rt: HostRuntime) {
     assert!(rt; are_values_copied(rt.alloc(), b"\x0c\x02a\0bc\0") == Ok(true));
 }
 
-// How many variables a text of so many has, none of which has a value.
+// How many variables are given for this many keys, none of which has a value.
 fn count_of_variables(alloc: Global, count: usize) -> Result<usize, Error> {
     let mut text = Vec::new(alloc);
     text.resize(count, 14)?;

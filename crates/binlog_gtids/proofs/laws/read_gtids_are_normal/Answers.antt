@@ -1,4 +1,4 @@
-use Rattle.binlog_gtids.specs.ReadGtids.{gtid_normal, anonymous_normal}
+use Rattle.binlog_gtids.specs.Laws.ReadGtids.{gtid_normal, anonymous_normal}
 use Rattle.binlog_gtids.proofs.laws.read_gtids_are_normal.Goals as goal
 
 pub returns-clause-gtid : goal.returns-clause-gtid

@@ -1,6 +1,6 @@
 use Rattle.std.proofs.Common.{◌-◌, ℕ, List, refl, arith}
 use Rattle.binlog_gtids.specs.Tagged.{Head}
-use Rattle.binlog_gtids.specs.TaggedReading.{payload_ok}
+use Rattle.binlog_gtids.specs.Laws.TaggedReading.{payload_ok}
 use Rattle.binlog_gtids.proofs.tagged.read_payload.Goals as goal
 
 pub returns : goal.returns

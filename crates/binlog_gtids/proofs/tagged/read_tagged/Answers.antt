@@ -2,12 +2,13 @@ use Rattle.std.specs.Prelude.{⊤}
 use Rattle.std.proofs.Common.{◌≡◌, ℕ, List, Err, sym, ap, subst, ◌∙◌}
 use Rattle.std.proofs.lemmas.Result.{err_from_is_err_and}
 use Rattle.binlog_wire.specs.Fields.{meant}
-use Rattle.binlog_numbers.specs.Refusing.{refused_as}
+use Rattle.binlog_numbers.specs.Laws.Refusing.{refused_as}
 use Rattle.binlog_gtids.specs.declared.tagged_fields.TaggedFields.{TaggedFields}
-use Rattle.binlog_gtids.specs.TaggedFields.{fields}
-use Rattle.binlog_gtids.specs.Tagged.{tagged}
+use Rattle.binlog_gtids.specs.Tagged.{fields}
+use Rattle.binlog_gtids.specs.Formats.{tagged}
 use Rattle.binlog_gtids.specs.Taking.{event_known}
-use Rattle.binlog_gtids.specs.TaggedReading.{payload_at, tagged_refused, fields_refused, tagged_known, gives_known}
+use Rattle.binlog_gtids.specs.TaggedReading.{payload_at}
+use Rattle.binlog_gtids.specs.Laws.TaggedReading.{tagged_refused, fields_refused, tagged_known, gives_known}
 use Rattle.binlog_gtids.proofs.tagged.read_tagged.Goals as goal
 
 pub returns-in_err-last_id : goal.returns-in_err-last_id

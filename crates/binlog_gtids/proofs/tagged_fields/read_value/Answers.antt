@@ -1,10 +1,11 @@
 use Rattle.std.proofs.Common.{ℕ, inl, inr, List, ap, refl, arith}
 use Rattle.std.proofs.lemmas.Result.{err_from_is_err_and}
 use Rattle.binlog_wire.specs.Reading.{Read, read_as}
-use Rattle.binlog_numbers.specs.Refusing.{refused_as}
+use Rattle.binlog_numbers.specs.Laws.Refusing.{refused_as}
 use Rattle.binlog_numbers.specs.Repeated.{times_at}
-use Rattle.binlog_gtids.specs.TaggedFields.{Value, at_most, value_of_id}
-use Rattle.binlog_gtids.specs.EntryReading.{value_is, value_refused}
+use Rattle.binlog_gtids.specs.TaggedValues.{Value}
+use Rattle.binlog_gtids.specs.TaggedFields.{at_most, value_of_id}
+use Rattle.binlog_gtids.specs.Laws.EntryReading.{value_is, value_refused}
 use Rattle.binlog_gtids.proofs.tagged_fields.read_value.Goals as goal
 
 -- a number that was read, and bytes that were read, as values

@@ -4,7 +4,8 @@ use Rattle.binlog_wire.specs.Laws.{bind_ok}
 use Rattle.binlog_wire.specs.Reading.{Gives, Read, ◌>>=◌, read_as}
 use Rattle.binlog_numbers.specs.Announced.{behind_at}
 use Rattle.binlog_gtids.specs.declared.gtid_event.GtidEvent.{GtidEvent}
-use Rattle.binlog_gtids.specs.Untagged.{Head, Clock, head, clock, untagged, untagged_of, with_clock, without_clock}
+use Rattle.binlog_gtids.specs.Untagged.{Head, Clock, head, clock, untagged_of, with_clock, without_clock}
+use Rattle.binlog_gtids.specs.Formats.{untagged}
 use Rattle.binlog_gtids.proofs.untagged.read_untagged.Goals as goal
 
 -- the bytes after the head

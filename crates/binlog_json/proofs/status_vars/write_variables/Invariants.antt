@@ -4,7 +4,7 @@ use Rattle.binlog_statements.specs.StatusVariables.{variable_bytes, variables}
 use Rattle.binlog_json.specs.StatusVars.{variable_object}
 use Rattle.binlog_json.proofs.status_vars.write_variables.Given as goal
 
--- the written variables with those that are left are all of them, and so are their bytes
+-- The written variables and those that are left are all of them, and so are their bytes.
 abbrev pub invariant-variables : goal.invariant-variables
 invariant-variables l =
     (l.line ++ flat_map variable_object (variables l.variable-iterator.unread.now)

@@ -1,6 +1,6 @@
-use Rattle.binlog_numbers.specs.LenEnc.{keeps_lenenc}
-use Rattle.binlog_numbers.specs.Varlen.{keeps_varlen}
-use Rattle.binlog_numbers.specs.Signed.{varlen_signed}
+use Rattle.binlog_numbers.specs.Laws.LenEnc.{keeps_lenenc}
+use Rattle.binlog_numbers.specs.Laws.Varlen.{keeps_varlen}
+use Rattle.binlog_numbers.specs.Formats.{varlen_signed}
 use Rattle.binlog_wire.specs.Formats.{anywhere}
 use Rattle.binlog_numbers.proofs.laws.numbers_are_spelled.Goals as goal
 

@@ -1,5 +1,5 @@
-use Rattle.binlog_numbers.specs.LenEnc.{lenenc_shortest}
-use Rattle.binlog_numbers.specs.VarlenWriting.{varlen_shortest}
+use Rattle.binlog_numbers.specs.Laws.LenEnc.{lenenc_shortest}
+use Rattle.binlog_numbers.specs.Laws.VarlenWriting.{varlen_shortest}
 use Rattle.binlog_numbers.proofs.laws.written_numbers_are_shortest.Goals as goal
 
 pub returns-clause-lenenc : goal.returns-clause-lenenc

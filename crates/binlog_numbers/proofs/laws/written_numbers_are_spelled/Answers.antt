@@ -1,5 +1,5 @@
-use Rattle.binlog_numbers.specs.LenEnc.{lenenc_writes}
-use Rattle.binlog_numbers.specs.VarlenWriting.{varlen_writes}
+use Rattle.binlog_numbers.specs.Laws.LenEnc.{lenenc_writes}
+use Rattle.binlog_numbers.specs.Laws.VarlenWriting.{varlen_writes}
 use Rattle.binlog_numbers.proofs.laws.written_numbers_are_spelled.Goals as goal
 
 pub returns-clause-lenenc : goal.returns-clause-lenenc

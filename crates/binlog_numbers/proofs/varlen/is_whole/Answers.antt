@@ -1,6 +1,6 @@
 use Rattle.std.proofs.Common.{arith}
 use Rattle.std.proofs.lemmas.Bool.{eqb-true}
-use Rattle.binlog_numbers.specs.Varlen.{ones_are}
+use Rattle.binlog_numbers.specs.Laws.Varlen.{ones_are}
 use Rattle.binlog_numbers.proofs.varlen.is_whole.Goals as goal
 
 pub returns : goal.returns

@@ -1,5 +1,5 @@
 use Rattle.std.proofs.Common.{arith}
-use Rattle.binlog_numbers.specs.VarlenReading.{number_of_word}
+use Rattle.binlog_numbers.specs.Laws.VarlenReading.{number_of_word}
 use Rattle.binlog_numbers.proofs.varlen.number_in.Goals as goal
 
 pub returns-in_default-2 : goal.returns-in_default-2

@@ -1,4 +1,4 @@
-use Rattle.binlog_rows.specs.TableMapRefusals.{refused_numbers, refused_else}
+use Rattle.binlog_rows.specs.Laws.TableMapRefusals.{refused_numbers, refused_else}
 use Rattle.binlog_rows.proofs.laws.refused_table_maps.Goals as goal
 
 pub returns-clause-numbers : goal.returns-clause-numbers

@@ -1,4 +1,4 @@
-use Rattle.binlog_rows.specs.Writable.{rows_fit_under}
+use Rattle.binlog_rows.specs.Laws.Writable.{rows_fit_under}
 use Rattle.binlog_rows.proofs.laws.writable_row_events_fit.Goals as goal
 
 pub returns : goal.returns

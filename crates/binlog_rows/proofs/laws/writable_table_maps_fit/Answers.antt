@@ -1,4 +1,4 @@
-use Rattle.binlog_rows.specs.Writable.{table_map_fits}
+use Rattle.binlog_rows.specs.Laws.Writable.{table_map_fits}
 use Rattle.binlog_rows.proofs.laws.writable_table_maps_fit.Goals as goal
 
 pub returns : goal.returns

@@ -1,4 +1,4 @@
-use Rattle.binlog_statements.specs.Ranges.{query_fits, load_query_fits, user_var_fits}
+use Rattle.binlog_statements.specs.Laws.Ranges.{query_fits, load_query_fits, user_var_fits}
 use Rattle.binlog_statements.proofs.laws.events_fit.Goals as goal
 
 pub returns-clause-query : goal.returns-clause-query

@@ -1,5 +1,6 @@
 use Rattle.std.proofs.Common.{arith}
-use Rattle.binlog_gtids.specs.Untagged.{clock_of, clock_length}
+use Rattle.binlog_gtids.specs.Untagged.{clock_of}
+use Rattle.binlog_gtids.specs.Laws.UntaggedWriting.{clock_length}
 use Rattle.binlog_gtids.proofs.gtid_event.GtidEvent.clock_len.Goals as goal
 
 pub returns-clause-count : goal.returns-clause-count

@@ -1,5 +1,5 @@
 use Rattle.std.proofs.Common.{rules, arith, ◌≡◌, length, true, false}
-use Rattle.binlog_gtids.specs.Untagged.{untagged_length}
+use Rattle.binlog_gtids.specs.Laws.UntaggedWriting.{untagged_length}
 use Rattle.binlog_gtids.proofs.gtid_event.GtidEvent.untagged_len.Goals as goal
 
 pub returns-then-self : goal.returns-then-self

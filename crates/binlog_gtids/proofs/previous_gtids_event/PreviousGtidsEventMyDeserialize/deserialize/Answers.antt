@@ -3,11 +3,12 @@ use Rattle.std.proofs.Common.{◌≡◌, ℕ, Bool, List, Ok, sym, ap, ◌∙◌
 use Rattle.std.proofs.lemmas.Result.{err_from_is_err_and}
 use Rattle.binlog_wire.specs.Reading.{Read, ◌>>=◌, read_as}
 use Rattle.binlog_wire.specs.Fields.{number_at, read_decoded}
-use Rattle.binlog_numbers.specs.Refusing.{refused_as}
+use Rattle.binlog_numbers.specs.Laws.Refusing.{refused_as}
 use Rattle.binlog_numbers.specs.Repeated.{times_at}
 use Rattle.binlog_gtids.specs.declared.previous_gtids_event.PreviousGtidsEvent.{PreviousGtidsEvent}
 use Rattle.binlog_gtids.specs.declared.previous_gtids_sid.PreviousGtidsSid.{PreviousGtidsSid}
-use Rattle.binlog_gtids.specs.PreviousGtids.{previous_gtids, has_tags, count_in, sid_in, event_of}
+use Rattle.binlog_gtids.specs.Formats.{previous_gtids, event_of}
+use Rattle.binlog_gtids.specs.PreviousGtids.{has_tags, count_in, sid_in}
 use Rattle.binlog_gtids.proofs.previous_gtids_event.PreviousGtidsEventMyDeserialize.deserialize.Goals as goal
 
 -- the event with the entries after the first number

@@ -1,5 +1,5 @@
 use Rattle.std.proofs.Common.{rules, arith, ◌≡◌, ap, length}
-use Rattle.binlog_gtids.specs.PreviousGtids.{sid_length}
+use Rattle.binlog_gtids.specs.Laws.PreviousGtids.{sid_length}
 use Rattle.binlog_gtids.proofs.previous_gtids_sid.PreviousGtidsSid.written_len.Goals as goal
 
 pub returns : goal.returns

@@ -1,13 +1,17 @@
 use Rattle.std.proofs.Common.{◌≡◌, ◌++◌, ◌∷◌, [], ℕ, List, false, Ok, Err, refl, sym, ap, ◌∙◌, arith}
 use Rattle.std.proofs.lemmas.Result.{err_from_is_err_and}
 use Rattle.binlog_wire.specs.Reading.{Read}
-use Rattle.binlog_numbers.specs.Looping.{shorter, until_more, until_refused}
-use Rattle.binlog_numbers.specs.Refusing.{refused_as}
-use Rattle.binlog_numbers.specs.RepeatedLoops.{behind_values}
+use Rattle.binlog_numbers.specs.Laws.UntilLoops.{shorter, until_more, until_refused}
+use Rattle.binlog_numbers.specs.Laws.Refusing.{refused_as}
+use Rattle.binlog_numbers.specs.Laws.RepeatedLoops.{behind_values}
 use Rattle.binlog_numbers.specs.Varlen.{varlen_at}
-use Rattle.binlog_gtids.specs.EntryReading.{entry_ok, entry_refused}
-use Rattle.binlog_gtids.specs.TaggedFields.{Entry, entry, fields, is_tail, IsTail, tail_is_end}
-use Rattle.binlog_gtids.specs.Taking.{no_fields, taken_more, with_entry}
+use Rattle.binlog_gtids.specs.Laws.EntryReading.{entry_ok, entry_refused}
+use Rattle.binlog_gtids.specs.TaggedFields.{Entry, entry}
+use Rattle.binlog_gtids.specs.Tagged.{fields}
+use Rattle.binlog_gtids.specs.TaggedValues.{is_tail, IsTail}
+use Rattle.binlog_gtids.specs.Laws.TaggedFields.{tail_is_end}
+use Rattle.binlog_gtids.specs.Taking.{no_fields, with_entry}
+use Rattle.binlog_gtids.specs.Laws.Taking.{taken_more}
 use Rattle.binlog_gtids.proofs.tagged_fields.TaggedFields.read.Goals as goal
 
 behind_none : (x : Read (List Entry)) → x ≡ behind_values [] x

@@ -1,8 +1,10 @@
 use Rattle.std.proofs.Common.{◌≡◌, List, length}
 use Rattle.binlog_wire.specs.Fields.{IsBytes}
 use Rattle.binlog_numbers.specs.Within.{until_at}
-use Rattle.binlog_numbers.specs.RepeatedLoops.{behind_values}
-use Rattle.binlog_gtids.specs.TaggedFields.{Entry, entry, fields, is_tail}
+use Rattle.binlog_numbers.specs.Laws.RepeatedLoops.{behind_values}
+use Rattle.binlog_gtids.specs.TaggedFields.{Entry, entry}
+use Rattle.binlog_gtids.specs.Tagged.{fields}
+use Rattle.binlog_gtids.specs.TaggedValues.{is_tail}
 use Rattle.binlog_gtids.specs.Taking.{no_fields, taken}
 use Rattle.binlog_gtids.proofs.tagged_fields.TaggedFields.read.Given as goal
 

@@ -1,5 +1,5 @@
 use Rattle.std.proofs.Common.{refl}
-use Rattle.binlog_numbers.specs.Tags.{no_tag}
+use Rattle.binlog_numbers.specs.Laws.Tags.{no_tag}
 use Rattle.binlog_numbers.proofs.tag.Tag.from_bytes.Goals as goal
 
 pub returns-in-Err : goal.returns-in-Err

@@ -1,5 +1,5 @@
 use Rattle.std.proofs.Common.{◌≡◌, ℕ, List, length, refl, ap, arith}
-use Rattle.binlog_numbers.specs.VarlenReading.{varlen_one, varlen_two, varlen_whole, varlen_rest}
+use Rattle.binlog_numbers.specs.Laws.VarlenReading.{varlen_one, varlen_two, varlen_whole, varlen_rest}
 use Rattle.binlog_numbers.proofs.varlen.VarlenIntRepr.read.Goals as goal
 use Rattle.binlog_numbers.proofs.varlen.VarlenIntRepr.read.Goals.{then-is_whole, else-is_whole+in-len2-up, else-is_whole+else-buf-lt1-2+in-len1-up-2+else-len-width}
 

@@ -1,5 +1,5 @@
 use Rattle.std.proofs.Common.{arith, inl, inr, refl}
-use Rattle.binlog_numbers.specs.VarlenWriting.{varlen_size, varlen_size_nine}
+use Rattle.binlog_numbers.specs.Laws.VarlenWriting.{varlen_size, varlen_size_nine}
 use Rattle.binlog_numbers.proofs.varlen.VarlenIntRepr.written_len.Goals as goal
 
 pub returns-then-number-clause-count : goal.returns-then-number-clause-count

@@ -1,0 +1,107 @@
+#!/usr/bin/env python3
+"""Makes cargo packages of the proved sources.
+
+Usage: convert.py OUT
+
+OUT gets a workspace of three packages, `binlog`, `binlog-tools` and `binlog-tests`; what it has of an earlier run is
+replaced. A form that the converter doesn't know stops it with file and line, and status 1.
+"""
+
+import shutil
+import subprocess
+import sys
+from itertools import chain
+from pathlib import Path
+
+from rt_to_rust import crates
+from rt_to_rust.facade import public_names
+from rt_to_rust.ghosts import without_proofs
+from rt_to_rust.imports import Place
+from rt_to_rust.memory_forms import BOTH_FORMS, fallible_clones
+from rt_to_rust.passes import Used, rust
+from rt_to_rust.source import Source
+from rt_to_rust.tokens import Refusal
+from rt_to_rust.visibility import CHECKS
+
+REPOSITORY = Path(__file__).resolve().parent.parent
+TEMPLATES = REPOSITORY / "cargo/templates"
+MADE = "// Made of {}: change that file.\n"
+EDITION = "2024"
+
+
+def sources_of(names):
+    """Each source of these crates: its crate, its file and its path in the crate."""
+    for crate in names:
+        for path, relative in crates.sources(REPOSITORY / "crates" / crate):
+            yield crate, path, relative
+
+
+def types_with_fallible_clones():
+    """The types whose copies may be refused, of all sources."""
+    found = set()
+    for _, path, _ in sources_of(crates.LIBRARY):
+        found |= set(fallible_clones(without_proofs(Source(path.relative_to(REPOSITORY), path.read_text()))))
+    return found
+
+
+def target(crate, relative):
+    """Where the Rust source goes, in the workspace."""
+    if crate in crates.PROGRAMS:
+        return Path("binlog-tools/src/bin", crates.PROGRAMS[crate], relative.with_suffix(".rs"))
+    package = next(name for name, members in crates.PACKAGES.items() if crate in members)
+    name = "mod.rs" if relative.name == "lib.rt" else relative.with_suffix(".rs")
+    return Path(package, "src", crate, name)
+
+
+def place_of(crate, public):
+    """Where a crate's paths lead."""
+    if crate in crates.LIBRARY:
+        return Place(crate, None, has_runtime=False)
+    is_program = crate in crates.PROGRAMS
+    has_runtime = is_program or crate in crates.PACKAGES["binlog-tests"]
+    return Place(None if is_program else crate, public, has_runtime)
+
+
+def convert(out):
+    """Writes the sources of all packages."""
+    used = Used()
+    clones = types_with_fallible_clones()
+    facade = TEMPLATES / "binlog/src/lib.rs"
+    public = public_names(Source(facade.relative_to(REPOSITORY), facade.read_text()))
+    for crate, path, relative in sources_of(chain.from_iterable(crates.PACKAGES.values())):
+        source = path.relative_to(REPOSITORY)
+        text = rust(source, path.read_text(), place_of(crate, public), public, clones, used)
+        file = out / target(crate, relative)
+        file.parent.mkdir(parents=True, exist_ok=True)
+        file.write_text(MADE.format(source) + text)
+    unused = (set(CHECKS) - used.checks) | (set(BOTH_FORMS) - used.both_forms)
+    if unused:
+        raise Refusal("cargo/rt_to_rust", 0, f"rows of tables that nothing uses: {', '.join(sorted(unused))}")
+
+
+def lay_out(out):
+    """Lays all sources out, by the roots of their packages."""
+    roots = [out / package / "src/lib.rs" for package in crates.PACKAGES]
+    roots += sorted((out / "binlog-tools/src/bin").glob("*/main.rs"))
+    subprocess.run(["rustfmt", "--edition", EDITION, *roots], check=True)
+
+
+def main(arguments):
+    if len(arguments) != 1:
+        print(__doc__.strip(), file=sys.stderr)
+        return 1
+    out = Path(arguments[0])
+    for package in crates.PACKAGES:
+        shutil.rmtree(out / package / "src", ignore_errors=True)
+    shutil.copytree(TEMPLATES, out, dirs_exist_ok=True)
+    try:
+        convert(out)
+    except Refusal as refusal:
+        print(refusal, file=sys.stderr)
+        return 1
+    lay_out(out)
+    return 0
+
+
+if __name__ == "__main__":
+    sys.exit(main(sys.argv[1:]))

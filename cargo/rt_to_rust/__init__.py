@@ -1,0 +1,1 @@
+"""Converts Rattle sources to Rust: a pass for each concept, over tokens."""

@@ -1,0 +1,58 @@
+"""Bounds, derives, labels and signatures that Rust has no use for, or writes otherwise."""
+
+from rt_to_rust.source import segments
+
+LOOPS = ("for", "while", "loop")
+
+FORMATTER = "< W : fmt :: Write > ( & self , f : & mut fmt :: Formatter < W >".split()
+
+
+def drop_bounds(source):
+    """Any value may be dropped."""
+    for index in source.places("Drop"):
+        before, after = source.code[index - 1].text, source.code[index + 1].text
+        if before == "+":
+            yield source.span(index - 1, index)
+        elif before == ":" and after in (",", ">", "{"):
+            yield source.span(index - 1, index)
+        elif before == ":" and after == "+":
+            yield source.span(index, index + 1)
+
+
+def drop_derives(source):
+    """The derive of `Drop`."""
+    for index in source.places("derive", "("):
+        parts = segments(source, index + 1)
+        kept = [source.between(first, last) for first, last in parts if not source.is_at(first, "Drop")]
+        if len(kept) == len(parts):
+            continue
+        if kept:
+            yield source.span(index + 1, source.partner[index + 1], f"({', '.join(kept)})")
+        else:
+            yield source.span(index - 2, source.partner[index - 1])
+
+
+def formatters(source):
+    """A formatter over any writer is Rust's own."""
+    for index in source.places(*FORMATTER):
+        yield source.span(index, index + len(FORMATTER) - 1, "(&self, f: &mut fmt::Formatter<'_>")
+
+
+def labels(source):
+    """Labels to which nothing jumps: the proof's invariants name their loops."""
+    for index, token in enumerate(source.code):
+        if token.kind != "lifetime" or not source.is_at(index + 1, ":"):
+            continue
+        if source.code[index + 2].text not in LOOPS:
+            continue
+        if not source.places("break", token.text) and not source.places("continue", token.text):
+            yield source.span(index, index + 1)
+
+
+def without_drops(source):
+    """The source with Rust's bounds and signatures."""
+    source = source.changed([*drop_derives(source), *formatters(source), *labels(source)])
+    source = source.changed(drop_bounds(source))
+    for index in source.places("Drop"):
+        raise source.refusal(index, "a bound of `Drop` in a place that isn't known")
+    return source

@@ -1,0 +1,58 @@
+"""Which crates are converted, and into which package."""
+
+LIBRARY = [
+    "crc32_ieee",
+    "binlog_wire",
+    "binlog_consts",
+    "binlog_numbers",
+    "binlog_description",
+    "binlog_bodies",
+    "binlog_statements",
+    "binlog_gtids",
+    "binlog_rows",
+    "binlog_columns",
+    "binlog_values",
+    "binlog_event_data",
+    "binlog_gtid_sets",
+    "binlog_ends",
+    "binlog_events",
+    "binlog_mariadb",
+    "binlog_file",
+]
+TOOLS = ["json_line", "binlog_lines", "binlog_listing"]
+
+# The crates of programs, and the programs' names.
+PROGRAMS = {"binlog_list": "binlog-list", "binlog_json": "binlog-json"}
+
+# The crates of tests, and their helpers.
+TESTKITS = ["testkit_bodies", "testkit_logs"]
+TESTS = [
+    "test_ends",
+    "test_fields",
+    "test_bodies",
+    "test_statements",
+    "test_gtids",
+    "test_rows",
+    "test_values",
+    "test_gtid_sets",
+    "test_mariadb",
+    "test_files",
+    "test_events",
+    "test_failing_ends",
+    "test_state",
+]
+
+# The crates of each package.
+PACKAGES = {
+    "binlog": LIBRARY,
+    "binlog-tools": [*TOOLS, *PROGRAMS],
+    "binlog-tests": [*TESTKITS, *TESTS],
+}
+
+
+def sources(crate_folder):
+    """The sources of a crate that are converted: all but tests and laws."""
+    for path in sorted((crate_folder / "src").rglob("*.rt")):
+        relative = path.relative_to(crate_folder / "src")
+        if relative.stem not in ("tests", "laws") and "tests" not in relative.parts:
+            yield path, relative

@@ -1,0 +1,72 @@
+"""Calls of the toolchain's standard library that Rust's has in another form."""
+
+
+def shared_owners(source):
+    """`Arc`: Rust has no call of it that returns an error where memory runs out."""
+    for index in source.places("Arc", "::", "try_clone", "("):
+        close = source.partner[index + 3]
+        if not source.is_at(close + 1, "?"):
+            raise source.refusal(index, "`Arc::try_clone` without `?`")
+        yield source.span(index + 2, index + 2, "clone")
+        yield source.span(close + 1, close + 1)
+    for index in source.places("Arc", "::", "new", "("):
+        yield from made_owner(source, index)
+
+
+def made_owner(source, index):
+    """`match Arc::new(VALUE) { Ok(x) => Ok(x), Err(_) => .. }` or `Arc::new(VALUE).map_err(|_| ..)`; no other form is
+    known."""
+    close = source.partner[index + 3]
+    if source.is_at(close + 1, ".", "map_err", "(", "|", "_", "|"):
+        yield source.code[index].start, source.code[index].start, "Ok("
+        yield source.span(close + 1, source.partner[close + 3], ")")
+        return
+    body = close + 1
+    names = source.texts(body + 3, body + 4)
+    wanted = ["{", "Ok", "(", *names, ")", "=>", "Ok", "(", *names, ")", ",", "Err", "(", "_", ")", "=>"]
+    if not source.is_at(index - 1, "match") or not source.is_at(body, *wanted):
+        raise source.refusal(index, "`Arc::new` of a form that isn't known")
+    yield source.span(index - 1, index - 1, "Ok(")
+    yield source.span(body, source.partner[body], ")")
+
+
+def lossy_texts(source):
+    """`bstr`'s lossy text, which may be refused."""
+    for index in source.places(".", "to_str_lossy", "(", ")"):
+        name = source.code[index - 1].text
+        yield source.span(index - 1, index + 3, f"try_lossy_text({name})")
+
+
+def buffers(source):
+    """The buffers of a program: `let Ok(x) = Buf::with_capacity(..) else { return Err(Error::Memory); };`"""
+    for index in source.places("let", "Ok", "("):
+        close = source.partner[index + 2]
+        call = close + 2
+        if source.texts(call, call + 1) not in (["BufReader"], ["BufWriter"]):
+            continue
+        behind = source.partner[call + 3] + 1
+        if not source.is_at(behind, "else", "{", "return", "Err", "(", "Error", "::", "Memory", ")", ";", "}"):
+            raise source.refusal(index, "a buffer whose refusal isn't `Error::Memory`")
+        yield source.span(index + 1, index + 2)
+        yield source.span(close, close)
+        yield source.span(behind, behind + 10)
+
+
+def programs(source):
+    """The standard input and output, which the runtime gives."""
+    for index in source.places("rt", ".", "reader", "(", ")"):
+        yield source.span(index, index + 4, "io::stdin().lock()")
+    for index in source.places("io", "::", "writer", "(", "rt", ")"):
+        yield source.span(index, index + 5, "io::stdout().lock()")
+
+
+def json_writers(source):
+    """The type of a writer of JSON, which names its allocator."""
+    for index in source.places("Writer", "<", "Global", ">"):
+        yield source.span(index + 1, index + 3)
+
+
+def rust_calls(source):
+    """The source with Rust's calls."""
+    source = source.changed([*shared_owners(source), *lossy_texts(source)])
+    return source.changed(buffers(source))

@@ -1,0 +1,60 @@
+"""Vectors that grow: Rust's `push` aborts where memory runs out, the toolchain's returns an error. A growth that was
+proved to have room (`.unwrap()`) is Rust's own call; any other one is that of the crate's `TryGrow`."""
+
+from rt_to_rust.kinds import kind_of
+
+# The toolchain's calls that may be refused, and what stands for them.
+CALLS = {
+    "push": "try_push",
+    "insert": "try_insert",
+    "resize": "try_resize",
+    "extend_from_slice": "try_extend_from_slice",
+    "reserve_exact": "try_reserve_exact",
+}
+# Calls that make a vector or text with memory, and the functions of the library's module for memory in their place.
+CONSTRUCTORS = {
+    ("Vec", "with_capacity"): "vec_with_capacity",
+    ("Vec", "from_slice"): "vec_from_slice",
+    ("String", "from_str"): "string_from",
+}
+
+
+def growing_calls(source):
+    """Calls of vectors that grow."""
+    for index, token in enumerate(source.code):
+        if token.text not in CALLS or not source.is_at(index - 1, ".") or not source.is_at(index + 1, "("):
+            continue
+        if not is_vector(source, index):
+            continue
+        end = source.partner[index + 1]
+        if source.is_at(end + 1, ".", "unwrap", "(", ")"):
+            yield source.span(end + 1, end + 4)
+        else:
+            yield source.span(index, index, CALLS[token.text])
+
+
+def is_vector(source, index):
+    """Whether this call's receiver is a vector, and not a type of the crates with a call of that name."""
+    return kind_of(source, index - 1) == "Vec"
+
+
+def constructors(source):
+    """Vectors and texts that are made with memory."""
+    for (kind, call), name in CONSTRUCTORS.items():
+        for index in source.places(kind, "::", call, "("):
+            yield source.span(index, index + 2, name)
+
+
+def failures(source):
+    """A failed growth holds no value: conversions of its error to `AllocError` are none."""
+    for index in source.places(".", "map_err", "(", "AllocError", "::", "from", ")"):
+        yield source.span(index, index + 6)
+    for index in source.places("AllocError", "::", "from", "("):
+        close = source.partner[index + 3]
+        yield source.span(index, index + 3)
+        yield source.span(close, close)
+
+
+def grown(source):
+    """The source with growth that may be refused."""
+    return source.changed([*growing_calls(source), *constructors(source), *failures(source)])

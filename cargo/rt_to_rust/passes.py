@@ -1,0 +1,46 @@
+"""The passes from a Rattle source to a Rust one, in their order."""
+
+from rt_to_rust import forms
+from rt_to_rust.allocators import without_allocators
+from rt_to_rust.borrowing import borrowed
+from rt_to_rust.bounds import without_drops
+from rt_to_rust.derive_where import written_out
+from rt_to_rust.docs import ghost_members, spoken
+from rt_to_rust.ghosts import without_proofs
+from rt_to_rust.growth import grown
+from rt_to_rust.imports import placed, with_memory
+from rt_to_rust.memory_forms import renamed, with_plain_forms
+from rt_to_rust.runtime import without_runtime
+from rt_to_rust.source import Source
+from rt_to_rust.visibility import guarded, open_enums, with_panics
+
+
+class Used:
+    """The rows of the converter's tables that a conversion used: a row that nothing uses is out of date."""
+
+    def __init__(self):
+        self.checks = set()
+        self.both_forms = set()
+
+
+def rust(path, text, place, public, clones, used):
+    """The Rust source of a Rattle source. `public` has the public names of the library, and `clones` the types whose
+    copies may be refused."""
+    source = Source(path, text)
+    members = ghost_members(source)
+    if not place.public:
+        source = open_enums(guarded(source, public, used.checks))
+    source = without_proofs(source, is_test=place.is_test())
+    source = without_drops(source)
+    if place.has_runtime:
+        source = without_runtime(source.changed(forms.programs(source)))
+    source = borrowed(source)
+    source = source.changed(forms.json_writers(source))
+    source = renamed(source, clones, used.both_forms)
+    source = grown(source)
+    source = placed(source, place)
+    source = forms.rust_calls(without_allocators(source))
+    # From here lines are added.
+    source = with_memory(source, place)
+    source = with_panics(with_plain_forms(written_out(source), public))
+    return spoken(source, members).marks_removed().lstrip("\n")

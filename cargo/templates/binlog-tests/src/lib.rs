@@ -1,0 +1,33 @@
+//! The tests of the proved sources, as tests of the crate `binlog`.
+#![forbid(unsafe_code)]
+
+use std::borrow::Cow;
+
+/// The error of a test.
+pub type Fail = Box<dyn std::error::Error>;
+
+/// The text of a `Cow`, by the name that the tests call.
+pub trait AsStr {
+    /// The text.
+    fn as_str(&self) -> &str;
+}
+
+impl AsStr for Cow<'_, str> {
+    fn as_str(&self) -> &str {
+        self
+    }
+}
+
+pub mod test_bodies;
+pub mod test_events;
+pub mod test_fields;
+pub mod test_files;
+pub mod test_gtid_sets;
+pub mod test_gtids;
+pub mod test_mariadb;
+pub mod test_rows;
+pub mod test_state;
+pub mod test_statements;
+pub mod test_values;
+pub mod testkit_bodies;
+pub mod testkit_logs;

@@ -1,0 +1,154 @@
+//! MySQL binary logs (format version 4), read and written.
+//!
+//! [`BinlogFile`] reads a log from a reader, [`BinlogSlice`] one in memory, and [`EventStreamReader`] a stream of events
+//! without a file header. Each gives events, owned ([`events::Event`]) or borrowed ([`EventRef`]); an event's body is read
+//! as one type by [`EventRef::read_event`], or by its own type by [`EventRef::read_data`].
+//!
+//! The sources of this crate are made from proved ones, module by module: `binlog_file/reader.rs` here is
+//! `binlog_file/src/reader.rt` there. The proofs hold of those; what made these is tested.
+//!
+//! # Example
+//!
+//! ```
+//! use binlog::BinlogFile;
+//! use binlog::consts::{BinlogVersion, EventType};
+//! use binlog::events::XidEvent;
+//!
+//! fn last_transaction(input: impl std::io::BufRead) -> Result<Option<u64>, binlog::Error> {
+//!     let mut file = BinlogFile::new(BinlogVersion::Version4, input)?;
+//!     let mut last = None;
+//!     while let Some(item) = file.next_ref() {
+//!         let event = item?;
+//!         if let Ok(EventType::XID_EVENT) = event.header().event_type() {
+//!             last = Some(event.read_event::<XidEvent>()?.xid);
+//!         }
+//!     }
+//!     Ok(last)
+//! }
+//!
+//! let empty_log = [0xfe, b'b', b'i', b'n'];
+//! assert_eq!(last_transaction(&empty_log[..]), Ok(None));
+//! ```
+#![forbid(unsafe_code)]
+
+mod binlog_bodies;
+mod binlog_columns;
+mod binlog_consts;
+mod binlog_description;
+mod binlog_ends;
+mod binlog_event_data;
+mod binlog_events;
+mod binlog_file;
+mod binlog_gtid_sets;
+mod binlog_gtids;
+mod binlog_mariadb;
+mod binlog_numbers;
+mod binlog_rows;
+mod binlog_statements;
+mod binlog_values;
+mod binlog_wire;
+mod bitflags;
+mod crc32_ieee;
+#[doc(hidden)]
+pub mod memory;
+
+pub use crate::binlog_description::{BinlogCtx, BinlogEvent, BinlogStruct, DescriptionRef, read_body};
+pub use crate::binlog_events::{BinlogFileHeader, EventRef};
+pub use crate::binlog_file::{
+    BinlogFile, BinlogFileOf, BinlogSlice, EventStreamReader, Items, Unverified, Verification,
+    Verified, VerifiedFile,
+};
+pub use crate::binlog_gtid_sets::GtidTracker;
+pub use crate::binlog_gtids::GnoSet;
+pub use crate::binlog_wire::{Error, Field, Invalid};
+pub use crate::crc32_ieee::Crc32;
+pub use crate::memory::AllocError;
+
+/// Constants: types of events, flags, versions and small tables of codes.
+pub mod consts {
+    pub use crate::binlog_consts::{BinlogChecksumAlg, BinlogVersion, EventFlags, EventType};
+    pub use crate::binlog_consts::{IncidentType, IntvarEventType, ItemResult, LoadDuplicateHandling};
+    pub use crate::binlog_consts::{RowsEventFlags, StatusVarKey, UserVarFlags};
+    pub use crate::binlog_consts::{UnknownChecksumAlg, UnknownEventType, UnknownIncidentType};
+    pub use crate::binlog_consts::{UnknownItemResultType, UnknownStatusVarKey};
+    pub use crate::binlog_description::{MAX_BODY_LEN, SERVER_VER_LEN};
+    pub use crate::binlog_gtids::GtidFlags;
+}
+
+/// Events: their headers and footers, and the bodies of each type.
+pub mod events {
+    pub use crate::binlog_bodies::{BeginLoadQueryEvent, IncidentEvent, IntvarEvent, RandEvent};
+    pub use crate::binlog_bodies::{RotateEvent, RowsQueryEvent, XidEvent};
+    pub use crate::binlog_description::{BinlogEventFooter, BinlogEventHeader, FormatDescriptionEvent};
+    pub use crate::binlog_description::split_version;
+    pub use crate::binlog_event_data::EventData;
+    pub use crate::binlog_events::{DescribedEvent, Event};
+    pub use crate::binlog_gtids::field_id;
+    pub use crate::binlog_gtids::{AnonymousGtidEvent, GtidEvent, PreviousGtidsEvent, PreviousGtidsSid};
+    pub use crate::binlog_numbers::{GnoInterval, Tag};
+    pub use crate::binlog_rows::{DeleteRows, DeleteRowsV1, PartialUpdateRows, UpdateRows};
+    pub use crate::binlog_rows::{DeleteRowsEvent, DeleteRowsEventV1, PartialUpdateRowsEvent};
+    pub use crate::binlog_rows::{HasAfterImage, HasBeforeImage, RowsForm, RowsKind};
+    pub use crate::binlog_rows::{RowsEvent, RowsEventData, RowsEventOf, TableMapEvent};
+    pub use crate::binlog_rows::{UpdateRowsEvent, UpdateRowsEventV1, WriteRowsEvent, WriteRowsEventV1};
+    pub use crate::binlog_rows::{UpdateRowsV1, WriteRows, WriteRowsV1};
+    pub use crate::binlog_statements::{ExecuteLoadQueryEvent, QueryEvent, UserVarEvent};
+    pub use crate::binlog_statements::{StatusVar, StatusVarVal, StatusVars, StatusVarsIterator};
+}
+
+/// The fields that bodies are made of.
+pub mod raw {
+    pub use crate::binlog_numbers::{LenEnc, LenEncBytes, ValueList, Varlen, VarlenSigned};
+    pub use crate::binlog_wire::{BareBytes, BareU8Bytes, BareU16Bytes, EofBytes, FixedLengthText};
+    pub use crate::binlog_wire::{BitView, BytesRepr, Const, Constant, IntRepr, ParseBuf, Put};
+    pub use crate::binlog_wire::{LeU16, LeU32, LeU48, LeU56, LeU64, MyDeserialize, MySerialize};
+    pub use crate::binlog_wire::{NullBytes, RawBytes, RawConst, RawFlags, RawInt, Skip, U8Bytes};
+    pub use crate::binlog_wire::{U32Bytes, WritableBytes};
+    pub use crate::bitflags::{Flag, Flags};
+}
+
+/// Integers of variable width.
+pub mod misc {
+    pub use crate::binlog_numbers::{lenenc_int_len, read_varlen_int, read_varlen_uint};
+    pub use crate::binlog_numbers::{varlen_uint_size, write_varlen_int, write_varlen_uint};
+    pub use crate::raw;
+}
+
+/// Readers and writers that count their failures.
+pub mod counted {
+    pub use crate::binlog_ends::{ATTEMPTS, Counted, CountsFailures, Failed, ReadCounted, Retrying};
+    pub use crate::binlog_ends::{SliceReader, WriteCounted};
+}
+
+/// MariaDB's own events.
+pub mod mariadb {
+    pub use crate::binlog_mariadb::{AnnotateRowsEvent, BinlogCheckpointEvent, GtidExtra, GtidHead};
+    pub use crate::binlog_mariadb::{GtidListEvent, MariaEvent, MariaEventData, MariaEventType};
+    pub use crate::binlog_mariadb::{MariaGtid, MariaGtidEvent, MariaGtidFlags, StartEncryptionEvent};
+    pub use crate::binlog_mariadb::{UnknownMariaEventType, XaId, is_maria_log, is_maria_version};
+    pub use crate::binlog_mariadb::{read_maria_body, read_maria_data};
+}
+
+/// The columns of a table map, and the values of rows.
+pub mod values {
+    pub use crate::binlog_columns::{Column, ColumnError, ColumnErrorKind, ColumnType, Layout};
+    pub use crate::binlog_columns::{TableColumns, UnknownColumnType};
+    pub use crate::binlog_values::{Bit, Date, DateTime, DateTime2, Decimal, Integer, Time, Time2};
+    pub use crate::binlog_values::{Timestamp2, Value};
+}
+
+/// The error of a reader, a writer or a body, among those of input and output.
+impl From<Error> for std::io::Error {
+    fn from(error: Error) -> Self {
+        use std::io::ErrorKind;
+        let kind = match error {
+            Error::EndOfInput | Error::EndOfBody => ErrorKind::UnexpectedEof,
+            Error::Memory | Error::FrameMemory => ErrorKind::OutOfMemory,
+            Error::Reader | Error::ReaderInFrame | Error::Writer => ErrorKind::Other,
+            Error::Unwritable(_) | Error::EventTooLong => ErrorKind::InvalidInput,
+            Error::UnknownChecksumAlg(_) | Error::BadGno(_) => ErrorKind::InvalidInput,
+            _ => ErrorKind::InvalidData,
+        };
+        std::io::Error::new(kind, error)
+    }
+}

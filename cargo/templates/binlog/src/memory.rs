@@ -1,0 +1,152 @@
+//! Memory that may be refused: what the proved sources call of their standard library, over Rust's own.
+use std::borrow::Cow;
+use std::collections::TryReserveError;
+
+/// An allocation failed.
+#[derive(Clone, Copy, Debug, PartialEq, Eq, thiserror::Error)]
+#[error("out of memory")]
+pub struct AllocError;
+
+impl From<TryReserveError> for AllocError {
+    fn from(_: TryReserveError) -> Self {
+        AllocError
+    }
+}
+
+impl From<TryReserveError> for crate::Error {
+    fn from(_: TryReserveError) -> Self {
+        crate::Error::Memory
+    }
+}
+
+impl From<AllocError> for std::io::Error {
+    fn from(error: AllocError) -> Self {
+        std::io::Error::new(std::io::ErrorKind::OutOfMemory, error)
+    }
+}
+
+/// Vectors whose growth may be refused; they are unchanged then.
+pub trait TryGrow<T> {
+    /// Appends an item.
+    fn try_push(&mut self, item: T) -> Result<(), AllocError>;
+
+    /// Puts an item at an index, and moves those behind it.
+    fn try_insert(&mut self, at: usize, item: T) -> Result<(), AllocError>;
+
+    /// Appends copies of the items.
+    fn try_extend_from_slice(&mut self, items: &[T]) -> Result<(), AllocError>
+    where
+        T: Copy;
+
+    /// Appends copies of an item, or takes items from the end, up to this length.
+    fn try_resize(&mut self, len: usize, item: T) -> Result<(), AllocError>
+    where
+        T: Copy;
+}
+
+impl<T> TryGrow<T> for Vec<T> {
+    #[inline]
+    fn try_push(&mut self, item: T) -> Result<(), AllocError> {
+        self.try_reserve(1)?;
+        self.push(item);
+        Ok(())
+    }
+
+    #[inline]
+    fn try_insert(&mut self, at: usize, item: T) -> Result<(), AllocError> {
+        self.try_reserve(1)?;
+        self.insert(at, item);
+        Ok(())
+    }
+
+    #[inline]
+    fn try_extend_from_slice(&mut self, items: &[T]) -> Result<(), AllocError>
+    where
+        T: Copy,
+    {
+        self.try_reserve(items.len())?;
+        self.extend_from_slice(items);
+        Ok(())
+    }
+
+    #[inline]
+    fn try_resize(&mut self, len: usize, item: T) -> Result<(), AllocError>
+    where
+        T: Copy,
+    {
+        self.try_reserve(len.saturating_sub(self.len()))?;
+        self.resize(len, item);
+        Ok(())
+    }
+}
+
+/// An empty vector with room for as many items.
+#[inline]
+pub fn vec_with_capacity<T>(count: usize) -> Result<Vec<T>, AllocError> {
+    let mut items = Vec::new();
+    items.try_reserve_exact(count)?;
+    Ok(items)
+}
+
+/// A copy of the items.
+#[inline]
+pub fn vec_from_slice<T: Copy>(items: &[T]) -> Result<Vec<T>, AllocError> {
+    let mut copy = vec_with_capacity(items.len())?;
+    copy.extend_from_slice(items);
+    Ok(copy)
+}
+
+/// A copy of the text.
+pub fn string_from(text: &str) -> Result<String, AllocError> {
+    let mut copy = String::new();
+    copy.try_reserve_exact(text.len())?;
+    copy.push_str(text);
+    Ok(copy)
+}
+
+/// Owned bytes or text, whose memory may be refused.
+pub trait TryIntoOwned {
+    /// The owned form.
+    type Owned;
+
+    /// The owned form of the value, copied where it is borrowed.
+    fn try_into_owned(self) -> Result<Self::Owned, AllocError>;
+}
+
+impl TryIntoOwned for Cow<'_, [u8]> {
+    type Owned = Vec<u8>;
+
+    fn try_into_owned(self) -> Result<Vec<u8>, AllocError> {
+        match self {
+            Cow::Borrowed(bytes) => vec_from_slice(bytes),
+            Cow::Owned(bytes) => Ok(bytes),
+        }
+    }
+}
+
+impl TryIntoOwned for Cow<'_, str> {
+    type Owned = String;
+
+    fn try_into_owned(self) -> Result<String, AllocError> {
+        match self {
+            Cow::Borrowed(text) => string_from(text),
+            Cow::Owned(text) => Ok(text),
+        }
+    }
+}
+
+/// The bytes as UTF-8 text, with U+FFFD in place of each malformed sequence; as `String::from_utf8_lossy`, but that memory
+/// may be refused.
+pub fn try_lossy_text(bytes: &[u8]) -> Result<Cow<'_, str>, AllocError> {
+    if let Ok(text) = std::str::from_utf8(bytes) {
+        return Ok(Cow::Borrowed(text));
+    }
+    let mut text = String::new();
+    for chunk in bytes.utf8_chunks() {
+        let malformed = if chunk.invalid().is_empty() { "" } else { "\u{fffd}" };
+        text.try_reserve(chunk.valid().len() + malformed.len())?;
+        text.push_str(chunk.valid());
+        text.push_str(malformed);
+    }
+    Ok(Cow::Owned(text))
+}

@@ -1,0 +1,47 @@
+"""Conversions of short sources."""
+
+import unittest
+
+from rt_to_rust.imports import Place
+from rt_to_rust.passes import Used, rust
+from rt_to_rust.source import Source
+from rt_to_rust.tokens import Refusal
+
+PUBLIC = {"Held": "binlog::events::Held", "Error": "binlog::Error", "Kind": "binlog::consts::Kind"}
+LIBRARY = Place("binlog_wire", None, has_runtime=False)
+TOOL = Place("binlog_lines", PUBLIC, has_runtime=False)
+PROGRAM = Place(None, PUBLIC, has_runtime=True)
+TEST = Place("test_fields", PUBLIC, has_runtime=True)
+
+
+def source(text):
+    return Source("sample.rt", text)
+
+
+def converted(text, place=LIBRARY, clones=()):
+    """The Rust text of a source."""
+    return rust("sample.rt", text, place, PUBLIC, clones, Used())
+
+
+def spaceless(text):
+    """A text without spaces, and without commas in front of a closing bracket, which `rustfmt` sets."""
+    return "".join(text.split()).replace(",)", ")").replace(",}", "}")
+
+
+class Case(unittest.TestCase):
+    """Tests of conversions, which compare texts without their layout."""
+
+    def gives(self, text, wanted, **settings):
+        self.assertEqual(spaceless(converted(text, **settings)), spaceless(wanted))
+
+    def has(self, text, wanted, **settings):
+        self.assertIn(spaceless(wanted), spaceless(converted(text, **settings)))
+
+
+def refusal(text, place=LIBRARY):
+    """The message with which a source is refused."""
+    try:
+        converted(text, place)
+    except Refusal as refused:
+        return str(refused)
+    raise AssertionError("not refused")

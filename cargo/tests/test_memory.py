@@ -1,0 +1,103 @@
+"""Tests of allocators, growth, and calls with two forms."""
+
+import unittest
+
+from tests.samples import Case, PROGRAM, converted, refusal
+
+
+class Allocators(Case):
+    def test_parameters_and_arguments_go(self):
+        text = "fn f(alloc: Global, a: u8, _alloc: Global) { g(alloc, a); h(a, self.alloc); i(alloc) }"
+        self.gives(text, "fn f( a: u8,) { g( a); h(a,); i() }")
+
+    def test_fields_and_bindings_go(self):
+        text = "struct A {\n    a: u8,\n    alloc: Global,\n}\nfn f() {\n    let alloc = *self.a.allocator();\n    A { a, alloc }\n}"
+        self.gives(text, "struct A { a: u8, } fn f() { A { a } }")
+
+    def test_another_form_is_refused(self):
+        self.assertEqual(refusal("fn f() {\n    g(&alloc)\n}"), "sample.rt:2: `alloc` in a place that isn't known")
+
+
+class Growth(Case):
+    def test_a_growth_that_has_room_is_rust_s_own(self):
+        text = "fn f(buf: &mut Vec<u8>) {\n    buf.push(1).unwrap();\n}"
+        self.gives(text, "fn f(buf: &mut Vec<u8>) { buf.push(1); }")
+
+    def test_another_growth_may_be_refused(self):
+        text = "fn f(alloc: Global) -> Result<(), Error> {\n    let mut a = Vec::new(alloc);\n    a.push(1)?;\n    Ok(())\n}"
+        wanted = "use crate::memory::TryGrow; fn f() -> Result<(), Error> { let mut a = Vec::new(); a.try_push(1)?; Ok(()) }"
+        self.gives(text, wanted)
+
+    def test_a_type_s_own_call_stays(self):
+        text = "struct A {\n    set: GnoSet,\n}\nimpl A {\n    fn f(&mut self) {\n        self.set.insert(1, 2)\n    }\n}"
+        self.has(text, "self.set.insert(1, 2)")
+
+    def test_a_receiver_whose_type_is_not_stated_is_refused(self):
+        message = "sample.rt:3: the type of `a` isn't stated"
+        self.assertEqual(refusal("fn f() {\n    let a = b();\n    a.push(1)?;\n}"), message)
+
+    def test_vectors_with_memory(self):
+        text = "fn f() {\n    Vec::with_capacity(alloc, 9)?;\n    Vec::from_slice(alloc, b)?;\n}"
+        self.has(text, "vec_with_capacity( 9)?; vec_from_slice( b)?;")
+
+
+HELD = """impl<'a, K: A> Held<'a, K> {
+    /// The same, owned. The only error is [`Error::Memory`].
+    pub fn into_owned(self, alloc: Global) -> Result<Held<'static, K>, Error> {
+        Ok(Held(self.0.into_owned(alloc)?))
+    }
+
+    pub fn clone(&self, alloc: Global) -> Result<Self, Error> {
+        Ok(Held(self.0.clone(alloc)?))
+    }
+}"""
+
+
+class BothForms(Case):
+    def test_the_proved_form_is_try(self):
+        body = "{ Ok(Held(self.0.try_into_owned()?)) }"
+        self.has(HELD, f"pub fn try_into_owned(self) -> Result<Held<'static, K>, Error> {body}")
+        self.has(HELD, "pub fn try_clone(&self) -> Result<Self, Error> { Ok(Held(self.0.try_clone()?)) }")
+
+    def test_the_plain_form_is_beside_it(self):
+        wanted = "/// The same, owned. /// /// # Panics /// /// If memory runs out. "
+        wanted += "pub fn into_owned(self) -> Held<'static, K> "
+        self.has(HELD, wanted + '{ self.try_into_owned().expect("out of memory") }')
+        self.has(HELD, "impl<'a, K: A> Clone for Held<'a, K> { fn clone(&self) -> Self {")
+
+    def test_a_type_of_the_crate_s_own_has_the_proved_form_alone(self):
+        self.assertNotIn("fn into_owned", converted(HELD.replace("Held", "Hidden")))
+
+    def test_copies_are_told_apart_by_their_types(self):
+        text = "enum E {\n    A(Small),\n    B(GnoSet),\n}\nfn f(e: &E) {\n    match e {\n"
+        text += "        Self::A(a) => a.clone()?,\n        Self::B(b) => b.clone()?,\n    }\n}"
+        self.has(text, "Self::A(a) => a.clone(), Self::B(b) => b.try_clone()?", clones={"GnoSet"})
+
+
+class Borrowing(Case):
+    def test_any_value_that_makes_a_cow_is_taken(self):
+        text = "use std::borrow::CowSlice;\nimpl<'a> A<'a> {\n    pub fn new(a: CowSlice<'a, u8>) -> Self {\n        A { a }\n    }\n}"
+        wanted = "pub fn new(a: impl Into<Cow<'a, [u8]>>) -> Self { let a: Cow<'a, [u8]> = a.into(); A { a } }"
+        self.has(text, wanted)
+
+    def test_what_is_passed_on_needs_no_conversion(self):
+        text = "impl<'a> A<'a> {\n    pub fn new(a: CowSlice<'a, u8>) -> Self {\n        A(B::new(a), B::new(CowSlice::Borrowed(b)))\n    }\n}"
+        self.has(text, "{ A(B::new(a), B::new(b)) }")
+
+    def test_the_slice_of_a_cow(self):
+        text = "use std::borrow::CowStr;\nstruct A<'a> {\n    a: CowStr<'a, Global>,\n    b: Vec<u8>,\n}\nfn f() {\n    self.a.as_str();\n    self.b.as_slice();\n}"
+        self.has(text, "self.a.as_ref(); self.b.as_slice();")
+
+
+class Programs(Case):
+    def test_a_program_reads_standard_input(self):
+        text = "fn run(rt: &(impl Input + AllocGlobal)) -> Result<bool, Error> {\n"
+        text += "    let Ok(input) = BufReader::with_capacity(rt.alloc(), 9, rt.reader()) else {\n        return Err(Error::Memory);\n    };\n"
+        text += "    list(rt.alloc(), input)\n}\nfn main(rt: HostRuntime) {\n    run(&rt);\n}"
+        wanted = "fn run() -> Result<bool, Error> { let input = BufReader::with_capacity( 9, io::stdin().lock()) ; "
+        wanted += "list( input) } fn main() { run(); }"
+        self.gives(text, wanted, place=PROGRAM)
+
+
+if __name__ == "__main__":
+    unittest.main()

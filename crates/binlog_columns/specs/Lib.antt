@@ -1,0 +1,12 @@
+pub mod ColumnLists
+pub mod ColumnTypeLaws
+pub mod ColumnTypes
+pub mod Columns
+pub mod Kinds
+pub mod LayoutLaws
+pub mod Layouts
+pub mod Metadata
+pub mod RealTypes
+pub mod RefusalLaws
+pub mod Refusals
+pub mod TableColumns

@@ -1,0 +1,72 @@
+-- Laws of refusals of columns, one column at a time.
+use Rattle.std.proofs.Common.{◌≡◌, ℕ, suc, ◌+◌, ◌<◌, List, [], ◌∷◌, length, get_or, drop, Option, Some, None, Ok, Err, refl, ap, add-one}
+use Rattle.binlog_wire.specs.declared.error.Error.{Error}
+use Rattle.binlog_wire.specs.declared.error.Error.TheVariants as errors
+use Rattle.binlog_wire.specs.Reading.{Refusal, Read, ends, invalid, other_type, Refuses}
+use Rattle.binlog_numbers.specs.Laws.RepeatedLoops.{drop_item}
+use Rattle.binlog_columns.specs.Metadata.{Typed, column}
+use Rattle.binlog_columns.specs.Kinds.{kind_as, kind_of}
+use Rattle.binlog_columns.specs.Refusals.{refused_or, refusal}
+use Rattle.binlog_columns.specs.declared.column_error.ColumnError.{ColumnError}
+
+-- The error of reading a column has the kind of its refusal.
+pub kind_is : (e : Error) (read : Read Typed) → Refuses ⊥ e read → (d : Refusal) × (read ≡ Err d) × (kind_of e ≡ kind_as d)
+kind_is errors.EndOfBody read h = (ends, h, refl)
+kind_is (errors.InvalidData why) read h = (invalid why, h, refl)
+kind_is (errors.WrongEventType number) read h = (other_type number, h, refl)
+kind_is errors.Memory read h = absurd h
+kind_is errors.EndOfInput read h = absurd h
+kind_is errors.InvalidFileHeader read h = absurd h
+kind_is (errors.EventSizeTooSmall size) read h = absurd h
+kind_is errors.TooShortForChecksum read h = absurd h
+kind_is (errors.RemainingBytes count) read h = absurd h
+kind_is (errors.UnknownChecksumAlg algorithm) read h = absurd h
+kind_is errors.EventTooLong read h = absurd h
+kind_is (errors.Unwritable field) read h = absurd h
+kind_is errors.FrameMemory read h = absurd h
+kind_is errors.Reader read h = absurd h
+kind_is errors.ReaderInFrame read h = absurd h
+kind_is errors.Writer read h = absurd h
+kind_is (errors.ChecksumMismatch stored computed) read h = absurd h
+kind_is (errors.BadGno number) read h = absurd h
+
+-- One more column is read.
+pub refusal_step : (types : List ℕ) (i number : ℕ) (m : List ℕ) (typed : Typed) (rest : List ℕ) → i < length types → number ≡ get_or types i 0
+    → (column number).reads m ≡ Ok (typed, rest) → refusal i (drop i types) m ≡ refusal (i + 1) (drop (i + 1) types) rest
+refusal_step types i number m typed rest less is e = rw (drop_item types i number 0 less is, e, add-one i) refl
+
+-- A column is refused.
+pub refusal_here : (types : List ℕ) (i number : ℕ) (m : List ℕ) (e : Error) → i < length types → number ≡ get_or types i 0
+    → Refuses ⊥ e ((column number).reads m) → refusal i (drop i types) m ≡ Some (record { kind = kind_of e; column = i })
+refusal_here types i number m e less is h =
+    let d = kind_is e ((column number).reads m) h in
+    rw (drop_item types i number 0 less is, d.1, d.2) refl
+
+-- If no column is refused, none is with another index of the first column.
+none_by : (i j : ℕ) (read : Read Typed) (f g : List ℕ → Option ColumnError) → ((m : List ℕ) → f m ≡ None → g m ≡ None) → refused_or i read f ≡ None → refused_or j read g ≡ None
+none_by i j (Ok x) f g ih h = ih x.1 h
+none_by i j (Err d) f g ih h = absurd cc
+
+pub none_anywhere : (i j : ℕ) (types m : List ℕ) → refusal i types m ≡ None → refusal j types m ≡ None
+none_anywhere i j [] [] h = refl
+none_anywhere i j [] (byte ∷ m) h = absurd cc
+none_anywhere i j (number ∷ types) m h = none_by i j ((column number).reads m) (refusal (suc i) types) (refusal (suc j) types) (λ m. none_anywhere (suc i) (suc j) types m) h
+
+some_by : (i : ℕ) (read : Read Typed) (f : List ℕ → Option ColumnError) → refused_or i read f ≡ None → (x : Typed × List ℕ) × (read ≡ Ok x) × (f x.1 ≡ None)
+some_by i (Ok x) f h = (x, refl, h)
+some_by i (Err d) f h = absurd cc
+
+-- If no column is refused, the first is read.
+pub first_read : (i number : ℕ) (types m : List ℕ) → refusal i (number ∷ types) m ≡ None
+    → (x : Typed × List ℕ) × ((column number).reads m ≡ Ok x) × (refusal (suc i) types x.1 ≡ None)
+first_read i number types m h = some_by i ((column number).reads m) (refusal (suc i) types) h
+
+-- If no column is refused, none of those after the first is.
+pub tail_whole : (s types m rest : List ℕ) (number : ℕ) (typed : Typed) → refusal 0 s m ≡ None → s ≡ number ∷ types → (column number).reads m ≡ Ok (typed, rest)
+    → refusal 0 types rest ≡ None
+tail_whole s types m rest number typed h split read =
+    let whole : refusal 0 (number ∷ types) m ≡ None = rw split at h in
+    let first = first_read 0 number types m whole in
+    let pairs : ◌≡◌ {A = Typed × List ℕ} (typed, rest) first.0 = cc in
+    let left : rest ≡ first.0.1 = ap (λ (p : Typed × List ℕ). p.1) pairs in
+    none_anywhere 1 0 types rest (rw left first.2)

@@ -1,0 +1,4 @@
+pub mod GtidGroups
+pub mod AddedGtids
+pub mod GtidDifferences
+pub mod FirstBadGnos

@@ -1,0 +1,3 @@
+pub mod AddedGtids
+pub mod GtidGroups
+pub mod FirstBadGnos

@@ -1,0 +1,12 @@
+pub mod Parts
+pub mod EventTypes
+pub mod Flags
+pub mod Flavour
+pub mod AnnotateRows
+pub mod BinlogCheckpoint
+pub mod StartEncryption
+pub mod Gtids
+pub mod GtidLengths
+pub mod GtidLists
+pub mod Ranges
+pub mod EventBodies

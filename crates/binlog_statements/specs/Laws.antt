@@ -1,0 +1,2 @@
+-- Laws of the definitions of this crate, by topic.
+pub mod Ranges

@@ -1,0 +1,234 @@
+//! The contents of values, by the layouts of columns.
+ghost use Rattle.std.specs.Prelude.{◌≡◌, ◌≤◌, ◌<◌, ◌+◌, ◌*◌, ◌/◌, ◌%◌, ◌^◌, ◌==◌, length, nat_le};
+ghost use Rattle.binlog_wire.specs.Fields.{number_at, block_at};
+ghost use Rattle.binlog_wire.specs.Reading.{Gives, result_now};
+ghost use Rattle.binlog_values.specs.BigNumbers.{big_at};
+ghost use Rattle.binlog_values.specs.Contents.{counted, fraction_len, is_below_second, is_datetime2, is_time2, time2_zero, time2_distance, bits, timestamp2, datetime2, time2, decimal};
+
+use crate::digits::{decimal_len, is_decimal};
+use binlog_wire::{Error, Invalid, ParseBuf};
+use byteorder::{BigEndian, ByteOrder, LittleEndian};
+
+/// The error for a value that is complete and out of range.
+const OUT_OF_RANGE: Error = Error::InvalidData(Invalid::FieldRange(0));
+
+/// Takes a little-endian number of `len` bytes, 1 to 8, from the start of `buf`.
+pub(crate) fn read_number(len: usize, buf: &mut ParseBuf<'_>) -> Result<u64, Error>
+    requires low { 1 ≤ len }
+    requires high { len ≤ 8 }
+    ensures { Gives ⊥ buf.new result (number_at len buf.old) }
+{
+    if buf.0.len() < len {
+        return Err(Error::EndOfBody);
+    }
+    let number = LittleEndian::read_uint(buf.0, len);
+    buf.0 = &buf.0[len..];
+    Ok(number)
+}
+
+/// Takes a number of `len` bytes, 1 to 8, most significant byte first, from the start of `buf`.
+fn read_big(len: usize, buf: &mut ParseBuf<'_>) -> Result<u64, Error>
+    requires low { 1 ≤ len }
+    requires high { len ≤ 8 }
+    ensures { Gives ⊥ buf.new result (big_at len buf.old) }
+{
+    if buf.0.len() < len {
+        return Err(Error::EndOfBody);
+    }
+    let number = BigEndian::read_uint(buf.0, len);
+    buf.0 = &buf.0[len..];
+    Ok(number)
+}
+
+/// The number of bytes of a fraction of this many decimal digits, 0 to 6.
+pub(crate) fn fraction_len(digits: u8) -> usize
+    requires { digits ≤ 6 }
+    ensures { result ≡ fraction_len digits }
+{
+    (usize::from(digits) + 1) / 2
+}
+
+/// 256 to the power of `len`, at most 3.
+pub(crate) fn pow_256(len: usize) -> u64
+    requires { len ≤ 3 }
+    ensures power { result ≡ 256 ^ len }
+    ensures low { 0 < result }
+    ensures high { result ≤ 2 ^ 24 }
+{
+    match len {
+        0 => 1,
+        1 => 256,
+        2 => 65_536,
+        _ => 16_777_216,
+    }
+}
+
+/// 100 to the power of `len`, at most 3.
+fn pow_100(len: usize) -> u64
+    requires { len ≤ 3 }
+    ensures { result ≡ 100 ^ len }
+{
+    match len {
+        0 => 1,
+        1 => 100,
+        2 => 10_000,
+        _ => 1_000_000,
+    }
+}
+
+/// Whether the fraction at the end of a number is below one second.
+fn is_below_second(digits: u8, number: u64) -> bool
+    requires { digits ≤ 6 }
+    ensures { result ≡ is_below_second digits number }
+{
+    let len = fraction_len(digits);
+    number % pow_256(len) < pow_100(len)
+}
+
+/// Whether the number is one of a DATETIME2.
+fn is_datetime2(digits: u8, number: u64) -> bool
+    requires { digits ≤ 6 }
+    ensures { result ≡ is_datetime2 digits number }
+{
+    1 << 39 <= number / pow_256(fraction_len(digits)) && is_below_second(digits, number)
+}
+
+/// The number that encodes zero in a TIME2.
+pub(crate) fn time2_zero(digits: u8) -> u64
+    requires { digits ≤ 6 }
+    ensures zero { result ≡ time2_zero digits }
+    ensures small { result ≤ 2 ^ 47 }
+{
+    (1 << 23) * pow_256(fraction_len(digits))
+}
+
+/// The distance of the number of a TIME2 from zero.
+pub(crate) fn time2_distance(digits: u8, number: u64) -> u64
+    requires { digits ≤ 6 }
+    ensures { result ≡ time2_distance digits number }
+{
+    let zero = time2_zero(digits);
+    if number < zero {
+        zero - number
+    } else {
+        number - zero
+    }
+}
+
+/// Whether the number is one of a TIME2.
+fn is_time2(digits: u8, number: u64) -> bool
+    requires { digits ≤ 6 }
+    ensures { result ≡ is_time2 digits number }
+{
+    let distance = time2_distance(digits, number);
+    is_below_second(digits, distance) && distance / pow_256(fraction_len(digits)) < 1 << 22
+}
+
+/// Takes this many bits, 1 to 64, from the start of `buf`.
+pub(crate) fn read_bits(count: u8, buf: &mut ParseBuf<'_>) -> Result<u64, Error>
+    requires low { 1 ≤ count }
+    requires high { count ≤ 64 }
+    ensures { Gives ⊥ buf.new result ((bits count).reads buf.old) }
+{
+    let number = read_big(usize::from(count).div_ceil(8), buf)?;
+    if count == 64 || number < 1 << count {
+        Ok(number)
+    } else {
+        Err(OUT_OF_RANGE)
+    }
+}
+
+/// Takes the number of a TIMESTAMP2 from the start of `buf`.
+pub(crate) fn read_timestamp2(digits: u8, buf: &mut ParseBuf<'_>) -> Result<u64, Error>
+    requires { digits ≤ 6 }
+    ensures { Gives ⊥ buf.new result ((timestamp2 digits).reads buf.old) }
+{
+    let number = read_big(4 + fraction_len(digits), buf)?;
+    if is_below_second(digits, number) {
+        Ok(number)
+    } else {
+        Err(OUT_OF_RANGE)
+    }
+}
+
+/// Takes the number of a DATETIME2 from the start of `buf`.
+pub(crate) fn read_datetime2(digits: u8, buf: &mut ParseBuf<'_>) -> Result<u64, Error>
+    requires { digits ≤ 6 }
+    ensures { Gives ⊥ buf.new result ((datetime2 digits).reads buf.old) }
+{
+    let number = read_big(5 + fraction_len(digits), buf)?;
+    if is_datetime2(digits, number) {
+        Ok(number)
+    } else {
+        Err(OUT_OF_RANGE)
+    }
+}
+
+/// Takes the number of a TIME2 from the start of `buf`.
+pub(crate) fn read_time2(digits: u8, buf: &mut ParseBuf<'_>) -> Result<u64, Error>
+    requires { digits ≤ 6 }
+    ensures { Gives ⊥ buf.new result ((time2 digits).reads buf.old) }
+{
+    let number = read_big(3 + fraction_len(digits), buf)?;
+    if is_time2(digits, number) {
+        Ok(number)
+    } else {
+        Err(OUT_OF_RANGE)
+    }
+}
+
+/// Takes this many bytes from the start of `buf`.
+fn take<'a>(count: usize, buf: &mut ParseBuf<'a>) -> Result<&'a [u8], Error>
+    ensures { Gives ⊥ buf.new (result_now result) (block_at count buf.old) }
+{
+    buf.checked_eat(count).ok_or(Error::EndOfBody)
+}
+
+/// Takes bytes, at most `max`, after their length in `prefix` bytes, from the start of `buf`.
+pub(crate) fn read_counted<'a>(
+    prefix: usize,
+    max: u64,
+    buf: &mut ParseBuf<'a>,
+) -> Result<&'a [u8], Error>
+    requires low { 1 ≤ prefix }
+    requires high { prefix ≤ 4 }
+    ensures { Gives ⊥ buf.new (result_now result) ((counted prefix (λ n. nat_le n max)).reads buf.old) }
+{
+    let len = read_number(prefix, buf)?;
+    if len > max {
+        return Err(OUT_OF_RANGE);
+    }
+    take(len as usize, buf)
+}
+
+/// Takes bytes, a multiple of four, after their length in `prefix` bytes, from the start of `buf`.
+pub(crate) fn read_vector<'a>(prefix: usize, buf: &mut ParseBuf<'a>) -> Result<&'a [u8], Error>
+    requires low { 1 ≤ prefix }
+    requires high { prefix ≤ 4 }
+    ensures { Gives ⊥ buf.new (result_now result) ((counted prefix (λ n. n % 4 == 0)).reads buf.old) }
+{
+    let len = read_number(prefix, buf)?;
+    if len % 4 != 0 {
+        return Err(OUT_OF_RANGE);
+    }
+    take(len as usize, buf)
+}
+
+/// Takes the bytes of a decimal number from the start of `buf`.
+pub(crate) fn read_decimal<'a>(
+    precision: u8,
+    scale: u8,
+    buf: &mut ParseBuf<'a>,
+) -> Result<&'a [u8], Error>
+    requires low { 1 ≤ precision }
+    requires high { precision ≤ 65 }
+    requires scale { scale ≤ precision }
+    ensures { Gives ⊥ buf.new (result_now result) ((decimal precision scale).reads buf.old) }
+{
+    let bytes = take(decimal_len(precision, scale), buf)?;
+    if is_decimal(precision, scale, bytes) {
+        Ok(bytes)
+    } else {
+        Err(OUT_OF_RANGE)
+    }
+}

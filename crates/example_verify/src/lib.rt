@@ -1,0 +1,4 @@
+//! How to verify the checksums of a log. The tests run each task over a small log.
+#![tactic(auto)]
+
+pub mod verifying;

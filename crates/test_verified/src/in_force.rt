@@ -1,0 +1,53 @@
+//! What is in force behind an item of a verified file.
+use binlog_file::{BinlogVersion, Error, VerifiedFile};
+use std::alloc::Global;
+use std::io::Cursor;
+use testkit_logs::{COUNTED, DESCRIPTION, FILE_HEADER, count, joined};
+
+/// A table map of id 5 with its right checksum, 37, and with another.
+const MAP_5: &[u8] = b"\0\0\0\0\x13\x01\0\0\0\x29\0\0\0\0\0\0\0\0\0\
+    \x05\0\0\0\0\0\x01\0\x01d\0\x01t\0\x01\x03\0\x01\x25\0\0\0";
+
+const WRONG_MAP_5: &[u8] = b"\0\0\0\0\x13\x01\0\0\0\x29\0\0\0\0\0\0\0\0\0\
+    \x05\0\0\0\0\0\x01\0\x01d\0\x01t\0\x01\x03\0\x01\x24\0\0\0";
+
+/// A rotate of position 4 with its right checksum, 27, and with another.
+const ROTATE: &[u8] = b"\0\0\0\0\x04\x01\0\0\0\x1f\0\0\0\0\0\0\0\0\0\x04\0\0\0\0\0\0\0\x1b\0\0\0";
+
+const WRONG_ROTATE: &[u8] =
+    b"\0\0\0\0\x04\x01\0\0\0\x1f\0\0\0\0\0\0\0\0\0\x04\0\0\0\0\0\0\0\0\0\0\0";
+
+// The number of the last error, if there was one, and whether the table map of id 5 is in force behind all items.
+fn behind(alloc: Global, events: &[&[u8]]) -> Result<(Option<u8>, bool), Error> {
+    let log = joined(alloc, events)?;
+    let bytes = joined(alloc, &[FILE_HEADER, DESCRIPTION, COUNTED, log.as_slice()])?;
+    let mut file = VerifiedFile::new(alloc, BinlogVersion::Version4, count, Cursor::new(bytes))?;
+    let mut last = None;
+    for _ in 0..4u8 {
+        match file.next_ref() {
+            Some(Err(error)) => last = Some(error.number()),
+            Some(Ok(_)) | None => {}
+        }
+    }
+    Ok((last, file.reader().get_tme(5).is_some()))
+}
+
+#[test]
+fn a_table_map_is_kept(rt: HostRuntime) {
+    assert!(rt; behind(rt.alloc(), &[MAP_5]) == Ok((None, true)));
+}
+
+#[test]
+fn a_table_map_with_a_wrong_checksum_is_not_kept(rt: HostRuntime) {
+    assert!(rt; behind(rt.alloc(), &[WRONG_MAP_5]) == Ok((Some(17), false)));
+}
+
+#[test]
+fn a_rotate_clears_the_table_maps(rt: HostRuntime) {
+    assert!(rt; behind(rt.alloc(), &[MAP_5, ROTATE]) == Ok((None, false)));
+}
+
+#[test]
+fn a_rotate_with_a_wrong_checksum_clears_nothing(rt: HostRuntime) {
+    assert!(rt; behind(rt.alloc(), &[MAP_5, WRONG_ROTATE]) == Ok((Some(17), true)));
+}

@@ -1,0 +1,148 @@
+//! Which items a verified file gives.
+use binlog_file::{BinlogVersion, Error, VerifiedFile};
+use std::alloc::Global;
+use std::io::Cursor;
+use testkit_logs::{
+    COUNTED, COUNTED_XID, DESCRIPTION, FILE_HEADER, Item, OFF, PLAIN_XID, SHORT, count, joined,
+    low_flags, seen,
+};
+
+/// The ends of a description of algorithm 1 and of one of algorithm 0 whose checksums aren't right, and that of one of
+/// algorithm 7, which isn't known.
+const WRONG_COUNT: &[u8] = b"\x01\x4e\0\0\0";
+
+const WRONG_OFF: &[u8] = b"\0\x4e\0\0\0";
+
+const UNKNOWN: &[u8] = b"\x07\x4d\0\0\0";
+
+/// An event whose checksum isn't right.
+const WRONG_XID: &[u8] =
+    b"\0\0\0\0\x10\x01\0\0\0\x1f\0\0\0\0\0\0\0\0\0\x0b\0\0\0\0\0\0\0\x1c\0\0\0";
+
+/// A description without a table of post-header lengths, whose checksum is 1; and one whose checksum is right, 22.
+const WRONG_BODY: &[u8] = b"\0\0\0\0\x04\x01\0\0\0\x1a\0\0\0\0\0\0\0\0\0abc\x01\0\0\0";
+
+const COUNTED_BODY: &[u8] = b"\0\0\0\0\x04\x01\0\0\0\x1a\0\0\0\0\0\0\0\0\0abc\x16\0\0\0";
+
+/// A description of algorithm 1 and an event, both with the in-use flag, and with the checksum 0.
+const IN_USE: &[u8] = b"\xfebin\0\0\0\0\x0f\x01\0\0\0\x51\0\0\0\0\0\0\0\x01\0\
+    \x04\0\x35.6.1\0\0\0\0\0\0\0\0\0\0\0\0\0\0\0\0\0\0\0\0\0\0\0\0\0\0\0\0\0\0\0\0\0\0\0\0\0\0\0\0\0\0\0\0\0\
+    \0\0\0\0\x13\x01\0\0\0\0\
+    \0\0\0\0\x10\x01\0\0\0\x1f\0\0\0\0\0\0\0\x01\0\x0b\0\0\0\0\0\0\0\0\0\0\0";
+
+// The items of a file of these parts, whose checksums are to be the number of the bytes; 3 of them.
+fn items(alloc: Global, parts: &[&[u8]]) -> Result<[Option<Item>; 4], Error> {
+    let bytes = joined(alloc, parts)?;
+    let mut file = VerifiedFile::new(alloc, BinlogVersion::Version4, count, Cursor::new(bytes))?;
+    let mut items = [None; 4];
+    for index in 0..4usize {
+        items[index] = match file.next_ref() {
+            Some(Ok(event)) => Some(Ok(seen(event))),
+            Some(Err(error)) => Some(Err(error.number())),
+            None => None,
+        };
+    }
+    Ok(items)
+}
+
+/// A description of algorithm 1, and an event of 31 bytes.
+const FIRST: Option<Item> = Some(Ok((15, 57, Some([0x4d, 0, 0, 0]))));
+
+const XID: Option<Item> = Some(Ok((16, 8, Some([0x1b, 0, 0, 0]))));
+
+const PLAIN: Option<Item> = Some(Ok((16, 8, None)));
+
+const MISMATCH: Option<Item> = Some(Err(17));
+
+#[test]
+fn right_checksums_are_events(rt: HostRuntime) {
+    let found = items(
+        rt.alloc(),
+        &[FILE_HEADER, DESCRIPTION, COUNTED, COUNTED_XID],
+    );
+    assert!(rt; found == Ok([FIRST, XID, None, None]));
+}
+
+#[test]
+fn a_wrong_checksum_is_a_mismatch_and_reading_goes_on(rt: HostRuntime) {
+    let found = items(
+        rt.alloc(),
+        &[FILE_HEADER, DESCRIPTION, COUNTED, WRONG_XID, COUNTED_XID],
+    );
+    assert!(rt; found == Ok([FIRST, MISMATCH, XID, None]));
+}
+
+#[test]
+fn a_description_with_a_wrong_checksum_does_not_come_into_force(rt: HostRuntime) {
+    let found = items(
+        rt.alloc(),
+        &[FILE_HEADER, DESCRIPTION, WRONG_COUNT, PLAIN_XID],
+    );
+    assert!(rt; found == Ok([MISMATCH, PLAIN, None, None]));
+}
+
+#[test]
+fn a_description_is_verified_where_its_algorithm_is_0_too(rt: HostRuntime) {
+    let found = items(
+        rt.alloc(),
+        &[FILE_HEADER, DESCRIPTION, WRONG_OFF, DESCRIPTION, OFF],
+    );
+    assert!(rt; found == Ok([MISMATCH, FIRST, None, None]));
+}
+
+#[test]
+fn an_unknown_algorithm_is_verified(rt: HostRuntime) {
+    let found = items(
+        rt.alloc(),
+        &[FILE_HEADER, DESCRIPTION, UNKNOWN, COUNTED_XID, WRONG_XID],
+    );
+    assert!(rt; found == Ok([FIRST, XID, MISMATCH, None]));
+}
+
+#[test]
+fn a_short_body_comes_before_a_mismatch_and_that_before_a_bad_body(rt: HostRuntime) {
+    let short = items(
+        rt.alloc(),
+        &[FILE_HEADER, DESCRIPTION, COUNTED, SHORT, COUNTED_XID],
+    );
+    assert!(rt; short == Ok([FIRST, Some(Err(4)), XID, None]));
+    let wrong = items(
+        rt.alloc(),
+        &[FILE_HEADER, DESCRIPTION, COUNTED, WRONG_BODY, COUNTED_BODY],
+    );
+    assert!(rt; wrong == Ok([FIRST, MISMATCH, Some(Err(5)), None]));
+}
+
+// The errors of a log whose checksums are 0 with the in-use flag clear, and 1 with it.
+fn in_use_errors(alloc: Global) -> Result<[bool; 2], Error> {
+    let mut file = VerifiedFile::new(
+        alloc,
+        BinlogVersion::Version4,
+        low_flags,
+        Cursor::new(IN_USE),
+    )?;
+    let first = matches!(file.next_ref(), Some(Ok(_)));
+    let second = matches!(file.next_ref(), Some(Ok(_)));
+    Ok([first, second])
+}
+
+#[test]
+fn the_in_use_flag_counts_as_clear(rt: HostRuntime) {
+    assert!(rt; in_use_errors(rt.alloc()) == Ok([true, true]));
+}
+
+// What is stored and what is computed of an event whose checksum isn't right.
+fn mismatch(alloc: Global) -> Result<Option<(u32, u32)>, Error> {
+    let bytes = joined(alloc, &[FILE_HEADER, DESCRIPTION, COUNTED, WRONG_XID])?;
+    let mut file = VerifiedFile::new(alloc, BinlogVersion::Version4, count, Cursor::new(bytes))?;
+    let _description = file.next_ref().is_some();
+    match file.next() {
+        Some(Err(Error::ChecksumMismatch { stored, computed })) => Ok(Some((stored, computed))),
+        _ => Ok(None),
+    }
+}
+
+#[test]
+fn a_mismatch_tells_both_checksums(rt: HostRuntime) {
+    assert!(rt; mismatch(rt.alloc()) == Ok(Some((0x1c, 0x1b))));
+}
