@@ -1,5 +1,6 @@
 """Bounds, derives, labels and signatures that Rust has no use for, or writes otherwise."""
 
+from rt_to_rust.items import function_at
 from rt_to_rust.source import segments
 
 LOOPS = ("for", "while", "loop")
@@ -45,8 +46,15 @@ def labels(source):
             continue
         if source.code[index + 2].text not in LOOPS:
             continue
-        if not source.places("break", token.text) and not source.places("continue", token.text):
+        if not is_jumped_to(source, index):
             yield source.span(index, index + 1)
+
+
+def is_jumped_to(source, label):
+    """Whether anything in the function jumps to a label."""
+    text, function = source.code[label].text, function_at(source, label)
+    jumps = [*source.places("break", text), *source.places("continue", text)]
+    return any(function_at(source, jump) == function for jump in jumps)
 
 
 def without_drops(source):

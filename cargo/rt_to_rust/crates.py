@@ -14,6 +14,7 @@ LIBRARY = [
     "binlog_values",
     "binlog_event_data",
     "binlog_gtid_sets",
+    "binlog_ends",
     "binlog_events",
     "binlog_mariadb",
     "binlog_file",
@@ -23,10 +24,10 @@ TOOLS = ["json_line", "binlog_lines", "binlog_listing", "binlog_gtid_listing"]
 # The crates of programs, and the programs' names.
 PROGRAMS = {"binlog_list": "binlog-list", "binlog_json": "binlog-json", "binlog_gtids_list": "binlog-gtids"}
 
-# The crates of tests, and their helpers. Not among them: `test_ends` and `test_gtid_text`, whose crates are not in the
-# library.
+# The crates of tests, and their helpers. Not among them: `test_gtid_text`, whose crate is not in the library.
 TESTKITS = ["testkit_bodies", "testkit_logs"]
 TESTS = [
+    "test_ends",
     "test_fields",
     "test_bodies",
     "test_statements",
@@ -37,6 +38,7 @@ TESTS = [
     "test_mariadb",
     "test_files",
     "test_events",
+    "test_failing_ends",
     "test_state",
 ]
 

@@ -42,6 +42,10 @@ class Proofs(Case):
         text = "fn f() {\n    'a: loop { break 'a; }\n    'b: for _ in 0..2 {}\n}"
         self.gives(text, "fn f() { 'a: loop { break 'a; } for _ in 0..2 {} }")
 
+    def test_a_label_of_another_function_is_another_one(self):
+        text = "fn f() {\n    'a: loop { break 'a; }\n}\nfn g() {\n    'a: for _ in 0..2 {}\n}"
+        self.gives(text, "fn f() { 'a: loop { break 'a; } } fn g() { for _ in 0..2 {} }")
+
     def test_a_bound_of_another_form_is_refused(self):
         self.assertEqual(refusal("fn f<T>()\nwhere\n    Drop: T,\n{}"), "sample.rt:3: a bound of `Drop` in a place that isn't known")
 

@@ -10,7 +10,7 @@
 //! - [`Retrying`] retries an interrupted call. To read a file or a pipe, use `Counted::new(Retrying::new(input))`.
 //!   Without it an interruption is a failure like any other.
 //!
-//! ```
+//! ```text
 //! let mut input = Counted::new(Retrying::new(stdin().lock()));
 //! let mut piece = [0; 512];
 //! match input.read_some(&mut piece) {

@@ -19,7 +19,9 @@ impl AsStr for Cow<'_, str> {
 }
 
 pub mod test_bodies;
+pub mod test_ends;
 pub mod test_events;
+pub mod test_failing_ends;
 pub mod test_fields;
 pub mod test_files;
 pub mod test_gtid_sets;

@@ -35,6 +35,7 @@ mod binlog_bodies;
 mod binlog_columns;
 mod binlog_consts;
 mod binlog_description;
+mod binlog_ends;
 mod binlog_event_data;
 mod binlog_events;
 mod binlog_file;
@@ -111,6 +112,12 @@ pub mod misc {
     pub use crate::binlog_numbers::{lenenc_int_len, read_varlen_int, read_varlen_uint};
     pub use crate::binlog_numbers::{varlen_uint_size, write_varlen_int, write_varlen_uint};
     pub use crate::raw;
+}
+
+/// Readers and writers that count their failures.
+pub mod counted {
+    pub use crate::binlog_ends::{ATTEMPTS, Counted, CountsFailures, Failed, ReadCounted, Retrying};
+    pub use crate::binlog_ends::{SliceReader, WriteCounted};
 }
 
 /// MariaDB's own events.

@@ -1,0 +1,9 @@
+//! Tests of reading and writing with readers and writers that count their failures.
+#![tactic(auto)]
+
+#[cfg(test)]
+mod devices;
+#[cfg(test)]
+mod reading;
+#[cfg(test)]
+mod writing;
