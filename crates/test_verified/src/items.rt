@@ -1,7 +1,8 @@
-//! Which items a verified file gives.
-use binlog_file::{BinlogVersion, Error, VerifiedFile};
+//! Which items a verified file gives, and a verified slice.
+use binlog_file::{BinlogVersion, Error, EventRef, VerifiedFile, VerifiedSlice};
 use std::alloc::Global;
 use std::io::Cursor;
+use std::test::Fail;
 use testkit_logs::{
     COUNTED, COUNTED_XID, DESCRIPTION, FILE_HEADER, Item, OFF, PLAIN_XID, SHORT, count, joined,
     low_flags, seen,
@@ -30,19 +31,39 @@ const IN_USE: &[u8] = b"\xfebin\0\0\0\0\x0f\x01\0\0\0\x51\0\0\0\0\0\0\0\x01\0\
     \0\0\0\0\x13\x01\0\0\0\0\
     \0\0\0\0\x10\x01\0\0\0\x1f\0\0\0\0\0\0\0\x01\0\x0b\0\0\0\0\0\0\0\0\0\0\0";
 
-// The items of a file of these parts, whose checksums are to be the number of the bytes; 3 of them.
-fn items(alloc: Global, parts: &[&[u8]]) -> Result<[Option<Item>; 4], Error> {
+// The four items that a file of these parts gives, whose checksums are to be the number of the bytes.
+fn file_items(alloc: Global, parts: &[&[u8]]) -> Result<[Option<Item>; 4], Error> {
     let bytes = joined(alloc, parts)?;
     let mut file = VerifiedFile::new(alloc, BinlogVersion::Version4, count, Cursor::new(bytes))?;
     let mut items = [None; 4];
     for index in 0..4usize {
-        items[index] = match file.next_ref() {
-            Some(Ok(event)) => Some(Ok(seen(event))),
-            Some(Err(error)) => Some(Err(error.number())),
-            None => None,
-        };
+        items[index] = item(file.next_ref());
     }
     Ok(items)
+}
+
+// The same of a slice.
+fn slice_items(alloc: Global, parts: &[&[u8]]) -> Result<[Option<Item>; 4], Error> {
+    let mut bytes = joined(alloc, parts)?;
+    let mut slice = VerifiedSlice::new(BinlogVersion::Version4, count, bytes.as_mut_slice())?;
+    let mut items = [None; 4];
+    for index in 0..4usize {
+        items[index] = item(slice.next());
+    }
+    Ok(items)
+}
+
+fn item(next: Option<Result<EventRef<'_>, Error>>) -> Option<Item> {
+    match next {
+        Some(Ok(event)) => Some(Ok(seen(event))),
+        Some(Err(error)) => Some(Err(error.number())),
+        None => None,
+    }
+}
+
+// Whether a file and a slice of these parts give these items.
+fn gives(alloc: Global, parts: &[&[u8]], items: [Option<Item>; 4]) -> bool {
+    file_items(alloc, parts) == Ok(items) && slice_items(alloc, parts) == Ok(items)
 }
 
 /// A description of algorithm 1, and an event of 31 bytes.
@@ -56,61 +77,40 @@ const MISMATCH: Option<Item> = Some(Err(17));
 
 #[test]
 fn right_checksums_are_events(rt: HostRuntime) {
-    let found = items(
-        rt.alloc(),
-        &[FILE_HEADER, DESCRIPTION, COUNTED, COUNTED_XID],
-    );
-    assert!(rt; found == Ok([FIRST, XID, None, None]));
+    let parts: &[&[u8]] = &[FILE_HEADER, DESCRIPTION, COUNTED, COUNTED_XID];
+    assert!(rt; gives(rt.alloc(), parts, [FIRST, XID, None, None]));
 }
 
 #[test]
 fn a_wrong_checksum_is_a_mismatch_and_reading_goes_on(rt: HostRuntime) {
-    let found = items(
-        rt.alloc(),
-        &[FILE_HEADER, DESCRIPTION, COUNTED, WRONG_XID, COUNTED_XID],
-    );
-    assert!(rt; found == Ok([FIRST, MISMATCH, XID, None]));
+    let parts: &[&[u8]] = &[FILE_HEADER, DESCRIPTION, COUNTED, WRONG_XID, COUNTED_XID];
+    assert!(rt; gives(rt.alloc(), parts, [FIRST, MISMATCH, XID, None]));
 }
 
 #[test]
 fn a_description_with_a_wrong_checksum_does_not_come_into_force(rt: HostRuntime) {
-    let found = items(
-        rt.alloc(),
-        &[FILE_HEADER, DESCRIPTION, WRONG_COUNT, PLAIN_XID],
-    );
-    assert!(rt; found == Ok([MISMATCH, PLAIN, None, None]));
+    let parts: &[&[u8]] = &[FILE_HEADER, DESCRIPTION, WRONG_COUNT, PLAIN_XID];
+    assert!(rt; gives(rt.alloc(), parts, [MISMATCH, PLAIN, None, None]));
 }
 
 #[test]
 fn a_description_is_verified_where_its_algorithm_is_0_too(rt: HostRuntime) {
-    let found = items(
-        rt.alloc(),
-        &[FILE_HEADER, DESCRIPTION, WRONG_OFF, DESCRIPTION, OFF],
-    );
-    assert!(rt; found == Ok([MISMATCH, FIRST, None, None]));
+    let parts: &[&[u8]] = &[FILE_HEADER, DESCRIPTION, WRONG_OFF, DESCRIPTION, OFF];
+    assert!(rt; gives(rt.alloc(), parts, [MISMATCH, FIRST, None, None]));
 }
 
 #[test]
 fn an_unknown_algorithm_is_verified(rt: HostRuntime) {
-    let found = items(
-        rt.alloc(),
-        &[FILE_HEADER, DESCRIPTION, UNKNOWN, COUNTED_XID, WRONG_XID],
-    );
-    assert!(rt; found == Ok([FIRST, XID, MISMATCH, None]));
+    let parts: &[&[u8]] = &[FILE_HEADER, DESCRIPTION, UNKNOWN, COUNTED_XID, WRONG_XID];
+    assert!(rt; gives(rt.alloc(), parts, [FIRST, XID, MISMATCH, None]));
 }
 
 #[test]
 fn a_short_body_comes_before_a_mismatch_and_that_before_a_bad_body(rt: HostRuntime) {
-    let short = items(
-        rt.alloc(),
-        &[FILE_HEADER, DESCRIPTION, COUNTED, SHORT, COUNTED_XID],
-    );
-    assert!(rt; short == Ok([FIRST, Some(Err(4)), XID, None]));
-    let wrong = items(
-        rt.alloc(),
-        &[FILE_HEADER, DESCRIPTION, COUNTED, WRONG_BODY, COUNTED_BODY],
-    );
-    assert!(rt; wrong == Ok([FIRST, MISMATCH, Some(Err(5)), None]));
+    let short: &[&[u8]] = &[FILE_HEADER, DESCRIPTION, COUNTED, SHORT, COUNTED_XID];
+    assert!(rt; gives(rt.alloc(), short, [FIRST, Some(Err(4)), XID, None]));
+    let wrong: &[&[u8]] = &[FILE_HEADER, DESCRIPTION, COUNTED, WRONG_BODY, COUNTED_BODY];
+    assert!(rt; gives(rt.alloc(), wrong, [FIRST, MISMATCH, Some(Err(5)), None]));
 }
 
 // The errors of a log whose checksums are 0 with the in-use flag clear, and 1 with it.
@@ -126,9 +126,22 @@ fn in_use_errors(alloc: Global) -> Result<[bool; 2], Error> {
     Ok([first, second])
 }
 
+// The same of a slice, and the bytes behind it.
+fn slice_in_use_errors(bytes: &mut [u8]) -> Result<[bool; 2], Error> {
+    let mut slice = VerifiedSlice::new(BinlogVersion::Version4, low_flags, bytes)?;
+    let first = matches!(slice.next(), Some(Ok(_)));
+    let second = matches!(slice.next(), Some(Ok(_)));
+    Ok([first, second])
+}
+
 #[test]
-fn the_in_use_flag_counts_as_clear(rt: HostRuntime) {
+fn the_in_use_flag_counts_as_clear(rt: HostRuntime) -> Result<(), Fail> {
     assert!(rt; in_use_errors(rt.alloc()) == Ok([true, true]));
+    let mut bytes = joined(rt.alloc(), &[IN_USE])?;
+    assert!(rt; slice_in_use_errors(bytes.as_mut_slice()) == Ok([true, true]));
+    // They are as they were.
+    assert!(rt; bytes.as_slice() == IN_USE);
+    Ok(())
 }
 
 // What is stored and what is computed of an event whose checksum isn't right.

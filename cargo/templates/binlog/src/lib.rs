@@ -56,7 +56,7 @@ pub use crate::binlog_description::{BinlogCtx, BinlogEvent, BinlogStruct, Descri
 pub use crate::binlog_events::{BinlogFileHeader, EventRef};
 pub use crate::binlog_file::{
     BinlogFile, BinlogFileOf, BinlogSlice, EventStreamReader, Items, Unverified, Verification,
-    Verified, VerifiedFile,
+    Verified, VerifiedFile, VerifiedSlice,
 };
 pub use crate::binlog_gtid_sets::GtidTracker;
 pub use crate::binlog_gtids::GnoSet;
