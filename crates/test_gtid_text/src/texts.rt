@@ -33,22 +33,62 @@ const READ: &[(&str, &str)] = &[
 /// Texts that are refused, for what and where.
 const REFUSED: &[(&str, GtidTextFault, usize)] = &[
     ("x", GtidTextFault::Uuid, 0),
-    (" 3e11fa47-71ca-11e1-9e33-c80aa942956", GtidTextFault::Uuid, 1),
+    (
+        " 3e11fa47-71ca-11e1-9e33-c80aa942956",
+        GtidTextFault::Uuid,
+        1,
+    ),
     ("3e11fa4771ca11e19e33c80aa9429562:1", GtidTextFault::Uuid, 0),
-    ("3e11fa47-71ca-11e1-9e33-c80aa942956g:1", GtidTextFault::Uuid, 0),
-    ("3e11fa47-71ca-11e1-9e33-c80aa9429562;1", GtidTextFault::Separator, 36),
-    ("3e11fa47-71ca-11e1-9e33-c80aa9429562:1 2", GtidTextFault::Separator, 39),
-    ("3e11fa47-71ca-11e1-9e33-c80aa9429562:1,", GtidTextFault::Uuid, 39),
-    ("3e11fa47-71ca-11e1-9e33-c80aa9429562: ", GtidTextFault::Number, 38),
-    ("3e11fa47-71ca-11e1-9e33-c80aa9429562:1-", GtidTextFault::Number, 39),
-    ("3e11fa47-71ca-11e1-9e33-c80aa9429562:a", GtidTextFault::Colon, 38),
-    ("3e11fa47-71ca-11e1-9e33-c80aa9429562:a:b:1", GtidTextFault::Number, 39),
+    (
+        "3e11fa47-71ca-11e1-9e33-c80aa942956g:1",
+        GtidTextFault::Uuid,
+        0,
+    ),
+    (
+        "3e11fa47-71ca-11e1-9e33-c80aa9429562;1",
+        GtidTextFault::Separator,
+        36,
+    ),
+    (
+        "3e11fa47-71ca-11e1-9e33-c80aa9429562:1 2",
+        GtidTextFault::Separator,
+        39,
+    ),
+    (
+        "3e11fa47-71ca-11e1-9e33-c80aa9429562:1,",
+        GtidTextFault::Uuid,
+        39,
+    ),
+    (
+        "3e11fa47-71ca-11e1-9e33-c80aa9429562: ",
+        GtidTextFault::Number,
+        38,
+    ),
+    (
+        "3e11fa47-71ca-11e1-9e33-c80aa9429562:1-",
+        GtidTextFault::Number,
+        39,
+    ),
+    (
+        "3e11fa47-71ca-11e1-9e33-c80aa9429562:a",
+        GtidTextFault::Colon,
+        38,
+    ),
+    (
+        "3e11fa47-71ca-11e1-9e33-c80aa9429562:a:b:1",
+        GtidTextFault::Number,
+        39,
+    ),
     (
         "3e11fa47-71ca-11e1-9e33-c80aa9429562:a23456789012345678901234567890123:1",
         GtidTextFault::Tag,
         37,
     ),
-    ("3e11fa47-71ca-11e1-9e33-c80aa9429562:0", GtidTextFault::Range, 37),
+    (
+        "3e11fa47-71ca-11e1-9e33-c80aa9429562:0",
+        GtidTextFault::Range,
+        37,
+    ),
     (
         "3e11fa47-71ca-11e1-9e33-c80aa9429562:1-9223372036854775808",
         GtidTextFault::Range,
@@ -86,7 +126,10 @@ fn is_refused(alloc: Global, text: &str, fault: GtidTextFault, at: usize) -> boo
 #[test]
 fn texts_are_read_and_written(rt: HostRuntime) {
     for (text, wanted) in READ {
-        assert!(rt; is_written_as(rt.alloc(), text, wanted) == Ok(true), "{text}");
+        assert!(rt;
+            is_written_as(rt.alloc(), text, wanted) == Ok(true),
+            "{text}"
+        );
     }
 }
 
@@ -102,6 +145,9 @@ fn faults_are_found_where_they_are(rt: HostRuntime) {
 fn texts_are_read_and_written_or_memory_is_refused(rt: HostRuntime) {
     for (text, wanted) in READ {
         let written = is_written_as(rt.alloc(), text, wanted);
-        assert!(rt; matches!(written, Ok(true) | Err(GtidTextError::Memory)), "{text}");
+        assert!(rt;
+            matches!(written, Ok(true) | Err(GtidTextError::Memory)),
+            "{text}"
+        );
     }
 }
