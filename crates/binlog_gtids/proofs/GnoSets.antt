@@ -1,5 +1,5 @@
 -- Lists of ascending intervals that are apart: the list after adding an interval, and the index where it is added.
-use Rattle.std.proofs.Common.{◌≡◌, ℕ, zero, suc, ◌-◌, ◌^◌, ◌<◌, ◌≤◌, min, max, Bool, true, false, ltb, leb, cond, ◌&&◌, ◌||◌, not, List, [], ◌∷◌, ◌++◌, length, take, drop, get_or, Result, Ok, Err, OnOk, OnErr, refl, sym, ap, ◌∙◌, append-nil, inl, inr, arith}
+use Rattle.std.proofs.Common.{◌≡◌, ℕ, zero, suc, ◌+◌, ◌-◌, ◌^◌, ◌<◌, ◌≤◌, min, max, Bool, true, false, ltb, leb, cond, ◌&&◌, ◌||◌, not, List, [], ◌∷◌, ◌++◌, length, take, drop, get_or, Result, Ok, Err, OnOk, OnErr, refl, sym, ap, subst, ◌∙◌, append-nil, inl, inr, arith}
 use Rattle.std.specs.List.{insert, AllWithin}
 use Rattle.std.specs.List.Sorted.{IsNonDecreasingBy}
 use Rattle.std.proofs.lemmas.List.{get_or_read, drop_all}
@@ -148,6 +148,36 @@ module _ (p : GnoInterval → Bool) where
   parted (i ∷ is) (suc n) within front back =
       rw (front 0 i (omega arith) (omega arith))
       (ap suc (parted is n (omega arith) (λ k d from to. front (suc k) d (omega arith) (omega arith)) (λ k d from to. back (suc k) d (omega arith) (omega arith))))
+
+  -- no fewer than these meet the test, and the next one doesn't
+  pub stops_there : (is : List GnoInterval) (k : ℕ) (d : GnoInterval) → k ≤ leading p is → (k < length is → p (get_or is k d) ≡ false) → k ≡ leading p is
+  stops_there [] k d least next = omega (arith, least)
+  stops_there (i ∷ is) zero d least next = sym (ap (λ (b : Bool). cond b (suc (leading p is)) 0) (next (omega arith)))
+  stops_there (i ∷ is) (suc k) d least next = by_test (p i) (λ more. stops_there is k d more (λ within. next (omega (arith, within)))) least
+    where
+      by_test : (b : Bool) → (k ≤ leading p is → k ≡ leading p is) → suc k ≤ cond b (suc (leading p is)) 0 → suc k ≡ cond b (suc (leading p is)) 0
+      by_test true rest most = ap suc (rest (omega (arith, most)))
+      by_test false rest most = absurd (omega (arith, most))
+
+  -- no fewer than these meet the test, and the next one does
+  pub goes_on : (is : List GnoInterval) (k : ℕ) (d : GnoInterval) → k ≤ leading p is → k < length is → p (get_or is k d) ≡ true → suc k ≤ leading p is
+  goes_on [] k d least within next = absurd (omega (arith, within))
+  goes_on (i ∷ is) zero d least within next = subst (λ (b : Bool). 1 ≤ cond b (suc (leading p is)) 0) (sym next) (omega arith)
+  goes_on (i ∷ is) (suc k) d least within next = by_test (p i) (λ more. goes_on is k d more (omega (arith, within)) next) least
+    where
+      by_test : (b : Bool) → (k ≤ leading p is → suc k ≤ leading p is) → suc k ≤ cond b (suc (leading p is)) 0 → suc (suc k) ≤ cond b (suc (leading p is)) 0
+      by_test true rest most = let more = rest (omega (arith, most)) in omega (arith, more)
+      by_test false rest most = absurd (omega (arith, most))
+
+-- the number of intervals that start up to one, found from those before
+module _ (is : List GnoInterval) (from gno : ℕ) (d : GnoInterval) (least : from ≤ starting_up_to gno is) where
+  pub starts_here : (from < length is → gno < (get_or is from d).start) → from ≡ starting_up_to gno is
+  starts_here above = stops_there (λ i. leb i.start gno) is from d least (λ within. let over = above within in grind (arith, nat_tests, over))
+
+  pub starts_later : from < length is → (get_or is from d).start ≤ gno → from + 1 ≤ starting_up_to gno is
+  starts_later within up_to =
+      let more = goes_on (λ i. leb i.start gno) is from d least within (grind (arith, nat_tests, up_to)) in
+      omega (arith, more)
 
 -- ---- ends and starts ascend
 

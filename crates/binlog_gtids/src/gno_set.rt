@@ -1,7 +1,8 @@
 //! Sets of transaction numbers (GNOs) of one source.
-ghost use Rattle.std.specs.Prelude.{◌≡◌, ◌++◌, ◌∷◌, ◌^◌, ◌<◌, ◌≤◌, ◌||◌, ◌↔◌, ℕ, [], length, take, drop, IfOk, OnOk, OnErr, IsOkUnless, IsTrue};
+ghost use Rattle.std.specs.Prelude.{◌≡◌, ◌++◌, ◌∷◌, ◌^◌, ◌<◌, ◌≤◌, ◌||◌, ◌↔◌, ℕ, [], true, false, length, take, drop, slice_index_or, IfOk, OnOk, OnErr, IsOkUnless, IsTrue};
 ghost use Rattle.std.specs.List.{insert};
 ghost use Rattle.binlog_wire.specs.declared.error.Error.TheVariants.{Memory};
+ghost use Rattle.binlog_numbers.specs.declared.gno_interval.GnoInterval.{GnoInterval};
 ghost use Rattle.binlog_gtids.specs.GnoSets.{is_within, is_held, is_missing, AreApart, ending_below, starting_up_to};
 
 mod difference;
@@ -65,7 +66,7 @@ impl GnoSet {
         ensures memory { IsOkUnless result Memory }
     {
         let from = count_ending_below(&self.intervals, start);
-        let to = count_starting_up_to(&self.intervals, end);
+        let to = count_starting_behind(&self.intervals, from, end);
         if from == to {
             return add(&mut self.intervals, from, GnoInterval::new(start, end));
         }
@@ -161,6 +162,33 @@ fn count_starting_up_to(intervals: &[GnoInterval], gno: u64) -> usize
     match intervals.last() {
         Some(last) if last.start() <= gno => intervals.len(),
         _ => intervals.partition_point(|interval| interval.start() <= gno),
+    }
+}
+
+// The same, if at least `from` intervals do; constant time if at most one more does, as for a single number.
+fn count_starting_behind(intervals: &[GnoInterval], from: usize, gno: u64) -> usize
+    requires apart { AreApart 0 intervals.now }
+    requires least { from ≤ starting_up_to gno intervals.now }
+    ensures { result ≡ starting_up_to gno intervals.now }
+{
+    if !starts_up_to(intervals, from, gno) {
+        return from;
+    }
+    if !starts_up_to(intervals, from + 1, gno) {
+        return from + 1;
+    }
+    count_starting_up_to(intervals, gno)
+}
+
+// Whether there is an interval at an index, and it starts at a number or below it.
+fn starts_up_to(intervals: &[GnoInterval], at: usize, gno: u64) -> bool
+    ensures within { result ≡ true → at < length intervals.now }
+    ensures up_to { result ≡ true → (d : GnoInterval) → (slice_index_or intervals.now at d).start ≤ gno }
+    ensures above { result ≡ false → at < length intervals.now → (d : GnoInterval) → gno < (slice_index_or intervals.now at d).start }
+{
+    match intervals.get(at) {
+        Some(interval) => interval.start() <= gno,
+        None => false,
     }
 }
 
