@@ -10,11 +10,10 @@ use binlog_lines::status;
 use binlog_listing::list_verified;
 use count::count_mismatches;
 use crc32_ieee::Crc32;
-use std::env;
 use std::env::Env;
-use std::io;
 use std::io::{BufReader, BufWriter, Write};
 use std::process::ExitCode;
+use std::{env, io};
 
 /// The size of the buffers of the input and the output, in bytes.
 const BUFFER_SIZE: usize = 65_536;
