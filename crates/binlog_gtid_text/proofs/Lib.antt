@@ -6,6 +6,7 @@ pub mod PrintedPieces
 pub mod Read
 pub mod ReadBack
 pub mod Readings
+pub mod SomeReading
 pub mod Spelled
 pub mod SpelledRead
 pub mod Starts

@@ -231,7 +231,7 @@ piece_from s p rest None (Some next) f g h =
       colon.2 ∙ ap (λ (t : List ℕ). colon.0 ++ t) numbers.6 ∙ sym (append_assoc colon.0 body rest),
     )
 
-piece_spelled : (s : List ℕ) (p : Piece) (rest : List ℕ) → piece_at s ≡ Ok (p, rest) → (a : List ℕ) × IsPieceText a p × (s ≡ a ++ rest)
+pub piece_spelled : (s : List ℕ) (p : Piece) (rest : List ℕ) → piece_at s ≡ Ok (p, rest) → (a : List ℕ) × IsPieceText a p × (s ≡ a ++ rest)
 unfolding piece_at
 piece_spelled s p rest h = piece_from s p rest (after 44 s) (after 58 s) refl refl h
 

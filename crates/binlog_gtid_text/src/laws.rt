@@ -1,5 +1,5 @@
 //! Laws of texts of sets of GTIDs. Each is a function without effect whose contract states it.
-ghost use Rattle.std.specs.Prelude.{◌≡◌, ◌↔◌, ℕ, List};
+ghost use Rattle.std.specs.Prelude.{◌≡◌, ◌⊎◌, ◌↔◌, ℕ, List};
 ghost use Rattle.binlog_gtid_sets.specs.declared.gtid_group.GtidGroup.{GtidGroup};
 ghost use Rattle.binlog_gtid_sets.specs.GtidGroups.{Pair, is_tracked, AreGroups};
 ghost use Rattle.binlog_gtid_text.specs.declared.error.GtidTextError.{GtidTextError};
@@ -9,8 +9,9 @@ ghost use Rattle.binlog_gtid_text.specs.Printing.{set_text};
 ghost use Rattle.binlog_gtid_text.specs.Laws.Printing.{AreWritable};
 ghost use Rattle.binlog_gtid_text.specs.Spellings.{IsSpelled};
 
-/// A text consists of one list of pieces at most, is invalid only if it consists of none, and has one error then.
+/// A text consists of one list of pieces, or has one error and consists of none.
 pub fn one_reading()
+    ensures some { (text : List ℕ) → ((ps : List Piece) × IsText text ps) ⊎ ((e : GtidTextError) × IsInvalid text e) }
     ensures same { (text : List ℕ) (ps qs : List Piece) → IsText text ps → IsText text qs → ps ≡ qs }
     ensures valid { (text : List ℕ) (ps : List Piece) (e : GtidTextError) → IsText text ps → IsInvalid text e → ⊥ }
     ensures fault { (text : List ℕ) (e d : GtidTextError) → IsInvalid text e → IsInvalid text d → e ≡ d }

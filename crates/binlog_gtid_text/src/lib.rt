@@ -1,6 +1,7 @@
 //! The text of a set of GTIDs, as MySQL writes it: `3e11fa47-71ca-11e1-9e33-c80aa9429562:1-5:11:tag:1-3`.
 //!
-//! What a text is a text of is defined in `specs/Reading`, and what is written in `specs/Printing`.
+//! Which GTIDs a text names is defined in `specs/Pieces`, over its parts in `specs/Reading`; `specs/Spellings` has its grammar.
+//! What is written is defined in `specs/Printing`.
 #![tactic(auto)]
 
 mod error;
