@@ -1,6 +1,6 @@
 -- A listing of a file that is verified by the checksums that `gives` says is one by those that `other` says, if both say the
 -- same.
-use Rattle.std.proofs.Common.{◌≡◌, inl, inr, ℕ, ◌<◌, ◌^◌, Bool, true, false, List, length, Option, Some, None, IfSome, Result, Ok, Err}
+use Rattle.std.proofs.Common.{inl, inr, ℕ, ◌<◌, ◌^◌, Bool, true, false, List, length, Option, Some, None, IfSome, Result, Ok, Err}
 use Rattle.binlog_wire.specs.declared.error.Error.{Error}
 use Rattle.binlog_wire.specs.declared.error.Error.TheVariants.{EndOfInput, InvalidFileHeader, Memory, Reader, Writer}
 use Rattle.binlog_events.specs.Events.{EventView}
