@@ -36,7 +36,7 @@ fn lacks(
 ) -> Result<bool, Error> {
     let set = set_of(alloc, entries)?;
     let other = set_of(alloc, others)?;
-    let difference = set.difference(&other);
+    let difference = set.subtract(&other);
     let are_kept = has(&set, entries)? && has(&other, others)?;
     drop(set);
     drop(other);

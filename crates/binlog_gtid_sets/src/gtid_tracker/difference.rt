@@ -25,7 +25,7 @@ impl GtidTracker {
 
     /// The GTIDs of this set that the other doesn't contain, with memory from this set's allocator. The only error is
     /// [`Error::Memory`].
-    pub fn difference(&self, other: &GtidTracker) -> Result<Self, Error>
+    pub fn subtract(&self, other: &GtidTracker) -> Result<Self, Error>
         ensures ok { IfOk result (λ difference. (pair : Pair) (n : ℕ) → is_tracked difference pair n ≡ (is_tracked self.now pair n && not (is_tracked other.now pair n))) }
         ensures memory { IsOkUnless result Memory }
     {

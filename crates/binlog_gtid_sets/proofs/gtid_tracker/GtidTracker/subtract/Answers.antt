@@ -3,7 +3,7 @@ use Rattle.std.proofs.lemmas.List.{get_or_read}
 use Rattle.binlog_gtid_sets.specs.declared.gtid_group.GtidGroup.{GtidGroup}
 use Rattle.binlog_gtid_sets.specs.GtidGroups.{pair_in, compare_pairs, AreGroups}
 use Rattle.binlog_gtid_sets.proofs.GtidDifferences.{group_step}
-use Rattle.binlog_gtid_sets.proofs.gtid_tracker.GtidTracker.difference.Goals as goal
+use Rattle.binlog_gtid_sets.proofs.gtid_tracker.GtidTracker.subtract.Goals as goal
 
 pub loop-group-preserved : goal.loop-group-preserved
 loop-group-preserved c =

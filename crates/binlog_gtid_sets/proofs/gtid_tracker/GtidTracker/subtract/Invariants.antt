@@ -1,7 +1,7 @@
 use Rattle.std.proofs.Common.{◌≡◌, ◌<◌, ◌≤◌, ◌&&◌, ◌||◌, ℕ, not, drop, length, get_or}
 use Rattle.binlog_gtid_sets.specs.declared.gtid_group.GtidGroup.{GtidGroup}
 use Rattle.binlog_gtid_sets.specs.GtidGroups.{Pair, pair_in, is_tracked, AreGroups, AreBelow}
-use Rattle.binlog_gtid_sets.proofs.gtid_tracker.GtidTracker.difference.Given as goal
+use Rattle.binlog_gtid_sets.proofs.gtid_tracker.GtidTracker.subtract.Given as goal
 
 -- the difference so far, with what is missing in the groups to come, is the whole difference
 abbrev pub invariant-loop-group : goal.invariant-loop-group
