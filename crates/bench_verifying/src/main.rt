@@ -1,15 +1,11 @@
 //! Lists the binary log on standard input, and verifies its checksums, which are CRC-32. The benchmark measures it.
 //!
-//! With the argument `count` it prints only the number of events whose checksum isn't right.
+//! With an argument it prints only the number of events whose checksum isn't right.
 #![tactic(auto)]
 
-mod count;
-
-use binlog_file::{BinlogVersion, Error, VerifiedFile};
+use binlog_file::Error;
 use binlog_lines::status;
-use binlog_listing::list_verified;
-use count::count_mismatches;
-use crc32_ieee::Crc32;
+use example_verify::verifying::{count_mismatches, list_by_crc32};
 use std::env::Env;
 use std::io::{BufReader, BufWriter, Write};
 use std::process::ExitCode;
@@ -25,18 +21,15 @@ fn run(rt: &(impl Input + Print + Env + AllocGlobal)) -> Result<bool, Error> {
     let Ok(mut arguments) = env::args(rt) else {
         return Err(Error::Memory);
     };
-    let crc32 = Crc32::new();
-    let checksum = |bytes: &[u8]| crc32.checksum(bytes);
     if arguments.nth(1).is_some() {
-        let file = VerifiedFile::new(rt.alloc(), BinlogVersion::Version4, checksum, input)?;
-        let count = count_mismatches(file)?;
+        let count = count_mismatches(rt.alloc(), input)?;
         println!(rt; "{count}").map_err(|_| Error::Writer)?;
         return Ok(count > 0);
     }
     let Ok(mut output) = BufWriter::with_capacity(rt.alloc(), BUFFER_SIZE, io::writer(rt)) else {
         return Err(Error::Memory);
     };
-    let answer = list_verified(rt.alloc(), checksum, input, &mut output);
+    let answer = list_by_crc32(rt.alloc(), input, &mut output);
     if output.flush().is_err() {
         return Err(Error::Writer);
     }
