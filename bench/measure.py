@@ -19,6 +19,7 @@ from pathlib import Path
 
 import make_binlogs
 
+BASELINE = Path(__file__).resolve().parent / "baseline"
 KINDS = list(make_binlogs.KINDS)
 ROUNDS = 5
 TIME_COMMAND = "/usr/bin/time"
@@ -45,6 +46,13 @@ ALLOCATING = {"malloc", "calloc", "realloc"}
 
 class Difference(Exception):
     """Program and baseline do not agree."""
+
+
+def build_baseline(name):
+    """The hand-written program of this name, built."""
+    manifest = ["--manifest-path", BASELINE / "Cargo.toml", "--target-dir", BASELINE / "target"]
+    subprocess.run(["cargo", "build", "--release", "--offline", *manifest], check=True, stdout=sys.stderr)
+    return str(BASELINE / "target/release" / name)
 
 
 def progress(message):

@@ -14,21 +14,14 @@ import sys
 from pathlib import Path
 
 import make_gtid_logs
+from measure import build_baseline
 from measure_json import instructions, seconds
 
 ROUNDS = 5
 HERE = Path(__file__).resolve().parent
-BASELINE = HERE / "baseline"
 COLUMNS = [
     "Input", "Events", "ns / event", "Baseline's", "Time / baseline", "Instructions / event", "Baseline's", "Peak MB", "Baseline's"
 ]
-
-
-def build_baseline():
-    target = BASELINE / "target"
-    manifest = ["--manifest-path", BASELINE / "Cargo.toml", "--target-dir", target]
-    subprocess.run(["cargo", "build", "--release", "--offline", *manifest], check=True, stdout=sys.stderr)
-    return str(target / "release/gtids_baseline")
 
 
 def outcome(program, path):
@@ -74,7 +67,7 @@ def main(arguments):
     program = arguments[0] if arguments else str(HERE.parent / "crates/binlog_gtids_list/out/binlog_gtids_list")
     folder = Path(arguments[1]) if len(arguments) > 1 else HERE / "work"
     count = int(arguments[2]) if len(arguments) > 2 else make_gtid_logs.EVENTS
-    programs = [program, build_baseline()]
+    programs = [program, build_baseline("gtids_baseline")]
     make_gtid_logs.make_logs(folder, count)
     print("| " + " | ".join(COLUMNS) + " |")
     print("|---" + "|---:" * (len(COLUMNS) - 1) + "|")

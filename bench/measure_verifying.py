@@ -18,24 +18,16 @@ import sys
 from pathlib import Path
 
 import make_binlogs
-from measure import compare_listings
+from measure import build_baseline, compare_listings
 from measure_json import instructions, seconds
 
 KINDS = ("statements_crc32", "rows_crc32")
 ROUNDS = 5
 HERE = Path(__file__).resolve().parent
-BASELINE = HERE / "baseline"
 LISTING_COLUMNS = [
     "Input", "Bytes / event", "MB/s", "Baseline's", "Time / baseline", "Instructions / event", "Baseline's", "Verifying / event"
 ]
 ALONE_COLUMNS = ["Input", "MB/s", "Baseline's", "mariadb-binlog's", "Times as fast as mariadb-binlog"]
-
-
-def build_baseline():
-    target = BASELINE / "target"
-    manifest = ["--manifest-path", BASELINE / "Cargo.toml", "--target-dir", target]
-    subprocess.run(["cargo", "build", "--release", "--offline", *manifest], check=True, stdout=sys.stderr)
-    return str(target / "release/listing_baseline")
 
 
 def best_of(commands, path):
@@ -94,7 +86,7 @@ def main(arguments):
     listing = arguments[1] if len(arguments) > 1 else str(crates / "binlog_list/out/binlog_list")
     folder = Path(arguments[2]) if len(arguments) > 2 else HERE / "work"
     folder.mkdir(parents=True, exist_ok=True)
-    baseline = build_baseline()
+    baseline = build_baseline("listing_baseline")
     for kind in KINDS:
         make_binlogs.make_start(folder, kind)
         make_binlogs.make_kind(folder, kind)
