@@ -7,10 +7,10 @@ PROGRAM is the built bench_verifying, and LISTING the built binlog_list, if not 
 given, holds the files of make_binlogs.py; those with checksums are made if they are missing. The baseline is built first.
 
 The first table is of listings that verify each checksum: their outputs must be equal, but for the word at the end of a
-line, and their exit statuses. Instructions are those of the small log; the cost of verifying is what they are more than
-those of LISTING. The second is of verifying alone: `bench_verifying count`, the baseline's `--mismatches`, and
-`mariadb-binlog --verify-binlog-checksum`, of Debian's package `mariadb-client`, which refuses row events of MySQL. Times
-are processor times, the best of 5, in turns, with output to /dev/null.
+line, and their exit statuses. Instructions are those of the small log, less those of its first event alone; the cost of
+verifying is what they are more than those of LISTING. The second is of verifying alone: `bench_verifying count`, the
+baseline's `--mismatches`, and `mariadb-binlog --verify-binlog-checksum`, of Debian's package `mariadb-client`. Times are
+processor times, the best of 5, in turns, with output to /dev/null.
 """
 
 import subprocess
@@ -47,17 +47,25 @@ def rate(path, elapsed):
     return f"{path.stat().st_size / 1e6 / elapsed:.0f}"
 
 
+def further(command, folder, kind):
+    """The instructions for the small log, less those for the first event alone; None if they can't be counted."""
+    paths = (folder / f"{kind}_small.binlog", folder / make_binlogs.start_name(kind))
+    counted = [instructions(command, path) for path in paths]
+    return None if None in counted else counted[0] - counted[1]
+
+
 def listing_row(program, listing, baseline, folder, kind):
     path, small = folder / f"{kind}.binlog", folder / f"{kind}_small.binlog"
     compare_listings([program], [baseline, "--verify"], path)
     ours, theirs = best_of([[program], [baseline, "--verify"]], path)
     with open(small, "rb") as file:
         few = subprocess.run([listing], stdin=file, stdout=subprocess.PIPE, check=True).stdout.count(b"\n")
-    counted = [instructions(command, small) for command in ([program], [baseline, "--verify"], [listing])]
+    counted = [further(command, folder, kind) for command in ([program], [baseline, "--verify"], [listing])]
     if None in counted:
         figures = ["not counted"] * 3
     else:
-        figures = [f"{count / few:.0f}" for count in (counted[0], counted[1], counted[0] - counted[2])]
+        counts = (counted[0], counted[1], counted[0] - counted[2])
+        figures = [f"{count / (few - 1):.0f}" for count in counts]
     return [
         kind, f"{small.stat().st_size / few:.0f}", rate(path, ours), rate(path, theirs), f"{ours / theirs:.2f}", *figures
     ]
