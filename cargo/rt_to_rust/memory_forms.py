@@ -39,8 +39,9 @@ def has_both_forms(source, function):
 def fallible_clones(source):
     """The names of the types whose copies may be refused."""
     for function in functions(source):
-        if source.is_at(function.name, "clone") and has_both_forms(source, function):
-            yield block_at(source, function.name).type_name
+        block = block_at(source, function.name)
+        if block and source.is_at(function.name, "clone") and has_both_forms(source, function):
+            yield block.type_name
 
 
 def called(source, types):
@@ -93,16 +94,31 @@ def answer(source, function):
     return source.between(first, last - 3)
 
 
-def clone_of(source, function):
-    """`Clone` by `try_clone`, behind the block of the function."""
-    block = block_at(source, function.name)
+def head_of(source, block):
+    """`impl` with the generic parameters of a block, and the type that it is for."""
     start = source.code[block.first].start
-    head = source.text[start : source.code[block.body].start]
-    cut = source.code[after_generics(source, block.first + 1) - 1].end - start
+    cut = source.code[after_generics(source, block.first + 1) - 1].end
+    rest = source.text[cut : source.code[block.body].start].strip()
+    return source.text[start:cut], rest.partition(" for ")[2] if block.trait else rest
+
+
+def clone_of(source, block):
+    """`Clone` by `try_clone`, behind the block that has it."""
+    generics, of = head_of(source, block)
     end = source.code[source.partner[block.body]].end
     body = '{ fn clone(&self) -> Self { self.try_clone().expect("out of memory") } }'
     note = "/// Panics if memory runs out; `try_clone` returns an error then."
-    return end, end, f"\n\n{note}\n{head[:cut]} Clone for{head[cut:]}{body}"
+    return end, end, f"\n\n{note}\n{generics} Clone for {of} {body}"
+
+
+def into_owned_of(source, block, function):
+    """`into_owned` by `try_into_owned`, behind the block of `IntoOwned`."""
+    generics, of = head_of(source, block)
+    end = source.code[source.partner[block.body]].end
+    texts = ["The same value, which borrows nothing.", "", "# Panics", "", "If memory runs out."]
+    body = '{ self.try_into_owned().expect("out of memory") }'
+    plain = f"{rewritten(texts, '///', '    ')}pub fn into_owned(self) -> {answer(source, function)} {body}"
+    return end, end, f"\n\n{generics} {of} {{ {plain} }}"
 
 
 def with_plain_forms(source, public):
@@ -113,10 +129,14 @@ def with_plain_forms(source, public):
         name = source.code[function.name].text.removeprefix("try_")
         if not source.is_at(function.name, f"try_{name}") or name not in BOTH_FORMS:
             continue
-        if block_at(source, function.name).type_name not in public:
+        block = block_at(source, function.name)
+        if block is None or block.type_name not in public:
             continue
         if name == "clone":
-            changes.append(clone_of(source, function))
+            changes.append(clone_of(source, block))
+            continue
+        if block.trait == "IntoOwned":
+            changes.append(into_owned_of(source, block, function))
             continue
         start = source.with_docs(function.first)
         takes = source.between(function.parameters, source.partner[function.parameters])

@@ -41,14 +41,23 @@ class Growth(Case):
         self.has(text, "vec_with_capacity( 9)?; vec_from_slice( b)?;")
 
 
-HELD = """impl<'a, K: A> Held<'a, K> {
-    /// The same, owned. The only error is [`Error::Memory`].
-    pub fn into_owned(self, alloc: Global) -> Result<Held<'static, K>, Error> {
+HELD = """impl<'a, K: A> TryClone for Held<'a, K> {
+    fn clone(&self, alloc: Global) -> Result<Self, Error> {
+        Ok(Held(self.0.clone(alloc)?))
+    }
+}
+
+impl<'a, K: A> IntoOwned for Held<'a, K> {
+    type Owned = Held<'static, K>;
+
+    fn into_owned(self, alloc: Global) -> Result<Held<'static, K>, Error> {
         Ok(Held(self.0.into_owned(alloc)?))
     }
+}"""
 
-    pub fn clone(&self, alloc: Global) -> Result<Self, Error> {
-        Ok(Held(self.0.clone(alloc)?))
+SET = """impl Held {
+    pub fn clone(&self) -> Result<Self, Error> {
+        Ok(Held(1))
     }
 }"""
 
@@ -56,14 +65,19 @@ HELD = """impl<'a, K: A> Held<'a, K> {
 class BothForms(Case):
     def test_the_proved_form_is_try(self):
         body = "{ Ok(Held(self.0.try_into_owned()?)) }"
-        self.has(HELD, f"pub fn try_into_owned(self) -> Result<Held<'static, K>, Error> {body}")
-        self.has(HELD, "pub fn try_clone(&self) -> Result<Self, Error> { Ok(Held(self.0.try_clone()?)) }")
+        self.has(HELD, f"fn try_into_owned(self) -> Result<Held<'static, K>, Error> {body}")
+        self.has(HELD, "fn try_clone(&self) -> Result<Self, Error> { Ok(Held(self.0.try_clone()?)) }")
 
-    def test_the_plain_form_is_beside_it(self):
-        wanted = "/// The same, owned. /// /// # Panics /// /// If memory runs out. "
-        wanted += "pub fn into_owned(self) -> Held<'static, K> "
+    def test_a_trait_has_the_proved_form_alone(self):
+        text = "pub trait TryClone: Sized {\n    fn clone(&self, alloc: Global) -> Result<Self, Error>;\n}"
+        self.gives(text, "pub trait TryClone: Sized { fn try_clone(&self) -> Result<Self, Error>; }")
+
+    def test_the_plain_form_is_a_block_of_its_own(self):
+        wanted = "impl<'a, K: A> Held<'a, K> { /// The same value, which borrows nothing. "
+        wanted += "/// /// # Panics /// /// If memory runs out. pub fn into_owned(self) -> Held<'static, K> "
         self.has(HELD, wanted + '{ self.try_into_owned().expect("out of memory") }')
         self.has(HELD, "impl<'a, K: A> Clone for Held<'a, K> { fn clone(&self) -> Self {")
+        self.has(SET, "impl Clone for Held { fn clone(&self) -> Self {")
 
     def test_a_type_of_the_crate_s_own_has_the_proved_form_alone(self):
         self.assertNotIn("fn into_owned", converted(HELD.replace("Held", "Hidden")))

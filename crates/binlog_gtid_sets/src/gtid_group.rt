@@ -6,7 +6,7 @@ ghost use Rattle.binlog_gtid_sets.specs.GtidGroups.{tag_text, pair_in, compare_p
 
 use binlog_gtids::GnoSet;
 use binlog_numbers::Tag;
-use binlog_wire::Error;
+use binlog_wire::{Error, IntoOwned, TryClone};
 use std::alloc::Global;
 use std::cmp::Ordering;
 
@@ -70,15 +70,6 @@ impl GtidGroup {
         }
     }
 
-    /// A copy of the group. The only error is [`Error::Memory`].
-    pub(crate) fn clone(&self, alloc: Global) -> Result<Self, Error>
-        ensures ok { IfOk result (λ copy. copy ≡ self.now) }
-        ensures memory { IsOkUnless result Memory }
-    {
-        let gnos = self.gnos.clone()?;
-        self.with_gnos(alloc, gnos)
-    }
-
     /// A group of the same source and tag with other numbers. The only error is [`Error::Memory`].
     pub(crate) fn with_gnos(&self, alloc: Global, gnos: GnoSet) -> Result<Self, Error>
         ensures ok { IfOk result (λ group. group ≡ record { sid = self.now.sid; tag = self.now.tag; gnos = gnos }) }
@@ -90,6 +81,13 @@ impl GtidGroup {
             tag,
             gnos,
         })
+    }
+}
+
+impl TryClone for GtidGroup {
+    fn clone(&self, alloc: Global) -> Result<Self, Error> {
+        let gnos = self.gnos.clone()?;
+        self.with_gnos(alloc, gnos)
     }
 }
 

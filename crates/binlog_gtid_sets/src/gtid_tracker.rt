@@ -12,7 +12,7 @@ mod listed;
 use crate::gtid_group::{GtidGroup, tag_text};
 use binlog_gtids::GnoSet;
 use binlog_numbers::{GnoInterval, Tag};
-use binlog_wire::Error;
+use binlog_wire::{Error, TryClone};
 use std::alloc::{AllocError, Global};
 use std::cmp::Ordering;
 use std::marker::Model;

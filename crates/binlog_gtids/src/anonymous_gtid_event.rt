@@ -7,7 +7,7 @@ ghost use Rattle.binlog_gtids.specs.Formats.{untagged};
 use crate::gtid_event::GtidEvent;
 use binlog_consts::EventType;
 use binlog_description::{BinlogCtx, BinlogEvent};
-use binlog_wire::{Error, Field, MyDeserialize, ParseBuf, Put};
+use binlog_wire::{Error, Field, IntoOwned, MyDeserialize, ParseBuf, Put, TryClone};
 use std::alloc::Global;
 
 /// An ANONYMOUS_GTID event, type 34: the transaction after it has no GTID. Its body is that of a [`GtidEvent`] without
@@ -15,20 +15,22 @@ use std::alloc::Global;
 #[derive(Debug, PartialEq, Eq, Hash, Drop)]
 pub struct AnonymousGtidEvent(pub GtidEvent);
 
-impl AnonymousGtidEvent {
-    /// A copy of the event.
-    pub fn clone(&self, alloc: Global) -> Result<Self, Error>
-        ensures ok { IfOk result (λ copy. copy ≡ self.now) }
-        ensures memory { IsOkUnless result Memory }
-    {
-        Ok(AnonymousGtidEvent(self.0.clone(alloc)?))
-    }
+/// The event borrows nothing, so no memory is allocated and the result is always Ok.
+impl IntoOwned for AnonymousGtidEvent {
+    type Owned = AnonymousGtidEvent;
 
-    /// The same event. It borrows nothing, so no memory is allocated and the result is always Ok.
-    pub fn into_owned(self, alloc: Global) -> Result<AnonymousGtidEvent, Error>
+    ghost is_owned = { λ value owned. owned ≡ value };
+
+    fn into_owned(self, alloc: Global) -> Result<AnonymousGtidEvent, Error>
         ensures { result ≡ Ok self }
     {
         Ok(AnonymousGtidEvent(self.0.into_owned(alloc)?))
+    }
+}
+
+impl TryClone for AnonymousGtidEvent {
+    fn clone(&self, alloc: Global) -> Result<Self, Error> {
+        Ok(AnonymousGtidEvent(self.0.clone(alloc)?))
     }
 }
 

@@ -13,7 +13,7 @@ use crate::tagged::read_tagged;
 use binlog_consts::EventType;
 use binlog_description::{BinlogCtx, BinlogEvent};
 use binlog_numbers::Tag;
-use binlog_wire::{Error, MyDeserialize, ParseBuf, Put, RawFlags};
+use binlog_wire::{Error, IntoOwned, MyDeserialize, ParseBuf, Put, RawFlags, TryClone};
 use bitflags::Flags;
 use std::alloc::Global;
 
@@ -360,12 +360,10 @@ impl GtidEvent {
     {
         self.immediate_server_version
     }
+}
 
-    /// A copy of the event.
-    pub fn clone(&self, alloc: Global) -> Result<Self, Error>
-        ensures ok { IfOk result (λ copy. copy ≡ self.now) }
-        ensures memory { IsOkUnless result Memory }
-    {
+impl TryClone for GtidEvent {
+    fn clone(&self, alloc: Global) -> Result<Self, Error> {
         let tag = match &self.tag {
             Some(tag) => Some(tag.clone(alloc)?),
             None => None,
@@ -386,9 +384,15 @@ impl GtidEvent {
             commit_group_ticket: self.commit_group_ticket,
         })
     }
+}
 
-    /// The same event. It borrows nothing, so no memory is allocated and the result is always Ok.
-    pub fn into_owned(self, _alloc: Global) -> Result<GtidEvent, Error>
+/// The event borrows nothing, so no memory is allocated and the result is always Ok.
+impl IntoOwned for GtidEvent {
+    type Owned = GtidEvent;
+
+    ghost is_owned = { λ value owned. owned ≡ value };
+
+    fn into_owned(self, _alloc: Global) -> Result<GtidEvent, Error>
         ensures { result ≡ Ok self }
     {
         Ok(self)

@@ -10,7 +10,10 @@ use crate::previous_gtids_sid::PreviousGtidsSid;
 use binlog_consts::{BinlogVersion, EventType};
 use binlog_description::{BinlogCtx, BinlogEvent, BinlogStruct, MAX_BODY_LEN};
 use binlog_numbers::ValueList;
-use binlog_wire::{Error, Field, IntRepr, LeU64, MyDeserialize, MySerialize, ParseBuf, reserve};
+use binlog_wire::{
+    Error, Field, IntRepr, IntoOwned, LeU64, MyDeserialize, MySerialize, ParseBuf, TryClone,
+    reserve,
+};
 use std::alloc::Global;
 
 /// A PREVIOUS_GTIDS event, type 35: the GTIDs of all transactions in earlier files, with an entry for each source UUID
@@ -46,12 +49,14 @@ impl<'a> PreviousGtidsEvent<'a> {
     {
         self.sids.as_slice()
     }
+}
 
-    /// The same event with owned tags. The only error is [`Error::Memory`].
-    pub fn into_owned(self, alloc: Global) -> Result<PreviousGtidsEvent<'static>, Error>
-        ensures ok { IfOk result (λ owned. owned ≡ self.entry) }
-        ensures memory { IsOkUnless result Memory }
-    {
+impl<'a> IntoOwned for PreviousGtidsEvent<'a> {
+    type Owned = PreviousGtidsEvent<'static>;
+
+    ghost is_owned = { λ value owned. owned ≡ value };
+
+    fn into_owned(self, alloc: Global) -> Result<PreviousGtidsEvent<'static>, Error> {
         let mut owned = Vec::new(alloc);
         for sid in self.sids.into_vec() {
             let sid = sid.into_owned(alloc)?;
@@ -61,13 +66,10 @@ impl<'a> PreviousGtidsEvent<'a> {
             sids: ValueList::new(owned),
         })
     }
+}
 
-    /// A copy of the event: borrowed tags stay borrowed, everything else is copied. The only error is
-    /// [`Error::Memory`].
-    pub fn clone(&self, alloc: Global) -> Result<Self, Error>
-        ensures ok { IfOk result (λ copy. copy ≡ self.now) }
-        ensures memory { IsOkUnless result Memory }
-    {
+impl<'a> TryClone for PreviousGtidsEvent<'a> {
+    fn clone(&self, alloc: Global) -> Result<Self, Error> {
         let mut copies = Vec::new(alloc);
         for sid in self.sids.as_slice() {
             let copy = sid.clone(alloc)?;

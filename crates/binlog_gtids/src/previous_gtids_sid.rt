@@ -9,7 +9,7 @@ ghost use Rattle.binlog_gtids.specs.PreviousGtids.{tag_if_any, tag_in, intervals
 
 use crate::sid::read_sid;
 use binlog_numbers::{GnoInterval, Tag, ValueList, Varlen, read_varlen_text, varlen_uint_size};
-use binlog_wire::{Error, IntRepr, LeU64, MyDeserialize, ParseBuf, Put};
+use binlog_wire::{Error, IntRepr, IntoOwned, LeU64, MyDeserialize, ParseBuf, Put, TryClone};
 use std::alloc::Global;
 
 /// The number of bytes of an entry without its tag and its intervals.
@@ -59,12 +59,14 @@ impl<'a> PreviousGtidsSid<'a> {
     {
         self.intervals.as_slice()
     }
+}
 
-    /// The same entry with an owned tag. The only error is [`Error::Memory`].
-    pub fn into_owned(self, alloc: Global) -> Result<PreviousGtidsSid<'static>, Error>
-        ensures ok { IfOk result (λ owned. owned ≡ self.entry) }
-        ensures memory { IsOkUnless result Memory }
-    {
+impl<'a> IntoOwned for PreviousGtidsSid<'a> {
+    type Owned = PreviousGtidsSid<'static>;
+
+    ghost is_owned = { λ value owned. owned ≡ value };
+
+    fn into_owned(self, alloc: Global) -> Result<PreviousGtidsSid<'static>, Error> {
         let PreviousGtidsSid {
             uuid,
             tag,
@@ -80,13 +82,10 @@ impl<'a> PreviousGtidsSid<'a> {
             intervals,
         })
     }
+}
 
-    /// A copy of the entry: a borrowed tag stays borrowed, everything else is copied. The only error is
-    /// [`Error::Memory`].
-    pub fn clone(&self, alloc: Global) -> Result<Self, Error>
-        ensures ok { IfOk result (λ copy. copy ≡ self.now) }
-        ensures memory { IsOkUnless result Memory }
-    {
+impl<'a> TryClone for PreviousGtidsSid<'a> {
+    fn clone(&self, alloc: Global) -> Result<Self, Error> {
         let tag = match &self.tag {
             Some(tag) => Some(tag.clone(alloc)?),
             None => None,

@@ -10,7 +10,7 @@ ghost use Rattle.binlog_gtids.specs.TaggedReading.{payload_at};
 use crate::gtid_event::GtidEvent;
 use crate::tagged_fields::TaggedFields;
 use binlog_numbers::Varlen;
-use binlog_wire::{Error, IntRepr, Invalid, ParseBuf};
+use binlog_wire::{Error, IntRepr, IntoOwned, Invalid, ParseBuf};
 use std::alloc::Global;
 
 /// Reads the serialization version, which is 2, the size of the whole body, and the last non-ignorable field id.

@@ -8,7 +8,7 @@ ghost use Rattle.binlog_mariadb.specs.AnnotateRows.{annotate_rows};
 use crate::event_type::MariaEventType;
 use crate::traits::MariaEvent;
 use binlog_description::BinlogCtx;
-use binlog_wire::{EofBytes, Error, MyDeserialize, ParseBuf, Put, RawBytes};
+use binlog_wire::{EofBytes, Error, IntoOwned, MyDeserialize, ParseBuf, Put, RawBytes, TryClone};
 use std::alloc::Global;
 use std::borrow::{CowSlice, CowStr};
 
@@ -46,21 +46,21 @@ impl<'a> AnnotateRowsEvent<'a> {
     {
         self.query.as_str(alloc)
     }
+}
 
-    /// The same event with owned bytes. The only error is [`Error::Memory`].
-    pub fn into_owned(self, alloc: Global) -> Result<AnnotateRowsEvent<'static>, Error>
-        ensures ok { IfOk result (λ owned. owned ≡ self.entry) }
-        ensures memory { IsOkUnless result Memory }
-    {
+impl<'a> IntoOwned for AnnotateRowsEvent<'a> {
+    type Owned = AnnotateRowsEvent<'static>;
+
+    ghost is_owned = { λ value owned. owned ≡ value };
+
+    fn into_owned(self, alloc: Global) -> Result<AnnotateRowsEvent<'static>, Error> {
         let query = self.query.into_owned(alloc)?;
         Ok(AnnotateRowsEvent { query })
     }
+}
 
-    /// A copy: borrowed bytes stay borrowed, and owned ones are copied. The only error is [`Error::Memory`].
-    pub fn clone(&self, alloc: Global) -> Result<Self, Error>
-        ensures ok { IfOk result (λ copy. copy ≡ self.now) }
-        ensures memory { IsOkUnless result Memory }
-    {
+impl<'a> TryClone for AnnotateRowsEvent<'a> {
+    fn clone(&self, alloc: Global) -> Result<Self, Error> {
         let query = self.query.clone(alloc)?;
         Ok(AnnotateRowsEvent { query })
     }

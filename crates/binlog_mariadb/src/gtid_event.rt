@@ -14,7 +14,9 @@ use crate::gtid_flags::{MariaGtidFlags, has_bit};
 use crate::traits::MariaEvent;
 use crate::xa_id::XaId;
 use binlog_description::BinlogCtx;
-use binlog_wire::{Error, IntRepr, LeU32, LeU64, MyDeserialize, ParseBuf, Put, RawFlags};
+use binlog_wire::{
+    Error, IntRepr, IntoOwned, LeU32, LeU64, MyDeserialize, ParseBuf, Put, RawFlags, TryClone,
+};
 use bitflags::Flags;
 use std::alloc::Global;
 
@@ -239,12 +241,14 @@ impl<'a> MariaGtidEvent<'a> {
     {
         self.extra.as_ref()
     }
+}
 
-    /// The same event with owned bytes. The only error is [`Error::Memory`].
-    pub fn into_owned(self, alloc: Global) -> Result<MariaGtidEvent<'static>, Error>
-        ensures ok { IfOk result (λ owned. owned ≡ self.entry) }
-        ensures memory { IsOkUnless result Memory }
-    {
+impl<'a> IntoOwned for MariaGtidEvent<'a> {
+    type Owned = MariaGtidEvent<'static>;
+
+    ghost is_owned = { λ value owned. owned ≡ value };
+
+    fn into_owned(self, alloc: Global) -> Result<MariaGtidEvent<'static>, Error> {
         let MariaGtidEvent {
             head,
             commit_id,
@@ -263,12 +267,10 @@ impl<'a> MariaGtidEvent<'a> {
             extra,
         })
     }
+}
 
-    /// A copy: borrowed bytes stay borrowed, and owned ones are copied. The only error is [`Error::Memory`].
-    pub fn clone(&self, alloc: Global) -> Result<Self, Error>
-        ensures ok { IfOk result (λ copy. copy ≡ self.now) }
-        ensures memory { IsOkUnless result Memory }
-    {
+impl<'a> TryClone for MariaGtidEvent<'a> {
+    fn clone(&self, alloc: Global) -> Result<Self, Error> {
         let xa_id = self.xa_id.clone(alloc)?;
         let extra = match &self.extra {
             Some(extra) => Some(extra.clone(alloc)?),

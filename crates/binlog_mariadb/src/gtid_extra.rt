@@ -8,7 +8,10 @@ ghost use Rattle.binlog_mariadb.specs.Parts.{part, padding, zero_padded};
 ghost use Rattle.binlog_mariadb.specs.Gtids.{extra, no_extra, has_engines, has_alter, has_thread, parts_len};
 
 use crate::gtid_flags::has_bit;
-use binlog_wire::{EofBytes, Error, IntRepr, LeU32, LeU64, MyDeserialize, ParseBuf, Put, RawBytes};
+use binlog_wire::{
+    EofBytes, Error, IntRepr, IntoOwned, LeU32, LeU64, MyDeserialize, ParseBuf, Put, RawBytes,
+    TryClone,
+};
 use std::alloc::Global;
 use std::borrow::CowSlice;
 
@@ -284,36 +287,6 @@ impl<'a> GtidExtra<'a> {
         self.padding.as_bytes()
     }
 
-    /// The same extra flags with owned bytes. The only error is [`Error::Memory`].
-    pub fn into_owned(self, alloc: Global) -> Result<GtidExtra<'static>, Error>
-        ensures ok { IfOk result (λ owned. owned ≡ self.entry) }
-        ensures memory { IsOkUnless result Memory }
-    {
-        let padding = self.padding.into_owned(alloc)?;
-        Ok(GtidExtra {
-            flags: self.flags,
-            engines: self.engines,
-            alter_sequence: self.alter_sequence,
-            thread_id: self.thread_id,
-            padding,
-        })
-    }
-
-    /// A copy: borrowed bytes stay borrowed, and owned ones are copied. The only error is [`Error::Memory`].
-    pub fn clone(&self, alloc: Global) -> Result<Self, Error>
-        ensures ok { IfOk result (λ copy. copy ≡ self.now) }
-        ensures memory { IsOkUnless result Memory }
-    {
-        let padding = self.padding.clone(alloc)?;
-        Ok(GtidExtra {
-            flags: self.flags,
-            engines: self.engines,
-            alter_sequence: self.alter_sequence,
-            thread_id: self.thread_id,
-            padding,
-        })
-    }
-
     /// Reads extra flags and all bytes after them, which have to be at least `needed`. The only error is
     /// [`Error::EndOfBody`], if the bytes end within a part or fewer than `needed` follow.
     pub(crate) fn read(alloc: Global, needed: usize, buf: &mut ParseBuf<'a>) -> Result<Self, Error>
@@ -359,5 +332,35 @@ impl<'a> GtidExtra<'a> {
         put_thread(self.flags, self.thread_id, buf);
         let left = needed.saturating_sub(parts_len(self.flags));
         put_padding(self.padding.as_bytes(), left, buf);
+    }
+}
+
+impl<'a> IntoOwned for GtidExtra<'a> {
+    type Owned = GtidExtra<'static>;
+
+    ghost is_owned = { λ value owned. owned ≡ value };
+
+    fn into_owned(self, alloc: Global) -> Result<GtidExtra<'static>, Error> {
+        let padding = self.padding.into_owned(alloc)?;
+        Ok(GtidExtra {
+            flags: self.flags,
+            engines: self.engines,
+            alter_sequence: self.alter_sequence,
+            thread_id: self.thread_id,
+            padding,
+        })
+    }
+}
+
+impl<'a> TryClone for GtidExtra<'a> {
+    fn clone(&self, alloc: Global) -> Result<Self, Error> {
+        let padding = self.padding.clone(alloc)?;
+        Ok(GtidExtra {
+            flags: self.flags,
+            engines: self.engines,
+            alter_sequence: self.alter_sequence,
+            thread_id: self.thread_id,
+            padding,
+        })
     }
 }

@@ -12,7 +12,8 @@ use binlog_consts::BinlogVersion;
 use binlog_description::{BinlogCtx, BinlogStruct, MAX_BODY_LEN};
 use binlog_numbers::ValueList;
 use binlog_wire::{
-    Error, Field, IntRepr, LeU32, MyDeserialize, MySerialize, ParseBuf, Put, Skip, reserve,
+    Error, Field, IntRepr, IntoOwned, LeU32, MyDeserialize, MySerialize, ParseBuf, Put, Skip,
+    TryClone, reserve,
 };
 use std::alloc::Global;
 
@@ -70,25 +71,6 @@ impl GtidListEvent {
         self.entries.as_slice()
     }
 
-    /// A copy of the list. The only error is [`Error::Memory`].
-    pub fn clone(&self, alloc: Global) -> Result<Self, Error>
-        ensures ok { IfOk result (λ copy. copy ≡ self.now) }
-        ensures memory { IsOkUnless result Memory }
-    {
-        let entries = Vec::from_slice(alloc, self.entries.as_slice())?;
-        Ok(GtidListEvent {
-            flags: self.flags,
-            entries: ValueList::new(entries),
-        })
-    }
-
-    /// The same list. It borrows nothing, so no memory is allocated and the result is always Ok.
-    pub fn into_owned(self, _alloc: Global) -> Result<GtidListEvent, Error>
-        ensures { result ≡ Ok self }
-    {
-        Ok(self)
-    }
-
     /// The first number of the body. The only error is [`Error::Unwritable`], if there are 2^28 entries or more.
     fn first_number(&self) -> Result<u32, Error>
         ensures { MatchOption (unwritable_list self.now) (result ≡ Ok (first_number self.now)) (λ why. result ≡ Err why) }
@@ -109,6 +91,29 @@ impl GtidListEvent {
             return 6;
         }
         count.saturating_mul(ENTRY_LEN).saturating_add(4)
+    }
+}
+
+impl TryClone for GtidListEvent {
+    fn clone(&self, alloc: Global) -> Result<Self, Error> {
+        let entries = Vec::from_slice(alloc, self.entries.as_slice())?;
+        Ok(GtidListEvent {
+            flags: self.flags,
+            entries: ValueList::new(entries),
+        })
+    }
+}
+
+/// The list borrows nothing, so no memory is allocated and the result is always Ok.
+impl IntoOwned for GtidListEvent {
+    type Owned = GtidListEvent;
+
+    ghost is_owned = { λ value owned. owned ≡ value };
+
+    fn into_owned(self, _alloc: Global) -> Result<GtidListEvent, Error>
+        ensures { result ≡ Ok self }
+    {
+        Ok(self)
     }
 }
 

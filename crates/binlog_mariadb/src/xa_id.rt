@@ -5,7 +5,8 @@ ghost use Rattle.binlog_wire.specs.declared.error.Error.TheVariants.{Memory};
 ghost use Rattle.binlog_mariadb.specs.Gtids.{xa, no_xa};
 
 use binlog_wire::{
-    BareU8Bytes, Error, IntRepr, LeU32, MyDeserialize, ParseBuf, Put, RawBytes, RawInt,
+    BareU8Bytes, Error, IntRepr, IntoOwned, LeU32, MyDeserialize, ParseBuf, Put, RawBytes, RawInt,
+    TryClone,
 };
 use std::alloc::Global;
 use std::borrow::CowSlice;
@@ -68,12 +69,14 @@ impl<'a> XaId<'a> {
     {
         self.branch.as_bytes()
     }
+}
 
-    /// The same id with owned bytes. The only error is [`Error::Memory`].
-    pub fn into_owned(self, alloc: Global) -> Result<XaId<'static>, Error>
-        ensures ok { IfOk result (λ owned. owned ≡ self.entry) }
-        ensures memory { IsOkUnless result Memory }
-    {
+impl<'a> IntoOwned for XaId<'a> {
+    type Owned = XaId<'static>;
+
+    ghost is_owned = { λ value owned. owned ≡ value };
+
+    fn into_owned(self, alloc: Global) -> Result<XaId<'static>, Error> {
         let global = self.global.into_owned(alloc)?;
         let branch = self.branch.into_owned(alloc)?;
         Ok(XaId {
@@ -82,12 +85,10 @@ impl<'a> XaId<'a> {
             branch,
         })
     }
+}
 
-    /// A copy: borrowed bytes stay borrowed, and owned ones are copied. The only error is [`Error::Memory`].
-    pub fn clone(&self, alloc: Global) -> Result<Self, Error>
-        ensures ok { IfOk result (λ copy. copy ≡ self.now) }
-        ensures memory { IsOkUnless result Memory }
-    {
+impl<'a> TryClone for XaId<'a> {
+    fn clone(&self, alloc: Global) -> Result<Self, Error> {
         let global = self.global.clone(alloc)?;
         let branch = self.branch.clone(alloc)?;
         Ok(XaId {

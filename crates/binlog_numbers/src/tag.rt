@@ -5,7 +5,7 @@ ghost use Rattle.std.specs.Cow.{cow_str_bytes};
 ghost use Rattle.binlog_wire.specs.declared.error.Error.TheVariants.{Memory};
 ghost use Rattle.binlog_numbers.specs.Tags.{is_first, is_later, is_tag, not_a_tag};
 
-use binlog_wire::{Error, Invalid};
+use binlog_wire::{Error, IntoOwned, Invalid, TryClone};
 use std::alloc::Global;
 use std::borrow::CowStr;
 use std::fmt;
@@ -104,23 +104,23 @@ impl<'a> Tag<'a> {
     {
         self.text.as_str()
     }
+}
 
-    /// The same tag with owned text. The only error is [`Error::Memory`].
-    pub fn into_owned(self, alloc: Global) -> Result<Tag<'static>, Error>
-        ensures ok { IfOk result (λ owned. owned ≡ self.entry) }
-        ensures memory { IsOkUnless result Memory }
-    {
+impl<'a> IntoOwned for Tag<'a> {
+    type Owned = Tag<'static>;
+
+    ghost is_owned = { λ value owned. owned ≡ value };
+
+    fn into_owned(self, alloc: Global) -> Result<Tag<'static>, Error> {
         let text = self.text.into_owned(alloc)?;
         Ok(Tag {
             text: CowStr::Owned(text),
         })
     }
+}
 
-    /// A copy: borrowed text stays borrowed, and owned text is copied. The only error is [`Error::Memory`].
-    pub fn clone(&self, alloc: Global) -> Result<Self, Error>
-        ensures ok { IfOk result (λ copy. copy ≡ self.now) }
-        ensures memory { IsOkUnless result Memory }
-    {
+impl<'a> TryClone for Tag<'a> {
+    fn clone(&self, alloc: Global) -> Result<Self, Error> {
         let text = match &self.text {
             CowStr::Borrowed(text) => CowStr::Borrowed(*text),
             CowStr::Owned(text) => CowStr::Owned(String::from_str(alloc, text.as_str())?),

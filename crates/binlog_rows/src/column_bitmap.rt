@@ -4,7 +4,9 @@ ghost use Rattle.binlog_wire.specs.declared.error.Error.TheVariants.{Memory};
 ghost use Rattle.binlog_wire.specs.Reading.{Gives};
 ghost use Rattle.binlog_rows.specs.Columns.{bitmap};
 
-use binlog_wire::{BitView, EofBytes, Error, MyDeserialize, ParseBuf, Put, RawBytes};
+use binlog_wire::{
+    BitView, EofBytes, Error, IntoOwned, MyDeserialize, ParseBuf, Put, RawBytes, TryClone,
+};
 use std::alloc::Global;
 use std::borrow::CowSlice;
 use std::hash::{Hash, Hasher};
@@ -62,23 +64,22 @@ impl<'a> ColumnBitmap<'a> {
     {
         BitView::new(self.bits.as_bytes(), self.len).unwrap()
     }
+}
 
-    /// The same bitmap with owned bytes. The only error is [`Error::Memory`].
-    pub fn into_owned(self, alloc: Global) -> Result<ColumnBitmap<'static>, Error>
-        ensures ok { IfOk result (λ owned. owned ≡ self.entry) }
-        ensures memory { IsOkUnless result Memory }
-    {
+impl<'a> IntoOwned for ColumnBitmap<'a> {
+    type Owned = ColumnBitmap<'static>;
+
+    ghost is_owned = { λ value owned. owned ≡ value };
+
+    fn into_owned(self, alloc: Global) -> Result<ColumnBitmap<'static>, Error> {
         let ColumnBitmap { len, bits } = self;
         let bits = bits.into_owned(alloc)?;
         Ok(ColumnBitmap { len, bits })
     }
+}
 
-    /// A copy of the bitmap: borrowed bytes stay borrowed, owned bytes are copied. The only error is
-    /// [`Error::Memory`].
-    pub fn clone(&self, alloc: Global) -> Result<Self, Error>
-        ensures ok { IfOk result (λ copy. copy ≡ self.now) }
-        ensures memory { IsOkUnless result Memory }
-    {
+impl<'a> TryClone for ColumnBitmap<'a> {
+    fn clone(&self, alloc: Global) -> Result<Self, Error> {
         let bits = self.bits.clone(alloc)?;
         Ok(ColumnBitmap {
             len: self.len,

@@ -8,7 +8,8 @@ ghost use Rattle.binlog_rows.specs.TableMaps.{columns};
 use crate::column_bitmap::ColumnBitmap;
 use binlog_numbers::{LenEnc, LenEncBytes};
 use binlog_wire::{
-    BitView, BytesRepr, EofBytes, Error, IntRepr, MyDeserialize, ParseBuf, Put, RawBytes,
+    BitView, BytesRepr, EofBytes, Error, IntRepr, IntoOwned, MyDeserialize, ParseBuf, Put,
+    RawBytes, TryClone,
 };
 use std::alloc::Global;
 use std::borrow::CowSlice;
@@ -94,12 +95,14 @@ impl<'a> MappedColumns<'a> {
     {
         self.optional_metadata.as_bytes()
     }
+}
 
-    /// The same columns with owned bytes. The only error is [`Error::Memory`].
-    pub fn into_owned(self, alloc: Global) -> Result<MappedColumns<'static>, Error>
-        ensures ok { IfOk result (λ owned. owned ≡ self.entry) }
-        ensures memory { IsOkUnless result Memory }
-    {
+impl<'a> IntoOwned for MappedColumns<'a> {
+    type Owned = MappedColumns<'static>;
+
+    ghost is_owned = { λ value owned. owned ≡ value };
+
+    fn into_owned(self, alloc: Global) -> Result<MappedColumns<'static>, Error> {
         let MappedColumns {
             types,
             metadata,
@@ -117,13 +120,10 @@ impl<'a> MappedColumns<'a> {
             optional_metadata,
         })
     }
+}
 
-    /// A copy of the columns: borrowed bytes stay borrowed, owned bytes are copied. The only error is
-    /// [`Error::Memory`].
-    pub fn clone(&self, alloc: Global) -> Result<Self, Error>
-        ensures ok { IfOk result (λ copy. copy ≡ self.now) }
-        ensures memory { IsOkUnless result Memory }
-    {
+impl<'a> TryClone for MappedColumns<'a> {
+    fn clone(&self, alloc: Global) -> Result<Self, Error> {
         let types = self.types.clone(alloc)?;
         let metadata = self.metadata.clone(alloc)?;
         let null_bits = self.null_bits.clone(alloc)?;

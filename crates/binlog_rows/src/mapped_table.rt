@@ -7,7 +7,8 @@ ghost use Rattle.binlog_rows.specs.TableMaps.{table};
 
 use crate::table_id::TableId;
 use binlog_wire::{
-    BytesRepr, Error, IntRepr, LeU16, MyDeserialize, ParseBuf, Put, RawBytes, Skip, U8Bytes,
+    BytesRepr, Error, IntRepr, IntoOwned, LeU16, MyDeserialize, ParseBuf, Put, RawBytes, Skip,
+    TryClone, U8Bytes,
 };
 use std::alloc::Global;
 use std::borrow::CowSlice;
@@ -43,12 +44,14 @@ impl<'a> MappedTable<'a> {
             table_name: RawBytes::new(CowSlice::Borrowed(table_name)),
         })
     }
+}
 
-    /// The same table with owned names. The only error is [`Error::Memory`].
-    pub fn into_owned(self, alloc: Global) -> Result<MappedTable<'static>, Error>
-        ensures ok { IfOk result (λ owned. owned ≡ self.entry) }
-        ensures memory { IsOkUnless result Memory }
-    {
+impl<'a> IntoOwned for MappedTable<'a> {
+    type Owned = MappedTable<'static>;
+
+    ghost is_owned = { λ value owned. owned ≡ value };
+
+    fn into_owned(self, alloc: Global) -> Result<MappedTable<'static>, Error> {
         let database_name = self.database_name.into_owned(alloc)?;
         let table_name = self.table_name.into_owned(alloc)?;
         Ok(MappedTable {
@@ -58,12 +61,10 @@ impl<'a> MappedTable<'a> {
             table_name,
         })
     }
+}
 
-    /// A copy of the table: borrowed names stay borrowed, owned names are copied. The only error is [`Error::Memory`].
-    pub fn clone(&self, alloc: Global) -> Result<Self, Error>
-        ensures ok { IfOk result (λ copy. copy ≡ self.now) }
-        ensures memory { IsOkUnless result Memory }
-    {
+impl<'a> TryClone for MappedTable<'a> {
+    fn clone(&self, alloc: Global) -> Result<Self, Error> {
         let database_name = self.database_name.clone(alloc)?;
         let table_name = self.table_name.clone(alloc)?;
         Ok(MappedTable {

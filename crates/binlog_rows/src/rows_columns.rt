@@ -7,7 +7,7 @@ ghost use Rattle.binlog_rows.specs.Rows.{image, columns, image_written, columns_
 use crate::column_bitmap::ColumnBitmap;
 use crate::rows_form::RowsForm;
 use binlog_numbers::LenEnc;
-use binlog_wire::{Error, IntRepr, ParseBuf, Put};
+use binlog_wire::{Error, IntRepr, IntoOwned, ParseBuf, Put, TryClone};
 use std::alloc::Global;
 
 /// The number of the table's columns, and the columns-present bitmap of each row image.
@@ -99,12 +99,14 @@ impl<'a> RowsColumns<'a> {
             after,
         })
     }
+}
 
-    /// The same columns with owned bytes. The only error is [`Error::Memory`].
-    pub fn into_owned(self, alloc: Global) -> Result<RowsColumns<'static>, Error>
-        ensures ok { IfOk result (λ owned. owned ≡ self.entry) }
-        ensures memory { IsOkUnless result Memory }
-    {
+impl<'a> IntoOwned for RowsColumns<'a> {
+    type Owned = RowsColumns<'static>;
+
+    ghost is_owned = { λ value owned. owned ≡ value };
+
+    fn into_owned(self, alloc: Global) -> Result<RowsColumns<'static>, Error> {
         let RowsColumns {
             count,
             before,
@@ -118,13 +120,10 @@ impl<'a> RowsColumns<'a> {
             after,
         })
     }
+}
 
-    /// A copy of the columns: borrowed bytes stay borrowed, owned bytes are copied. The only error is
-    /// [`Error::Memory`].
-    pub fn clone(&self, alloc: Global) -> Result<Self, Error>
-        ensures ok { IfOk result (λ copy. copy ≡ self.now) }
-        ensures memory { IsOkUnless result Memory }
-    {
+impl<'a> TryClone for RowsColumns<'a> {
+    fn clone(&self, alloc: Global) -> Result<Self, Error> {
         let before = copy_image(alloc, &self.before)?;
         let after = copy_image(alloc, &self.after)?;
         Ok(RowsColumns {

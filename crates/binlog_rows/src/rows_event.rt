@@ -12,7 +12,10 @@ use crate::rows_form::RowsForm;
 use crate::rows_head::RowsHead;
 use binlog_consts::{BinlogVersion, RowsEventFlags};
 use binlog_description::MAX_BODY_LEN;
-use binlog_wire::{BitView, BytesRepr, EofBytes, Error, LeU16, ParseBuf, Put, RawBytes, RawFlags};
+use binlog_wire::{
+    BitView, BytesRepr, EofBytes, Error, IntoOwned, LeU16, ParseBuf, Put, RawBytes, RawFlags,
+    TryClone,
+};
 use std::alloc::Global;
 use std::borrow::CowSlice;
 
@@ -126,12 +129,14 @@ impl<'a> RowsEvent<'a> {
     {
         MAX_BODY_LEN.min(self.written_len())
     }
+}
 
-    /// The same event with owned bytes. The only error is [`Error::Memory`].
-    pub fn into_owned(self, alloc: Global) -> Result<RowsEvent<'static>, Error>
-        ensures ok { IfOk result (λ owned. owned ≡ self.entry) }
-        ensures memory { IsOkUnless result Memory }
-    {
+impl<'a> IntoOwned for RowsEvent<'a> {
+    type Owned = RowsEvent<'static>;
+
+    ghost is_owned = { λ value owned. owned ≡ value };
+
+    fn into_owned(self, alloc: Global) -> Result<RowsEvent<'static>, Error> {
         let RowsEvent {
             head,
             columns,
@@ -146,12 +151,10 @@ impl<'a> RowsEvent<'a> {
             rows,
         })
     }
+}
 
-    /// A copy of the event: borrowed bytes stay borrowed, owned bytes are copied. The only error is [`Error::Memory`].
-    pub fn clone(&self, alloc: Global) -> Result<Self, Error>
-        ensures ok { IfOk result (λ copy. copy ≡ self.now) }
-        ensures memory { IsOkUnless result Memory }
-    {
+impl<'a> TryClone for RowsEvent<'a> {
+    fn clone(&self, alloc: Global) -> Result<Self, Error> {
         let head = self.head.clone(alloc)?;
         let columns = self.columns.clone(alloc)?;
         let rows = self.rows.clone(alloc)?;

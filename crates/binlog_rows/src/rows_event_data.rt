@@ -13,7 +13,7 @@ use crate::rows_event_of::{
     WriteRowsEvent, WriteRowsEventV1,
 };
 use binlog_consts::RowsEventFlags;
-use binlog_wire::{BitView, Error, Put};
+use binlog_wire::{BitView, Error, IntoOwned, Put, TryClone};
 use std::alloc::Global;
 
 /// A row event of any type.
@@ -96,12 +96,14 @@ impl<'a> RowsEventData<'a> {
     {
         self.event().flags()
     }
+}
 
-    /// The same event with owned bytes. The only error is [`Error::Memory`].
-    pub fn into_owned(self, alloc: Global) -> Result<RowsEventData<'static>, Error>
-        ensures ok { IfOk result (λ owned. owned ≡ self.entry) }
-        ensures memory { IsOkUnless result Memory }
-    {
+impl<'a> IntoOwned for RowsEventData<'a> {
+    type Owned = RowsEventData<'static>;
+
+    ghost is_owned = { λ value owned. owned ≡ value };
+
+    fn into_owned(self, alloc: Global) -> Result<RowsEventData<'static>, Error> {
         Ok(match self {
             Self::WriteRowsEventV1(event) => {
                 RowsEventData::WriteRowsEventV1(event.into_owned(alloc)?)
@@ -124,12 +126,10 @@ impl<'a> RowsEventData<'a> {
             }
         })
     }
+}
 
-    /// A copy of the event: borrowed bytes stay borrowed, owned bytes are copied. The only error is [`Error::Memory`].
-    pub fn clone(&self, alloc: Global) -> Result<Self, Error>
-        ensures ok { IfOk result (λ copy. copy ≡ self.now) }
-        ensures memory { IsOkUnless result Memory }
-    {
+impl<'a> TryClone for RowsEventData<'a> {
+    fn clone(&self, alloc: Global) -> Result<Self, Error> {
         Ok(match self {
             Self::WriteRowsEventV1(event) => Self::WriteRowsEventV1(event.clone(alloc)?),
             Self::UpdateRowsEventV1(event) => Self::UpdateRowsEventV1(event.clone(alloc)?),

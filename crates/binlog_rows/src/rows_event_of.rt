@@ -14,7 +14,7 @@ use crate::rows_kind::{
 };
 use binlog_consts::{EventType, RowsEventFlags};
 use binlog_description::{BinlogCtx, BinlogEvent, DescriptionRef};
-use binlog_wire::{BitView, Error, MyDeserialize, ParseBuf, Put};
+use binlog_wire::{BitView, Error, IntoOwned, MyDeserialize, ParseBuf, Put, TryClone};
 use std::alloc::Global;
 use std::marker::{Model, PhantomData};
 
@@ -142,12 +142,14 @@ impl<'a, K: RowsKind> RowsEventOf<'a, K> {
     {
         self.event.flags_raw()
     }
+}
 
-    /// The same event with owned bytes. The only error is [`Error::Memory`].
-    pub fn into_owned(self, alloc: Global) -> Result<RowsEventOf<'static, K>, Error>
-        ensures ok { IfOk result (λ owned. owned ≡ self.entry) }
-        ensures memory { IsOkUnless result Memory }
-    {
+impl<'a, K: RowsKind> IntoOwned for RowsEventOf<'a, K> {
+    type Owned = RowsEventOf<'static, K>;
+
+    ghost is_owned = { λ value owned. owned ≡ value };
+
+    fn into_owned(self, alloc: Global) -> Result<RowsEventOf<'static, K>, Error> {
         let RowsEventOf { event, kind: _ } = self;
         let event = event.into_owned(alloc)?;
         Ok(RowsEventOf {
@@ -155,12 +157,10 @@ impl<'a, K: RowsKind> RowsEventOf<'a, K> {
             kind: PhantomData,
         })
     }
+}
 
-    /// A copy of the event: borrowed bytes stay borrowed, owned bytes are copied. The only error is [`Error::Memory`].
-    pub fn clone(&self, alloc: Global) -> Result<Self, Error>
-        ensures ok { IfOk result (λ copy. copy ≡ self.now) }
-        ensures memory { IsOkUnless result Memory }
-    {
+impl<'a, K: RowsKind> TryClone for RowsEventOf<'a, K> {
+    fn clone(&self, alloc: Global) -> Result<Self, Error> {
         let event = self.event.clone(alloc)?;
         Ok(RowsEventOf {
             event,

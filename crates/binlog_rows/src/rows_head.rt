@@ -8,7 +8,7 @@ ghost use Rattle.binlog_rows.specs.Rows.{extra, extra_in, extra_written, head, h
 
 use crate::rows_form::RowsForm;
 use crate::table_id::TableId;
-use binlog_wire::{BareBytes, Error, IntRepr, LeU16, ParseBuf, Put, RawBytes};
+use binlog_wire::{BareBytes, Error, IntRepr, IntoOwned, LeU16, ParseBuf, Put, RawBytes, TryClone};
 use std::alloc::Global;
 use std::borrow::CowSlice;
 
@@ -106,12 +106,14 @@ impl<'a> RowsHead<'a> {
             extra,
         })
     }
+}
 
-    /// The same post-header with owned bytes. The only error is [`Error::Memory`].
-    pub fn into_owned(self, alloc: Global) -> Result<RowsHead<'static>, Error>
-        ensures ok { IfOk result (λ owned. owned ≡ self.entry) }
-        ensures memory { IsOkUnless result Memory }
-    {
+impl<'a> IntoOwned for RowsHead<'a> {
+    type Owned = RowsHead<'static>;
+
+    ghost is_owned = { λ value owned. owned ≡ value };
+
+    fn into_owned(self, alloc: Global) -> Result<RowsHead<'static>, Error> {
         let RowsHead {
             table_id,
             flags,
@@ -127,13 +129,10 @@ impl<'a> RowsHead<'a> {
             extra,
         })
     }
+}
 
-    /// A copy of the post-header: borrowed bytes stay borrowed, owned bytes are copied. The only error is
-    /// [`Error::Memory`].
-    pub fn clone(&self, alloc: Global) -> Result<Self, Error>
-        ensures ok { IfOk result (λ copy. copy ≡ self.now) }
-        ensures memory { IsOkUnless result Memory }
-    {
+impl<'a> TryClone for RowsHead<'a> {
+    fn clone(&self, alloc: Global) -> Result<Self, Error> {
         let extra = match &self.extra {
             Some(extra) => Some(extra.clone(alloc)?),
             None => None,

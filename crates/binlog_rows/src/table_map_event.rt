@@ -8,7 +8,7 @@ use crate::mapped_columns::MappedColumns;
 use crate::mapped_table::{MappedTable, skip_byte};
 use binlog_consts::EventType;
 use binlog_description::{BinlogCtx, BinlogEvent, DescriptionRef};
-use binlog_wire::{BitView, Error, MyDeserialize, ParseBuf, Put, Skip};
+use binlog_wire::{BitView, Error, IntoOwned, MyDeserialize, ParseBuf, Put, Skip, TryClone};
 use std::alloc::Global;
 use std::borrow::CowStr;
 
@@ -145,22 +145,22 @@ impl<'a> TableMapEvent<'a> {
     {
         self.columns.optional_metadata()
     }
+}
 
-    /// The same event with owned bytes. The only error is [`Error::Memory`].
-    pub fn into_owned(self, alloc: Global) -> Result<TableMapEvent<'static>, Error>
-        ensures ok { IfOk result (λ owned. owned ≡ self.entry) }
-        ensures memory { IsOkUnless result Memory }
-    {
+impl<'a> IntoOwned for TableMapEvent<'a> {
+    type Owned = TableMapEvent<'static>;
+
+    ghost is_owned = { λ value owned. owned ≡ value };
+
+    fn into_owned(self, alloc: Global) -> Result<TableMapEvent<'static>, Error> {
         let table = self.table.into_owned(alloc)?;
         let columns = self.columns.into_owned(alloc)?;
         Ok(TableMapEvent { table, columns })
     }
+}
 
-    /// A copy of the event: borrowed bytes stay borrowed, owned bytes are copied. The only error is [`Error::Memory`].
-    pub fn clone(&self, alloc: Global) -> Result<Self, Error>
-        ensures ok { IfOk result (λ copy. copy ≡ self.now) }
-        ensures memory { IsOkUnless result Memory }
-    {
+impl<'a> TryClone for TableMapEvent<'a> {
+    fn clone(&self, alloc: Global) -> Result<Self, Error> {
         let table = self.table.clone(alloc)?;
         let columns = self.columns.clone(alloc)?;
         Ok(TableMapEvent { table, columns })

@@ -9,7 +9,9 @@ use crate::statement::{Statement, StatementHead, StatementTexts};
 use crate::status_vars::StatusVars;
 use binlog_consts::{EventType, LoadDuplicateHandling};
 use binlog_description::{BinlogCtx, BinlogEvent};
-use binlog_wire::{Constant, Error, IntRepr, LeU32, MyDeserialize, ParseBuf, Put};
+use binlog_wire::{
+    Constant, Error, IntRepr, IntoOwned, LeU32, MyDeserialize, ParseBuf, Put, TryClone,
+};
 use std::alloc::Global;
 use std::borrow::{CowSlice, CowStr};
 
@@ -342,12 +344,14 @@ impl<'a> ExecuteLoadQueryEvent<'a> {
     {
         self.statement.texts.query.as_str(alloc)
     }
+}
 
-    /// The same event with owned bytes. The only error is [`Error::Memory`].
-    pub fn into_owned(self, alloc: Global) -> Result<ExecuteLoadQueryEvent<'static>, Error>
-        ensures ok { IfOk result (λ owned. owned ≡ self.entry) }
-        ensures memory { IsOkUnless result Memory }
-    {
+impl<'a> IntoOwned for ExecuteLoadQueryEvent<'a> {
+    type Owned = ExecuteLoadQueryEvent<'static>;
+
+    ghost is_owned = { λ value owned. owned ≡ value };
+
+    fn into_owned(self, alloc: Global) -> Result<ExecuteLoadQueryEvent<'static>, Error> {
         let statement = self.statement.into_owned(alloc)?;
         Ok(ExecuteLoadQueryEvent {
             statement,
@@ -357,12 +361,10 @@ impl<'a> ExecuteLoadQueryEvent<'a> {
             dup_handling: self.dup_handling,
         })
     }
+}
 
-    /// A copy of the event: borrowed bytes stay borrowed, owned bytes are copied. The only error is [`Error::Memory`].
-    pub fn clone(&self, alloc: Global) -> Result<Self, Error>
-        ensures ok { IfOk result (λ copy. copy ≡ self.now) }
-        ensures memory { IsOkUnless result Memory }
-    {
+impl<'a> TryClone for ExecuteLoadQueryEvent<'a> {
+    fn clone(&self, alloc: Global) -> Result<Self, Error> {
         let statement = self.statement.clone(alloc)?;
         Ok(ExecuteLoadQueryEvent {
             statement,

@@ -9,7 +9,7 @@ use crate::statement::{STATEMENT_HEAD_LEN, Statement, StatementHead, StatementTe
 use crate::status_vars::StatusVars;
 use binlog_consts::EventType;
 use binlog_description::{BinlogCtx, BinlogEvent, DescriptionRef};
-use binlog_wire::{Error, MyDeserialize, ParseBuf, Put};
+use binlog_wire::{Error, IntoOwned, MyDeserialize, ParseBuf, Put, TryClone};
 use std::alloc::Global;
 use std::borrow::{CowSlice, CowStr};
 
@@ -174,21 +174,21 @@ impl<'a> QueryEvent<'a> {
     {
         self.statement.texts.query.as_str(alloc)
     }
+}
 
-    /// The same event with owned bytes. The only error is [`Error::Memory`].
-    pub fn into_owned(self, alloc: Global) -> Result<QueryEvent<'static>, Error>
-        ensures ok { IfOk result (λ owned. owned ≡ self.entry) }
-        ensures memory { IsOkUnless result Memory }
-    {
+impl<'a> IntoOwned for QueryEvent<'a> {
+    type Owned = QueryEvent<'static>;
+
+    ghost is_owned = { λ value owned. owned ≡ value };
+
+    fn into_owned(self, alloc: Global) -> Result<QueryEvent<'static>, Error> {
         let statement = self.statement.into_owned(alloc)?;
         Ok(QueryEvent { statement })
     }
+}
 
-    /// A copy of the event: borrowed bytes stay borrowed, owned bytes are copied. The only error is [`Error::Memory`].
-    pub fn clone(&self, alloc: Global) -> Result<Self, Error>
-        ensures ok { IfOk result (λ copy. copy ≡ self.now) }
-        ensures memory { IsOkUnless result Memory }
-    {
+impl<'a> TryClone for QueryEvent<'a> {
+    fn clone(&self, alloc: Global) -> Result<Self, Error> {
         let statement = self.statement.clone(alloc)?;
         Ok(QueryEvent { statement })
     }

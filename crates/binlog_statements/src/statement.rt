@@ -6,8 +6,8 @@ ghost use Rattle.binlog_wire.specs.Reading.{Gives};
 
 use crate::status_vars::StatusVars;
 use binlog_wire::{
-    BareU8Bytes, BytesRepr, EofBytes, Error, IntRepr, LeU16, LeU32, MyDeserialize, ParseBuf, Put,
-    RawBytes, Skip,
+    BareU8Bytes, BytesRepr, EofBytes, Error, IntRepr, IntoOwned, LeU16, LeU32, MyDeserialize,
+    ParseBuf, Put, RawBytes, Skip, TryClone,
 };
 use std::alloc::Global;
 use std::borrow::CowSlice;
@@ -151,12 +151,14 @@ impl<'a> StatementTexts<'a> {
         self.query = RawBytes::new(query);
         self
     }
+}
 
-    /// The same texts with owned bytes. The only error is [`Error::Memory`].
-    pub fn into_owned(self, alloc: Global) -> Result<StatementTexts<'static>, Error>
-        ensures ok { IfOk result (λ owned. owned ≡ self.entry) }
-        ensures memory { IsOkUnless result Memory }
-    {
+impl<'a> IntoOwned for StatementTexts<'a> {
+    type Owned = StatementTexts<'static>;
+
+    ghost is_owned = { λ value owned. owned ≡ value };
+
+    fn into_owned(self, alloc: Global) -> Result<StatementTexts<'static>, Error> {
         let status_vars = self.status_vars.into_owned(alloc)?;
         let schema = self.schema.into_owned(alloc)?;
         let query = self.query.into_owned(alloc)?;
@@ -166,12 +168,10 @@ impl<'a> StatementTexts<'a> {
             query,
         })
     }
+}
 
-    /// A copy of the texts: borrowed bytes stay borrowed, owned bytes are copied. The only error is [`Error::Memory`].
-    pub fn clone(&self, alloc: Global) -> Result<Self, Error>
-        ensures ok { IfOk result (λ copy. copy ≡ self.now) }
-        ensures memory { IsOkUnless result Memory }
-    {
+impl<'a> TryClone for StatementTexts<'a> {
+    fn clone(&self, alloc: Global) -> Result<Self, Error> {
         let status_vars = self.status_vars.clone(alloc)?;
         let schema = self.schema.clone(alloc)?;
         let query = self.query.clone(alloc)?;
@@ -306,12 +306,14 @@ impl<'a> Statement<'a> {
             status_vars_len: self.texts.status_vars.0.written_len() as u16,
         }
     }
+}
 
-    /// The same statement with owned bytes. The only error is [`Error::Memory`].
-    pub fn into_owned(self, alloc: Global) -> Result<Statement<'static>, Error>
-        ensures ok { IfOk result (λ owned. owned ≡ self.entry) }
-        ensures memory { IsOkUnless result Memory }
-    {
+impl<'a> IntoOwned for Statement<'a> {
+    type Owned = Statement<'static>;
+
+    ghost is_owned = { λ value owned. owned ≡ value };
+
+    fn into_owned(self, alloc: Global) -> Result<Statement<'static>, Error> {
         let texts = self.texts.into_owned(alloc)?;
         Ok(Statement {
             thread_id: self.thread_id,
@@ -320,13 +322,10 @@ impl<'a> Statement<'a> {
             texts,
         })
     }
+}
 
-    /// A copy of the statement: borrowed bytes stay borrowed, owned bytes are copied. The only error is
-    /// [`Error::Memory`].
-    pub fn clone(&self, alloc: Global) -> Result<Self, Error>
-        ensures ok { IfOk result (λ copy. copy ≡ self.now) }
-        ensures memory { IsOkUnless result Memory }
-    {
+impl<'a> TryClone for Statement<'a> {
+    fn clone(&self, alloc: Global) -> Result<Self, Error> {
         let texts = self.texts.clone(alloc)?;
         Ok(Statement {
             thread_id: self.thread_id,

@@ -8,7 +8,7 @@ ghost use Rattle.binlog_statements.specs.declared.layout.Layout.TheVariants.{Nam
 use crate::layout::TOO_MANY_NAMES;
 use crate::status_vars::StatusVar;
 use binlog_consts::StatusVarKey;
-use binlog_wire::{BytesRepr, Error, NullBytes, ParseBuf, RawBytes, U8Bytes};
+use binlog_wire::{BytesRepr, Error, NullBytes, ParseBuf, RawBytes, TryClone, U8Bytes};
 use byteorder::{ByteOrder, LittleEndian};
 use std::alloc::Global;
 use std::borrow::CowSlice;
@@ -80,14 +80,12 @@ pub enum StatusVarVal<'a> {
     DefaultTableEncryption(u8),
 }
 
-impl<'a> StatusVarVal<'a> {
+impl<'a> TryClone for StatusVarVal<'a> {
     ghost use Rattle.binlog_statements.specs.StatusVarValues.{IsCopyOf};
 
-    /// A copy of the value: borrowed bytes stay borrowed, owned bytes are copied. The only error is [`Error::Memory`].
-    pub fn clone(&self, alloc: Global) -> Result<Self, Error>
-        ensures ok { IfOk result (IsCopyOf self.now) }
-        ensures memory { IsOkUnless result Memory }
-    {
+    ghost is_copy = { IsCopyOf };
+
+    fn clone(&self, alloc: Global) -> Result<Self, Error> {
         Ok(match self {
             StatusVarVal::TimeZone(text) => StatusVarVal::TimeZone(text.clone(alloc)?),
             StatusVarVal::CatalogNz(text) => StatusVarVal::CatalogNz(text.clone(alloc)?),

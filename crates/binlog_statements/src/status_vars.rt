@@ -5,7 +5,9 @@ ghost use Rattle.binlog_statements.specs.Layouts.{layout_of, value_len};
 
 use crate::layout::Layout;
 use binlog_consts::StatusVarKey;
-use binlog_wire::{BareU16Bytes, BytesRepr, Error, MyDeserialize, ParseBuf, Put, RawBytes};
+use binlog_wire::{
+    BareU16Bytes, BytesRepr, Error, IntoOwned, MyDeserialize, ParseBuf, Put, RawBytes, TryClone,
+};
 use std::alloc::Global;
 use std::borrow::CowSlice;
 
@@ -52,21 +54,20 @@ impl<'a> StatusVars<'a> {
         }
         None
     }
+}
 
-    /// The same variables with owned bytes. The only error is [`Error::Memory`].
-    pub fn into_owned(self, alloc: Global) -> Result<StatusVars<'static>, Error>
-        ensures ok { IfOk result (λ owned. owned ≡ self.entry) }
-        ensures memory { IsOkUnless result Memory }
-    {
+impl<'a> IntoOwned for StatusVars<'a> {
+    type Owned = StatusVars<'static>;
+
+    ghost is_owned = { λ value owned. owned ≡ value };
+
+    fn into_owned(self, alloc: Global) -> Result<StatusVars<'static>, Error> {
         Ok(StatusVars(self.0.into_owned(alloc)?))
     }
+}
 
-    /// A copy of the variables: borrowed bytes stay borrowed, owned bytes are copied. The only error is
-    /// [`Error::Memory`].
-    pub fn clone(&self, alloc: Global) -> Result<Self, Error>
-        ensures ok { IfOk result (λ copy. copy ≡ self.now) }
-        ensures memory { IsOkUnless result Memory }
-    {
+impl<'a> TryClone for StatusVars<'a> {
+    fn clone(&self, alloc: Global) -> Result<Self, Error> {
         Ok(StatusVars(self.0.clone(alloc)?))
     }
 }

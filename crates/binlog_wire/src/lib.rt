@@ -10,6 +10,7 @@
 #![tactic(auto)]
 
 mod bit_view;
+mod copies;
 mod error;
 mod number;
 mod output;
@@ -19,6 +20,7 @@ mod room;
 mod traits;
 
 pub use bit_view::BitView;
+pub use copies::{IntoOwned, TryClone};
 pub use error::{Error, Field, Invalid};
 pub use number::{read_u16_at, read_u32_at};
 pub use output::write_bytes;

@@ -10,7 +10,7 @@ use binlog_wire::RawInt;
 use std::alloc::Global;
 use std::borrow::{CowSlice, CowStr};
 use testkit_bodies::{
-    by_default, is_read_as, is_rewritten, is_same, is_text, is_written, read, refusal,
+    by_default, is_copied, is_read_as, is_rewritten, is_same, is_text, is_written, read, refusal,
     refusal_under, stating, told_len,
 };
 
@@ -68,17 +68,9 @@ fn rotate_is_written(rt: HostRuntime) {
     assert!(rt; is_rewritten::<RotateEvent>(rt.alloc(), ROTATE, ROTATE) == Ok(true));
 }
 
-// Whether the event is equal to an owned copy.
-fn is_rotate_copied(alloc: Global) -> Result<bool, Error> {
-    let event = rotate();
-    let is_copied = is_same(event.clone(alloc)?.into_owned(alloc), &event);
-    drop(event);
-    is_copied
-}
-
 #[test]
 fn rotate_is_copied(rt: HostRuntime) {
-    assert!(rt; is_rotate_copied(rt.alloc()) == Ok(true));
+    assert!(rt; is_copied(rt.alloc(), rotate()) == Ok(true));
 }
 
 // An artificial ROTATE, with position 0. Its name isn't UTF-8.
@@ -279,17 +271,9 @@ fn cut_message_of_an_incident_is_written(rt: HostRuntime) {
     assert!(rt; is_cut_written(rt.alloc(), b"\x01\0\xff") == Ok(true));
 }
 
-// Whether that INCIDENT is equal to an owned copy.
-fn is_incident_copied(alloc: Global) -> Result<bool, Error> {
-    let event = incident();
-    let is_copied = is_same(event.clone(alloc)?.into_owned(alloc), &event);
-    drop(event);
-    is_copied
-}
-
 #[test]
 fn incident_is_copied(rt: HostRuntime) {
-    assert!(rt; is_incident_copied(rt.alloc()) == Ok(true));
+    assert!(rt; is_copied(rt.alloc(), incident()) == Ok(true));
 }
 
 // The type of an INCIDENT.
@@ -341,17 +325,9 @@ fn statement_of_rows_is_written(rt: HostRuntime) {
     assert!(rt; told_len(statement()) == 26);
 }
 
-// Whether the event is equal to an owned copy.
-fn is_statement_copied(alloc: Global) -> Result<bool, Error> {
-    let event = statement();
-    let is_copied = is_same(event.clone(alloc)?.into_owned(alloc), &event);
-    drop(event);
-    is_copied
-}
-
 #[test]
 fn statement_of_rows_is_copied(rt: HostRuntime) {
-    assert!(rt; is_statement_copied(rt.alloc()) == Ok(true));
+    assert!(rt; is_copied(rt.alloc(), statement()) == Ok(true));
 }
 
 // The event of `BLOCK`.
@@ -380,17 +356,9 @@ fn first_block_of_a_file_is_written(rt: HostRuntime) {
     assert!(rt; told_len(block()) == 9);
 }
 
-// Whether the event is equal to an owned copy.
-fn is_block_copied(alloc: Global) -> Result<bool, Error> {
-    let event = block();
-    let is_copied = is_same(event.clone(alloc)?.into_owned(alloc), &event);
-    drop(event);
-    is_copied
-}
-
 #[test]
 fn first_block_of_a_file_is_copied(rt: HostRuntime) {
-    assert!(rt; is_block_copied(rt.alloc()) == Ok(true));
+    assert!(rt; is_copied(rt.alloc(), block()) == Ok(true));
 }
 
 #[test]

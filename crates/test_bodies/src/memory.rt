@@ -10,7 +10,8 @@ use binlog_consts::IntvarEventType;
 use binlog_description::{BinlogEvent, DescriptionRef};
 use std::alloc::Global;
 use testkit_bodies::{
-    is_granted, is_read, is_read_as, is_rewritten_behind, is_same, is_text, read, read_under,
+    copied, is_granted, is_read, is_read_as, is_rewritten_behind, is_same, is_text, read,
+    read_under,
 };
 
 /// A ROTATE whose name isn't UTF-8.
@@ -34,16 +35,8 @@ fn refused_texts_are_errors(rt: HostRuntime) {
     assert!(rt; is_granted(is_named(rt.alloc(), "a\u{fffd}")));
 }
 
-// An owned copy of a copy.
-fn copied(alloc: Global, event: &RotateEvent<'_>) -> Result<RotateEvent<'static>, Error> {
-    let owned = event.clone(alloc)?.into_owned(alloc)?;
-    let copy = owned.clone(alloc);
-    drop(owned);
-    copy
-}
-
-// Whether that ROTATE is equal to such a copy.
-fn is_copied(alloc: Global) -> Result<bool, Error> {
+// Whether that ROTATE is equal to its copy, owned and copied again.
+fn is_rotate_copied(alloc: Global) -> Result<bool, Error> {
     let event: RotateEvent = read(alloc, ROTATE)?;
     let is_copied = is_same(copied(alloc, &event), &event);
     drop(event);
@@ -52,7 +45,7 @@ fn is_copied(alloc: Global) -> Result<bool, Error> {
 
 #[test]
 fn a_copy_is_equal_or_refused_for_memory(rt: HostRuntime) {
-    assert!(rt; is_granted(is_copied(rt.alloc())));
+    assert!(rt; is_granted(is_rotate_copied(rt.alloc())));
 }
 
 // Whether a body is read as this event under the sample as a borrowed description.

@@ -1,7 +1,7 @@
 //! Byte strings, by each way to state their length.
 use binlog_wire::{
-    BareU8Bytes, BareU16Bytes, EofBytes, Error, FixedLengthText, MySerialize, NullBytes, ParseBuf,
-    RawBytes, U8Bytes, U32Bytes,
+    BareU8Bytes, BareU16Bytes, EofBytes, Error, FixedLengthText, IntoOwned, MySerialize, NullBytes,
+    ParseBuf, RawBytes, TryClone, U8Bytes, U32Bytes,
 };
 use std::borrow::CowSlice;
 use std::test::Fail;

@@ -3,7 +3,9 @@ use binlog_numbers::{
     GnoInterval, LenEnc, Tag, lenenc_int_len, read_varlen_int, read_varlen_uint, varlen_uint_size,
     write_varlen_int, write_varlen_uint,
 };
-use binlog_wire::{Error, IntRepr, Invalid, MyDeserialize, MySerialize, ParseBuf, RawInt};
+use binlog_wire::{
+    Error, IntRepr, IntoOwned, Invalid, MyDeserialize, MySerialize, ParseBuf, RawInt, TryClone,
+};
 use std::borrow::CowStr;
 use std::string::String;
 use std::test::Fail;

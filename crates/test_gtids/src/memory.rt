@@ -4,7 +4,9 @@ use crate::gtids::{BACKUP, HEAD, TAGGED_SID, read_tagged};
 use binlog_gtids::{AnonymousGtidEvent, GtidEvent, PreviousGtidsEvent};
 use binlog_wire::Error;
 use std::alloc::Global;
-use testkit_bodies::{is_granted, is_rewritten_behind, is_same, is_written_behind, read, refusal};
+use testkit_bodies::{
+    copied, is_granted, is_rewritten_behind, is_same, is_written_behind, read, refusal,
+};
 
 /// A new GTID: no tag, GNO 1, and zeros for the clock and all later parts.
 const NEW: &[u8] =
@@ -41,35 +43,17 @@ fn a_refused_write_of_previous_gtids_leaves_what_was_there(rt: HostRuntime) {
     assert!(rt; is_granted(none));
 }
 
-// An owned copy of a copy.
-fn tagged_copied(alloc: Global, event: &GtidEvent) -> Result<GtidEvent, Error> {
-    let owned = event.clone(alloc)?.into_owned(alloc)?;
-    let copy = owned.clone(alloc);
-    drop(owned);
-    copy
-}
-
-fn previous_copied(
-    alloc: Global,
-    event: &PreviousGtidsEvent<'_>,
-) -> Result<PreviousGtidsEvent<'static>, Error> {
-    let owned = event.clone(alloc)?.into_owned(alloc)?;
-    let copy = owned.clone(alloc);
-    drop(owned);
-    copy
-}
-
 // Whether the event of a tagged body is equal to its copy, owned and copied again.
 fn is_tagged_copied(alloc: Global) -> Result<bool, Error> {
     let event = read_tagged(alloc, BACKUP)?;
-    let is_copied = is_same(tagged_copied(alloc, &event), &event);
+    let is_copied = is_same(copied(alloc, &event), &event);
     drop(event);
     is_copied
 }
 
 pub(crate) fn are_previous_copied(alloc: Global) -> Result<bool, Error> {
     let event: PreviousGtidsEvent = read(alloc, TAGGED_SID)?;
-    let is_copied = is_same(previous_copied(alloc, &event), &event);
+    let is_copied = is_same(copied(alloc, &event), &event);
     drop(event);
     is_copied
 }
@@ -83,7 +67,7 @@ fn a_copy_is_equal_or_refused_for_memory(rt: HostRuntime) {
 // Whether a GTID without a tag is read, and is equal to its copy.
 fn is_untagged_copied(alloc: Global) -> Result<bool, Error> {
     let event: GtidEvent = read(alloc, HEAD)?;
-    let is_copied = is_same(tagged_copied(alloc, &event), &event);
+    let is_copied = is_same(copied(alloc, &event), &event);
     drop(event);
     is_copied
 }

@@ -4,10 +4,10 @@ use binlog_consts::{BinlogVersion, EventType};
 use binlog_description::BinlogStruct;
 use binlog_gtids::{AnonymousGtidEvent, GtidEvent};
 use binlog_numbers::Tag;
-use binlog_wire::{Error, Field, Invalid, MySerialize};
+use binlog_wire::{Error, Field, IntoOwned, Invalid, MySerialize};
 use std::alloc::Global;
 use testkit_bodies::{
-    is_same, is_unwritable, is_written, is_written_as, is_written_with, joined, told_len,
+    is_copied, is_same, is_unwritable, is_written, is_written_as, is_written_with, joined, told_len,
 };
 
 /// The body of `long_event` with the sequence number 2^34, after its payload size.
@@ -114,16 +114,14 @@ fn tagged_gtid_tells_its_length_and_its_type(rt: HostRuntime) {
 }
 
 // Whether a GTID is equal to an owned copy.
-fn is_copied(alloc: Global, event: Result<GtidEvent, Error>) -> Result<bool, Error> {
+fn is_gtid_copied(alloc: Global, event: Result<GtidEvent, Error>) -> Result<bool, Error> {
     let event = event?;
-    let is_copied = is_same(event.clone(alloc)?.into_owned(alloc), &event);
-    drop(event);
-    is_copied
+    is_copied(alloc, event)
 }
 
 #[test]
 fn tagged_gtid_is_copied(rt: HostRuntime) {
-    assert!(rt; is_copied(rt.alloc(), backup(rt.alloc())) == Ok(true));
+    assert!(rt; is_gtid_copied(rt.alloc(), backup(rt.alloc())) == Ok(true));
 }
 
 #[test]

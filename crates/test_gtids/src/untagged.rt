@@ -6,8 +6,8 @@ use binlog_gtids::{AnonymousGtidEvent, GtidEvent, GtidFlags};
 use binlog_wire::{Error, Field, Invalid};
 use std::alloc::Global;
 use testkit_bodies::{
-    by_default, is_rewritten, is_same, is_unwritable, is_written_as, read, read_typed, told_len,
-    written,
+    by_default, is_copied, is_rewritten, is_same, is_unwritable, is_written_as, read, read_typed,
+    told_len, written,
 };
 
 /// [`HEAD`] without its last byte.
@@ -237,27 +237,14 @@ fn gtid_has_the_parts_that_it_was_given(rt: HostRuntime) {
     assert!(rt; has_its_parts(other_gtid()));
 }
 
-// Whether that GTID is equal to an owned copy.
-fn is_copied(alloc: Global, event: GtidEvent) -> Result<bool, Error> {
-    let is_copied = is_same(event.clone(alloc)?.into_owned(alloc), &event);
-    drop(event);
-    is_copied
-}
-
 #[test]
 fn gtid_is_copied(rt: HostRuntime) {
     assert!(rt; is_copied(rt.alloc(), other_gtid()) == Ok(true));
 }
 
-fn is_anonymous_copied(alloc: Global, event: AnonymousGtidEvent) -> Result<bool, Error> {
-    let is_copied = is_same(event.clone(alloc)?.into_owned(alloc), &event);
-    drop(event);
-    is_copied
-}
-
 #[test]
 fn anonymous_gtid_is_copied(rt: HostRuntime) {
-    assert!(rt; is_anonymous_copied(rt.alloc(), AnonymousGtidEvent(other_gtid())) == Ok(true));
+    assert!(rt; is_copied(rt.alloc(), AnonymousGtidEvent(other_gtid())) == Ok(true));
 }
 
 // Whether an anonymous GTID is written with the length of its `len`, and read back as the same event.

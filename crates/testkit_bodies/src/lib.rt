@@ -8,7 +8,7 @@ mod memory;
 mod reading;
 mod writing;
 
-pub use copies::{is_same, is_text};
+pub use copies::{copied, is_copied, is_same, is_text};
 pub use descriptions::{by_default, stating};
 pub use memory::{is_granted, is_rewritten_behind, is_written_behind};
 pub use reading::{

@@ -60,7 +60,7 @@ pub use crate::binlog_file::{
 };
 pub use crate::binlog_gtid_sets::GtidTracker;
 pub use crate::binlog_gtids::GnoSet;
-pub use crate::binlog_wire::{Error, Field, Invalid};
+pub use crate::binlog_wire::{Error, Field, IntoOwned, Invalid, TryClone};
 pub use crate::crc32_ieee::Crc32;
 pub use crate::memory::AllocError;
 

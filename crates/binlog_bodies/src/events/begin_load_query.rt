@@ -8,7 +8,8 @@ ghost use Rattle.binlog_bodies.specs.BeginLoadQuery.{begin_load_query};
 use binlog_consts::EventType;
 use binlog_description::{BinlogCtx, BinlogEvent};
 use binlog_wire::{
-    BytesRepr, EofBytes, Error, IntRepr, LeU32, MyDeserialize, ParseBuf, Put, RawBytes,
+    BytesRepr, EofBytes, Error, IntRepr, IntoOwned, LeU32, MyDeserialize, ParseBuf, Put, RawBytes,
+    TryClone,
 };
 use std::alloc::Global;
 use std::borrow::CowSlice;
@@ -79,24 +80,24 @@ impl<'a> BeginLoadQueryEvent<'a> {
     {
         self.block_data.as_bytes()
     }
+}
 
-    /// The same event with owned bytes. The only error is [`Error::Memory`].
-    pub fn into_owned(self, alloc: Global) -> Result<BeginLoadQueryEvent<'static>, Error>
-        ensures ok { IfOk result (λ owned. owned ≡ self.entry) }
-        ensures memory { IsOkUnless result Memory }
-    {
+impl<'a> IntoOwned for BeginLoadQueryEvent<'a> {
+    type Owned = BeginLoadQueryEvent<'static>;
+
+    ghost is_owned = { λ value owned. owned ≡ value };
+
+    fn into_owned(self, alloc: Global) -> Result<BeginLoadQueryEvent<'static>, Error> {
         let block_data = self.block_data.into_owned(alloc)?;
         Ok(BeginLoadQueryEvent {
             file_id: self.file_id,
             block_data,
         })
     }
+}
 
-    /// A copy: borrowed bytes stay borrowed, and owned ones are copied. The only error is [`Error::Memory`].
-    pub fn clone(&self, alloc: Global) -> Result<Self, Error>
-        ensures ok { IfOk result (λ copy. copy ≡ self.now) }
-        ensures memory { IsOkUnless result Memory }
-    {
+impl<'a> TryClone for BeginLoadQueryEvent<'a> {
+    fn clone(&self, alloc: Global) -> Result<Self, Error> {
         let block_data = self.block_data.clone(alloc)?;
         Ok(BeginLoadQueryEvent {
             file_id: self.file_id,

@@ -8,7 +8,10 @@ ghost use Rattle.binlog_bodies.specs.RowsQuery.{rows_query};
 
 use binlog_consts::EventType;
 use binlog_description::{BinlogCtx, BinlogEvent};
-use binlog_wire::{BytesRepr, EofBytes, Error, IntRepr, MyDeserialize, ParseBuf, Put, RawBytes};
+use binlog_wire::{
+    BytesRepr, EofBytes, Error, IntRepr, IntoOwned, MyDeserialize, ParseBuf, Put, RawBytes,
+    TryClone,
+};
 use std::alloc::Global;
 use std::borrow::{CowSlice, CowStr};
 
@@ -62,21 +65,21 @@ impl<'a> RowsQueryEvent<'a> {
     {
         self.query.as_str(alloc)
     }
+}
 
-    /// The same event with owned bytes. The only error is [`Error::Memory`].
-    pub fn into_owned(self, alloc: Global) -> Result<RowsQueryEvent<'static>, Error>
-        ensures ok { IfOk result (λ owned. owned ≡ self.entry) }
-        ensures memory { IsOkUnless result Memory }
-    {
+impl<'a> IntoOwned for RowsQueryEvent<'a> {
+    type Owned = RowsQueryEvent<'static>;
+
+    ghost is_owned = { λ value owned. owned ≡ value };
+
+    fn into_owned(self, alloc: Global) -> Result<RowsQueryEvent<'static>, Error> {
         let query = self.query.into_owned(alloc)?;
         Ok(RowsQueryEvent { query })
     }
+}
 
-    /// A copy: borrowed bytes stay borrowed, and owned ones are copied. The only error is [`Error::Memory`].
-    pub fn clone(&self, alloc: Global) -> Result<Self, Error>
-        ensures ok { IfOk result (λ copy. copy ≡ self.now) }
-        ensures memory { IsOkUnless result Memory }
-    {
+impl<'a> TryClone for RowsQueryEvent<'a> {
+    fn clone(&self, alloc: Global) -> Result<Self, Error> {
         let query = self.query.clone(alloc)?;
         Ok(RowsQueryEvent { query })
     }

@@ -1,6 +1,5 @@
 //! Copies without failed allocations: of the data of each type, of tables of more than 255 columns, and of more than 64
 //! KiB.
-use super::memory::{copied, map_copied};
 use super::{OF_ONE_IMAGE, UPDATE, UPDATE_V1, WRITE};
 use binlog_rows::{
     DeleteRows, DeleteRowsV1, PartialUpdateRows, RowsEventData, RowsEventOf, RowsKind,
@@ -8,7 +7,7 @@ use binlog_rows::{
 };
 use binlog_wire::Error;
 use std::alloc::Global;
-use testkit_bodies::{is_rewritten, is_same, joined, read};
+use testkit_bodies::{copied, is_copied, is_rewritten, is_same, joined, read};
 
 /// A table's id and its flags.
 const ID: &[u8] = b"\x05\0\0\0\0\0\x01\0";
@@ -38,19 +37,9 @@ fn data(alloc: Global, raw_type: u8) -> Result<RowsEventData<'static>, Error> {
     })
 }
 
-// An owned copy of a copy.
-fn data_copied(alloc: Global, data: &RowsEventData<'_>) -> Result<RowsEventData<'static>, Error> {
-    let owned = data.clone(alloc)?.into_owned(alloc)?;
-    let copy = owned.clone(alloc);
-    drop(owned);
-    copy
-}
-
 fn is_data_copied(alloc: Global, raw_type: u8) -> Result<bool, Error> {
     let data = data(alloc, raw_type)?;
-    let is_copied = is_same(data_copied(alloc, &data), &data);
-    drop(data);
-    is_copied
+    is_copied(alloc, data)
 }
 
 #[test]
@@ -104,7 +93,7 @@ fn long_older_row_events_are_copied(rt: HostRuntime) {
 fn is_wide_map_copied(alloc: Global, body: &[u8]) -> Result<bool, Error> {
     let map: TableMapEvent = read(alloc, body)?;
     let is_wide = map.columns_count() == 300 && map.columns_metadata_raw().len() == 300;
-    let is_copied = is_same(map_copied(alloc, &map), &map);
+    let is_copied = is_same(copied(alloc, &map), &map);
     drop(map);
     let is_written = is_rewritten::<TableMapEvent>(alloc, body, body);
     Ok(is_wide && is_copied? && is_written?)

@@ -1,12 +1,12 @@
 //! The state after a failed allocation. These tests pass whichever allocation fails: the call returns the failure as
 //! its error, and no other result changes.
 use super::{NINE_COLUMNS, ONE_COLUMN, UPDATE, WRITE, WRITTEN};
-use binlog_rows::{
-    RowsEvent, RowsEventData, RowsEventOf, RowsKind, TableMapEvent, UpdateRowsEvent, WriteRowsEvent,
-};
+use binlog_rows::{RowsEventData, TableMapEvent, UpdateRowsEvent, WriteRowsEvent};
 use binlog_wire::Error;
 use std::alloc::Global;
-use testkit_bodies::{is_granted, is_rewritten_behind, is_same, is_text, is_written_behind, read};
+use testkit_bodies::{
+    copied, is_granted, is_rewritten_behind, is_same, is_text, is_written_behind, read,
+};
 
 #[test]
 fn a_write_of_a_table_map_refused_for_memory_leaves_what_was_there(rt: HostRuntime) {
@@ -47,38 +47,10 @@ fn a_write_of_any_type_refused_for_memory_leaves_what_was_there(rt: HostRuntime)
     assert!(rt; is_granted(is_written_with_its_type(rt.alloc())));
 }
 
-// An owned copy of a copy.
-pub(crate) fn map_copied(
-    alloc: Global,
-    map: &TableMapEvent<'_>,
-) -> Result<TableMapEvent<'static>, Error> {
-    let owned = map.clone(alloc)?.into_owned(alloc)?;
-    let copy = owned.clone(alloc);
-    drop(owned);
-    copy
-}
-
-pub(crate) fn copied<K: RowsKind>(
-    alloc: Global,
-    event: &RowsEventOf<'_, K>,
-) -> Result<RowsEventOf<'static, K>, Error> {
-    let owned = event.clone(alloc)?.into_owned(alloc)?;
-    let copy = owned.clone(alloc);
-    drop(owned);
-    copy
-}
-
-fn copied_of_any_type(alloc: Global, event: &RowsEvent<'_>) -> Result<RowsEvent<'static>, Error> {
-    let owned = event.clone(alloc)?.into_owned(alloc)?;
-    let copy = owned.clone(alloc);
-    drop(owned);
-    copy
-}
-
-// Whether an event is equal to such a copy.
+// Whether an event is equal to its copy, owned and copied again.
 pub(crate) fn is_map_copied(alloc: Global) -> Result<bool, Error> {
     let map: TableMapEvent = read(alloc, ONE_COLUMN)?;
-    let is_copied = is_same(map_copied(alloc, &map), &map);
+    let is_copied = is_same(copied(alloc, &map), &map);
     drop(map);
     is_copied
 }
@@ -90,13 +62,9 @@ pub(crate) fn are_updated_rows_copied(alloc: Global) -> Result<bool, Error> {
     is_copied
 }
 
-fn is_copied_of_any_type(alloc: Global, event: &RowsEvent<'_>) -> Result<bool, Error> {
-    is_same(copied_of_any_type(alloc, event), event)
-}
-
 pub(crate) fn are_written_rows_copied(alloc: Global) -> Result<bool, Error> {
     let event: WriteRowsEvent = read(alloc, WRITE)?;
-    let is_copied = is_copied_of_any_type(alloc, event.event());
+    let is_copied = is_same(copied(alloc, event.event()), event.event());
     drop(event);
     is_copied
 }

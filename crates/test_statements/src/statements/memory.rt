@@ -4,9 +4,9 @@ use super::{CREATE_TABLE, INTEGER, LOAD, STATUS};
 use binlog_statements::{
     ExecuteLoadQueryEvent, QueryEvent, StatusVarVal, StatusVarsIterator, UserVarEvent,
 };
-use binlog_wire::Error;
+use binlog_wire::{Error, TryClone};
 use std::alloc::Global;
-use testkit_bodies::{is_granted, is_read, is_rewritten_behind, is_same, is_text, read};
+use testkit_bodies::{copied, is_granted, is_read, is_rewritten_behind, is_same, is_text, read};
 
 /// A body whose schema and statement aren't UTF-8.
 const NO_TEXT: &[u8] = b"\x01\0\0\0\x02\0\0\0\x01\x03\0\0\0\xff\0\xfe";
@@ -43,52 +43,24 @@ fn a_refused_write_of_a_variable_leaves_what_was_there(rt: HostRuntime) {
     assert!(rt; is_granted(integer));
 }
 
-// An owned copy of a copy.
-fn query_copied(alloc: Global, event: &QueryEvent<'_>) -> Result<QueryEvent<'static>, Error> {
-    let owned = event.clone(alloc)?.into_owned(alloc)?;
-    let copy = owned.clone(alloc);
-    drop(owned);
-    copy
-}
-
-fn load_query_copied(
-    alloc: Global,
-    event: &ExecuteLoadQueryEvent<'_>,
-) -> Result<ExecuteLoadQueryEvent<'static>, Error> {
-    let owned = event.clone(alloc)?.into_owned(alloc)?;
-    let copy = owned.clone(alloc);
-    drop(owned);
-    copy
-}
-
-fn variable_copied(
-    alloc: Global,
-    event: &UserVarEvent<'_>,
-) -> Result<UserVarEvent<'static>, Error> {
-    let owned = event.clone(alloc)?.into_owned(alloc)?;
-    let copy = owned.clone(alloc);
-    drop(owned);
-    copy
-}
-
 // Whether the event of a body is equal to its copy, owned and copied again.
 pub(crate) fn is_query_copied(alloc: Global, body: &[u8]) -> Result<bool, Error> {
     let event: QueryEvent = read(alloc, body)?;
-    let is_copied = is_same(query_copied(alloc, &event), &event);
+    let is_copied = is_same(copied(alloc, &event), &event);
     drop(event);
     is_copied
 }
 
 pub(crate) fn is_load_query_copied(alloc: Global, body: &[u8]) -> Result<bool, Error> {
     let event: ExecuteLoadQueryEvent = read(alloc, body)?;
-    let is_copied = is_same(load_query_copied(alloc, &event), &event);
+    let is_copied = is_same(copied(alloc, &event), &event);
     drop(event);
     is_copied
 }
 
 pub(crate) fn is_variable_copied(alloc: Global, body: &[u8]) -> Result<bool, Error> {
     let event: UserVarEvent = read(alloc, body)?;
-    let is_copied = is_same(variable_copied(alloc, &event), &event);
+    let is_copied = is_same(copied(alloc, &event), &event);
     drop(event);
     is_copied
 }

@@ -2,7 +2,7 @@
 use super::memory::{is_query, is_query_copied, is_schema};
 use super::{CREATE_TABLE, STATUS};
 use binlog_statements::QueryEvent;
-use binlog_wire::Error;
+use binlog_wire::{Error, IntoOwned};
 use std::alloc::Global;
 use std::borrow::CowSlice;
 use testkit_bodies::{
