@@ -2,7 +2,7 @@
 use Rattle.std.proofs.Common.{◌≡◌, ℕ, ◌+◌, ◌<◌, List, [], ◌∷◌, ◌++◌, Bool, Some, subst, refl, ap, sym, ◌∙◌, append_assoc, append-nil, add-one}
 use Rattle.std.proofs.lemmas.Bool.{lt-ltb}
 use Rattle.json.specs.Token.{Token, begin_array, boolean}
-use Rattle.binlog_wire.specs.Bits.{bit_of, bit_in}
+use Rattle.binlog_file.specs.Bits.{bit_of, bit_in}
 use Rattle.binlog_json.specs.Bits.{first_bits}
 
 pub no_bits : (old new : List Token) (bytes : List ℕ) → new ≡ old ++ begin_array ∷ [] → new ≡ old ++ begin_array ∷ [] ++ first_bits 0 bytes

@@ -4,10 +4,10 @@ use Rattle.std.specs.List.{All}
 use Rattle.std.proofs.lemmas.Bool.{false≢true}
 use Rattle.std.proofs.lemmas.Bool.Decides.{eqb_tells}
 use Rattle.std.proofs.lemmas.List.Elements.{All-head, All-tail}
-use Rattle.binlog_wire.specs.Fields.{HasNoZero}
-use Rattle.binlog_statements.specs.Layouts.{AreNames, ended}
-use Rattle.binlog_statements.specs.StatusVariables.{Variable, variable_bytes, variables}
-use Rattle.binlog_statements.proofs.VariableLaws.{variables_begin}
+use Rattle.binlog_file.specs.Fields.{HasNoZero}
+use Rattle.binlog_file.specs.Layouts.{AreNames, ended}
+use Rattle.binlog_file.specs.StatusVariables.{Variable, variable_bytes, variables}
+use Rattle.binlog_file.proofs.VariableLaws.{variables_begin}
 use Rattle.binlog_json.specs.StatusVars.{is_set_in, names_from, names_in}
 
 -- ---- flags

@@ -1,7 +1,7 @@
 -- Bits as arrays of booleans.
 use Rattle.std.specs.Prelude.{ℕ, zero, suc, List, [], ◌∷◌, ◌++◌}
 use Rattle.json.specs.Token.{Token, begin_array, end_array, boolean}
-use Rattle.binlog_wire.specs.Bits.{bit_of}
+use Rattle.binlog_file.specs.Bits.{bit_of}
 
 -- The first n bits as booleans.
 unfoldable pub first_bits : ℕ → List ℕ → List Token

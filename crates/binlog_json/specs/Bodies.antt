@@ -1,20 +1,20 @@
 -- The objects of the smaller events.
 use Rattle.std.specs.Prelude.{ℕ, List, ◌++◌, take, codes, Result, Ok, Err}
 use Rattle.json.specs.Token.{Token}
-use Rattle.binlog_wire.specs.Reading.{Read}
-use Rattle.binlog_wire.specs.Fields.{terminated_at}
-use Rattle.binlog_consts.specs.Codes.{subtype_number, incident_type_number, incident_type_of}
-use Rattle.binlog_consts.specs.Versions.{version_number}
-use Rattle.binlog_consts.specs.declared.codes.IncidentType.{IncidentType}
-use Rattle.binlog_consts.specs.declared.codes.UnknownIncidentType.{UnknownIncidentType}
-use Rattle.binlog_description.specs.declared.format_description.FormatDescriptionEvent.{FormatDescriptionEvent}
-use Rattle.binlog_bodies.specs.declared.events.begin_load_query.BeginLoadQueryEvent.{BeginLoadQueryEvent}
-use Rattle.binlog_bodies.specs.declared.events.rotate.RotateEvent.{RotateEvent}
-use Rattle.binlog_bodies.specs.declared.events.intvar.IntvarEvent.{IntvarEvent}
-use Rattle.binlog_bodies.specs.declared.events.rand.RandEvent.{RandEvent}
-use Rattle.binlog_bodies.specs.declared.events.xid.XidEvent.{XidEvent}
-use Rattle.binlog_bodies.specs.declared.events.incident.IncidentEvent.{IncidentEvent}
-use Rattle.binlog_bodies.specs.declared.events.rows_query.RowsQueryEvent.{RowsQueryEvent}
+use Rattle.binlog_file.specs.Reading.{Read}
+use Rattle.binlog_file.specs.Fields.{terminated_at}
+use Rattle.binlog_file.specs.Codes.{subtype_number, incident_type_number, incident_type_of}
+use Rattle.binlog_file.specs.Versions.{version_number}
+use Rattle.binlog_file.specs.declared.IncidentType.{IncidentType}
+use Rattle.binlog_file.specs.declared.UnknownIncidentType.{UnknownIncidentType}
+use Rattle.binlog_file.specs.declared.FormatDescriptionEvent.{FormatDescriptionEvent}
+use Rattle.binlog_file.specs.declared.BeginLoadQueryEvent.{BeginLoadQueryEvent}
+use Rattle.binlog_file.specs.declared.RotateEvent.{RotateEvent}
+use Rattle.binlog_file.specs.declared.IntvarEvent.{IntvarEvent}
+use Rattle.binlog_file.specs.declared.RandEvent.{RandEvent}
+use Rattle.binlog_file.specs.declared.XidEvent.{XidEvent}
+use Rattle.binlog_file.specs.declared.IncidentEvent.{IncidentEvent}
+use Rattle.binlog_file.specs.declared.RowsQueryEvent.{RowsQueryEvent}
 use Rattle.json_line.specs.Tokens.{number_value, text_value, bytes_value, or_null, member, object}
 
 -- The object of a ROTATE event.

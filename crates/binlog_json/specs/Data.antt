@@ -1,13 +1,13 @@
 -- The `data` member of an event.
 use Rattle.std.specs.Prelude.{ℕ, List, [], ◌∷◌, codes, Result, Ok, Err}
 use Rattle.json.specs.Token.{Token, begin_object, end_object, null, string}
-use Rattle.binlog_wire.specs.Reading.{Read, Refusal, ends, invalid, other_type}
-use Rattle.binlog_consts.specs.declared.event_type.EventType.{EventType}
-use Rattle.binlog_consts.specs.declared.event_type.UnknownEventType.{UnknownEventType}
-use Rattle.binlog_description.specs.declared.format_description.FormatDescriptionEvent.{FormatDescriptionEvent}
-use Rattle.binlog_event_data.specs.ReadData.{data_read}
-use Rattle.binlog_event_data.specs.declared.event_data.EventData.{EventData}
-use Rattle.binlog_event_data.specs.declared.event_data.EventData.TheVariants as variants
+use Rattle.binlog_file.specs.Reading.{Read, Refusal, ends, invalid, other_type}
+use Rattle.binlog_file.specs.declared.EventType.{EventType}
+use Rattle.binlog_file.specs.declared.UnknownEventType.{UnknownEventType}
+use Rattle.binlog_file.specs.declared.FormatDescriptionEvent.{FormatDescriptionEvent}
+use Rattle.binlog_file.specs.ReadData.{data_read}
+use Rattle.binlog_file.specs.declared.EventData.{EventData}
+use Rattle.binlog_file.specs.declared.EventData.TheVariants as variants
 use Rattle.json_line.specs.Tokens.{number_value, bytes_value, member, object}
 use Rattle.binlog_json.specs.Names.{type_name}
 use Rattle.binlog_json.specs.Bodies.{rotate_object, intvar_object, rand_object, xid_object, begin_load_query_object, incident_object, rows_query_object, description_object}

@@ -1,10 +1,10 @@
 -- The objects of GTIDs and of previous GTIDs.
 use Rattle.std.specs.Prelude.{ℕ, List, [], ◌∷◌, ◌++◌, flat_map, codes, Option, Some, None, if◌then◌else◌}
 use Rattle.json.specs.Token.{Token, string}
-use Rattle.binlog_numbers.specs.declared.gno_interval.GnoInterval.{GnoInterval}
-use Rattle.binlog_gtids.specs.declared.gtid_event.GtidEvent.{GtidEvent}
-use Rattle.binlog_gtids.specs.declared.previous_gtids_event.PreviousGtidsEvent.{PreviousGtidsEvent}
-use Rattle.binlog_gtids.specs.declared.previous_gtids_sid.PreviousGtidsSid.{PreviousGtidsSid}
+use Rattle.binlog_file.specs.declared.GnoInterval.{GnoInterval}
+use Rattle.binlog_file.specs.declared.GtidEvent.{GtidEvent}
+use Rattle.binlog_file.specs.declared.PreviousGtidsEvent.{PreviousGtidsEvent}
+use Rattle.binlog_file.specs.declared.PreviousGtidsSid.{PreviousGtidsSid}
 use Rattle.json_line.specs.Tokens.{number_value, uuid_value, or_null, member, object, array}
 
 -- A tag, or null.

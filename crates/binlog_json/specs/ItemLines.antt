@@ -3,14 +3,14 @@ use Rattle.std.specs.Prelude.{ℕ, List, [], ◌++◌, codes, Result, Ok, Err, �
 use Rattle.std.specs.Int.{w32, to_le_bytes}
 use Rattle.json.specs.Print.{print}
 use Rattle.json.specs.Token.{Token}
-use Rattle.binlog_wire.specs.declared.error.Error.{Error}
-use Rattle.binlog_wire.specs.declared.error.Error.TheVariants.{ChecksumMismatch}
-use Rattle.binlog_wire.specs.Errors.{error_number}
-use Rattle.binlog_consts.specs.EventTypes.{event_type_of}
-use Rattle.binlog_description.specs.Headers.{header_of}
-use Rattle.binlog_description.specs.declared.header.BinlogEventHeader.{BinlogEventHeader}
-use Rattle.binlog_events.specs.Events.{EventView}
-use Rattle.binlog_events.specs.Parts.{data_of, checksum_of}
+use Rattle.binlog_file.specs.declared.Error.{Error}
+use Rattle.binlog_file.specs.declared.Error.TheVariants.{ChecksumMismatch}
+use Rattle.binlog_file.specs.Errors.{error_number}
+use Rattle.binlog_file.specs.EventTypes.{event_type_of}
+use Rattle.binlog_file.specs.Headers.{header_of}
+use Rattle.binlog_file.specs.declared.BinlogEventHeader.{BinlogEventHeader}
+use Rattle.binlog_file.specs.Events.{EventView}
+use Rattle.binlog_file.specs.Parts.{data_of, checksum_of}
 use Rattle.json_line.specs.Tokens.{number_value, bytes_value, or_null, member, object}
 use Rattle.binlog_json.specs.Data.{name_value, data_value}
 

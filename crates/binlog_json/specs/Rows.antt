@@ -1,10 +1,10 @@
 -- The objects of table maps and of row events.
 use Rattle.std.specs.Prelude.{ℕ, List, [], ◌++◌, length, take, codes, Option, Some, None}
 use Rattle.json.specs.Token.{Token}
-use Rattle.binlog_rows.specs.RowsData.{event_in}
-use Rattle.binlog_rows.specs.declared.rows_event.RowsEvent.{RowsEvent}
-use Rattle.binlog_rows.specs.declared.rows_event_data.RowsEventData.{RowsEventData}
-use Rattle.binlog_rows.specs.declared.table_map_event.TableMapEvent.{TableMapEvent}
+use Rattle.binlog_file.specs.RowsData.{event_in}
+use Rattle.binlog_file.specs.declared.RowsEvent.{RowsEvent}
+use Rattle.binlog_file.specs.declared.RowsEventData.{RowsEventData}
+use Rattle.binlog_file.specs.declared.TableMapEvent.{TableMapEvent}
 use Rattle.json_line.specs.Tokens.{number_value, text_value, bytes_value, or_null, member, bytes_member_if_any, object}
 use Rattle.binlog_json.specs.Bits.{bits_value}
 

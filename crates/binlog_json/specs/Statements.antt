@@ -3,14 +3,14 @@ use Rattle.std.specs.Prelude.{ℤ, pos, List, [], ◌∷◌, ◌++◌, take, cod
 use Rattle.std.specs.Fmt.{signed_decimal}
 use Rattle.std.specs.Int.{cast_signed, w8}
 use Rattle.json.specs.Token.{Token, number, boolean}
-use Rattle.binlog_consts.specs.StatementCodes.{dup_handling_number, item_result_number, item_result_of}
-use Rattle.binlog_consts.specs.declared.statement_codes.ItemResult.{ItemResult}
-use Rattle.binlog_consts.specs.declared.statement_codes.UnknownItemResultType.{UnknownItemResultType}
-use Rattle.binlog_statements.specs.UserVar.{type_of, charset_of, bytes_of, flags_of}
-use Rattle.binlog_statements.specs.declared.statement.Statement.{Statement}
-use Rattle.binlog_statements.specs.declared.query.QueryEvent.{QueryEvent}
-use Rattle.binlog_statements.specs.declared.execute_load_query.ExecuteLoadQueryEvent.{ExecuteLoadQueryEvent}
-use Rattle.binlog_statements.specs.declared.user_var.UserVarEvent.{UserVarEvent}
+use Rattle.binlog_file.specs.StatementCodes.{dup_handling_number, item_result_number, item_result_of}
+use Rattle.binlog_file.specs.declared.ItemResult.{ItemResult}
+use Rattle.binlog_file.specs.declared.UnknownItemResultType.{UnknownItemResultType}
+use Rattle.binlog_file.specs.UserVar.{type_of, charset_of, bytes_of, flags_of}
+use Rattle.binlog_file.specs.Types.{Statement}
+use Rattle.binlog_file.specs.declared.QueryEvent.{QueryEvent}
+use Rattle.binlog_file.specs.declared.ExecuteLoadQueryEvent.{ExecuteLoadQueryEvent}
+use Rattle.binlog_file.specs.declared.UserVarEvent.{UserVarEvent}
 use Rattle.json_line.specs.Tokens.{number_value, text_value, bytes_value, member, object}
 use Rattle.binlog_json.specs.StatusVars.{status_vars_members}
 

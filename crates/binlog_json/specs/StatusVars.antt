@@ -2,9 +2,9 @@
 use Rattle.std.specs.Prelude.{ℕ, zero, suc, List, [], ◌∷◌, ◌++◌, length, take, drop, slice_index, flat_map, codes, cond, nat_eq, Bool, true, false}
 use Rattle.byteorder.specs.Endian.{little_number}
 use Rattle.json.specs.Token.{Token, string, boolean}
-use Rattle.binlog_consts.specs.declared.status_var_key.StatusVarKey.{StatusVarKey}
-use Rattle.binlog_consts.specs.declared.status_var_key.StatusVarKey.TheVariants.{Flags2, SqlMode, Catalog, AutoIncrement, Charset, TimeZone, CatalogNz, LcTimeNames, CharsetDatabase, TableMapForUpdate, MasterDataWritten, Invoker, UpdatedDbNames, Microseconds, CommitTs, CommitTs2, ExplicitDefaultsForTimestamp, DdlLoggedWithXid, DefaultCollationForUtf8mb4, SqlRequirePrimaryKey, DefaultTableEncryption}
-use Rattle.binlog_statements.specs.StatusVariables.{Variable, variable_bytes, variables}
+use Rattle.binlog_file.specs.declared.StatusVarKey.{StatusVarKey}
+use Rattle.binlog_file.specs.declared.StatusVarKey.TheVariants.{Flags2, SqlMode, Catalog, AutoIncrement, Charset, TimeZone, CatalogNz, LcTimeNames, CharsetDatabase, TableMapForUpdate, MasterDataWritten, Invoker, UpdatedDbNames, Microseconds, CommitTs, CommitTs2, ExplicitDefaultsForTimestamp, DdlLoggedWithXid, DefaultCollationForUtf8mb4, SqlRequirePrimaryKey, DefaultTableEncryption}
+use Rattle.binlog_file.specs.StatusVariables.{Variable, variable_bytes, variables}
 use Rattle.json_line.specs.Tokens.{number_value, text_value, bytes_value, member, bytes_member_if_any, object, array}
 
 -- The name of a key.

@@ -2,12 +2,12 @@
 #![tactic(auto, using(std::proofs::Common::append_assoc))]
 
 ghost use Rattle.std.specs.Prelude.{◌≡◌, false, Ok, OnOk};
-ghost use Rattle.binlog_wire.specs.Errors.{error_number, is_environment_error};
-ghost use Rattle.binlog_consts.specs.declared.event_type.EventType.TheVariants.{QUERY_EVENT};
-ghost use Rattle.binlog_consts.specs.EventTypes.{event_type_of};
-ghost use Rattle.binlog_description.specs.Headers.{header_of};
-ghost use Rattle.binlog_events.specs.EventRefs.{view_of};
-ghost use Rattle.binlog_events.specs.Parts.{data_of};
+ghost use Rattle.binlog_file.specs.Errors.{error_number, is_environment_error};
+ghost use Rattle.binlog_file.specs.declared.EventType.TheVariants.{QUERY_EVENT};
+ghost use Rattle.binlog_file.specs.EventTypes.{event_type_of};
+ghost use Rattle.binlog_file.specs.Headers.{header_of};
+ghost use Rattle.binlog_file.specs.EventRefs.{view_of};
+ghost use Rattle.binlog_file.specs.Parts.{data_of};
 ghost use Rattle.json_line.specs.Tokens.{Adds};
 ghost use Rattle.binlog_json.specs.Data.{empty_object, raw_object, error_object, data_object, name_value, data_value};
 

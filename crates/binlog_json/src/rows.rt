@@ -2,7 +2,7 @@
 #![tactic(auto, using(std::proofs::Common::append_assoc))]
 
 ghost use Rattle.std.specs.Prelude.{option_map};
-ghost use Rattle.binlog_rows.specs.Images.{bitmap_of};
+ghost use Rattle.binlog_file.specs.Images.{bitmap_of};
 ghost use Rattle.json_line.specs.Tokens.{Adds, or_null};
 ghost use Rattle.binlog_json.specs.Bits.{bits_value};
 ghost use Rattle.binlog_json.specs.Rows.{mapped_table, mapped_columns, table_map_object, extra_data_member, rows_table, rows_columns, rows_object};

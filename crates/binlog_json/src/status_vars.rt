@@ -3,15 +3,15 @@
 
 ghost use Rattle.std.specs.Prelude.{◌≡◌, ◌≤◌, [], ◌∷◌, ◌++◌, codes, flat_map, length, IfOk};
 ghost use Rattle.json.specs.Token.{boolean};
-ghost use Rattle.binlog_statements.specs.StatusVariables.{Variable, variable_bytes, variables};
-ghost use Rattle.binlog_statements.specs.StatusVarValues.{Has};
-ghost use Rattle.binlog_statements.specs.StatusVars.{variable_of};
+ghost use Rattle.binlog_file.specs.StatusVariables.{Variable, variable_bytes, variables};
+ghost use Rattle.binlog_file.specs.StatusVarValues.{Has};
+ghost use Rattle.binlog_file.specs.StatusVars.{variable_of};
 ghost use Rattle.json_line.specs.Lines.{IsPlainText};
 ghost use Rattle.json_line.specs.Tokens.{Adds, text_value, number_value, bytes_value, member, object, array};
 ghost use Rattle.binlog_json.specs.StatusVars.{entry, variable_object, status_vars_value, status_vars_members};
 
 use binlog_file::{StatusVar, StatusVarVal, StatusVarsIterator};
-use binlog_wire::{NullBytes, RawBytes};
+use binlog_file::{NullBytes, RawBytes};
 use json_line::Line;
 use std::alloc::{AllocError, Global};
 

@@ -1,8 +1,8 @@
 use Rattle.std.proofs.Common.{◌≡◌, ℕ, ◌-◌, ◌+◌, List, Option, Some, None, Ok, Err, length, take, drop, subst, refl}
 use Rattle.memchr.specs.Find.{IsFirstByte, is_byte}
-use Rattle.binlog_wire.specs.Reading.{ends}
-use Rattle.binlog_wire.specs.Fields.{terminated_at}
-use Rattle.binlog_wire.specs.Laws.Terminated.{terminated_search}
+use Rattle.binlog_file.specs.Reading.{ends}
+use Rattle.binlog_file.specs.Fields.{terminated_at}
+use Rattle.binlog_file.specs.Terminated.{terminated_search}
 use Rattle.binlog_json.proofs.bodies.before_zero.Goals as goal
 
 pub returns-in-None : goal.returns-in-None

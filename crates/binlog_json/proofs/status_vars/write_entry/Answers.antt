@@ -1,5 +1,5 @@
 use Rattle.std.proofs.Common.{subst}
-use Rattle.binlog_statements.specs.StatusVarValues.{Has}
+use Rattle.binlog_file.specs.StatusVarValues.{Has}
 use Rattle.binlog_json.proofs.StatusVars.{set_is, names_are}
 use Rattle.binlog_json.proofs.status_vars.write_entry.Goals as goal
 

@@ -1,4 +1,4 @@
-use Rattle.binlog_statements.specs.StatusVars.{variable_of}
+use Rattle.binlog_file.specs.StatusVars.{variable_of}
 use Rattle.binlog_json.proofs.status_vars.write_variable.Goals as goal
 
 pub returns-in-Ok : goal.returns-in-Ok

@@ -1,5 +1,5 @@
 use Rattle.std.proofs.Common.{arith, ap, length}
-use Rattle.binlog_statements.specs.StatusVars.{variable_of}
+use Rattle.binlog_file.specs.StatusVars.{variable_of}
 use Rattle.binlog_json.proofs.StatusVars.{variables_fit, one_more_fits}
 use Rattle.binlog_json.proofs.status_vars.write_variables.Goals as goal
 

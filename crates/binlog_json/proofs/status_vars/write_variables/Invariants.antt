@@ -1,6 +1,6 @@
 use Rattle.std.proofs.Common.{◌≡◌, ◌+◌, ◌∷◌, ◌++◌, [], flat_map, length}
 use Rattle.json.specs.Token.{begin_array}
-use Rattle.binlog_statements.specs.StatusVariables.{variable_bytes, variables}
+use Rattle.binlog_file.specs.StatusVariables.{variable_bytes, variables}
 use Rattle.binlog_json.specs.StatusVars.{variable_object}
 use Rattle.binlog_json.proofs.status_vars.write_variables.Given as goal
 
