@@ -1,16 +1,16 @@
 -- Counts that rise.
 use Rattle.std.proofs.Common.{ℕ, ◌-◌, ◌^◌, ◌≤◌, ◌⊎◌, inl, inr, ◌∙◌, arith}
 use Rattle.std.proofs.lemmas.Bool.Decides.{eqb_tells}
-use Rattle.binlog_ends.specs.Counts.{after_failure, Rose}
+use Rattle.binlog_ends.specs.Counts.{FailureCount, after_failure, Rose}
 
-pub failure_rises : (count : ℕ) → Rose count (after_failure count)
-failure_rises count = elim (eqb_tells count (2 ^ 64 - 1)) [
+pub failure_rises : (count : FailureCount) → Rose count.failures (after_failure count).failures
+failure_rises count = elim (eqb_tells count.failures (2 ^ 64 - 1)) [
   | inl most ↦ inr most.1
   | inr less ↦ rw less.0 (inl (omega arith))
 ]
 
-pub never_falls : (count : ℕ) → count ≤ after_failure count
-never_falls count = elim (eqb_tells count (2 ^ 64 - 1)) [
+pub never_falls : (count : FailureCount) → count.failures ≤ (after_failure count).failures
+never_falls count = elim (eqb_tells count.failures (2 ^ 64 - 1)) [
   | inl most ↦ rw most.0 (omega arith)
   | inr less ↦ rw less.0 (omega arith)
 ]

@@ -34,8 +34,14 @@ appends_nothing None new kept = tt
 appends_nothing (Some xs) None kept = absurd kept
 appends_nothing (Some xs) (Some ys) kept = kept ∙ sym (append-nil xs)
 
+-- One write wrote none of them.
+pub written_kept : (old mid new : Option (List ℕ)) (bytes rest : List ℕ) → IsWritten old mid bytes rest → Keeps mid new → IsWritten old new bytes rest
+written_kept old mid new bytes rest so_far kept = written_more old mid new bytes rest rest 0 so_far (appends_nothing mid new kept) refl
+
+-- A prefix of them is written.
+pub written_front : (old new : Option (List ℕ)) (bytes rest : List ℕ) → IsWritten old new bytes rest → AppendsFront old new bytes
+written_front old new bytes rest so_far = record { front = so_far.front; cut = rest; whole = so_far.whole; written = so_far.written }
+
 -- A write that failed leaves a prefix of them written.
-pub written_front : (old mid new : Option (List ℕ)) (bytes rest : List ℕ) → IsWritten old mid bytes rest → Keeps mid new → AppendsFront old new bytes
-written_front old mid new bytes rest so_far kept =
-    let all = written_more old mid new bytes rest rest 0 so_far (appends_nothing mid new kept) refl in
-    record { front = all.front; cut = rest; whole = all.whole; written = all.written }
+pub written_failed : (old mid new : Option (List ℕ)) (bytes rest : List ℕ) → IsWritten old mid bytes rest → Keeps mid new → AppendsFront old new bytes
+written_failed old mid new bytes rest so_far kept = written_front old new bytes rest (written_kept old mid new bytes rest so_far kept)

@@ -1,12 +1,12 @@
 //! A reader or a writer of the standard library whose failures are counted.
-ghost use Rattle.std.specs.Prelude.{◌≡◌, ◌<◌, ◌≤◌, ◌↔◌, ℕ, List, Option, Some, None, IsNone, IsSome, Ok, IsOk, IfOk, OnOk, OnErr, MatchResult, length, take, drop};
+ghost use Rattle.std.specs.Prelude.{◌≡◌, ◌<◌, ◌≤◌, ◌↔◌, ℕ, List, Option, Some, None, IsNone, IsSome, Ok, IsOk, IfOk, OnOk, OnErr, MatchResult, length, take};
 ghost use Rattle.std.specs.Io.KnownBytes.{Appends, Consumes, IsAtEnd, Keeps};
-ghost use Rattle.binlog_ends.specs.Counts.{after_failure, AppendsFront, CountsErr};
+ghost use Rattle.binlog_ends.specs.Counts.{one_more, count_of, AppendsFront, CountsErr};
 
 use crate::failed::Failed;
 use crate::traits::{CountsFailures, ReadCounted, WriteCounted};
-use std::io;
-use std::io::{BufRead, ErrorKind, Write};
+use crate::writing::{Interrupted, write_each};
+use std::io::{ErrorKind, Read, Write};
 use std::marker::Model;
 
 /// A reader or a writer, with the number of its failures and the kind of the last one.
@@ -70,7 +70,7 @@ impl<T> Counted<T> {
 
     // Counts a failure.
     fn fail(&mut self, kind: ErrorKind) -> Failed
-        ensures { self.new ≡ record self.old { failures = after_failure self.old.failures; last_failure = Some kind } }
+        ensures { self.new ≡ record self.old { failures = one_more self.old.failures; last_failure = Some kind } }
     {
         self.failures = self.failures.saturating_add(1);
         self.last_failure = Some(kind);
@@ -79,33 +79,31 @@ impl<T> Counted<T> {
 }
 
 impl<T> CountsFailures for Counted<T> {
-    ghost failures = { λ counted. counted.failures };
+    ghost count = { λ counted. count_of counted.failures };
 
     fn failures(&self) -> u64 {
         self.failures
     }
 }
 
-impl<R: BufRead> ReadCounted for Counted<R> {
+impl<R: Read> ReadCounted for Counted<R> {
     ghost remaining = { λ counted. R.remaining counted.inner };
 
-    /// Copies bytes from the reader's buffer, as many as `buf` has room for. The reader is called once; if its buffer
-    /// is empty, the input is at its end.
+    /// Reads by one call of `Read::read`, with all of `buf`; if that returns 0, the input is at its end.
     fn read_some(&mut self, buf: &mut [u8]) -> Result<usize, Failed>
         ensures within { IfOk result (λ count. count ≤ length buf.new) }
         ensures took { IfOk result (λ count. Consumes (R.remaining self.old.inner) (R.remaining self.new.inner) (take count buf.new)) }
         ensures end { IfOk result (λ count. count ≡ 0 → 0 < length buf.old → IsAtEnd (R.remaining self.old.inner)) }
         ensures keeps { OnErr result (Keeps (R.remaining self.old.inner) (R.remaining self.new.inner)) }
-        ensures rest { MatchResult result (λ count. drop count buf.new ≡ drop count buf.old) (λ _. buf.new ≡ buf.old) }
         ensures empty { length buf.old ≡ 0 → result ≡ Ok 0 }
-        ensures counts { CountsErr result self.old.failures self.new.failures }
+        ensures counts { CountsErr result (count_of self.old.failures) (count_of self.new.failures) }
         ensures unasked { length buf.old ≡ 0 → self.new ≡ self.old }
         ensures last { MatchResult result (λ _. self.new.last_failure ≡ self.old.last_failure) (λ _. IsSome self.new.last_failure) }
     {
         if buf.is_empty() {
             return Ok(0);
         }
-        match copy_shown(&mut self.inner, buf) {
+        match self.inner.read(buf) {
             Ok(count) => Ok(count),
             Err(error) => Err(self.fail(error.kind())),
         }
@@ -120,10 +118,10 @@ impl<W: Write> WriteCounted for Counted<W> {
         ensures written { OnOk result (Appends (W.contents self.old.inner) (W.contents self.new.inner) bytes.now) }
         ensures front { OnErr result (AppendsFront (W.contents self.old.inner) (W.contents self.new.inner) bytes.now) }
         ensures empty { length bytes.now ≡ 0 → IsOk result }
-        ensures counts { CountsErr result self.old.failures self.new.failures }
+        ensures counts { CountsErr result (count_of self.old.failures) (count_of self.new.failures) }
         ensures last { MatchResult result (λ _. self.new.last_failure ≡ self.old.last_failure) (λ _. IsSome self.new.last_failure) }
     {
-        match write_each(&mut self.inner, bytes) {
+        match write_each(&mut self.inner, bytes, Interrupted::Fails) {
             Ok(()) => Ok(()),
             Err(kind) => Err(self.fail(kind)),
         }
@@ -131,7 +129,7 @@ impl<W: Write> WriteCounted for Counted<W> {
 
     fn flush_counted(&mut self) -> Result<(), Failed>
         ensures bytes { Keeps (W.contents self.old.inner) (W.contents self.new.inner) }
-        ensures counts { CountsErr result self.old.failures self.new.failures }
+        ensures counts { CountsErr result (count_of self.old.failures) (count_of self.new.failures) }
         ensures last { MatchResult result (λ _. self.new.last_failure ≡ self.old.last_failure) (λ _. IsSome self.new.last_failure) }
     {
         match self.inner.flush() {
@@ -139,37 +137,4 @@ impl<W: Write> WriteCounted for Counted<W> {
             Err(error) => Err(self.fail(error.kind())),
         }
     }
-}
-
-// Copies bytes from the reader's buffer, as many as `buf` has room for.
-fn copy_shown<R: BufRead>(input: &mut R, buf: &mut [u8]) -> io::Result<usize>
-    requires { 0 < length buf.old }
-    ensures took { IfOk result (λ count. Consumes (R.remaining input.old) (R.remaining input.new) (take count buf.new)) }
-    ensures within { IfOk result (λ count. count ≤ length buf.new) }
-    ensures end { IfOk result (λ count. count ≡ 0 → IsAtEnd (R.remaining input.old)) }
-    ensures rest { MatchResult result (λ count. drop count buf.new ≡ drop count buf.old) (λ _. buf.new ≡ buf.old) }
-    ensures keeps { OnErr result (Keeps (R.remaining input.old) (R.remaining input.new)) }
-{
-    let shown = input.fill_buf()?;
-    let count = shown.len().min(buf.len());
-    buf[..count].copy_from_slice(&shown[..count]);
-    input.consume(count);
-    Ok(count)
-}
-
-// Writes all of the bytes, in as many writes as needed. It fails if a write fails or writes 0 bytes.
-fn write_each<W: Write>(output: &mut W, bytes: &[u8]) -> Result<(), ErrorKind>
-    ensures written { OnOk result (Appends (W.contents output.old) (W.contents output.new) bytes.now) }
-    ensures front { OnErr result (AppendsFront (W.contents output.old) (W.contents output.new) bytes.now) }
-    ensures empty { OnErr result (0 < length bytes.now) }
-{
-    let mut rest = bytes;
-    'writes: while !rest.is_empty() {
-        match output.write(rest) {
-            Ok(0) => return Err(ErrorKind::WriteZero),
-            Ok(count) => rest = &rest[count..],
-            Err(error) => return Err(error.kind()),
-        }
-    }
-    Ok(())
 }

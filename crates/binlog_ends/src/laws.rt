@@ -1,18 +1,18 @@
 //! Laws of the counts. Each is a function that does nothing and whose contract states the law.
 ghost use Rattle.std.specs.Prelude.{ℕ, List, ◌≤◌, ◌⊎◌};
-ghost use Rattle.binlog_ends.specs.Counts.{after_failure, Rose};
+ghost use Rattle.binlog_ends.specs.Counts.{FailureCount, after_failure, Rose};
 
 use crate::slice_reader::SliceReader;
 use crate::traits::CountsFailures;
 
 /// A count rises at each failure, or stays if it is at its largest value.
 pub fn failures_rise()
-    ensures { (count : ℕ) → Rose count (after_failure count) }
+    ensures { (count : FailureCount) → Rose count.failures (after_failure count).failures }
 {}
 
 /// A count never falls.
 pub fn counts_never_fall()
-    ensures { (count : ℕ) → count ≤ after_failure count }
+    ensures { (count : FailureCount) → count.failures ≤ (after_failure count).failures }
 {}
 
 /// If a count rose in a part of a call, it rose in the call.
@@ -22,5 +22,5 @@ pub fn rises_in_part()
 
 /// The failure count of a slice never rises.
 pub fn slices_never_fail()
-    ensures { (before after : List ℕ) → Rose (⟦<SliceReader<'static> as CountsFailures>⟧.failures before) (⟦<SliceReader<'static> as CountsFailures>⟧.failures after) → ⊥ }
+    ensures { (before after : List ℕ) → Rose (⟦<SliceReader<'static> as CountsFailures>⟧.count before).failures (⟦<SliceReader<'static> as CountsFailures>⟧.count after).failures → ⊥ }
 {}

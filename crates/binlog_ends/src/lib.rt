@@ -5,7 +5,7 @@
 //! contracts this is `Rose`, in `specs/Counts`; [`laws`] has the laws about it.
 //!
 //! - [`ReadCounted`] reads, and [`WriteCounted`] writes. [`Failed`] is returned exactly if a failure was counted.
-//! - [`Counted`] wraps any `BufRead` or `Write`, and keeps the kind of the last failure.
+//! - [`Counted`] wraps any `Read` or `Write`, and keeps the kind of the last failure. [`CountedRef`] borrows one.
 //! - [`SliceReader`] reads bytes in memory, and never fails.
 //! - [`Retrying`] retries an interrupted call. To read a file or a pipe, use `Counted::new(Retrying::new(input))`.
 //!   Without it an interruption is a failure like any other.
@@ -21,6 +21,7 @@
 //! ```
 #![tactic(auto)]
 
+mod borrowed;
 mod counted;
 mod failed;
 pub mod laws;
@@ -28,7 +29,9 @@ mod references;
 mod retrying;
 mod slice_reader;
 mod traits;
+mod writing;
 
+pub use borrowed::CountedRef;
 pub use counted::Counted;
 pub use failed::Failed;
 pub use retrying::{ATTEMPTS, Retrying};

@@ -1,11 +1,11 @@
 //! The traits for `&mut T`: a borrowed reader or writer counts its failures in the same count.
-ghost use Rattle.std.specs.Prelude.{◌≡◌};
+ghost use Rattle.binlog_ends.specs.Counts.{borrowed_count};
 
 use crate::failed::Failed;
 use crate::traits::{CountsFailures, ReadCounted, WriteCounted};
 
 impl<C: CountsFailures> CountsFailures for &mut C {
-    ghost failures = { λ counted. C.failures counted.now };
+    ghost count = { λ counted. borrowed_count counted.ghost_name (C.count counted.now) };
 
     fn failures(&self) -> u64 {
         CountsFailures::failures(&**self)

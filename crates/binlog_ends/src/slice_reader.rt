@@ -1,7 +1,7 @@
 //! A reader of bytes in memory.
 ghost use Rattle.std.specs.Prelude.{◌≡◌, ℕ, List, [], Option, Some, Ok, length, take, drop, ◌++◌, ◌<◌, ◌≤◌, min, IfOk, OnErr, MatchResult};
 ghost use Rattle.std.specs.Io.KnownBytes.{Consumes, IsAtEnd, Keeps};
-ghost use Rattle.binlog_ends.specs.Counts.{CountsErr};
+ghost use Rattle.binlog_ends.specs.Counts.{count_of, CountsErr};
 
 use crate::failed::Failed;
 use crate::traits::{CountsFailures, ReadCounted};
@@ -40,7 +40,7 @@ impl<'a> SliceReader<'a> {
 }
 
 impl CountsFailures for SliceReader<'_> {
-    ghost failures = { λ _. 0 };
+    ghost count = { λ _. count_of 0 };
 
     fn failures(&self) -> u64 {
         0
@@ -55,9 +55,8 @@ impl ReadCounted for SliceReader<'_> {
         ensures took { IfOk result (λ count. Consumes (Some self.old) (Some self.new) (take count buf.new)) }
         ensures end { IfOk result (λ count. count ≡ 0 → 0 < length buf.old → IsAtEnd (Some self.old)) }
         ensures keeps { OnErr result (Keeps (Some self.old) (Some self.new)) }
-        ensures rest { MatchResult result (λ count. drop count buf.new ≡ drop count buf.old) (λ _. buf.new ≡ buf.old) }
         ensures empty { length buf.old ≡ 0 → result ≡ Ok 0 }
-        ensures counts { CountsErr result 0 0 }
+        ensures counts { CountsErr result (count_of 0) (count_of 0) }
         ensures count { result ≡ Ok (min (length self.old) (length buf.old)) }
         ensures copied { IfOk result (λ count. take count buf.new ≡ take count self.old) }
         ensures left { IfOk result (λ count. self.new ≡ drop count self.old) }

@@ -116,8 +116,8 @@ pub mod misc {
 
 /// Readers and writers that count their failures.
 pub mod counted {
-    pub use crate::binlog_ends::{ATTEMPTS, Counted, CountsFailures, Failed, ReadCounted, Retrying};
-    pub use crate::binlog_ends::{SliceReader, WriteCounted};
+    pub use crate::binlog_ends::{ATTEMPTS, Counted, CountedRef, CountsFailures, Failed, ReadCounted};
+    pub use crate::binlog_ends::{Retrying, SliceReader, WriteCounted};
 }
 
 /// MariaDB's own events.
