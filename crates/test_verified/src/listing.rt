@@ -2,9 +2,7 @@
 use binlog_listing::list_verified;
 use std::alloc::Global;
 use std::test::Fail;
-use testkit_logs::{
-    COUNTED, COUNTED_XID, DESCRIPTION, FILE_HEADER, OFF, PLAIN_XID, count, joined,
-};
+use testkit_logs::{COUNTED, COUNTED_XID, DESCRIPTION, FILE_HEADER, OFF, PLAIN_XID, count, joined};
 
 /// The ends of a description of algorithm 1 whose checksum isn't right, and of one of algorithm 7, which isn't known.
 const WRONG_COUNT: &[u8] = b"\x01\x4e\0\0\0";
@@ -16,12 +14,7 @@ const WRONG_XID: &[u8] =
     b"\0\0\0\0\x10\x01\0\0\0\x1f\0\0\0\0\0\0\0\0\0\x0b\0\0\0\0\0\0\0\x1c\0\0\0";
 
 // Whether the listing of a file of these parts is these lines, and answers whether there is an error.
-fn lists(
-    alloc: Global,
-    parts: &[&[u8]],
-    wanted: &str,
-    has_errors: bool,
-) -> Result<bool, Fail> {
+fn lists(alloc: Global, parts: &[&[u8]], wanted: &str, has_errors: bool) -> Result<bool, Fail> {
     let log = joined(alloc, parts)?;
     let mut output = Vec::new(alloc);
     let answer = list_verified(alloc, count, log.as_slice(), &mut output);
