@@ -1,4 +1,4 @@
-//! CRC-32 as zlib has it, by tables that take eight bytes at a time.
+//! CRC-32 as zlib has it, by tables that take eight bytes at a time, and four behind them.
 
 /// The polynomial, its bits reversed.
 const POLYNOMIAL: u32 = 0xedb8_8320;
@@ -16,6 +16,13 @@ pub fn crc32(bytes: &[u8]) -> u32 {
     for chunk in chunks {
         crc = after_chunk(crc, *chunk);
     }
+    let rest = match rest.split_first_chunk::<4>() {
+        Some((half, behind)) => {
+            crc = after_half(crc, *half);
+            behind
+        }
+        None => rest,
+    };
     for byte in rest {
         crc = after_byte(&TABLES[0], crc, *byte);
     }
@@ -33,6 +40,15 @@ fn after_chunk(crc: u32, chunk: [u8; 8]) -> u32 {
         ^ TABLES[2][usize::from(f)]
         ^ TABLES[1][usize::from(g)]
         ^ TABLES[0][usize::from(h)]
+}
+
+fn after_half(crc: u32, half: [u8; 4]) -> u32 {
+    let [a, b, c, d] = half;
+    let [i, j, k, l] = crc.to_le_bytes();
+    TABLES[3][usize::from(a ^ i)]
+        ^ TABLES[2][usize::from(b ^ j)]
+        ^ TABLES[1][usize::from(c ^ k)]
+        ^ TABLES[0][usize::from(d ^ l)]
 }
 
 const fn after_byte(table: &Table, crc: u32, byte: u8) -> u32 {

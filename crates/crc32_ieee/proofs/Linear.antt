@@ -2,7 +2,7 @@
 use Rattle.std.proofs.Common.{◌≡◌, ℕ, zero, suc, ◌+◌, ◌-◌, ◌*◌, ◌/◌, ◌%◌, ◌^◌, ◌<◌, ◌≤◌, List, [], ◌∷◌, ◌++◌, length, slice_index, slice_set, get_or, take, drop, refl, sym, ap, subst, inl, inr, ◌∙◌, arith}
 use Rattle.std.proofs.lemmas.List.{get_or-take, get_or-drop, get_or_past, length-take-le, take-append-drop, nil_from_length, get_or-set_same, get_or-set_other}
 use Rattle.std.proofs.lemmas.Bool.{cases_lt}
-use Rattle.std.specs.Int.{w64, from_le_bytes}
+use Rattle.std.specs.Int.{w32, w64, from_le_bytes}
 use Rattle.std.specs.Int.RustNames.{bit_xor}
 use lib.Bits.{xor_assoc, xor_zero_l, xor_zero_r, xor_self, xor_comm, xor_shr, xor_mod, xor_shifted, shifted_half, shifted_even}
 use Rattle.crc32_ieee.specs.Crc32.{polynomial, after_bit, after_bits, register, AreEntries}
@@ -109,6 +109,21 @@ by_bytes w =
     ∙ onto _ _ (after_bits 32 (w / 2 ^ 32 % 256)) (next_at 16 40 w (w / 2 ^ 40) refl (omega arith)
     ∙ onto _ _ (after_bits 24 (w / 2 ^ 40 % 256)) (next_at 8 48 w (w / 2 ^ 48) refl (omega arith)))))))
 
+-- The same of half a word.
+abbrev pub half_looked_up : ℕ → ℕ
+half_looked_up w =
+    bit_xor (bit_xor (bit_xor
+    (after_bits 8 (w / 2 ^ 24))
+    (after_bits 16 (w / 2 ^ 16 % 256)))
+    (after_bits 24 (w / 2 ^ 8 % 256)))
+    (after_bits 32 (w % 256))
+
+pub by_half_bytes : (w : ℕ) → after_bits 32 w ≡ half_looked_up w
+by_half_bytes w =
+    next_byte 24 w
+    ∙ onto _ _ (after_bits 32 (w % 256)) (next_at 16 8 w (w / 256) refl (omega arith)
+    ∙ onto _ _ (after_bits 24 (w / 2 ^ 8 % 256)) (next_at 8 16 w (w / 2 ^ 16) refl (omega arith)))
+
 -- The little-endian number of the bytes.
 pub little : List ℕ → ℕ
 little [] = 0
@@ -153,32 +168,47 @@ unfolding little
 word_of (a ∷ b ∷ c ∷ d ∷ e ∷ f ∷ g ∷ h ∷ []) n = omega arith
 word_of s n = absurd (omega arith)
 
-front_bytes : (s : List ℕ) → AreBytes s → 8 ≤ length s → AreBytes (take 8 s)
-front_bytes s are enough i = elim (cases_lt i 8) [
-  | inl near ↦ subst (λ (x : ℕ). x < 256) (sym (get_or-take 8 s i 0 near)) (are i)
+half_of : (w : List ℕ) → length w ≡ 4 → little w ≡ from_le_bytes w32 w
+unfolding little
+half_of (a ∷ b ∷ c ∷ d ∷ []) n = omega arith
+half_of s n = absurd (omega arith)
+
+front_bytes : (n : ℕ) (s : List ℕ) → AreBytes s → n ≤ length s → AreBytes (take n s)
+front_bytes n s are enough i = elim (cases_lt i n) [
+  | inl near ↦ subst (λ (x : ℕ). x < 256) (sym (get_or-take n s i 0 near)) (are i)
   | inr far ↦
-      let e : length (take 8 s) ≡ 8 = length-take-le 8 s enough in
-      let past : get_or (take 8 s) i 0 ≡ 0 = get_or_past (take 8 s) i 0 (omega arith) in
+      let e : length (take n s) ≡ n = length-take-le n s enough in
+      let past : get_or (take n s) i 0 ≡ 0 = get_or_past (take n s) i 0 (omega arith) in
       omega arith
 ]
 
 pub behind_bytes : (s behind : List ℕ) → AreBytes s → behind ≡ drop 8 s → AreBytes behind
 behind_bytes s behind are e i = subst (λ (x : ℕ). x < 256) (sym (ap (λ (t : List ℕ). get_or t i 0) e ∙ get_or-drop 8 s i 0)) (are (8 + i))
 
+-- Several bytes at once, whose little-endian number is known.
+taken : (n c v number : ℕ) (s word behind : List ℕ) → AreBytes s → n ≤ length s → word ≡ take n s → behind ≡ drop n s
+    → (length word ≡ n → little word ≡ number) → v ≡ after_bits (8 * n) (bit_xor number c) → register v behind ≡ register c s
+taken n c v number s word behind are enough front back is looked =
+    let front_len : length (take n s) ≡ n = length-take-le n s enough in
+    let whole : length word ≡ n = ap length front ∙ front_len in
+    let bytes : AreBytes word = subst AreBytes (sym front) (front_bytes n s are enough) in
+    let at_once : register c word ≡ v =
+    register-word c word bytes
+    ∙ (λ i. after_bits (8 * whole i) (bit_xor c (is whole i)))
+    ∙ ap (after_bits (8 * n)) (xor_comm c number)
+    ∙ sym looked in
+    let split : s ≡ word ++ behind = sym (take-append-drop n s) ∙ (λ i. sym front i ++ sym back i) in
+    sym (ap (register c) split ∙ register-append c word behind ∙ ap (λ (x : ℕ). register x behind) at_once)
+
 -- Eight bytes at once.
 pub word_taken : (c v : ℕ) (s word behind : List ℕ) → AreBytes s → 8 ≤ length s → word ≡ take 8 s → behind ≡ drop 8 s
     → v ≡ after_bits 64 (bit_xor (from_le_bytes w64 word) c) → register v behind ≡ register c s
-word_taken c v s word behind are enough front back looked =
-    let front_len : length (take 8 s) ≡ 8 = length-take-le 8 s enough in
-    let whole : length word ≡ 8 = ap length front ∙ front_len in
-    let bytes : AreBytes word = subst AreBytes (sym front) (front_bytes s are enough) in
-    let at_once : register c word ≡ v =
-    register-word c word bytes
-    ∙ (λ i. after_bits (8 * whole i) (bit_xor c (word_of word whole i)))
-    ∙ ap (after_bits 64) (xor_comm c (from_le_bytes w64 word))
-    ∙ sym looked in
-    let split : s ≡ word ++ behind = sym (take-append-drop 8 s) ∙ (λ i. sym front i ++ sym back i) in
-    sym (ap (register c) split ∙ register-append c word behind ∙ ap (λ (x : ℕ). register x behind) at_once)
+word_taken c v s word behind are enough front back looked = taken 8 c v (from_le_bytes w64 word) s word behind are enough front back (word_of word) looked
+
+-- Four bytes at once.
+pub half_taken : (c v : ℕ) (s half behind : List ℕ) → AreBytes s → 4 ≤ length s → half ≡ take 4 s → behind ≡ drop 4 s
+    → v ≡ after_bits 32 (bit_xor (from_le_bytes w32 half) c) → register v behind ≡ register c s
+half_taken c v s half behind are enough front back looked = taken 4 c v (from_le_bytes w32 half) s half behind are enough front back (half_of half) looked
 
 -- The last bytes, one by one.
 pub byte_taken : (c v b : ℕ) (s behind : List ℕ) → s ≡ b ∷ behind → v ≡ after_bits 8 (bit_xor c b) → register v behind ≡ register c s

@@ -1,7 +1,7 @@
 //! CRC-32 as IEEE 802.3, zlib and MySQL compute it: the checksum of binary log events.
 //!
 //! It gives the values of the Rust crate `crc32fast`. [`Crc32::checksum`] processes eight bytes at a time
-//! ("slicing-by-8"), and is proved to give the bit-by-bit CRC-32 of `specs/Crc32.antt`.
+//! ("slicing-by-8"), and four behind the last eight. It is proved to give the bit-by-bit CRC-32 of `specs/Crc32.antt`.
 #![tactic(auto)]
 
 ghost use Rattle.std.specs.Prelude.{◌≡◌, ◌+◌, ◌*◌, ◌<◌};
@@ -13,6 +13,9 @@ const POLYNOMIAL: u32 = 0xedb8_8320;
 
 /// The number of bytes processed at a time.
 const WORD: usize = 8;
+
+/// The number of bytes processed at once behind the last word.
+const HALF_WORD: usize = 4;
 
 /// The number of entries of one table.
 const BYTES: usize = 256;
@@ -52,6 +55,10 @@ impl Crc32 {
             crc = self.after_word(u64::from_le_bytes(*word) ^ u64::from(crc));
             rest = behind;
         }
+        if let Some((half, behind)) = rest.split_first_chunk::<HALF_WORD>() {
+            crc = self.after_half(u32::from_le_bytes(*half) ^ crc);
+            rest = behind;
+        }
         'bytes: while let Some((byte, behind)) = rest.split_first() {
             crc = self.after_byte(crc, *byte);
             rest = behind;
@@ -82,6 +89,18 @@ impl Crc32 {
             ^ self.entry(5, (word >> 16) % 256)
             ^ self.entry(6, (word >> 8) % 256)
             ^ self.entry(7, word % 256)
+    }
+
+    // The result of shifting out all 32 bits of half a register.
+    #[inline(always)]
+    fn after_half(&self, half: u32) -> u32
+        ensures { result ≡ after_bits 32 half }
+    {
+        let half = u64::from(half);
+        self.entry(0, half >> 24)
+            ^ self.entry(1, (half >> 16) % 256)
+            ^ self.entry(2, (half >> 8) % 256)
+            ^ self.entry(3, half % 256)
     }
 
     fn after_byte(&self, crc: u32, byte: u8) -> u32

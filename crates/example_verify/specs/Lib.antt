@@ -1,1 +1,2 @@
 pub mod Checksums
+pub mod Copying

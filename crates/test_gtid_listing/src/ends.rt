@@ -5,21 +5,25 @@ use std::alloc::Global;
 use std::io::BufReader;
 use testkit_logs::FailingWriter;
 
-/// GTIDs of a source, 1 and 4; 1 to 5 under the tag `test`; and 0, which is no number of a GTID.
+/// GTIDs of a source, 1, 2 and 5; 1 to 5 under the tag `test`; 0, which is no number of a GTID; and an anonymous one.
 const LOG: &[u8] = b"\xfebin\
     \0\0\0\0\x21\x01\0\0\0\x2c\0\0\0\0\0\0\0\0\0\0\
     \xab\xab\xab\xab\xab\xab\xab\xab\xab\xab\xab\xab\xab\xab\xab\xab\x01\0\0\0\0\0\0\0\
     \0\0\0\0\x21\x01\0\0\0\x2c\0\0\0\0\0\0\0\0\0\0\
-    \xab\xab\xab\xab\xab\xab\xab\xab\xab\xab\xab\xab\xab\xab\xab\xab\x04\0\0\0\0\0\0\0\
+    \xab\xab\xab\xab\xab\xab\xab\xab\xab\xab\xab\xab\xab\xab\xab\xab\x02\0\0\0\0\0\0\0\
+    \0\0\0\0\x21\x01\0\0\0\x2c\0\0\0\0\0\0\0\0\0\0\
+    \xab\xab\xab\xab\xab\xab\xab\xab\xab\xab\xab\xab\xab\xab\xab\xab\x05\0\0\0\0\0\0\0\
     \0\0\0\0\x23\x01\0\0\0\x48\0\0\0\0\0\0\0\0\0\x01\x01\0\0\0\0\0\x01\
     \xab\xab\xab\xab\xab\xab\xab\xab\xab\xab\xab\xab\xab\xab\xab\xab\x08test\
     \x01\0\0\0\0\0\0\0\x01\0\0\0\0\0\0\0\x06\0\0\0\0\0\0\0\
     \0\0\0\0\x21\x01\0\0\0\x2c\0\0\0\0\0\0\0\0\0\0\
+    \xab\xab\xab\xab\xab\xab\xab\xab\xab\xab\xab\xab\xab\xab\xab\xab\0\0\0\0\0\0\0\0\
+    \0\0\0\0\x22\x01\0\0\0\x2c\0\0\0\0\0\0\0\0\0\0\
     \xab\xab\xab\xab\xab\xab\xab\xab\xab\xab\xab\xab\xab\xab\xab\xab\0\0\0\0\0\0\0\0";
 
 /// Its listing.
-const LINES: &[u8] = b"3 error E18\n\
-    abababababababababababababababab 1,4 gaps 2-3\n\
+const LINES: &[u8] = b"4 error E18\n\
+    abababababababababababababababab 1-2,5 gaps 3-4\n\
     abababababababababababababababab:test 1-5 gaps -\n";
 
 // Whether a writer of one byte for each call, which fails after this many, gets as many bytes of the listing, and the

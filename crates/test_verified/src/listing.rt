@@ -1,22 +1,62 @@
-//! The listing of a log whose checksums are verified.
+//! The listing of logs whose checksums are verified, each of which is the number of the bytes before it.
 use binlog_listing::list_verified;
+use std::alloc::Global;
 use std::test::Fail;
-use testkit_logs::{COUNTED, COUNTED_XID, DESCRIPTION, FILE_HEADER, count, joined};
+use testkit_logs::{COUNTED, COUNTED_XID, DESCRIPTION, FILE_HEADER, OFF, PLAIN_XID, count, joined};
+
+/// The ends of a description of algorithm 1 whose checksum isn't right, and of one of algorithm 7, which isn't known.
+const WRONG_COUNT: &[u8] = b"\x01\x4e\0\0\0";
+
+const UNKNOWN: &[u8] = b"\x07\x4d\0\0\0";
 
 /// An event whose checksum isn't right.
 const WRONG_XID: &[u8] =
     b"\0\0\0\0\x10\x01\0\0\0\x1f\0\0\0\0\0\0\0\0\0\x0b\0\0\0\0\0\0\0\x1c\0\0\0";
 
+// Whether the listing of a file of these parts is these lines, and answers whether there is an error.
+fn lists(alloc: Global, parts: &[&[u8]], wanted: &str, has_errors: bool) -> Result<bool, Fail> {
+    let log = joined(alloc, parts)?;
+    let mut output = Vec::new(alloc);
+    let answer = list_verified(alloc, count, log.as_slice(), &mut output);
+    Ok(answer == Ok(has_errors) && output.as_slice() == wanted.as_bytes())
+}
+
+#[test]
+fn right_checksums_are_listed_as_events(rt: HostRuntime) -> Result<(), Fail> {
+    let parts: &[&[u8]] = &[FILE_HEADER, DESCRIPTION, COUNTED, COUNTED_XID];
+    let wanted = "0 15 81 0 0000 57 4d000000 read\n1 16 31 0 0000 8 1b000000 read\n";
+    assert!(rt; lists(rt.alloc(), parts, wanted, false)?);
+    Ok(())
+}
+
+#[test]
+fn events_without_checksums_are_listed(rt: HostRuntime) -> Result<(), Fail> {
+    let parts: &[&[u8]] = &[FILE_HEADER, DESCRIPTION, OFF, PLAIN_XID];
+    let wanted = "0 15 81 0 0000 57 4d000000 read\n1 16 27 0 0000 8 - read\n";
+    assert!(rt; lists(rt.alloc(), parts, wanted, false)?);
+    Ok(())
+}
+
 #[test]
 fn a_mismatch_has_the_line_of_its_error(rt: HostRuntime) -> Result<(), Fail> {
-    let log = joined(
-        rt.alloc(),
-        &[FILE_HEADER, DESCRIPTION, COUNTED, WRONG_XID, COUNTED_XID],
-    )?;
-    let mut output = Vec::new(rt.alloc());
-    assert!(rt; list_verified(rt.alloc(), count, log.as_slice(), &mut output) == Ok(true));
-    let wanted: &[u8] =
-        b"0 15 81 0 0000 57 4d000000 read\n1 error E17\n2 16 31 0 0000 8 1b000000 read\n";
-    assert!(rt; output.as_slice() == wanted);
+    let parts: &[&[u8]] = &[FILE_HEADER, DESCRIPTION, COUNTED, WRONG_XID];
+    let wanted = "0 15 81 0 0000 57 4d000000 read\n1 error E17\n";
+    assert!(rt; lists(rt.alloc(), parts, wanted, true)?);
+    Ok(())
+}
+
+#[test]
+fn a_mismatching_description_is_not_in_force_behind_its_line(rt: HostRuntime) -> Result<(), Fail> {
+    let parts: &[&[u8]] = &[FILE_HEADER, DESCRIPTION, WRONG_COUNT, PLAIN_XID];
+    let wanted = "0 error E17\n1 16 27 0 0000 8 - read\n";
+    assert!(rt; lists(rt.alloc(), parts, wanted, true)?);
+    Ok(())
+}
+
+#[test]
+fn an_unknown_algorithm_is_verified_in_a_listing(rt: HostRuntime) -> Result<(), Fail> {
+    let parts: &[&[u8]] = &[FILE_HEADER, DESCRIPTION, UNKNOWN, COUNTED_XID];
+    let wanted = "0 15 81 0 0000 57 4d000000 read\n1 16 31 0 0000 8 1b000000 read\n";
+    assert!(rt; lists(rt.alloc(), parts, wanted, false)?);
     Ok(())
 }
