@@ -1,5 +1,5 @@
 //! How to list the GTIDs of a log.
-use binlog_file::{BinlogFile, BinlogVersion, Error, EventType, GtidEvent};
+use binlog_file::{BinlogFile, BinlogVersion, Error, Event, EventType, GtidEvent};
 use std::alloc::Global;
 use std::io::{BufRead, Write};
 use uuid::Uuid;
@@ -17,15 +17,19 @@ pub fn list_gtids<R: BufRead + Drop, W: Write>(
 ) -> Result<(), Error> {
     let file = BinlogFile::new(alloc, BinlogVersion::Version4, input)?;
     for item in file.items() {
-        let event = item?;
-        if let Ok(EventType::GTID_EVENT | EventType::GTID_TAGGED_LOG_EVENT) = event
-            .header()
-            .event_type()
-        {
-            write_gtid(&event.read_event(alloc)?, output)?;
-        }
+        list_gtid(alloc, &item?, output)?;
     }
     Ok(())
+}
+
+// Writes a line for an event if it is the GTID of a transaction.
+fn list_gtid<W: Write>(alloc: Global, event: &Event, output: &mut W) -> Result<(), Error> {
+    match event.header().event_type() {
+        Ok(EventType::GTID_EVENT | EventType::GTID_TAGGED_LOG_EVENT) => {
+            write_gtid(&event.read_event(alloc)?, output)
+        }
+        _ => Ok(()),
+    }
 }
 
 fn write_gtid<W: Write>(gtid: &GtidEvent, output: &mut W) -> Result<(), Error> {

@@ -1,9 +1,9 @@
 //! GTIDs. The bodies are from logs of MariaDB 10.11.19.
-use crate::data::{is_rewritten, refusal};
+use crate::data::{is_cut_refused, is_rewritten};
 use binlog_mariadb::{GtidExtra, MariaEventData, MariaGtidEvent, read_maria_data};
-use binlog_wire::{Error, MySerialize};
+use binlog_wire::Error;
 use std::alloc::Global;
-use testkit_bodies::by_default;
+use testkit_bodies::{by_default, is_written_with};
 
 /// A statement that defines data, 3-7-1.
 const DDL: &[u8] = b"\x01\0\0\0\0\0\0\0\x03\0\0\0\x29\0\0\0\0\0\0";
@@ -27,71 +27,66 @@ const ALTERED: &[u8] = b"\x15\0\0\0\0\0\0\0\x03\0\0\0\x29\x04\x14\0\0\0\0\0\0\0"
 const NEW: &[u8] = b"\x01\0\0\0\0\0\0\0\x03\0\0\0\0\0\0\0\0\0\0";
 
 // What of a GTID is told apart here: domain, sequence number, commit id, format number of its XA id.
-fn numbers(alloc: Global, body: &[u8]) -> Result<(u32, u64, Option<u64>, Option<u32>), Error> {
-    let Some(MariaEventData::GtidEvent(event)) = read_maria_data(alloc, by_default(), 162, body)?
-    else {
-        return Ok((0, 0, None, None));
-    };
-    let format_id = match event.xa_id() {
-        Some(id) => Some(id.format_id()),
-        None => None,
-    };
-    let numbers = (
+type Numbers = (u32, u64, Option<u64>, Option<u32>);
+
+// The extra flags, the number of engines, and the sequence number of an ALTER TABLE.
+type Extra = (u8, Option<u8>, Option<u64>);
+
+fn numbers(event: &MariaGtidEvent<'_>) -> Numbers {
+    let format_id = event.xa_id().map(|id| id.format_id());
+    (
         event.domain(),
         event.sequence(),
         event.commit_id(),
         format_id,
-    );
-    drop(event);
-    Ok(numbers)
+    )
 }
 
-// The extra flags, the number of engines, and the sequence number of an ALTER TABLE; none without extra flags.
-fn extra(alloc: Global, body: &[u8]) -> Result<Option<(u8, Option<u8>, Option<u64>)>, Error> {
-    let Some(MariaEventData::GtidEvent(event)) = read_maria_data(alloc, by_default(), 162, body)?
-    else {
-        return Ok(None);
-    };
-    let told = match event.extra() {
-        Some(extra) => Some((extra.flags(), extra.engines(), extra.alter_sequence())),
-        None => None,
-    };
-    drop(event);
-    Ok(told)
+fn extra(event: &MariaGtidEvent<'_>) -> Option<Extra> {
+    event.extra().map(|extra| (extra.flags(), extra.engines(), extra.alter_sequence()))
 }
 
-// Whether a new GTID is written with six zeros behind its flags.
-fn is_padded(alloc: Global) -> Result<bool, Error> {
-    let mut bytes = Vec::new(alloc);
-    let event = MariaGtidEvent::new(3, 1);
-    let answer = event.serialize(alloc, &mut bytes);
-    let is_padded = bytes.as_slice() == NEW;
-    drop(event);
-    drop(bytes);
-    answer?;
-    Ok(is_padded)
+// Whether the data is a GTID that has these numbers, and these extra flags or none.
+fn is_gtid(data: Option<&MariaEventData<'_>>, wanted: Numbers, flags: Option<Extra>) -> bool {
+    match data {
+        Some(MariaEventData::GtidEvent(event)) => numbers(event) == wanted && extra(event) == flags,
+        _ => false,
+    }
+}
+
+// Whether a body is that of a GTID that has these numbers, and these extra flags or none.
+fn is_read(
+    alloc: Global,
+    body: &[u8],
+    wanted: Numbers,
+    flags: Option<Extra>,
+) -> Result<bool, Error> {
+    let data = read_maria_data(alloc, by_default(), 162, body)?;
+    let is_read = is_gtid(data.as_ref(), wanted, flags);
+    drop(data);
+    Ok(is_read)
 }
 
 #[test]
 fn ids_are_read(rt: HostRuntime) {
-    assert!(rt; numbers(rt.alloc(), DDL) == Ok((3, 1, None, None)));
-    assert!(rt; numbers(rt.alloc(), GROUP) == Ok((3, 22, Some(68), None)));
-    assert!(rt; numbers(rt.alloc(), PREPARED) == Ok((3, 9, None, Some(7))));
+    let flags = Some((0, None, None));
+    assert!(rt; is_read(rt.alloc(), DDL, (3, 1, None, None), flags) == Ok(true));
+    assert!(rt; is_read(rt.alloc(), GROUP, (3, 22, Some(68), None), None) == Ok(true));
 }
 
 #[test]
 fn extra_flags_are_read(rt: HostRuntime) {
-    assert!(rt; extra(rt.alloc(), DDL) == Ok(Some((0, None, None))));
-    assert!(rt; extra(rt.alloc(), PREPARED) == Ok(Some((1, Some(255), None))));
-    assert!(rt; extra(rt.alloc(), COMMITTED) == Ok(None));
+    let flags = Some((1, Some(255), None));
+    assert!(rt; is_read(rt.alloc(), PREPARED, (3, 9, None, Some(7)), flags) == Ok(true));
+    assert!(rt; is_read(rt.alloc(), COMMITTED, (3, 10, None, Some(7)), None) == Ok(true));
 }
 
 #[test]
 fn halves_of_an_alter_are_read(rt: HostRuntime) {
-    assert!(rt; extra(rt.alloc(), ALTER) == Ok(Some((GtidExtra::FL_START_ALTER, None, None))));
-    assert!(rt;
-        extra(rt.alloc(), ALTERED) == Ok(Some((GtidExtra::FL_COMMIT_ALTER, None, Some(20))))
-    );
+    let start = Some((GtidExtra::FL_START_ALTER, None, None));
+    assert!(rt; is_read(rt.alloc(), ALTER, (3, 20, None, None), start) == Ok(true));
+    let commit = Some((GtidExtra::FL_COMMIT_ALTER, None, Some(20)));
+    assert!(rt; is_read(rt.alloc(), ALTERED, (3, 21, None, None), commit) == Ok(true));
 }
 
 #[test]
@@ -105,13 +100,13 @@ fn bodies_are_written_back(rt: HostRuntime) {
 
 #[test]
 fn short_bodies_are_refused(rt: HostRuntime) {
-    assert!(rt; refusal(rt.alloc(), 162, &DDL[..18]) == Some(Error::EndOfBody));
-    assert!(rt; refusal(rt.alloc(), 162, &GROUP[..20]) == Some(Error::EndOfBody));
-    assert!(rt; refusal(rt.alloc(), 162, &COMMITTED[..23]) == Some(Error::EndOfBody));
-    assert!(rt; refusal(rt.alloc(), 162, &ALTERED[..21]) == Some(Error::EndOfBody));
+    assert!(rt; is_cut_refused(rt.alloc(), 162, DDL));
+    assert!(rt; is_cut_refused(rt.alloc(), 162, GROUP));
+    assert!(rt; is_cut_refused(rt.alloc(), 162, COMMITTED));
+    assert!(rt; is_cut_refused(rt.alloc(), 162, ALTERED));
 }
 
 #[test]
 fn new_gtid_has_19_bytes(rt: HostRuntime) {
-    assert!(rt; is_padded(rt.alloc()) == Ok(true));
+    assert!(rt; is_written_with(rt.alloc(), MariaGtidEvent::new(3, 1), NEW.len(), NEW));
 }

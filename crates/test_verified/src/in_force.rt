@@ -1,5 +1,5 @@
 //! What is in force behind an item of a verified file.
-use binlog_file::{BinlogVersion, Error, VerifiedFile};
+use binlog_file::{BinlogVersion, Error, EventRef, VerifiedFile};
 use std::alloc::Global;
 use std::io::Cursor;
 use testkit_logs::{COUNTED, DESCRIPTION, FILE_HEADER, count, joined};
@@ -17,19 +17,28 @@ const ROTATE: &[u8] = b"\0\0\0\0\x04\x01\0\0\0\x1f\0\0\0\0\0\0\0\0\0\x04\0\0\0\0
 const WRONG_ROTATE: &[u8] =
     b"\0\0\0\0\x04\x01\0\0\0\x1f\0\0\0\0\0\0\0\0\0\x04\0\0\0\0\0\0\0\0\0\0\0";
 
+// The number of an item's error, if it is one.
+fn error_number(item: Option<Result<EventRef<'_>, Error>>) -> Option<u8> {
+    match item {
+        Some(Err(error)) => Some(error.number()),
+        Some(Ok(_)) | None => None,
+    }
+}
+
 // The number of the last error, if there was one, and whether the table map of id 5 is in force behind all items.
 fn behind(alloc: Global, events: &[&[u8]]) -> Result<(Option<u8>, bool), Error> {
     let log = joined(alloc, events)?;
-    let bytes = joined(alloc, &[FILE_HEADER, DESCRIPTION, COUNTED, log.as_slice()])?;
-    let mut file = VerifiedFile::new(alloc, BinlogVersion::Version4, count, Cursor::new(bytes))?;
+    let bytes = joined(alloc, &[FILE_HEADER, DESCRIPTION, COUNTED, log.as_slice()]);
+    drop(log);
+    let input = Cursor::new(bytes?);
+    let mut file = VerifiedFile::new(alloc, BinlogVersion::Version4, count, input)?;
     let mut last = None;
     for _ in 0..4u8 {
-        match file.next_ref() {
-            Some(Err(error)) => last = Some(error.number()),
-            Some(Ok(_)) | None => {}
-        }
+        last = error_number(file.next_ref()).or(last);
     }
-    Ok((last, file.reader().get_tme(5).is_some()))
+    let is_in_force = file.reader().get_tme(5).is_some();
+    drop(file);
+    Ok((last, is_in_force))
 }
 
 #[test]

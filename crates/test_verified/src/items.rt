@@ -1,8 +1,7 @@
 //! Which items a verified file gives, and a verified slice.
-use binlog_file::{BinlogVersion, Error, EventRef, VerifiedFile, VerifiedSlice};
+use binlog_file::{BinlogVersion, Error, Event, EventRef, VerifiedFile, VerifiedSlice};
 use std::alloc::Global;
 use std::io::Cursor;
-use std::test::Fail;
 use testkit_logs::{
     COUNTED, COUNTED_XID, DESCRIPTION, FILE_HEADER, Item, OFF, PLAIN_XID, SHORT, count, joined,
     low_flags, seen,
@@ -39,6 +38,7 @@ fn file_items(alloc: Global, parts: &[&[u8]]) -> Result<[Option<Item>; 4], Error
     for index in 0..4usize {
         items[index] = item(file.next_ref());
     }
+    drop(file);
     Ok(items)
 }
 
@@ -50,6 +50,8 @@ fn slice_items(alloc: Global, parts: &[&[u8]]) -> Result<[Option<Item>; 4], Erro
     for index in 0..4usize {
         items[index] = item(slice.next());
     }
+    drop(slice);
+    drop(bytes);
     Ok(items)
 }
 
@@ -113,6 +115,11 @@ fn a_short_body_comes_before_a_mismatch_and_that_before_a_bad_body(rt: HostRunti
     assert!(rt; gives(rt.alloc(), wrong, [FIRST, MISMATCH, Some(Err(5)), None]));
 }
 
+// Whether an item is an event.
+fn is_event(item: Option<Result<EventRef<'_>, Error>>) -> bool {
+    matches!(item, Some(Ok(_)))
+}
+
 // The errors of a log whose checksums are 0 with the in-use flag clear, and 1 with it.
 fn in_use_errors(alloc: Global) -> Result<[bool; 2], Error> {
     let mut file = VerifiedFile::new(
@@ -121,38 +128,53 @@ fn in_use_errors(alloc: Global) -> Result<[bool; 2], Error> {
         low_flags,
         Cursor::new(IN_USE),
     )?;
-    let first = matches!(file.next_ref(), Some(Ok(_)));
-    let second = matches!(file.next_ref(), Some(Ok(_)));
+    let first = is_event(file.next_ref());
+    let second = is_event(file.next_ref());
+    drop(file);
     Ok([first, second])
 }
 
 // The same of a slice, and the bytes behind it.
 fn slice_in_use_errors(bytes: &mut [u8]) -> Result<[bool; 2], Error> {
     let mut slice = VerifiedSlice::new(BinlogVersion::Version4, low_flags, bytes)?;
-    let first = matches!(slice.next(), Some(Ok(_)));
-    let second = matches!(slice.next(), Some(Ok(_)));
+    let first = is_event(slice.next());
+    let second = is_event(slice.next());
     Ok([first, second])
 }
 
-#[test]
-fn the_in_use_flag_counts_as_clear(rt: HostRuntime) -> Result<(), Fail> {
-    assert!(rt; in_use_errors(rt.alloc()) == Ok([true, true]));
-    let mut bytes = joined(rt.alloc(), &[IN_USE])?;
-    assert!(rt; slice_in_use_errors(bytes.as_mut_slice()) == Ok([true, true]));
-    // They are as they were.
-    assert!(rt; bytes.as_slice() == IN_USE);
-    Ok(())
+// Whether both items of the same log are events in a slice, and the bytes are unchanged after it.
+fn is_slice_in_use_read(alloc: Global) -> Result<bool, Error> {
+    let mut bytes = joined(alloc, &[IN_USE])?;
+    let errors = slice_in_use_errors(bytes.as_mut_slice());
+    let is_unchanged = bytes.as_slice() == IN_USE;
+    drop(bytes);
+    Ok(errors? == [true, true] && is_unchanged)
 }
 
-// What is stored and what is computed of an event whose checksum isn't right.
+#[test]
+fn the_in_use_flag_counts_as_clear(rt: HostRuntime) {
+    assert!(rt; in_use_errors(rt.alloc()) == Ok([true, true]));
+    assert!(rt; is_slice_in_use_read(rt.alloc()) == Ok(true));
+}
+
+// What is stored and what is computed, where an item is a mismatch.
+fn both_checksums(item: &Option<Result<Event, Error>>) -> Option<(u32, u32)> {
+    match item {
+        Some(Err(Error::ChecksumMismatch { stored, computed })) => Some((*stored, *computed)),
+        _ => None,
+    }
+}
+
+// The same of an event whose checksum isn't right.
 fn mismatch(alloc: Global) -> Result<Option<(u32, u32)>, Error> {
     let bytes = joined(alloc, &[FILE_HEADER, DESCRIPTION, COUNTED, WRONG_XID])?;
     let mut file = VerifiedFile::new(alloc, BinlogVersion::Version4, count, Cursor::new(bytes))?;
     let _description = file.next_ref().is_some();
-    match file.next() {
-        Some(Err(Error::ChecksumMismatch { stored, computed })) => Ok(Some((stored, computed))),
-        _ => Ok(None),
-    }
+    let item = file.next();
+    drop(file);
+    let mismatch = both_checksums(&item);
+    drop(item);
+    Ok(mismatch)
 }
 
 #[test]

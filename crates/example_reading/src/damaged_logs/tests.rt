@@ -1,6 +1,6 @@
 use super::{Findings, examine};
 use binlog_file::Error;
-use std::test::Fail;
+use std::alloc::Global;
 use testkit_logs::{
     COUNTED, COUNTED_XID, DESCRIPTION, FILE_HEADER, REFUSED_DESCRIPTION, SHORT, joined,
 };
@@ -27,16 +27,22 @@ const DAMAGED: &[&[u8]] = &[
     COUNTED_XID,
 ];
 
+// What is found in a log of these parts.
+fn found(alloc: Global, parts: &[&[u8]]) -> Result<Findings, Error> {
+    let log = joined(alloc, parts)?;
+    let found = examine(alloc, log.as_slice());
+    drop(log);
+    found
+}
+
 #[test]
-fn damaged_events_are_counted(rt: HostRuntime) -> Result<(), Fail> {
-    let log = joined(rt.alloc(), DAMAGED)?;
+fn damaged_events_are_counted(rt: HostRuntime) {
     let wanted = Findings {
         events: 2,
         damaged: 3,
         is_broken_off: true,
     };
-    assert!(rt; examine(rt.alloc(), log.as_slice()) == Ok(wanted));
-    Ok(())
+    assert!(rt; found(rt.alloc(), DAMAGED) == Ok(wanted));
 }
 
 #[test]

@@ -19,8 +19,12 @@ const LINES: &[u8] = b"3e11fa47-71ca-11e1-9e33-c80aa9429562:23\n\
 fn are_listed(alloc: Global, parts: &[&[u8]], lines: &[u8]) -> Result<bool, Error> {
     let log = joined(alloc, parts)?;
     let mut output = Vec::new(alloc);
-    list_gtids(alloc, log.as_slice(), &mut output)?;
-    Ok(output.as_slice() == lines)
+    let answer = list_gtids(alloc, log.as_slice(), &mut output);
+    let are_listed = output.as_slice() == lines;
+    drop(output);
+    drop(log);
+    answer?;
+    Ok(are_listed)
 }
 
 #[test]

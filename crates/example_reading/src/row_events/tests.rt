@@ -18,8 +18,12 @@ const DELETE_ROWS: &[u8] = b"\0\0\0\0\x20\x01\0\0\0\x21\0\0\0\0\0\0\0\0\0\
 fn are_listed(alloc: Global, parts: &[&[u8]], lines: &[u8]) -> Result<bool, Error> {
     let log = joined(alloc, parts)?;
     let mut output = Vec::new(alloc);
-    list_changes(alloc, log.as_slice(), &mut output)?;
-    Ok(output.as_slice() == lines)
+    let answer = list_changes(alloc, log.as_slice(), &mut output);
+    let are_listed = output.as_slice() == lines;
+    drop(output);
+    drop(log);
+    answer?;
+    Ok(are_listed)
 }
 
 #[test]
