@@ -1,0 +1,6 @@
+pub mod Agreement
+pub mod Counts
+pub mod Reading
+pub mod Splits
+pub mod Steps
+pub mod Taking
