@@ -1,5 +1,6 @@
 pub mod Agreement
 pub mod Counts
+pub mod Events
 pub mod Reading
 pub mod Splits
 pub mod Steps

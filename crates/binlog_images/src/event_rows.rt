@@ -41,11 +41,11 @@ fn rows_of<'a>(
     if event.table_id() != table_map.table_id() {
         return Err(RowsEventError::NoTableMap(event.table_id()));
     }
-    let columns = TableColumns::new(
-        table_map.columns_type_raw(),
-        table_map.columns_metadata_raw(),
-    )
-    .map_err(RowsEventError::Columns)?;
+    let types = table_map.columns_type_raw();
+    let columns = match TableColumns::new(types, table_map.columns_metadata_raw()) {
+        Ok(columns) => columns,
+        Err(error) => return Err(RowsEventError::Columns(error)),
+    };
     let table = table_map.columns_count();
     if event.num_columns() != table {
         return Err(RowsEventError::ColumnCount {
