@@ -1,5 +1,5 @@
 -- Reading with the place of the first fault is the reading of the formats.
-use Rattle.std.proofs.Common.{◌≡◌, ℕ, List, [], ◌∷◌, Option, None, Some, Result, Ok, Err, refl, ap, subst}
+use Rattle.std.proofs.Common.{ℕ, List, [], ◌∷◌, Option, None, Some, Result, Ok, Err, refl, ap, subst}
 use Rattle.std.specs.Prelude.{option_map}
 use Rattle.binlog_wire.specs.Reading.{Read, ◌>>=◌, read_as}
 use Rattle.binlog_columns.specs.Metadata.{Typed}

@@ -4,7 +4,7 @@ use Rattle.binlog_columns.specs.Metadata.{Typed}
 use Rattle.binlog_columns.specs.Layouts.{layout_of}
 use Rattle.binlog_values.specs.Contents.{Content, content_in}
 use Rattle.binlog_values.specs.Values.{Meaning, meaning_in}
-use Rattle.binlog_images.specs.Cells.{Cell, absent, null, value, cell_in}
+use Rattle.binlog_images.specs.Cells.{absent, null, value, cell_in}
 
 pub absent_read : (column : Typed) (present is_null : Bool) (s : List ℕ) → present ≡ false → (cell_in column present is_null).reads s ≡ Ok (absent, s)
 absent_read column present is_null s p = rw p refl

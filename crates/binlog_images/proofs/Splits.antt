@@ -1,7 +1,7 @@
 -- The bytes of an event split into rows in one way, and an iteration gives these rows.
-use Rattle.std.proofs.Common.{◌≡◌, ℕ, zero, suc, ◌+◌, ◌<◌, ◌≤◌, Bool, true, false, List, [], ◌∷◌, length, map, Option, None, Some, Result, Ok, Err, refl, sym, ap, subst, ◌∙◌, arith}
+use Rattle.std.proofs.Common.{◌≡◌, ℕ, zero, suc, ◌+◌, ◌<◌, ◌≤◌, Bool, true, false, List, [], ◌∷◌, length, map, Option, None, Result, Ok, Err, refl, sym, ap, subst, ◌∙◌, arith}
 use Rattle.std.specs.Prelude.{nat_lt, if◌then◌else◌}
-use Rattle.std.specs.Iterator.{Yields, YieldsThen, Drains}
+use Rattle.std.specs.Iterator.{Yields, Drains}
 use Rattle.std.proofs.lemmas.Bool.{ltb-true}
 use Rattle.binlog_wire.specs.Fields.{IsBytes}
 use Rattle.binlog_wire.specs.Reading.{Read}

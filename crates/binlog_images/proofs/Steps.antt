@@ -1,5 +1,5 @@
 -- Images, one column at a time.
-use Rattle.std.proofs.Common.{◌≡◌, ℕ, ◌+◌, ◌<◌, ◌≤◌, Bool, true, List, ◌∷◌, length, Option, None, Some, Ok, Err, refl, ap, arith}
+use Rattle.std.proofs.Common.{◌≡◌, ℕ, ◌+◌, ◌<◌, ◌≤◌, true, List, ◌∷◌, length, None, Some, Ok, Err, refl, ap, arith}
 use Rattle.std.specs.Prelude.{is_ok}
 use Rattle.binlog_wire.specs.declared.error.Error.{Error}
 use Rattle.binlog_wire.specs.declared.error.Error.TheVariants as errors
@@ -9,7 +9,7 @@ use Rattle.binlog_rows.specs.Columns.{Bitmap, bitmap}
 use Rattle.binlog_images.specs.Bits.{Bits, first_bits, is_present, is_null, next_bits}
 use Rattle.binlog_images.specs.Cells.{Cell, cell_in, ImageShape, present_count}
 use Rattle.binlog_images.specs.Kinds.{kind_as, kind_of}
-use Rattle.binlog_images.specs.Images.{left_or, left, given_and, cells_in, image_at}
+use Rattle.binlog_images.specs.Images.{left, cells_in, image_at}
 use Rattle.binlog_images.specs.declared.rows_error.ImageError.{ImageError}
 
 -- An error is of the kind of its refusal.

@@ -1,5 +1,5 @@
 -- The first row of bytes.
-use Rattle.std.proofs.Common.{◌≡◌, ℕ, ◌<◌, ◌≤◌, Bool, true, false, List, length, Ok, Err, refl, arith}
+use Rattle.std.proofs.Common.{◌≡◌, ℕ, ◌<◌, ◌≤◌, true, false, List, length, Ok, Err, refl, arith}
 use Rattle.std.specs.Prelude.{nat_lt}
 use Rattle.binlog_images.specs.Cells.{RowShape, RowCells}
 use Rattle.binlog_images.specs.Splits.{row_at, left_over, first_row}

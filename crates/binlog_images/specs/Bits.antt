@@ -1,5 +1,5 @@
 -- The bits of an image: which columns are present, and which of the present ones are NULL.
-use Rattle.std.specs.Prelude.{ℕ, zero, suc, ◌+◌, Bool, true, false, Option, unwrap_or, if◌then◌else◌}
+use Rattle.std.specs.Prelude.{ℕ, zero, suc, ◌+◌, Bool, true, false, unwrap_or, if◌then◌else◌}
 use Rattle.binlog_wire.specs.Bits.{bit_in}
 use Rattle.binlog_rows.specs.Columns.{Bitmap}
 

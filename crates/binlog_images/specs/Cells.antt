@@ -1,7 +1,7 @@
 -- Row images: for each column of the table, in order, that it is absent, that it is NULL, or its value. And rows: an
 -- image before the row was changed, one after, or both.
 -- Source: MySQL's documentation of its source code, `mysql::binlog::event::Rows_event`.
-use Rattle.std.specs.Prelude.{◌≡◌, ℕ, Bool, true, false, List, [], ◌∷◌, length, Option, None, Some, unwrap_or, option_map, refl}
+use Rattle.std.specs.Prelude.{ℕ, Bool, true, false, List, [], ◌∷◌, length, Option, None, Some, unwrap_or, option_map, refl}
 use Rattle.binlog_wire.specs.Formats.{Format, anywhere, silent, then, ◌⨾◌, made}
 use Rattle.binlog_columns.specs.Metadata.{Typed}
 use Rattle.binlog_columns.specs.Layouts.{layout_of}

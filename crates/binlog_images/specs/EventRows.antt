@@ -1,5 +1,5 @@
 -- What the rows of an event are.
-use Rattle.std.specs.Prelude.{◌≡◌, Bool, true, false, if◌then◌else◌, Option, None, Some, Result, Ok, Err}
+use Rattle.std.specs.Prelude.{◌≡◌, Bool, true, false, None, Some, Result, Ok, Err}
 use Rattle.binlog_rows.specs.declared.rows_event.RowsEvent.{RowsEvent}
 use Rattle.binlog_rows.specs.declared.rows_event_data.RowsEventData.{RowsEventData}
 use Rattle.binlog_rows.specs.declared.rows_event_data.RowsEventData.TheVariants.{PartialUpdateRowsEvent}

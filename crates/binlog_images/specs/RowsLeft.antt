@@ -1,5 +1,5 @@
 -- The state of an iteration over rows, and what one call of `next` does to it.
-use Rattle.std.specs.Prelude.{◌≡◌, ℕ, ◌+◌, List, [], option_map, Option, None, Some, Result, Ok, Err}
+use Rattle.std.specs.Prelude.{◌≡◌, ◌+◌, [], option_map, Option, None, Some, Result, Ok, Err}
 use Rattle.binlog_images.specs.Cells.{RowShape}
 use Rattle.binlog_images.specs.ImageShapes.{shape_of}
 use Rattle.binlog_images.specs.RowCells.{row_cells}
