@@ -24,7 +24,8 @@ TOOLS = ["json_line", "binlog_lines", "binlog_listing", "binlog_gtid_listing"]
 # The crates of programs, and the programs' names.
 PROGRAMS = {"binlog_list": "binlog-list", "binlog_json": "binlog-json", "binlog_gtids_list": "binlog-gtids"}
 
-# The crates of tests, and their helpers. Not among them: `test_gtid_text`, whose crate is not in the library.
+# The crates of tests, and their helpers. Not among them: `test_gtid_text`, `test_images` and `test_optional_metadata`,
+# whose crates are not in the library.
 TESTKITS = ["testkit_bodies", "testkit_logs"]
 TESTS = [
     "test_ends",

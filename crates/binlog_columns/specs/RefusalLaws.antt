@@ -6,7 +6,7 @@ use Rattle.binlog_wire.specs.Reading.{Refusal, Read, ends, invalid, other_type, 
 use Rattle.binlog_numbers.specs.Laws.RepeatedLoops.{drop_item}
 use Rattle.binlog_columns.specs.Metadata.{Typed, column}
 use Rattle.binlog_columns.specs.Kinds.{kind_as, kind_of}
-use Rattle.binlog_columns.specs.Refusals.{refused_or, refusal}
+use Rattle.binlog_columns.specs.Refusals.{refused_or, refusal, given_and, columns_in}
 use Rattle.binlog_columns.specs.declared.column_error.ColumnError.{ColumnError}
 
 -- The error of reading a column has the kind of its refusal.
@@ -70,3 +70,14 @@ tail_whole s types m rest number typed h split read =
     let pairs : ◌≡◌ {A = Typed × List ℕ} (typed, rest) first.0 = cc in
     let left : rest ≡ first.0.1 = ap (λ (p : Typed × List ℕ). p.1) pairs in
     none_anywhere 1 0 types rest (rw left first.2)
+
+count_by : (i number : ℕ) (read : Read Typed) (types : List ℕ) → ((m : List ℕ) → refusal (suc i) types m ≡ None → length (columns_in types m) ≡ length types)
+    → refused_or i read (refusal (suc i) types) ≡ None → length (given_and read (columns_in types)) ≡ length (number ∷ types)
+count_by i number (Ok x) types ih h = ap (λ (n : ℕ). suc n) (ih x.1 h)
+count_by i number (Err d) types ih h = absurd cc
+
+-- Where no column is refused, there are as many columns as types.
+pub columns_count : (i : ℕ) (types m : List ℕ) → refusal i types m ≡ None → length (columns_in types m) ≡ length types
+columns_count i [] [] h = refl
+columns_count i [] (byte ∷ m) h = absurd cc
+columns_count i (number ∷ types) m h = count_by i number ((column number).reads m) types (λ m. columns_count (suc i) types m) h

@@ -51,6 +51,14 @@ impl<'a> TableColumns<'a> {
         }
         Ok(TableColumns { types, metadata })
     }
+
+    /// The number of columns that are left.
+    #[tactic(auto, using(crate::specs::RefusalLaws::columns_count))]
+    pub fn num_columns(&self) -> usize
+        ensures { result ≡ length (columns_of self.now) }
+    {
+        self.types.len()
+    }
 }
 
 /// The columns from left to right.

@@ -44,7 +44,7 @@ StandsIn (body {V} format data_of) s event = (v : V) × (event ≡ data_of v) ×
 -- extra bytes, a before-image and an after-image. The rows are the stored bytes.
 abbrev rows_of : Bool → Bool → Bool → FormatDescriptionEvent → EventType → (RowsEvent → RowsEventData) → Body
 rows_of has_extra has_before has_after d type kind =
-    body (rows (record { has_extra = has_extra; has_before = has_before; has_after = has_after }) (post_header d type)) (λ e. variants.RowsCompressedEvent (kind e))
+    body (rows (record { has_extra = has_extra; has_before = has_before; has_after = has_after }) (post_header d type)) (λ e. variants.RowsCompressedEvent (record { event = kind e }))
 
 -- The body of an event type under a description. A compressed event has the body of the uncompressed type, with the
 -- stored bytes in place of the statement or the rows.
@@ -93,7 +93,7 @@ event_written (variants.GtidEvent e) = maria_gtid.written e
 event_written (variants.GtidListEvent e) = list_written e
 event_written (variants.StartEncryptionEvent e) = start_encryption.written e
 event_written (variants.QueryCompressedEvent e) = (query 13).written e
-event_written (variants.RowsCompressedEvent e) = data_written e
+event_written (variants.RowsCompressedEvent e) = data_written e.event
 
 -- Why event data can't be written, if it can't.
 abbrev pub unwritable_data : MariaEventData → Option Error

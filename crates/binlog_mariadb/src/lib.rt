@@ -9,6 +9,7 @@
 
 mod annotate_rows;
 mod binlog_checkpoint;
+mod compressed_rows;
 mod event_data;
 mod event_type;
 mod flavour;
@@ -24,6 +25,7 @@ mod xa_id;
 
 pub use annotate_rows::AnnotateRowsEvent;
 pub use binlog_checkpoint::BinlogCheckpointEvent;
+pub use compressed_rows::RowsCompressedEvent;
 pub use event_data::{MariaEventData, read_maria_data};
 pub use event_type::{MariaEventType, UnknownMariaEventType};
 pub use flavour::{is_maria_log, is_maria_version};

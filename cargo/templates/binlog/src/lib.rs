@@ -124,8 +124,9 @@ pub mod counted {
 pub mod mariadb {
     pub use crate::binlog_mariadb::{AnnotateRowsEvent, BinlogCheckpointEvent, GtidExtra, GtidHead};
     pub use crate::binlog_mariadb::{GtidListEvent, MariaEvent, MariaEventData, MariaEventType};
-    pub use crate::binlog_mariadb::{MariaGtid, MariaGtidEvent, MariaGtidFlags, StartEncryptionEvent};
-    pub use crate::binlog_mariadb::{UnknownMariaEventType, XaId, is_maria_log, is_maria_version};
+    pub use crate::binlog_mariadb::{MariaGtid, MariaGtidEvent, MariaGtidFlags, RowsCompressedEvent};
+    pub use crate::binlog_mariadb::{StartEncryptionEvent, UnknownMariaEventType, XaId};
+    pub use crate::binlog_mariadb::{is_maria_log, is_maria_version};
     pub use crate::binlog_mariadb::{read_maria_body, read_maria_data};
 }
 

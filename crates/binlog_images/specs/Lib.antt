@@ -1,0 +1,16 @@
+pub mod Agreement
+pub mod Answers
+pub mod BitmapViews
+pub mod Bits
+pub mod BitsOf
+pub mod Cells
+pub mod ColumnValues
+pub mod EventRows
+pub mod Events
+pub mod ImageCells
+pub mod ImageShapes
+pub mod Images
+pub mod Kinds
+pub mod RowCells
+pub mod RowsLeft
+pub mod Splits

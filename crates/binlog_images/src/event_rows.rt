@@ -1,0 +1,101 @@
+//! The rows of row events.
+ghost use Rattle.std.specs.Prelude.{◌≡◌, Bool, false};
+ghost use Rattle.binlog_rows.specs.Rows.{IsOfForm};
+ghost use Rattle.binlog_rows.specs.declared.rows_form.RowsForm.{RowsForm};
+ghost use Rattle.binlog_rows.specs.declared.rows_event.RowsEvent.{RowsEvent};
+ghost use Rattle.binlog_rows.specs.RowsData.{event_in};
+ghost use Rattle.binlog_images.specs.EventRows.{GivesRows, GivesRowsUnless, is_partial};
+
+use crate::rows::Rows;
+use crate::rows_error::RowsEventError;
+use binlog_columns::TableColumns;
+use binlog_rows::{
+    DeleteRows, DeleteRowsV1, RowsEvent, RowsEventData, RowsEventOf, RowsKind, TableMapEvent,
+    UpdateRows, UpdateRowsV1, WriteRows, WriteRowsV1,
+};
+
+/// The kinds of row events whose bytes are whole rows: all but PARTIAL_UPDATE_ROWS, whose rows may hold parts of JSON
+/// documents.
+pub trait HasWholeRows: RowsKind {}
+
+impl HasWholeRows for WriteRows {}
+
+impl HasWholeRows for UpdateRows {}
+
+impl HasWholeRows for DeleteRows {}
+
+impl HasWholeRows for WriteRowsV1 {}
+
+impl HasWholeRows for UpdateRowsV1 {}
+
+impl HasWholeRows for DeleteRowsV1 {}
+
+/// The rows of this event, whose type says which images they have.
+fn rows_of<'a>(
+    event: &'a RowsEvent<'_>,
+    table_map: &'a TableMapEvent<'_>,
+) -> Result<Rows<'a>, RowsEventError>
+    requires { (form : RowsForm) × IsOfForm form event.now }
+    ensures { GivesRows table_map.now event.now result }
+{
+    if event.table_id() != table_map.table_id() {
+        return Err(RowsEventError::NoTableMap(event.table_id()));
+    }
+    let types = table_map.columns_type_raw();
+    let columns = match TableColumns::new(types, table_map.columns_metadata_raw()) {
+        Ok(columns) => columns,
+        Err(error) => return Err(RowsEventError::Columns(error)),
+    };
+    let table = table_map.columns_count();
+    if event.num_columns() != table {
+        return Err(RowsEventError::ColumnCount {
+            event: event.num_columns(),
+            table,
+        });
+    }
+    Ok(Rows::new(columns, event))
+}
+
+/// Row events, whose bytes are rows.
+pub trait RowsEventExt {
+    ghost event: { Self → RowsEvent };
+
+    ghost is_partial: { Self → Bool };
+
+    /// The rows of the event. `table_map` is the table map in force for its table id.
+    ///
+    /// # Errors
+    ///
+    /// The first of these:
+    ///
+    /// - [`RowsEventError::PartialUpdate`] for an event of type PARTIAL_UPDATE_ROWS.
+    /// - [`RowsEventError::NoTableMap`] if the table map is of another table id than the event.
+    /// - [`RowsEventError::Columns`] with the error of [`TableColumns::new`] if the table map's columns are refused.
+    /// - [`RowsEventError::ColumnCount`] if the event has another number of columns than the table map.
+    fn rows<'a>(&'a self, table_map: &'a TableMapEvent<'_>) -> Result<Rows<'a>, RowsEventError>
+        ensures { GivesRowsUnless (is_partial self.now) table_map.now (event self.now) result };
+}
+
+impl RowsEventExt for RowsEventData<'_> {
+    ghost event = { event_in };
+
+    ghost is_partial = { is_partial };
+
+    fn rows<'a>(&'a self, table_map: &'a TableMapEvent<'_>) -> Result<Rows<'a>, RowsEventError> {
+        if let RowsEventData::PartialUpdateRowsEvent(_) = self {
+            return Err(RowsEventError::PartialUpdate);
+        }
+        rows_of(self.event(), table_map)
+    }
+}
+
+/// Never [`RowsEventError::PartialUpdate`].
+impl<K: HasWholeRows> RowsEventExt for RowsEventOf<'_, K> {
+    ghost event = { λ event. event };
+
+    ghost is_partial = { λ _. false };
+
+    fn rows<'a>(&'a self, table_map: &'a TableMapEvent<'_>) -> Result<Rows<'a>, RowsEventError> {
+        rows_of(self.event(), table_map)
+    }
+}

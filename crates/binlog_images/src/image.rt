@@ -1,0 +1,121 @@
+//! Row images.
+ghost use Rattle.std.specs.Prelude.{◌≡◌, ◌+◌, ◌≤◌, length, is_ok, true};
+ghost use Rattle.binlog_columns.specs.TableColumns.{columns_of};
+ghost use Rattle.binlog_images.specs.BitsOf.{bits_of};
+ghost use Rattle.binlog_images.specs.Images.{left, image_at};
+ghost use Rattle.binlog_images.specs.Answers.{Leaves, Takes};
+
+use crate::column_value::ColumnValue;
+use crate::image_bits::{ImageBits, read_bitmap};
+use crate::image_columns::ImageColumns;
+use crate::rows_error::{ImageError, kind_of};
+use binlog_columns::TableColumns;
+use binlog_wire::ParseBuf;
+
+/// A row image: an iterator over all columns of the table, in order. It borrows the bytes of the event, and takes no
+/// memory; a copy of it starts where it stands.
+#[derive(Clone, Copy, Debug)]
+pub struct Image<'a> {
+    columns: TableColumns<'a>,
+    bits: ImageBits<'a>,
+    rest: &'a [u8],
+    ghost in_range: { bits.index + length (columns_of columns) ≤ bits.present.len },
+    ghost in_place: { bits.place ≤ bits.index },
+    ghost is_whole: { is_ok (left (columns_of columns) (bits_of bits) rest.now) ≡ true },
+}
+
+impl<'a> Image<'a> {
+    ghost use Rattle.binlog_images.specs.ImageShapes.{shape_of};
+    ghost use Rattle.binlog_images.specs.ImageCells.{answer_cells};
+
+    /// Takes an image with these columns from the start of `buf`.
+    ///
+    /// # Errors
+    ///
+    /// The first fault, in the order of the bytes, with its column.
+    #[tactic(auto, using(crate::proofs::Steps::nulls_refused, crate::proofs::Steps::image_taken, crate::proofs::Steps::image_refused, crate::proofs::Steps::whole))]
+    pub(crate) fn read(of: &ImageColumns<'a>, buf: &mut ParseBuf<'a>) -> Result<Self, ImageError>
+        ensures { Takes buf.new (answer_cells result) (image_at (shape_of of.now) buf.old) }
+    {
+        let nulls = match read_bitmap(of.count, buf) {
+            Ok(nulls) => nulls,
+            Err(error) => {
+                return Err(ImageError {
+                    kind: kind_of(error),
+                    column: None,
+                });
+            }
+        };
+        let bits = ImageBits {
+            present: of.present,
+            nulls,
+            index: 0,
+            place: 0,
+        };
+        let rest = buf.0;
+        match skip_columns(of.columns, bits, buf) {
+            Ok(()) => Ok(Image {
+                columns: of.columns,
+                bits,
+                rest,
+            }),
+            Err(error) => Err(error),
+        }
+    }
+}
+
+/// Takes the columns of an image from the start of `buf`, and leaves the bytes after them.
+#[tactic(auto, using(crate::proofs::Steps::left_step, crate::proofs::Steps::left_here, crate::proofs::Steps::range_first, crate::proofs::Steps::range_step))]
+fn skip_columns(
+    columns: TableColumns<'_>,
+    start: ImageBits<'_>,
+    buf: &mut ParseBuf<'_>,
+) -> Result<(), ImageError>
+    requires in_range { start.index + length (columns_of columns) ≤ start.present.len }
+    requires in_place { start.place ≤ start.index }
+    ensures { Leaves buf.new result (left (columns_of columns.entry) (bits_of start.entry) buf.old) }
+{
+    let mut bits = start;
+    for column in columns {
+        if let Err(error) = ColumnValue::read(&column, bits.is_present(), bits.is_null(), buf) {
+            return Err(ImageError {
+                kind: kind_of(error),
+                column: Some(bits.index),
+            });
+        }
+        bits.advance();
+    }
+    Ok(())
+}
+
+/// The columns that are left, from left to right: absent, NULL, or a value.
+impl<'a> Iterator for Image<'a> {
+    type Item = ColumnValue<'a>;
+
+    ghost use Rattle.std.specs.Iterator.{YieldsFirstBy, item_count};
+    ghost use Rattle.binlog_images.specs.ColumnValues.{cell_of};
+    ghost use Rattle.binlog_images.specs.ImageCells.{cells_of};
+
+    ghost next_gives = { YieldsFirstBy cell_of cells_of };
+
+    ghost remaining = { item_count cells_of };
+
+    #[tactic(auto, using(crate::proofs::Steps::whole_step, crate::proofs::Steps::never_refused, crate::proofs::Steps::cells_step, crate::proofs::Steps::range_first, crate::proofs::Steps::range_step))]
+    fn next(&mut self) -> Option<ColumnValue<'a>> {
+        let mut columns = self.columns;
+        let column = columns.next()?;
+        let mut bits = self.bits;
+        let mut rest = ParseBuf(self.rest);
+        let Ok(value) = ColumnValue::read(&column, bits.is_present(), bits.is_null(), &mut rest)
+        else {
+            unreachable!()
+        };
+        bits.advance();
+        *self = Image {
+            columns,
+            bits,
+            rest: rest.0,
+        };
+        Some(value)
+    }
+}

@@ -1,0 +1,36 @@
+//! Which columns an image has.
+ghost use Rattle.std.specs.Prelude.{◌≡◌, length};
+ghost use Rattle.binlog_columns.specs.TableColumns.{columns_of};
+ghost use Rattle.binlog_rows.specs.Images.{bitmap_of};
+ghost use Rattle.binlog_images.specs.Bits.{set_count};
+
+use crate::image_bits::set_count;
+use binlog_columns::TableColumns;
+use binlog_wire::BitView;
+
+/// The columns of a table, and which of them are present in an image.
+#[derive(Clone, Copy, Debug)]
+pub(crate) struct ImageColumns<'a> {
+    pub(crate) columns: TableColumns<'a>,
+    pub(crate) present: BitView<'a>,
+    /// How many are present.
+    pub(crate) count: u64,
+    ghost bit_each: { present.len ≡ length (columns_of columns) },
+    ghost counted: { count ≡ set_count (length (columns_of columns)) 0 (bitmap_of present) },
+}
+
+impl<'a> ImageColumns<'a> {
+    ghost use Rattle.binlog_images.specs.ImageShapes.{shape_of};
+
+    /// The columns of a table, with a bit for each.
+    pub(crate) fn new(columns: TableColumns<'a>, present: BitView<'a>) -> Self
+        requires { present.len ≡ length (columns_of columns) }
+        ensures { shape_of result ≡ (columns_of columns.entry, bitmap_of present.entry) }
+    {
+        ImageColumns {
+            columns,
+            present,
+            count: set_count(present),
+        }
+    }
+}

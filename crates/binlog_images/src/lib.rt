@@ -1,0 +1,22 @@
+//! The rows of a row event: what the bytes of its rows are, by the columns of its table map.
+//!
+//! The formats of images and rows are defined in `specs/Cells` and `specs/Rows`, over those of `binlog_values`; how the
+//! bytes of an event split into rows, and why one is refused, is in `specs/Splits`. Nothing here takes memory.
+#![tactic(auto)]
+
+mod column_value;
+mod event_rows;
+mod image;
+mod image_bits;
+mod image_columns;
+pub mod laws;
+mod row;
+mod rows;
+mod rows_error;
+
+pub use column_value::ColumnValue;
+pub use event_rows::{HasWholeRows, RowsEventExt};
+pub use image::Image;
+pub use row::Row;
+pub use rows::Rows;
+pub use rows_error::{ImageKind, RowsError, RowsErrorKind, RowsEventError};

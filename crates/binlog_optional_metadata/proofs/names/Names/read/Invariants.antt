@@ -1,0 +1,8 @@
+use Rattle.std.proofs.Common.{◌≡◌, ◌-◌}
+use Rattle.binlog_numbers.specs.LenEncTexts.{lenenc_text}
+use Rattle.binlog_numbers.specs.Repeated.{times_at}
+use Rattle.binlog_optional_metadata.proofs.Sequences.{rest_of}
+use Rattle.binlog_optional_metadata.proofs.names.Names.read.Given as goal
+
+abbrev pub invariant-loop-index : goal.invariant-loop-index
+invariant-loop-index l = rest_of (times_at l.left lenenc_text.reads l.fn.buf) ≡ rest_of (times_at (l.left - l._index) lenenc_text.reads l.buf)

@@ -1,0 +1,19 @@
+-- How many columns there are of each class.
+use Rattle.std.specs.Prelude.{Bool, List, length, if◌then◌else◌}
+use Rattle.binlog_columns.specs.Metadata.{Typed}
+use Rattle.binlog_optional_metadata.specs.Classes.{class_count}
+use Rattle.binlog_optional_metadata.specs.declared.class_counts.ClassCounts.{ClassCounts}
+use Rattle.binlog_optional_metadata.specs.declared.column_class.ColumnClass.TheVariants.{Numeric, NumericOrYear, Character, Enum, Set, EnumOrSet, Geometry, Vector}
+
+-- How many of these columns there are of each class; in MariaDB's logs a YEAR is a numeric column.
+abbrev pub counts_of : Bool → List Typed → ClassCounts
+counts_of is_maria_log columns = record {
+  columns = length columns;
+  numeric = class_count (if is_maria_log then NumericOrYear else Numeric) columns;
+  character = class_count Character columns;
+  enums = class_count Enum columns;
+  sets = class_count Set columns;
+  listed = class_count EnumOrSet columns;
+  geometries = class_count Geometry columns;
+  vectors = class_count Vector columns;
+}

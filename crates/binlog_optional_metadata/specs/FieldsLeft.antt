@@ -1,0 +1,40 @@
+-- The fields that are left, and what one call of `next` gives.
+use Rattle.std.specs.Prelude.{ℕ, List, [], ◌∷◌, Some, None, Result, Ok, Err}
+use Rattle.std.specs.Borrow.{Bor}
+use Rattle.binlog_wire.specs.Reading.{Read}
+use Rattle.binlog_optional_metadata.specs.Fields.{Content, content, field}
+use Rattle.binlog_optional_metadata.specs.FieldValues.{content_of}
+use Rattle.binlog_optional_metadata.specs.Kinds.{kind_as}
+use Rattle.binlog_optional_metadata.specs.declared.class_counts.ClassCounts.{ClassCounts}
+use Rattle.binlog_optional_metadata.specs.declared.field.OptionalMetadataField.{OptionalMetadataField}
+use Rattle.binlog_optional_metadata.specs.declared.metadata_error.OptionalMetadataError.{OptionalMetadataError}
+use Rattle.binlog_optional_metadata.specs.declared.metadata_error.OptionalMetadataErrorKind.TheVariants.{LeftOver}
+
+-- The content of a field of this type, which has to be all of its bytes.
+abbrev pub whole_content : ℕ → Read Content → Result Content OptionalMetadataError
+whole_content number (Ok (content, [])) = Ok content
+whole_content number (Ok (content, byte ∷ rest)) = Err (record { kind = LeftOver; field_type = Some number })
+whole_content number (Err d) = Err (record { kind = kind_as d; field_type = Some number })
+
+-- The content, and the bytes after the field.
+abbrev pub before_rest : List ℕ → Result Content OptionalMetadataError → Result (Content × List ℕ) OptionalMetadataError
+before_rest rest (Ok content) = Ok (content, rest)
+before_rest rest (Err e) = Err e
+
+-- The content of a field that was taken, or the refusal of its type or its length.
+abbrev pub field_taken : ClassCounts → Read (ℕ × List ℕ) → Result (Content × List ℕ) OptionalMetadataError
+field_taken counts (Ok x) = before_rest x.1 (whole_content x.0.0 ((content counts x.0.0).reads x.0.1))
+field_taken counts (Err d) = Err (record { kind = kind_as d; field_type = None })
+
+-- The first field of the bytes, and the bytes after it.
+abbrev pub first_field : ClassCounts → List ℕ → Result (Content × List ℕ) OptionalMetadataError
+first_field counts s = field_taken counts (field.reads s)
+
+-- An answer, with the content of its field.
+abbrev pub answer_first : Result (OptionalMetadataField × Bor (List ℕ)) OptionalMetadataError → Result (Content × List ℕ) OptionalMetadataError
+answer_first (Ok x) = Ok (content_of x.0, x.1.now)
+answer_first (Err e) = Err e
+
+abbrev pub answer_field_content : Result OptionalMetadataField OptionalMetadataError → Result Content OptionalMetadataError
+answer_field_content (Ok field) = Ok (content_of field)
+answer_field_content (Err e) = Err e

@@ -1,0 +1,13 @@
+pub mod BitAnswers
+pub mod Bits
+pub mod Classes
+pub mod Counts
+pub mod FieldStates
+pub mod FieldTypes
+pub mod FieldValues
+pub mod Fields
+pub mod FieldsLeft
+pub mod Kinds
+pub mod Names
+pub mod Numbers
+pub mod Sequences

@@ -1,0 +1,70 @@
+//! Numbers of columns.
+ghost use Rattle.std.specs.Prelude.{◌≡◌, is_ok, true, length};
+ghost use Rattle.binlog_wire.specs.Reading.{Gives};
+ghost use Rattle.binlog_numbers.specs.LenEnc.{lenenc_at};
+ghost use Rattle.binlog_numbers.specs.Repeated.{times_at};
+
+use binlog_numbers::LenEnc;
+use binlog_wire::{Error, IntRepr, ParseBuf};
+
+/// A number for each column of a class: an iterator over them, which borrows their bytes and allocates nothing.
+#[derive(Clone, Copy, Debug)]
+pub struct Numbers<'a> {
+    left: u64,
+    rest: &'a [u8],
+    ghost is_whole: { is_ok (times_at left lenenc_at rest.now) ≡ true },
+}
+
+impl<'a> Numbers<'a> {
+    ghost use Rattle.binlog_optional_metadata.specs.Numbers.{numbers_of, answer_numbers};
+
+    /// Takes this many numbers from the start of `buf`.
+    #[tactic(auto, using(crate::proofs::Sequences::rest_turn, crate::proofs::Sequences::refused_here, crate::proofs::Sequences::rest_end, crate::proofs::Sequences::whole_end))]
+    pub(crate) fn read(left: u64, buf: &mut ParseBuf<'a>) -> Result<Self, Error>
+        ensures { Gives ⊥ buf.new (answer_numbers result) (times_at left lenenc_at buf.old) }
+    {
+        let rest = buf.0;
+        for _index in 0..left {
+            if let Err(error) = LenEnc::read(buf) {
+                return Err(error);
+            }
+        }
+        Ok(Numbers { left, rest })
+    }
+
+    /// The number of numbers that are left.
+    #[tactic(auto, using(crate::proofs::Sequences::values_count))]
+    pub fn num_left(&self) -> u64
+        ensures { result ≡ length (numbers_of self.now) }
+    {
+        self.left
+    }
+}
+
+/// The numbers that are left, in order.
+impl<'a> Iterator for Numbers<'a> {
+    type Item = u64;
+
+    ghost use Rattle.std.specs.Iterator.{YieldsFirst, item_count};
+    ghost use Rattle.binlog_optional_metadata.specs.Numbers.{numbers_of};
+
+    ghost next_gives = { YieldsFirst numbers_of };
+
+    ghost remaining = { item_count numbers_of };
+
+    #[tactic(auto, using(crate::proofs::Sequences::first_value, crate::proofs::Sequences::others_whole, crate::proofs::Sequences::never_refused))]
+    fn next(&mut self) -> Option<u64> {
+        if self.left == 0 {
+            return None;
+        }
+        let mut rest = ParseBuf(self.rest);
+        let Ok(number) = LenEnc::read(&mut rest) else {
+            unreachable!()
+        };
+        *self = Numbers {
+            left: self.left - 1,
+            rest: rest.0,
+        };
+        Some(number)
+    }
+}

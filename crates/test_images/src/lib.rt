@@ -1,0 +1,7 @@
+//! Tests of `binlog_images`: the rows of row events, and their refusals.
+#![tactic(auto)]
+
+#[cfg(test)]
+mod rows;
+#[cfg(test)]
+mod told;
