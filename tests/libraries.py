@@ -3,14 +3,15 @@
 
 Usage: libraries.py
 
-A C program and a C++ one over include/binlog.h list the samples, the encoder's logs and the damaged copies: their listing has
-to be that of the built binlog_list, but for its last word. The C program is built once more with the sanitizers of the C
-compiler, and lists with room for one item, too. A third program calls the library with 10,000 cursors that it did not make
-over each of some logs. Then the tests of the Python package run over the shared library, which is made of the static one.
+A C program and a C++ one over include/binlog.h list the samples, the encoder's logs and the damaged copies: their
+listing has to be that of the built binlog_list without its last word. The C program also lists with room for one item,
+and built with the sanitizers of the C compiler. A third program calls the library with 10,000 cursors that it did not
+make over each of some logs. Then the tests of the Python package run over the shared library, which is made of the
+static one.
 
-The static library is proved and built by bin/build where a source is newer. The last line is `N passed, M failed`; the exit
-status is 1 if something failed. Without the C compiler `cc` nothing is run, and both numbers are 0; without a C++ compiler
-`c++`, or sanitizers, a line says so.
+The static library is proved and built by bin/build if a source is newer. The last line is `N passed, M failed`; the
+exit status is 1 if something failed. Without the C compiler `cc` nothing is run, and both numbers are 0; without a C++
+compiler `c++`, or sanitizers, a line says so.
 """
 
 import os
@@ -157,7 +158,8 @@ def main():
     subprocess.run([REPOSITORY / "bin/build", "binlog_c"], check=True)
     with tempfile.TemporaryDirectory() as name:
         folder = Path(name)
-        results = [*program_failures(folder, list(all_cases(make_sample.sample(), lambda log: None))), *python_failures(folder)]
+        cases = list(all_cases(make_sample.sample(), lambda log: None))
+        results = [*program_failures(folder, cases), *python_failures(folder)]
     failures = [result for result in results if result is not None]
     for message in failures[:20]:
         print(message)

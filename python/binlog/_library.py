@@ -9,8 +9,8 @@ from pathlib import Path
 VARIABLE = "BINLOG_LIBRARY"
 FILE = "libbinlog.so"
 
-# binlog_item: position, description, data_position, data_size; timestamp, server_id, event_size, log_pos; flags, event_type,
-# error; checksum; has_checksum; four bytes to the next.
+# binlog_item: position, description, data_position, data_size; timestamp, server_id, event_size, log_pos; flags,
+# event_type, error; checksum; has_checksum; four bytes of padding.
 ITEM = struct.Struct("=4Q4IHBB4sI4x")
 
 

@@ -170,7 +170,7 @@ class Log:
             yield ITEM.iter_unpack(memoryview(items)[: count * ITEM.size])
 
     def items(self, start: Optional[Cursor] = None) -> Iterator[Union[Event, Damage]]:
-        """The events from a place on, and a Damage in the place of each damaged one; from the first event on if not given.
+        """The events from a place on, and a Damage in the place of each damaged one; from the first event if not given.
 
         Raises LogError, InvalidCursor, where the place isn't one of this log.
         """

@@ -55,7 +55,8 @@ class Logs(unittest.TestCase):
                 self.check_listing(log.content)
 
     def test_buffers(self):
-        for content in (CHECKSUMMED, bytearray(CHECKSUMMED), memoryview(CHECKSUMMED), memoryview(bytearray(CHECKSUMMED))):
+        changeable = bytearray(CHECKSUMMED)
+        for content in (CHECKSUMMED, changeable, memoryview(CHECKSUMMED), memoryview(changeable)):
             self.check_listing(content)
 
     def test_a_file(self):

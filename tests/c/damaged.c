@@ -1,5 +1,6 @@
-/* Calls the library over each log on standard input, which logs.h reads, with cursors that it did not make, as many as the
- * argument says, and checks what can be said of any answer. Prints how many cursors were accepted, and how many refused. */
+/* Calls the library over each log on standard input, which logs.h reads, with cursors that it did not make, as many
+ * as the argument says, and checks what can be said of any answer. Prints how many cursors were accepted, and how
+ * many refused. */
 #define _DEFAULT_SOURCE
 #include "binlog.h"
 #include "logs.h"

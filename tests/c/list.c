@@ -1,6 +1,7 @@
-/* Lists the logs on standard input, which logs.h reads: for each event `index type size log_pos flags data_len checksum`, for
- * each error `index error E<number>`, and behind each log `status N`, where N is binlog_list's exit status. The argument is how
- * many items a call has room for. Checks that each item lies where it says, and that a cursor made of it gives it again. */
+/* Lists the logs on standard input, which logs.h reads: for each event `index type size log_pos flags data_len
+ * checksum`, for each error `index error E<number>`, and behind each log `status N`, where N is binlog_list's exit
+ * status. The argument is how many items a call has room for. Checks that each item lies where it says, and that a
+ * cursor made of it gives it again. */
 #define _DEFAULT_SOURCE
 #include "binlog.h"
 #include "logs.h"
@@ -37,7 +38,8 @@ static void check_again(const guarded_log *log, const binlog_item *item) {
     binlog_item same;
     memset(&same, 0, sizeof same);
     uint8_t error = 1;
-    require(binlog_next(log->bytes, log->size, &cursor, &same, 1, &error) == 1 && error == 0, "the item is given again");
+    size_t count = binlog_next(log->bytes, log->size, &cursor, &same, 1, &error);
+    require(count == 1 && error == 0, "the item is given again");
     require(memcmp(&same, item, ITEM_BYTES) == 0, "it is the same item");
 }
 
@@ -46,8 +48,8 @@ static void print_item(uint64_t index, const binlog_item *item) {
         printf("%" PRIu64 " error E%u\n", index, item->error);
         return;
     }
-    printf("%" PRIu64 " %u %" PRIu32 " %" PRIu32 " %04x %" PRIu64 " ", index, item->event_type, item->event_size, item->log_pos,
-           item->flags, item->data_size);
+    printf("%" PRIu64 " %u %" PRIu32 " %" PRIu32 " %04x %" PRIu64 " ", index, item->event_type, item->event_size,
+           item->log_pos, item->flags, item->data_size);
     if (item->has_checksum) {
         printf("%02x%02x%02x%02x\n", item->checksum[0], item->checksum[1], item->checksum[2], item->checksum[3]);
     } else {

@@ -1,5 +1,5 @@
-/* Reads logs from standard input, each behind its size in 8 little-endian bytes, into memory that ends where the log ends: the
- * page behind it can't be read. C11 and C++. */
+/* Reads logs from standard input, each behind its size in 8 little-endian bytes, into memory that ends where the log
+ * ends: the page behind it can't be read. C11 and C++. */
 #ifndef LOGS_H
 #define LOGS_H
 
