@@ -1,0 +1,5 @@
+pub mod Descriptions
+pub mod Steps
+pub mod Places
+pub mod Found
+pub mod Calls

@@ -1,0 +1,117 @@
+/* Reads a MySQL binary log in memory: its events, one after another, and the errors in their places.
+ *
+ *     binlog_cursor cursor;
+ *     binlog_item items[64] = {{0}};
+ *     uint8_t error = binlog_open(log, size, &cursor);
+ *     size_t count;
+ *     while (error == 0 && (count = binlog_next(log, size, &cursor, items, 64, &error)) > 0)
+ *         for (size_t i = 0; i < count; i++)
+ *             printf("%" PRIu64 " type %u, %" PRIu64 " bytes of data\n",
+ *                    items[i].position, items[i].event_type, items[i].data_size);
+ *
+ * C11 and C++. No function allocates memory, keeps anything between calls, or reads anything but what it is passed,
+ * so calls in different threads are independent of each other.
+ *
+ * The library is proved to be defined for all contents of the log, the cursor and the buffers. The caller has to
+ * ensure: each pointer and its length are memory of that length; it doesn't change during the call; the log, the
+ * cursor, the items and the error of one call don't overlap; pointers are aligned as their types require; items,
+ * cursors and errors were written before, with zeros for instance. A pointer may be NULL if its length is 0.
+ *
+ * docs/C.md has more examples. */
+#ifndef BINLOG_H
+#define BINLOG_H
+
+#include <stddef.h>
+#include <stdint.h>
+
+#ifdef __cplusplus
+extern "C" {
+#endif
+
+/* Errors, by their numbers. binlog_error_name has the name of each number, and binlog_error_text what it means. */
+enum {
+    BINLOG_OK = 0,
+    BINLOG_END_OF_INPUT = 1,           /* binlog_open: fewer than four bytes */
+    BINLOG_INVALID_FILE_HEADER = 2,    /* binlog_open: the first four bytes aren't fe 62 69 6e */
+    BINLOG_EVENT_SIZE_TOO_SMALL = 3,   /* an item: its event states a size below 19; no event can be found after it */
+    BINLOG_TOO_SHORT_FOR_CHECKSUM = 4, /* an item: its event has fewer bytes after its header than the checksum has */
+    BINLOG_END_OF_BODY = 5,            /* an item: a description, a rotate or a table map that ends within a field */
+    BINLOG_INVALID_DATA = 6,           /* an item: one of these with a value that isn't allowed */
+    BINLOG_INVALID_CURSOR = 100        /* binlog_next: the cursor isn't a place of this log */
+};
+
+/* A place in a log: three numbers, without padding. It can be copied, stored and sent, and used with the same log, or
+ * with one that has grown at its end. binlog_open makes one, and so does an item:
+ * {item.position, item.description, 0} is the place before the item, from which binlog_next gives it again. */
+typedef struct binlog_cursor {
+    uint64_t position;    /* the position of the next event, in bytes from the start of the log; from 4 */
+    uint64_t description; /* the position of the event whose format description is in force, or 0 for the default one */
+    uint64_t ended;       /* 0 while events may follow; any other number: binlog_next gives no more items */
+} binlog_cursor;
+
+/* An event of a log, or the error in the place of one. The fields of the header are as they are in the log. */
+typedef struct binlog_item {
+    uint64_t position;      /* the position of the event, in bytes from the start of the log; from 4 */
+    uint64_t description;   /* the position of the event whose format description is in force for this one, or 0 for the
+                               default one; a description is read under the one before it */
+    uint64_t data_position; /* the position of the event's data, in bytes from the start of the log; 0 for an error */
+    uint64_t data_size;     /* the size of the data in bytes, without algorithm byte and checksum; 0 for an error */
+    uint32_t timestamp;     /* header: seconds since 1970 */
+    uint32_t server_id;     /* header: the server that created the event */
+    uint32_t event_size;    /* header: the size of the whole event in bytes, from 19; smaller only with
+                               BINLOG_EVENT_SIZE_TOO_SMALL */
+    uint32_t log_pos;       /* header: the position after the event in its server's file, modulo 2^32 */
+    uint16_t flags;         /* header: all bits, known or not */
+    uint8_t event_type;     /* header: the number of the type, known or not */
+    uint8_t error;          /* 0 for an event, otherwise the number of the error, 3 to 6 */
+    uint8_t checksum[4];    /* the bytes of the checksum in their order, a little-endian number; zeros if there is none.
+                               It isn't verified */
+    uint32_t has_checksum;  /* 1 if the event has a checksum, otherwise 0 */
+} binlog_item;
+
+/* The version of the library: major * 1000000 + minor * 1000 + patch.
+ *
+ *     assert(binlog_library_version() / 1000000 == 0); */
+uint32_t binlog_library_version(void);
+
+/* Checks the file header, the first four bytes of a log of this size, and puts the cursor before the first event.
+ * Returns 0, BINLOG_END_OF_INPUT or BINLOG_INVALID_FILE_HEADER; the cursor is unchanged after an error.
+ *
+ *     if (binlog_open(log, size, &cursor) != BINLOG_OK)
+ *         return NOT_A_BINARY_LOG; */
+uint8_t binlog_open(const uint8_t *log, size_t size, binlog_cursor *cursor);
+
+/* Fills in the next items of a log of this size, as many as there are and there is room for, and moves the cursor
+ * after them. Returns how many. The items behind these are unchanged.
+ *
+ * If there are fewer than there is room for, the log has no more whole events. If it ends within an event, the cursor
+ * is before that event, so that a later call continues once the log has grown. An item with
+ * BINLOG_EVENT_SIZE_TOO_SMALL is the last one. An event that is too short for its checksum, or a malformed
+ * description, rotate or table map, is an item with an error number, and the next item is the event after it.
+ *
+ * The error is 0, or BINLOG_INVALID_CURSOR: the position isn't in 4 to size, or no accepted format description begins
+ * at the cursor's description and ends at its position or before it. Nothing else changes then, and 0 is returned.
+ * Any other cursor gives the items of the log from its position on, under its description; the library doesn't know
+ * whether an event begins there.
+ *
+ *     count = binlog_next(log, size, &cursor, items, 64, &error); */
+size_t binlog_next(const uint8_t *log, size_t size, binlog_cursor *cursor, binlog_item *items, size_t room,
+                   uint8_t *error);
+
+/* Writes the name of an error, "EndOfInput" for 1, with a zero after it, and returns its length without the zero.
+ * Nothing is written if the room isn't more than that length. The length is 0 for a number that no error has; a name
+ * has at most 24 bytes.
+ *
+ *     char name[32];
+ *     binlog_error_name(item.error, name, sizeof name); */
+size_t binlog_error_name(uint8_t error, char *text, size_t room);
+
+/* Writes what an error means, in one line of English with a zero after it, as binlog_error_name writes its name. A
+ * text has at most 100 bytes. */
+size_t binlog_error_text(uint8_t error, char *text, size_t room);
+
+#ifdef __cplusplus
+}
+#endif
+
+#endif

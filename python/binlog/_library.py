@@ -1,0 +1,88 @@
+"""The shared library, and the structures of include/binlog.h."""
+
+import ctypes
+import ctypes.util
+import os
+import struct
+from pathlib import Path
+
+VARIABLE = "BINLOG_LIBRARY"
+FILE = "libbinlog.so"
+
+# binlog_item: position, description, data_position, data_size; timestamp, server_id, event_size, log_pos; flags,
+# event_type, error; checksum; has_checksum; four bytes of padding.
+ITEM = struct.Struct("=4Q4IHBB4sI4x")
+
+
+class CursorStruct(ctypes.Structure):
+    """binlog_cursor"""
+
+    _fields_ = [
+        ("position", ctypes.c_uint64),
+        ("description", ctypes.c_uint64),
+        ("ended", ctypes.c_uint64),
+    ]
+
+
+def _path() -> str:
+    """The variable's value, or the file beside this one, or what the system's linker finds."""
+    stated = os.environ.get(VARIABLE)
+    if stated:
+        return stated
+    beside = Path(__file__).with_name(FILE)
+    if beside.exists():
+        return str(beside)
+    found = ctypes.util.find_library("binlog")
+    if found is None:
+        raise ImportError(
+            f"{FILE} is not found: build it by bin/shared-library and set {VARIABLE} to its path"
+        )
+    return found
+
+
+def _load() -> ctypes.CDLL:
+    library = ctypes.CDLL(_path())
+    byte, size = ctypes.c_uint8, ctypes.c_size_t
+    library.binlog_library_version.restype = ctypes.c_uint32
+    library.binlog_library_version.argtypes = []
+    library.binlog_open.restype = byte
+    library.binlog_open.argtypes = [ctypes.c_void_p, size, ctypes.POINTER(CursorStruct)]
+    library.binlog_next.restype = size
+    library.binlog_next.argtypes = [
+        ctypes.c_void_p,
+        size,
+        ctypes.POINTER(CursorStruct),
+        ctypes.c_void_p,
+        size,
+        ctypes.POINTER(byte),
+    ]
+    for write in (library.binlog_error_name, library.binlog_error_text):
+        write.restype = size
+        write.argtypes = [byte, ctypes.c_char_p, size]
+    return library
+
+
+LIBRARY = _load()
+
+
+def library_version() -> tuple[int, int, int]:
+    """The version of the library: major, minor, patch."""
+    number = LIBRARY.binlog_library_version()
+    return number // 1_000_000, number // 1000 % 1000, number % 1000
+
+
+def _written(write: "ctypes._NamedFuncPointer", error: int) -> str:
+    room = write(error, None, 0) + 1
+    text = ctypes.create_string_buffer(room)
+    write(error, text, room)
+    return text.value.decode("ascii")
+
+
+def error_name(error: int) -> str:
+    """The name of an error by its number; empty where no error has it."""
+    return _written(LIBRARY.binlog_error_name, error)
+
+
+def error_text(error: int) -> str:
+    """What an error means; empty where no error has the number."""
+    return _written(LIBRARY.binlog_error_text, error)

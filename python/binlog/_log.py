@@ -1,0 +1,207 @@
+"""Logs that lie in memory, and their events."""
+
+import builtins
+import ctypes
+import mmap
+import os
+from collections.abc import Iterator
+from typing import NamedTuple, Optional, Union
+
+from ._errors import InvalidLog, LogError
+from ._library import ITEM, LIBRARY, CursorStruct
+from ._types import EventType
+
+# How many items a call has room for.
+_BATCH = 512
+
+Buffer = Union[bytes, bytearray, memoryview, mmap.mmap]
+
+
+class Cursor(NamedTuple):
+    """A place in a log: three numbers, which can be stored and sent.
+
+    position: where the next event begins, in bytes from the start of the log.
+    description: where the event begins whose format description is in force, or 0 for the default one.
+    ended: 0 while events may follow.
+    """
+
+    position: int
+    description: int
+    ended: int = 0
+
+
+class _Item:
+    """What stands at a place of a log. It keeps the log's bytes."""
+
+    __slots__ = ("_bytes", "_fields")
+
+    def __init__(self, log_bytes: memoryview, fields: tuple) -> None:
+        self._bytes = log_bytes
+        self._fields = fields
+
+    @property
+    def position(self) -> int:
+        """Where the event begins, in bytes from the start of the log."""
+        return self._fields[0]
+
+    @property
+    def cursor(self) -> Cursor:
+        """The place before the event: Log.events gives it again from there."""
+        return Cursor(self._fields[0], self._fields[1])
+
+    @property
+    def timestamp(self) -> int:
+        """When the event was created, in seconds since 1970."""
+        return self._fields[4]
+
+    @property
+    def server_id(self) -> int:
+        """The id of the server that created the event."""
+        return self._fields[5]
+
+    @property
+    def event_size(self) -> int:
+        """How many bytes the event has, as its header states."""
+        return self._fields[6]
+
+    @property
+    def log_pos(self) -> int:
+        """The position behind the event in its server's file, modulo 2 ** 32."""
+        return self._fields[7]
+
+    @property
+    def flags(self) -> int:
+        """All bits of the flags, known or not."""
+        return self._fields[8]
+
+    @property
+    def event_type(self) -> int:
+        """The number of the event's type, known or not."""
+        return self._fields[9]
+
+    @property
+    def type(self) -> Optional[EventType]:
+        """The event's type; None for an unknown number."""
+        try:
+            return EventType(self._fields[9])
+        except ValueError:
+            return None
+
+
+class Event(_Item):
+    """An event of a log: its header, its data and its checksum."""
+
+    __slots__ = ()
+
+    @property
+    def data(self) -> bytes:
+        """The event's data: its bytes without header, algorithm byte and checksum."""
+        start = self._fields[2]
+        return bytes(self._bytes[start : start + self._fields[3]])
+
+    @property
+    def raw(self) -> bytes:
+        """All bytes of the event, as they stand in the log."""
+        start = self._fields[0]
+        return bytes(self._bytes[start : start + self._fields[6]])
+
+    @property
+    def checksum(self) -> Optional[bytes]:
+        """The four bytes of the checksum, as they stand in the log, or None. It is compared with nothing."""
+        return self._fields[11] if self._fields[12] else None
+
+    def __repr__(self) -> str:
+        return f"<Event type {self.event_type} at {self.position}, {self.event_size} bytes>"
+
+
+class Damage(_Item):
+    """An error in the place of an event. The fields of the header are what stands in the log."""
+
+    __slots__ = ()
+
+    @property
+    def error(self) -> LogError:
+        """The error, as an exception that can be raised."""
+        return LogError(self._fields[10], self._fields[0])
+
+    def __repr__(self) -> str:
+        return f"<Damage {self.error.name} at {self.position}>"
+
+
+class Log:
+    """A binary log in memory, which is copied only where it is neither bytes nor writable.
+
+    Iterating over it gives its events, and raises LogError in the place of a damaged one. `items` goes on behind such.
+    The bytes have to stay as they are while the log is in use.
+
+    Raises InvalidLog where the bytes don't begin with the file header.
+    """
+
+    def __init__(self, content: Buffer) -> None:
+        if isinstance(content, memoryview) and content.readonly:
+            content = bytes(content)
+        self._bytes = memoryview(content)
+        self._size = self._bytes.nbytes
+        if isinstance(content, bytes):
+            self._held: object = ctypes.c_char_p(content)
+        else:
+            self._held = (ctypes.c_char * self._size).from_buffer(content)
+        self._at = ctypes.cast(self._held, ctypes.c_void_p)  # type: ignore[arg-type]
+        first = CursorStruct()
+        error = LIBRARY.binlog_open(self._at, self._size, first)
+        if error:
+            raise InvalidLog(error)
+        self._first = Cursor(first.position, first.description, first.ended)
+
+    def __len__(self) -> int:
+        """How many bytes the log has."""
+        return self._size
+
+    def _fields_from(self, start: Optional[Cursor]) -> Iterator[Iterator[tuple]]:
+        """The fields of the items from a place on, batch after batch."""
+        place = CursorStruct(*(self._first if start is None else start))
+        items = ctypes.create_string_buffer(_BATCH * ITEM.size)
+        error = ctypes.c_uint8()
+        count = _BATCH
+        while count == _BATCH:
+            count = LIBRARY.binlog_next(self._at, self._size, place, items, _BATCH, error)
+            if error.value:
+                raise LogError(error.value, place.position)
+            yield ITEM.iter_unpack(memoryview(items)[: count * ITEM.size])
+
+    def items(self, start: Optional[Cursor] = None) -> Iterator[Union[Event, Damage]]:
+        """The events from a place on, and a Damage in the place of each damaged one; from the first event if not given.
+
+        Raises LogError, InvalidCursor, where the place isn't one of this log.
+        """
+        log_bytes = self._bytes
+        for batch in self._fields_from(start):
+            for fields in batch:
+                yield Damage(log_bytes, fields) if fields[10] else Event(log_bytes, fields)
+
+    def events(self, start: Optional[Cursor] = None) -> Iterator[Event]:
+        """The events from a place on; from the first if not given.
+
+        Raises LogError in the place of a damaged event, and where the place isn't one of this log.
+        """
+        log_bytes = self._bytes
+        for batch in self._fields_from(start):
+            for fields in batch:
+                if fields[10]:
+                    raise LogError(fields[10], fields[0])
+                yield Event(log_bytes, fields)
+
+    def __iter__(self) -> Iterator[Event]:
+        return self.events()
+
+
+def open(path: Union[str, "os.PathLike[str]"]) -> Log:
+    """The binary log in a file, which is mapped into memory and has to stay as long as it is.
+
+    Raises InvalidLog where the file doesn't begin with the file header, and OSError where it can't be read.
+    """
+    with builtins.open(path, "rb") as file:
+        if os.fstat(file.fileno()).st_size == 0:
+            return Log(b"")
+        # A private mapping: ctypes takes the place of writable memory alone. Nothing is written.
+        return Log(mmap.mmap(file.fileno(), 0, access=mmap.ACCESS_COPY))
