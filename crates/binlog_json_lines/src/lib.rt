@@ -13,4 +13,5 @@ mod statements;
 mod status_vars;
 
 pub use json_lines::JsonLines;
+pub use names::name_of;
 pub use printing::print_events;

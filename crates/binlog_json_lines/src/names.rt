@@ -6,7 +6,7 @@ ghost use Rattle.binlog_json_lines.specs.Names.{type_name};
 use binlog_file::EventType;
 
 /// The name of an event type, as in MySQL's `Log_event_type`.
-pub(crate) fn name_of(event_type: EventType) -> &'static str
+pub fn name_of(event_type: EventType) -> &'static str
     ensures name { result.now ≡ type_name event_type }
     ensures plain { IsPlainText result.now }
 {

@@ -1,0 +1,4 @@
+pub mod Counting
+pub mod Collecting
+pub mod Copying
+pub mod Statistics
