@@ -57,7 +57,9 @@ fn gtids(alloc: Global) -> Result<Command<'static>, AllocError> {
         .action(ArgAction::Set)
         .help("Only the GTIDs that this log lacks");
     let command = Command::new(alloc, "gtids")
-        .about("Lists the GTIDs of the files together, and their gaps, a line for each source and tag")
+        .about(
+            "Lists the GTIDs of the files together, and their gaps, a line for each source and tag",
+        )
         .after_help(
             "Examples:\n  \
              binlog gtids mysql-bin.000007 mysql-bin.000008\n  \
@@ -86,7 +88,9 @@ fn verify(alloc: Global) -> Result<Command<'static>, AllocError> {
 
 fn stats(alloc: Global) -> Result<Command<'static>, AllocError> {
     let command = Command::new(alloc, "stats")
-        .about("Counts the events of the files together: by type, their bytes, transactions, times, the largest event")
+        .about(
+            "Counts the events of the files together: by type, their bytes, transactions, times, the largest event",
+        )
         .after_help(
             "Examples:\n  \
              binlog stats mysql-bin.000007\n  \
@@ -104,7 +108,9 @@ fn copy(alloc: Global) -> Result<Command<'static>, AllocError> {
         .action(ArgAction::Set)
         .help("The log that is written; - is standard output");
     let command = Command::new(alloc, "copy")
-        .about("Writes a log of the events that the filters take, byte for byte, with all format descriptions")
+        .about(
+            "Writes a log of the events that the filters take, byte for byte, with all format descriptions",
+        )
         .after_help(
             "Examples:\n  \
              binlog copy --start-position 4711 -o part.bin mysql-bin.000007\n  \
@@ -115,10 +121,7 @@ fn copy(alloc: Global) -> Result<Command<'static>, AllocError> {
 }
 
 // The command with the files that it reads.
-fn with_files(
-    alloc: Global,
-    command: Command<'static>,
-) -> Result<Command<'static>, AllocError> {
+fn with_files(alloc: Global, command: Command<'static>) -> Result<Command<'static>, AllocError> {
     let files = Arg::new(alloc, "FILE")
         .action(ArgAction::Append)
         .num_args(1..)
@@ -128,20 +131,16 @@ fn with_files(
 }
 
 // The command with the filters of events.
-fn with_filters(
-    alloc: Global,
-    command: Command<'static>,
-) -> Result<Command<'static>, AllocError> {
+fn with_filters(alloc: Global, command: Command<'static>) -> Result<Command<'static>, AllocError> {
     command
-        .arg(
-            number(alloc, "start-position")
-                .help("Events that begin at this byte of their file or behind it"),
-        )?
+        .arg(number(alloc, "start-position").help(
+            "Events that begin at this byte of their file or behind it",
+        ))?
         .arg(number(alloc, "stop-position").help("Events that begin before this byte"))?
         .arg(
-            text(alloc, "start-datetime")
-                .value_name("TIME")
-                .help("Events of this time or later, in UTC, as 2026-11-26T12:00:00"),
+            text(alloc, "start-datetime").value_name("TIME").help(
+                "Events of this time or later, in UTC, as 2026-11-26T12:00:00",
+            ),
         )?
         .arg(
             text(alloc, "stop-datetime")

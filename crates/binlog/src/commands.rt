@@ -157,11 +157,12 @@ pub(crate) fn verify<R: Files + Input + Print + Eprint + AllocGlobal>(
     for name in names(matches).iter() {
         reported.visitor.visitor = Tally::default();
         let Ok(found) = read_file(rt, name, true, &mut reported) else {
-            return status;
+            break;
         };
         status = status.max(found);
         let is_read = found != Status::NotOpened && !is_quiet;
-        if is_read && write_tally(shown_name(name), &reported.visitor.visitor, &mut output).is_err()
+        if is_read
+            && write_tally(shown_name(name), &reported.visitor.visitor, &mut output).is_err()
         {
             return output.finish(rt, status);
         }

@@ -9,10 +9,9 @@ use binlog_commands::Copier;
 use binlog_file::{BinlogFileHeader, BinlogVersion};
 use binlog_filters::Filtered;
 use clap::ArgMatches;
-use std::fs;
-use std::io;
 use std::io::Write;
 use std::rt::Files;
+use std::{fs, io};
 
 /// `binlog copy`.
 pub(crate) fn copy<R: Files + Input + Print + Eprint + AllocGlobal>(
@@ -46,7 +45,10 @@ fn copy_to<R: Files + Input + Eprint + AllocGlobal, W: Write + Drop>(
     let Ok(mut output) = Output::new(rt.alloc(), writer) else {
         return out_of_memory(rt);
     };
-    if BinlogFileHeader.write(BinlogVersion::Version4, &mut output).is_err() {
+    if BinlogFileHeader
+        .write(BinlogVersion::Version4, &mut output)
+        .is_err()
+    {
         return output.finish(rt, Status::Fine);
     }
     let mut reported = Reported::new(rt, Filtered::new(rt.alloc(), filter, Copier { output }));

@@ -40,18 +40,16 @@ fn server_id<R: Eprint>(rt: &R, matches: &ArgMatches<'_>) -> Result<Option<u32>,
 }
 
 // A time in seconds since 1970; 0 for an earlier one.
-fn time<R: Eprint>(
-    rt: &R,
-    matches: &ArgMatches<'_>,
-    option: &str,
-) -> Result<Option<u64>, Status> {
+fn time<R: Eprint>(rt: &R, matches: &ArgMatches<'_>, option: &str) -> Result<Option<u64>, Status> {
     let Some(text) = matches.get_str(option) else {
         return Ok(None);
     };
     match seconds(text) {
         Some(seconds) => Ok(Some(seconds)),
         None => {
-            let _ = eprintln!(rt; "binlog: --{option}: {text:?} is no time, as 2026-11-26T12:00:00");
+            let _ = eprintln!(rt;
+                "binlog: --{option}: {text:?} is no time, as 2026-11-26T12:00:00"
+            );
             Err(Status::Usage)
         }
     }

@@ -3,6 +3,7 @@
 
 mod copying;
 mod gtids;
+pub mod laws;
 mod stats;
 mod tally;
 
