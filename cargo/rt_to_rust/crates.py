@@ -19,7 +19,7 @@ LIBRARY = [
     "binlog_mariadb",
     "binlog_file",
 ]
-TOOLS = ["json_line", "binlog_lines", "binlog_listing", "binlog_gtid_listing"]
+TOOLS = ["json_line", "binlog_lines", "binlog_listing", "binlog_gtid_listing", "binlog_json_lines"]
 
 # The crates of programs, and the programs' names.
 PROGRAMS = {"binlog_list": "binlog-list", "binlog_json": "binlog-json", "binlog_gtids_list": "binlog-gtids"}

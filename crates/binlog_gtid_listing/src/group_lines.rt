@@ -14,7 +14,7 @@ use std::io::Write;
 ///
 /// - [`Error::Memory`] where memory ran out for the gaps of a group, after the lines of all groups before.
 /// - [`Error::Writer`] where the writer failed; it has a front of the lines.
-pub(crate) fn write_groups<W: Write>(gtids: &GtidTracker, output: &mut W) -> Result<(), Error>
+pub fn write_groups<W: Write>(gtids: &GtidTracker, output: &mut W) -> Result<(), Error>
     ensures groups { AreGroups gtids.now }
     ensures written { WritesGroups gtids.now (W.contents output.old) result (W.contents output.new) }
 {

@@ -7,4 +7,5 @@ pub mod laws;
 mod listing;
 mod parts;
 
-pub use listing::list_gtids;
+pub use group_lines::write_groups;
+pub use listing::{list_gtids, list_refused, track_event};

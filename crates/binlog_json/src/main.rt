@@ -1,20 +1,9 @@
 //! Prints the events of the binary log on standard input as JSON lines.
 #![tactic(auto)]
 
-mod bits;
-mod bodies;
-mod data_value;
-mod gtids;
-mod json_lines;
-mod names;
-mod printing;
-mod rows;
-mod statements;
-mod status_vars;
-
 use binlog_file::Error;
+use binlog_json_lines::print_events;
 use binlog_lines::status;
-use printing::print_events;
 use std::io;
 use std::io::{BufReader, BufWriter, Write};
 use std::process::ExitCode;

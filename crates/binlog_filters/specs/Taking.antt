@@ -1,0 +1,104 @@
+-- Which events a filter takes.
+use Rattle.std.specs.Prelude.{◌≡◌, ◌⊎◌, ℕ, ◌==◌, Bool, true, false, ◌&&◌, ◌||◌, not, List, [], ◌∷◌, Option, Some, None, is_none, Result, Ok, Err, nat_le, nat_lt}
+use Rattle.std.specs.List.{list_any}
+use Rattle.binlog_wire.specs.declared.error.Error.{Error}
+use Rattle.binlog_wire.specs.declared.error.Error.TheVariants.{Memory}
+use Rattle.binlog_description.specs.Headers.{header_of}
+use Rattle.binlog_event_data.specs.declared.event_data.EventData.{EventData}
+use Rattle.binlog_event_data.specs.declared.event_data.EventData.TheVariants.{GtidEvent}
+use Rattle.binlog_events.specs.Events.{EventView, ReadsEventData}
+use Rattle.binlog_events.specs.Parts.{is_description}
+use Rattle.binlog_gtid_sets.specs.declared.gtid_group.GtidGroup.{GtidGroup}
+use Rattle.binlog_gtid_sets.specs.GtidGroups.{Pair, pair_of, is_tracked}
+use Rattle.binlog_filters.specs.Places.{start_of, behind}
+use Rattle.binlog_filters.specs.declared.filter.Filter.{Filter}
+
+-- ---- the conditions
+
+abbrev pub is_before : ℕ → Option ℕ → Bool
+is_before n None = true
+is_before n (Some stop) = nat_lt n stop
+
+-- A position from the first one to before the last one, or one that isn't known.
+abbrev pub is_in_positions : Filter → Option ℕ → Bool
+is_in_positions filter None = true
+is_in_positions filter (Some start) = nat_le filter.start_position start && is_before start filter.stop_position
+
+abbrev pub is_in_times : Filter → ℕ → Bool
+is_in_times filter time = nat_le filter.start_time time && is_before time filter.stop_time
+
+abbrev pub is_one : Option ℕ → ℕ → Bool
+is_one None n = true
+is_one (Some id) n = id == n
+
+abbrev pub is_of_server : Filter → ℕ → Bool
+is_of_server filter id = is_one filter.server_id id
+
+abbrev pub is_any : List ℕ → ℕ → Bool
+is_any [] n = true
+is_any (x ∷ xs) n = list_any (λ (y : ℕ). y == n) (x ∷ xs)
+
+abbrev pub is_of_type : Filter → ℕ → Bool
+is_of_type filter type = is_any filter.types.items type
+
+-- The types of events that belong to the log and to no transaction: STOP, ROTATE, FORMAT_DESCRIPTION, PREVIOUS_GTIDS.
+abbrev pub is_of_log : ℕ → Bool
+is_of_log type = (type == 3) || ((type == 4) || ((type == 15) || (type == 35)))
+
+-- Each condition takes the event that begins here, where `is_wanted` says so of its transaction.
+abbrev pub meets_conditions : Filter → Option ℕ → EventView → Bool → Bool
+meets_conditions filter start event is_wanted =
+    let header = header_of event.frame in
+    (is_wanted || is_of_log header.event_type)
+    && (is_of_type filter header.event_type
+    && (is_of_server filter header.server_id
+    && (is_in_times filter header.timestamp
+    && is_in_positions filter start)))
+
+-- The event is taken that begins here.
+abbrev pub is_taken : Filter → Option ℕ → EventView → Bool → Bool
+is_taken filter start event is_wanted = (filter.takes_descriptions && is_description event.frame) || meets_conditions filter start event is_wanted
+
+-- ---- transactions
+
+-- The types of events with which a transaction begins: GTID, ANONYMOUS_GTID, GTID_TAGGED_LOG.
+abbrev pub begins_transaction : ℕ → Bool
+begins_transaction type = (type == 33) || ((type == 34) || (type == 42))
+
+-- The GTID is in the set, or there is no set.
+abbrev pub is_included : Option (List GtidGroup) → Pair → ℕ → Bool
+is_included None pair gno = true
+is_included (Some groups) pair gno = is_tracked groups pair gno
+
+-- The GTID is in the set.
+abbrev pub is_excluded : Option (List GtidGroup) → Pair → ℕ → Bool
+is_excluded None pair gno = false
+is_excluded (Some groups) pair gno = is_tracked groups pair gno
+
+-- A transaction is wanted that begins with this data: its GTID is included and not excluded. One without a GTID is wanted
+-- if no GTIDs are asked for.
+abbrev pub wants : Filter → EventData → Bool
+wants filter (GtidEvent event) =
+    is_included filter.include_gtids (pair_of event.sid event.tag) event.gno && not (is_excluded filter.exclude_gtids (pair_of event.sid event.tag) event.gno)
+wants filter _ = is_none filter.include_gtids
+
+-- The same for the result of reading the data.
+abbrev pub wants_read : Filter → Result (Option EventData) Error → Bool
+wants_read filter (Ok (Some x)) = wants filter x
+wants_read filter (Ok None) = is_none filter.include_gtids
+wants_read filter (Err error) = is_none filter.include_gtids
+
+-- Whether the transaction of an event is wanted, if `was` says so of the event before it.
+abbrev pub FollowsEvent : Filter → Bool → EventView → Result Bool Error → Type 0
+FollowsEvent filter was event (Ok now) =
+    ((begins_transaction (header_of event.frame).event_type ≡ false) × (now ≡ was))
+    ⊎ ((begins_transaction (header_of event.frame).event_type ≡ true) × ((read : Result (Option EventData) Error) × ReadsEventData event read × (now ≡ wants_read filter read)))
+FollowsEvent filter was event (Err error) = error ≡ Memory
+
+-- ---- items
+
+-- What a filter does with an item that begins at `position`: whether it is taken. An error always is, so that no damage is
+-- hidden. `was` and `now` say whether the transaction is wanted before and after it.
+abbrev pub Takes : Filter → Option ℕ → Bool → Result EventView Error → Bool → Bool → Type 0
+Takes filter position was (Ok event) now taken = FollowsEvent filter was event (Ok now) × (taken ≡ is_taken filter (start_of position event) event now)
+Takes filter position was (Err error) now taken = (now ≡ was) × (taken ≡ true)

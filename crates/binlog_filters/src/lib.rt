@@ -1,0 +1,11 @@
+//! Takes some of the events of a log: by their positions, their times, their server, their type, and the GTIDs of their
+//! transactions.
+#![tactic(auto)]
+
+mod filter;
+mod filtered;
+mod place;
+
+pub use filter::Filter;
+pub use filtered::Filtered;
+pub use place::Place;

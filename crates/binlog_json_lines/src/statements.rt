@@ -1,0 +1,143 @@
+//! The objects of statements and user variables.
+#![tactic(auto, using(std::proofs::Common::append_assoc))]
+
+ghost use Rattle.std.specs.Prelude.{◌∷◌, []};
+ghost use Rattle.std.specs.Fmt.{signed_decimal};
+ghost use Rattle.json.specs.Token.{number};
+ghost use Rattle.json_line.specs.Tokens.{Adds};
+ghost use Rattle.binlog_json_lines.specs.Statements.{query_object, execute_load_query_object, loaded_file, user_var_object, user_var_value, statement_head, statement_texts, value_type_number};
+
+use crate::status_vars::write_status_vars;
+use binlog_file::{
+    ExecuteLoadQueryEvent, ItemResult, QueryEvent, UnknownItemResultType, UserVarEvent,
+};
+use json_line::Line;
+use std::alloc::{AllocError, Global};
+
+/// Writes the object of a QUERY event.
+#[inline(always)]
+pub(crate) fn write_query(
+    line: &mut Line,
+    alloc: Global,
+    event: &QueryEvent<'_>,
+) -> Result<(), AllocError>
+    ensures { Adds result line.old line.new (query_object event.now) }
+{
+    line.begin_object()?;
+    write_query_head(line, event)?;
+    write_query_texts(line, alloc, event)?;
+    line.end_object()?;
+    Ok(())
+}
+
+#[inline(always)]
+fn write_query_head(line: &mut Line, event: &QueryEvent<'_>) -> Result<(), AllocError>
+    ensures { Adds result line.old line.new (statement_head event.now.statement) }
+{
+    line.number_member("thread_id", u64::from(event.thread_id()))?;
+    line.number_member("execution_time", u64::from(event.execution_time()))?;
+    line.number_member("error_code", u64::from(event.error_code()))?;
+    Ok(())
+}
+
+#[inline(always)]
+fn write_query_texts(
+    line: &mut Line,
+    alloc: Global,
+    event: &QueryEvent<'_>,
+) -> Result<(), AllocError>
+    ensures { Adds result line.old line.new (statement_texts event.now.statement) }
+{
+    write_status_vars(line, alloc, event.status_vars_raw())?;
+    line.text_member("schema", event.schema_raw())?;
+    line.text_member("query", event.query_raw())?;
+    Ok(())
+}
+
+/// Writes the object of an EXECUTE_LOAD_QUERY event.
+pub(crate) fn write_execute_load_query(
+    line: &mut Line,
+    alloc: Global,
+    event: &ExecuteLoadQueryEvent<'_>,
+) -> Result<(), AllocError>
+    ensures { Adds result line.old line.new (execute_load_query_object event.now) }
+{
+    line.begin_object()?;
+    write_load_query_head(line, event)?;
+    write_loaded_file(line, event)?;
+    write_load_query_texts(line, alloc, event)?;
+    line.end_object()?;
+    Ok(())
+}
+
+fn write_load_query_head(
+    line: &mut Line,
+    event: &ExecuteLoadQueryEvent<'_>,
+) -> Result<(), AllocError>
+    ensures { Adds result line.old line.new (statement_head event.now.statement) }
+{
+    line.number_member("thread_id", u64::from(event.thread_id()))?;
+    line.number_member("execution_time", u64::from(event.execution_time()))?;
+    line.number_member("error_code", u64::from(event.error_code()))?;
+    Ok(())
+}
+
+fn write_loaded_file(line: &mut Line, event: &ExecuteLoadQueryEvent<'_>) -> Result<(), AllocError>
+    ensures { Adds result line.old line.new (loaded_file event.now) }
+{
+    line.number_member("file_id", u64::from(event.file_id()))?;
+    line.number_member("start_pos", u64::from(event.start_pos()))?;
+    line.number_member("end_pos", u64::from(event.end_pos()))?;
+    line.number_member("dup_handling", u64::from(u8::from(event.dup_handling())))?;
+    Ok(())
+}
+
+fn write_load_query_texts(
+    line: &mut Line,
+    alloc: Global,
+    event: &ExecuteLoadQueryEvent<'_>,
+) -> Result<(), AllocError>
+    ensures { Adds result line.old line.new (statement_texts event.now.statement) }
+{
+    write_status_vars(line, alloc, event.status_vars_raw())?;
+    line.text_member("schema", event.schema_raw())?;
+    line.text_member("query", event.query_raw())?;
+    Ok(())
+}
+
+/// Writes the object of a USER_VAR event.
+pub(crate) fn write_user_var(line: &mut Line, event: &UserVarEvent<'_>) -> Result<(), AllocError>
+    ensures { Adds result line.old line.new (user_var_object event.now) }
+{
+    line.begin_object()?;
+    line.text_member("name", event.name_raw())?;
+    line.key("is_null")?;
+    line.boolean(event.is_null())?;
+    write_user_var_value(line, event)?;
+    line.end_object()?;
+    Ok(())
+}
+
+fn write_user_var_value(line: &mut Line, event: &UserVarEvent<'_>) -> Result<(), AllocError>
+    ensures { Adds result line.old line.new (user_var_value event.now) }
+{
+    line.key("value_type")?;
+    write_value_type(line, event.value_type())?;
+    line.number_member("charset", u64::from(event.charset()))?;
+    line.bytes_member("value", event.value())?;
+    line.number_member("flags", u64::from(event.flags_raw()))?;
+    Ok(())
+}
+
+// Writes the number of a value type, known or not.
+fn write_value_type(
+    line: &mut Line,
+    value_type: Result<ItemResult, UnknownItemResultType>,
+) -> Result<(), AllocError>
+    ensures { Adds result line.old line.new (number (signed_decimal (value_type_number value_type)) ∷ []) }
+{
+    match value_type {
+        Ok(value_type) => line.signed_number(i64::from(i8::from(value_type))),
+        Err(unknown) => line.signed_number(i64::from(unknown.0)),
+    }
+}

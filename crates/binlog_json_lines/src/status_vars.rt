@@ -1,0 +1,222 @@
+//! The status variables of a statement.
+#![tactic(auto, using(std::proofs::Common::append_assoc))]
+
+ghost use Rattle.std.specs.Prelude.{◌≡◌, ◌≤◌, [], ◌∷◌, ◌++◌, codes, flat_map, length, IfOk};
+ghost use Rattle.json.specs.Token.{boolean};
+ghost use Rattle.binlog_file.specs.StatusVariables.{Variable, variable_bytes, variables};
+ghost use Rattle.binlog_file.specs.StatusVarValues.{Has};
+ghost use Rattle.binlog_file.specs.StatusVars.{variable_of};
+ghost use Rattle.json_line.specs.Lines.{IsPlainText};
+ghost use Rattle.json_line.specs.Tokens.{Adds, text_value, number_value, bytes_value, member, object, array};
+ghost use Rattle.binlog_json_lines.specs.StatusVars.{entry, variable_object, status_vars_value, status_vars_members};
+
+use binlog_file::{StatusVar, StatusVarVal, StatusVarsIterator};
+use binlog_file::{NullBytes, RawBytes};
+use json_line::Line;
+use std::alloc::{AllocError, Global};
+
+/// Writes the member with the status variables, and the member with the bytes after them, if any.
+pub(crate) fn write_status_vars(
+    line: &mut Line,
+    alloc: Global,
+    text: &[u8],
+) -> Result<(), AllocError>
+    ensures { Adds result line.old line.new (status_vars_members text.now) }
+{
+    line.key("status_vars")?;
+    let len = write_variables(line, alloc, text)?;
+    line.bytes_member_if_any("status_vars_rest", &text[len..])?;
+    Ok(())
+}
+
+// Writes an array of the variables, in order, and returns how many bytes they have.
+#[inline(always)]
+fn write_variables(line: &mut Line, alloc: Global, text: &[u8]) -> Result<usize, AllocError>
+    ensures list { Adds result line.old line.new (status_vars_value text.now) }
+    ensures len { IfOk result (λ len. len ≡ length (flat_map variable_bytes (variables text.now))) }
+    ensures fits { IfOk result (λ len. len ≤ length text.now) }
+{
+    let mut len = 0;
+    line.begin_array()?;
+    'variables: for variable in StatusVarsIterator::new(text) {
+        write_variable(line, alloc, &variable)?;
+        len += 1 + variable.raw().len();
+    }
+    line.end_array()?;
+    Ok(len)
+}
+
+// Writes a variable. It fails if the allocation for its value fails.
+fn write_variable(
+    line: &mut Line,
+    alloc: Global,
+    variable: &StatusVar<'_>,
+) -> Result<(), AllocError>
+    ensures { Adds result line.old line.new (variable_object (variable_of variable.now)) }
+{
+    match variable.get_value(alloc) {
+        Ok(value) => write_entry(line, &value),
+        Err(_) => Err(AllocError),
+    }
+}
+
+// Writes a variable. Each call passes a constant name, which is cheap to write once inlined.
+fn write_entry(line: &mut Line, value: &StatusVarVal<'_>) -> Result<(), AllocError>
+    ensures { (variable : Variable) → Has variable value.now → Adds result line.old line.new (variable_object variable) }
+{
+    match value {
+        StatusVarVal::Flags2(bits) => write_number(line, "Flags2", u64::from(*bits)),
+        StatusVarVal::SqlMode(bits) => write_number(line, "SqlMode", *bits),
+        StatusVarVal::Catalog(bytes) => write_bytes(line, "Catalog", *bytes),
+        StatusVarVal::AutoIncrement { increment, offset } => write_auto_increment(
+            line, *increment, *offset,
+        ),
+        StatusVarVal::Charset {
+            charset_client,
+            collation_connection,
+            collation_server,
+        } => write_charset(
+            line,
+            *charset_client,
+            *collation_connection,
+            *collation_server,
+        ),
+        StatusVarVal::TimeZone(text) => write_text(line, "TimeZone", text.as_bytes()),
+        StatusVarVal::CatalogNz(text) => write_text(line, "CatalogNz", text.as_bytes()),
+        StatusVarVal::LcTimeNames(number) => write_number(line, "LcTimeNames", u64::from(*number)),
+        StatusVarVal::CharsetDatabase(number) => {
+            write_number(line, "CharsetDatabase", u64::from(*number))
+        }
+        StatusVarVal::TableMapForUpdate(bits) => write_number(line, "TableMapForUpdate", *bits),
+        StatusVarVal::MasterDataWritten(bytes) => write_bytes(line, "MasterDataWritten", bytes),
+        StatusVarVal::Invoker { username, hostname } => write_invoker(
+            line,
+            username.as_bytes(),
+            hostname.as_bytes(),
+        ),
+        StatusVarVal::UpdatedDbNames(names) => write_names(line, names),
+        StatusVarVal::Microseconds(number) => {
+            write_number(line, "Microseconds", u64::from(*number))
+        }
+        StatusVarVal::CommitTs(bytes) => write_bytes(line, "CommitTs", *bytes),
+        StatusVarVal::CommitTs2(bytes) => write_bytes(line, "CommitTs2", *bytes),
+        StatusVarVal::ExplicitDefaultsForTimestamp(is_set) => write_flag(
+            line,
+            "ExplicitDefaultsForTimestamp",
+            *is_set,
+        ),
+        StatusVarVal::DdlLoggedWithXid(number) => write_number(line, "DdlLoggedWithXid", *number),
+        StatusVarVal::DefaultCollationForUtf8mb4(number) => write_number(
+            line,
+            "DefaultCollationForUtf8mb4",
+            u64::from(*number),
+        ),
+        StatusVarVal::SqlRequirePrimaryKey(number) => {
+            write_number(line, "SqlRequirePrimaryKey", u64::from(*number))
+        }
+        StatusVarVal::DefaultTableEncryption(number) => {
+            write_number(line, "DefaultTableEncryption", u64::from(*number))
+        }
+    }
+}
+
+#[inline(always)]
+fn write_number(line: &mut Line, name: &str, number: u64) -> Result<(), AllocError>
+    requires { IsPlainText name.now }
+    ensures { Adds result line.old line.new (entry name.now (number_value number)) }
+{
+    line.begin_entry(name)?;
+    line.number(number)?;
+    line.end_object()?;
+    Ok(())
+}
+
+#[inline(always)]
+fn write_bytes(line: &mut Line, name: &str, bytes: &[u8]) -> Result<(), AllocError>
+    requires { IsPlainText name.now }
+    ensures { Adds result line.old line.new (entry name.now (bytes_value bytes.now)) }
+{
+    line.begin_entry(name)?;
+    line.bytes(bytes)?;
+    line.end_object()?;
+    Ok(())
+}
+
+#[inline(always)]
+fn write_text(line: &mut Line, name: &str, text: &[u8]) -> Result<(), AllocError>
+    requires { IsPlainText name.now }
+    ensures { Adds result line.old line.new (entry name.now (text_value text.now)) }
+{
+    line.begin_entry(name)?;
+    line.text(text)?;
+    line.end_object()?;
+    Ok(())
+}
+
+#[inline(always)]
+fn write_flag(line: &mut Line, name: &str, is_set: bool) -> Result<(), AllocError>
+    requires { IsPlainText name.now }
+    ensures { Adds result line.old line.new (entry name.now (boolean is_set ∷ [])) }
+{
+    line.begin_entry(name)?;
+    line.boolean(is_set)?;
+    line.end_object()?;
+    Ok(())
+}
+
+fn write_auto_increment(line: &mut Line, increment: u16, offset: u16) -> Result<(), AllocError>
+    ensures { Adds result line.old line.new (entry (codes "AutoIncrement") (object (member (codes "increment") (number_value increment) ++ member (codes "offset") (number_value offset)))) }
+{
+    line.begin_entry("AutoIncrement")?;
+    line.begin_object()?;
+    line.number_member("increment", u64::from(increment))?;
+    line.number_member("offset", u64::from(offset))?;
+    line.end_object()?;
+    line.end_object()?;
+    Ok(())
+}
+
+fn write_charset(
+    line: &mut Line,
+    client: u16,
+    connection: u16,
+    server: u16,
+) -> Result<(), AllocError>
+    ensures { Adds result line.old line.new (entry (codes "Charset") (object (member (codes "charset_client") (number_value client)
+        ++ member (codes "collation_connection") (number_value connection) ++ member (codes "collation_server") (number_value server)))) }
+{
+    line.begin_entry("Charset")?;
+    line.begin_object()?;
+    line.number_member("charset_client", u64::from(client))?;
+    line.number_member("collation_connection", u64::from(connection))?;
+    line.number_member("collation_server", u64::from(server))?;
+    line.end_object()?;
+    line.end_object()?;
+    Ok(())
+}
+
+fn write_invoker(line: &mut Line, username: &[u8], hostname: &[u8]) -> Result<(), AllocError>
+    ensures { Adds result line.old line.new (entry (codes "Invoker") (object (member (codes "username") (text_value username.now) ++ member (codes "hostname") (text_value hostname.now)))) }
+{
+    line.begin_entry("Invoker")?;
+    line.begin_object()?;
+    line.text_member("username", username)?;
+    line.text_member("hostname", hostname)?;
+    line.end_object()?;
+    line.end_object()?;
+    Ok(())
+}
+
+// Writes an array of texts.
+fn write_names(line: &mut Line, names: &Vec<RawBytes<'_, NullBytes>>) -> Result<(), AllocError>
+    ensures { Adds result line.old line.new (entry (codes "UpdatedDbNames") (array (flat_map text_value names.now.items))) }
+{
+    line.begin_entry("UpdatedDbNames")?;
+    line.begin_array()?;
+    'names: for name in names {
+        line.text(name.as_bytes())?;
+    }
+    line.end_array()?;
+    line.end_object()?;
+    Ok(())
+}

@@ -1,0 +1,11 @@
+//! Visits the items of a log in order: a visitor is shown each event, and each error that is in the place of one. The
+//! contracts state which items were visited, for every result and for any visitor.
+#![tactic(auto)]
+
+mod lines;
+mod visiting;
+mod visitor;
+
+pub use lines::LineWriter;
+pub use visiting::{visit, visit_verified};
+pub use visitor::Visitor;
