@@ -1,0 +1,63 @@
+//! Fields, worked by hand.
+use binlog_columns::TableColumns;
+use binlog_optional_metadata::{
+    OptionalMetadata, OptionalMetadataError, OptionalMetadataErrorKind, OptionalMetadataField,
+};
+
+/// TINY, VARCHAR of at most ten bytes, YEAR, and an ENUM of one byte.
+const TYPES: &[u8] = b"\x01\x0f\x0d\xfe";
+
+const METADATA: &[u8] = b"\x0a\0\xf7\x01";
+
+/// The first field of these bytes, in a table of these columns.
+fn first(
+    bytes: &[u8],
+    is_maria_log: bool,
+) -> Option<Result<OptionalMetadataField<'_>, OptionalMetadataError>> {
+    let columns = TableColumns::new(TYPES, METADATA).ok()?;
+    OptionalMetadata::new(columns, bytes, is_maria_log).next()
+}
+
+/// The kind of the refusal of the first field.
+fn refusal(bytes: &[u8]) -> Option<OptionalMetadataErrorKind> {
+    match first(bytes, false)? {
+        Ok(_) => None,
+        Err(error) => Some(error.kind),
+    }
+}
+
+/// The bit of a numeric column.
+fn is_unsigned(bytes: &[u8], is_maria_log: bool, index: u64) -> Option<bool> {
+    match first(bytes, is_maria_log)? {
+        Ok(OptionalMetadataField::Signedness(bits)) => bits.bit(index),
+        _ => None,
+    }
+}
+
+#[test]
+fn the_first_column_has_the_top_bit(rt: HostRuntime) {
+    assert!(rt; is_unsigned(b"\x01\x01\x80", false, 0) == Some(true));
+    assert!(rt; is_unsigned(b"\x01\x01\x80", false, 1) == None);
+    assert!(rt; is_unsigned(b"\x01\x01\x40", true, 0) == Some(false));
+    assert!(rt; is_unsigned(b"\x01\x01\x40", true, 1) == Some(true));
+}
+
+/// The name of the column with this index.
+fn name(bytes: &'static [u8], index: usize) -> Option<&'static [u8]> {
+    match first(bytes, false)? {
+        Ok(OptionalMetadataField::ColumnName(mut names)) => names.nth(index),
+        _ => None,
+    }
+}
+
+#[test]
+fn each_column_has_a_name(rt: HostRuntime) {
+    assert!(rt; name(b"\x04\x09\x01a\x02bc\0\x02de", 1) == Some(b"bc"));
+}
+
+#[test]
+fn contents_are_whole(rt: HostRuntime) {
+    assert!(rt; refusal(b"\x01\x00") == Some(OptionalMetadataErrorKind::Truncated));
+    assert!(rt; refusal(b"\x01\x02\0\0") == Some(OptionalMetadataErrorKind::LeftOver));
+    assert!(rt; refusal(b"\x03\x01\xfb") == Some(OptionalMetadataErrorKind::BadValue));
+}
