@@ -1,13 +1,12 @@
 //! Compressed row events.
-ghost use Rattle.std.specs.Prelude.{◌≡◌, ◌<◌, ◌^◌, option_map, bit_and, IfOk, IsOkUnless};
+ghost use Rattle.std.specs.Prelude.{◌≡◌, ◌<◌, ◌^◌, option_map, bit_and};
 ghost use Rattle.bitflags.specs.Sets.{known_bits};
-ghost use Rattle.binlog_wire.specs.declared.error.Error.TheVariants.{Memory};
 ghost use Rattle.binlog_consts.specs.Flags.{rows_event_flags};
 ghost use Rattle.binlog_rows.specs.Images.{bitmap_of};
 ghost use Rattle.binlog_rows.specs.RowsData.{event_in};
 
 use binlog_rows::{RowsEventData, RowsEventFlags};
-use binlog_wire::{BitView, Error, Put};
+use binlog_wire::{BitView, Error, IntoOwned, Put, TryClone};
 use std::alloc::Global;
 
 /// Inserted, updated or deleted rows of any compressed type (166 to 171).
@@ -69,21 +68,21 @@ impl<'a> RowsCompressedEvent<'a> {
     {
         self.event.flags()
     }
+}
 
-    /// The same event with owned bytes. The only error is [`Error::Memory`].
-    pub fn into_owned(self, alloc: Global) -> Result<RowsCompressedEvent<'static>, Error>
-        ensures ok { IfOk result (λ owned. owned ≡ self.entry) }
-        ensures memory { IsOkUnless result Memory }
-    {
+impl<'a> IntoOwned for RowsCompressedEvent<'a> {
+    type Owned = RowsCompressedEvent<'static>;
+
+    ghost is_owned = { λ value owned. owned ≡ value };
+
+    fn into_owned(self, alloc: Global) -> Result<RowsCompressedEvent<'static>, Error> {
         let event = self.event.into_owned(alloc)?;
         Ok(RowsCompressedEvent { event })
     }
+}
 
-    /// A copy of the event: borrowed bytes stay borrowed, owned bytes are copied. The only error is [`Error::Memory`].
-    pub fn clone(&self, alloc: Global) -> Result<Self, Error>
-        ensures ok { IfOk result (λ copy. copy ≡ self.now) }
-        ensures memory { IsOkUnless result Memory }
-    {
+impl<'a> TryClone for RowsCompressedEvent<'a> {
+    fn clone(&self, alloc: Global) -> Result<Self, Error> {
         let event = self.event.clone(alloc)?;
         Ok(RowsCompressedEvent { event })
     }
