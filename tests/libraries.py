@@ -1,7 +1,7 @@
 #!/usr/bin/env python3
 """Tests the library for C, C++ and Python over the logs of the other tests.
 
-Usage: libraries.py
+Usage: libraries.py [--build]
 
 A C program and a C++ one over include/binlog.h list the samples, the encoder's logs and the damaged copies: their
 listing has to be that of the built binlog_list without its last word. The C program also lists with room for one item,
@@ -9,9 +9,10 @@ and built with the sanitizers of the C compiler. A third program calls the libra
 make over each of some logs. Then the tests of the Python package run over the shared library, which is made of the
 static one.
 
-The static library is proved and built by bin/build if a source is newer. The last line is `N passed, M failed`; the
-exit status is 1 if something failed. Without the C compiler `cc` nothing is run, and both numbers are 0; without a C++
-compiler `c++`, or sanitizers, a line says so.
+With --build the static library is first proved and built by bin/build if a source is newer. Without it, and without a
+library, a line says so, nothing is run, and both numbers are 0: the gate proves the crate, but builds no static library.
+The same is true without the C compiler `cc`; without a C++ compiler `c++`, or sanitizers, a line says so. The last line
+is `N passed, M failed`; the exit status is 1 if something failed.
 """
 
 import os
@@ -150,12 +151,23 @@ def python_failures(folder):
     yield from [None] * (result.testsRun - len(wrong))
 
 
-def main():
+def missing():
+    """What is missing to test the library, or None."""
     if not shutil.which("cc"):
-        print("no cc: nothing is run")
+        return "no cc"
+    if not LIBRARY.exists():
+        return "the library for C isn't built (tests/libraries.py --build builds it)"
+    return None
+
+
+def main():
+    if sys.argv[1:] == ["--build"]:
+        subprocess.run([REPOSITORY / "bin/build", "binlog_c"], check=True)
+    reason = missing()
+    if reason:
+        print(f"{reason}: nothing is run")
         print("0 passed, 0 failed")
         return 0
-    subprocess.run([REPOSITORY / "bin/build", "binlog_c"], check=True)
     with tempfile.TemporaryDirectory() as name:
         folder = Path(name)
         cases = list(all_cases(make_sample.sample(), lambda log: None))
