@@ -5,7 +5,8 @@ ghost use Rattle.binlog_consts.specs.Flags.{rows_event_flags};
 ghost use Rattle.binlog_rows.specs.Images.{bitmap_of};
 ghost use Rattle.binlog_rows.specs.RowsData.{event_in};
 
-use binlog_rows::{RowsEventData, RowsEventFlags};
+use binlog_consts::RowsEventFlags;
+use binlog_rows::RowsEventData;
 use binlog_wire::{BitView, Error, IntoOwned, Put, TryClone};
 use std::alloc::Global;
 
