@@ -1,5 +1,0 @@
-pub mod Counting
-pub mod Collecting
-pub mod Copying
-pub mod Parts
-pub mod Statistics
