@@ -1,0 +1,5 @@
+pub mod Counting
+pub mod Collecting
+pub mod Copying
+pub mod Parts
+pub mod Statistics

@@ -1,0 +1,63 @@
+//! A visitor that collects the GTIDs of a log.
+ghost use Rattle.std.specs.Prelude.{◌≡◌, []};
+
+use binlog_file::{Error, EventRef, GtidTracker};
+use binlog_gtid_listing::{list_refused, track_event};
+use binlog_visits::Visitor;
+use std::alloc::Global;
+use std::io::Write;
+
+/// Adds the GTIDs of each event to a set, and writes the line of each error, as `binlog_gtid_listing` does: of an item, and
+/// of an event whose GTIDs can't be read. The output isn't flushed.
+#[derive(Drop)]
+pub struct GtidCollector<W> {
+    alloc: Global,
+    /// The GTIDs of the events so far.
+    pub gtids: GtidTracker,
+    /// The number of events whose GTIDs can't be read, at most 2^64 - 1.
+    pub refused: u64,
+    /// The output.
+    pub output: W,
+}
+
+impl<W> GtidCollector<W> {
+    /// An empty set. Nothing is allocated.
+    pub fn new(alloc: Global, output: W) -> Self
+        ensures gtids { result.gtids ≡ [] }
+        ensures output { result.output ≡ output }
+    {
+        GtidCollector {
+            alloc,
+            gtids: GtidTracker::new(alloc),
+            refused: 0,
+            output,
+        }
+    }
+}
+
+/// A visit adds the GTIDs of the item, or writes its line. It is refused with [`Error::Memory`] or [`Error::Writer`].
+impl<W: Write> Visitor for GtidCollector<W> {
+    ghost use Rattle.binlog_commands.specs.Collecting.{Collects, RefusesCollected};
+
+    ghost visits = { λ old index item new. Collects index item old.gtids (W.contents old.output) new.gtids (W.contents new.output) };
+
+    ghost refuses = { λ old index item error new. RefusesCollected index item old.gtids (W.contents old.output) error new.gtids (W.contents new.output) };
+
+    fn visit_event(&mut self, index: u64, event: &EventRef<'_>) -> Result<(), Error> {
+        match track_event(self.alloc, index, event, &mut self.gtids, &mut self.output) {
+            Ok(Some(true)) => {
+                self.refused = self.refused.saturating_add(1);
+                Ok(())
+            }
+            Ok(_) => Ok(()),
+            Err(error) => Err(error),
+        }
+    }
+
+    fn visit_error(&mut self, index: u64, error: &Error) -> Result<(), Error> {
+        match list_refused(self.alloc, index, error, &mut self.output) {
+            Ok(_) => Ok(()),
+            Err(error) => Err(error),
+        }
+    }
+}

@@ -1,0 +1,42 @@
+//! A visitor that counts what it is shown.
+ghost use Rattle.std.specs.Prelude.{◌≡◌};
+
+use binlog_file::{Error, EventRef};
+use binlog_visits::Visitor;
+
+/// Counts the events of a log, their bytes, their checksums, and the errors in the places of events. A count stays at
+/// 2^64 - 1.
+#[derive(Clone, Copy, Debug, PartialEq, Eq, Default)]
+pub struct Tally {
+    /// The number of events.
+    pub events: u64,
+    /// The number of their bytes.
+    pub bytes: u64,
+    /// The number of events with a checksum.
+    pub checksums: u64,
+    /// The number of errors in the places of events.
+    pub errors: u64,
+}
+
+/// A visit counts the item, and is never refused.
+impl Visitor for Tally {
+    ghost use Rattle.binlog_commands.specs.Counting.{Counts, IsNever};
+
+    ghost visits = { λ old index item new. Counts old item new };
+
+    ghost refuses = { λ old index item error new. IsNever };
+
+    fn visit_event(&mut self, _index: u64, event: &EventRef<'_>) -> Result<(), Error> {
+        self.events = self.events.saturating_add(1);
+        self.bytes = self.bytes.saturating_add(event.frame().len() as u64);
+        if event.checksum().is_some() {
+            self.checksums = self.checksums.saturating_add(1);
+        }
+        Ok(())
+    }
+
+    fn visit_error(&mut self, _index: u64, _error: &Error) -> Result<(), Error> {
+        self.errors = self.errors.saturating_add(1);
+        Ok(())
+    }
+}
