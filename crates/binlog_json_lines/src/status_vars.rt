@@ -10,8 +10,7 @@ ghost use Rattle.json_line.specs.Lines.{IsPlainText};
 ghost use Rattle.json_line.specs.Tokens.{Adds, text_value, number_value, bytes_value, member, object, array};
 ghost use Rattle.binlog_json_lines.specs.StatusVars.{entry, variable_object, status_vars_value, status_vars_members};
 
-use binlog_file::{StatusVar, StatusVarVal, StatusVarsIterator};
-use binlog_file::{NullBytes, RawBytes};
+use binlog_file::{NullBytes, RawBytes, StatusVar, StatusVarVal, StatusVarsIterator};
 use json_line::Line;
 use std::alloc::{AllocError, Global};
 
