@@ -10,13 +10,15 @@ replaced. A form that the converter doesn't know stops it with file and line, an
 import shutil
 import subprocess
 import sys
-from itertools import chain
+from itertools import chain, product
 from pathlib import Path
 
 from rt_to_rust import crates
+from rt_to_rust.devices import LEFT_OUT
 from rt_to_rust.facade import public_names
 from rt_to_rust.ghosts import without_proofs
 from rt_to_rust.imports import Place
+from rt_to_rust.items import functions
 from rt_to_rust.memory_forms import BOTH_FORMS, fallible_clones
 from rt_to_rust.passes import Used, rust
 from rt_to_rust.source import Source
@@ -62,19 +64,37 @@ def place_of(crate, public):
     return Place(None if is_program else crate, public, has_runtime)
 
 
+def is_by_hand(source, text, file, found):
+    """Whether a source is written by hand in the packages: with all its public functions. Adds it to `found`."""
+    name = source.relative_to("crates").as_posix()
+    if name not in crates.BY_HAND:
+        return False
+    found.add(name)
+    written = file.read_text() if file.is_file() else ""
+    read = Source(source, text)
+    for function in functions(read):
+        if read.is_at(function.first, "pub", "fn") and f"pub fn {read.code[function.name].text}" not in written:
+            raise read.refusal(function.name, f"`{read.code[function.name].text}` isn't in {file.name}, which is by hand")
+    return True
+
+
 def convert(out):
     """Writes the sources of all packages."""
     used = Used()
+    by_hand = set()
     clones = types_with_fallible_clones()
     facade = TEMPLATES / "binlog/src/lib.rs"
     public = public_names(Source(facade.relative_to(REPOSITORY), facade.read_text()))
     for crate, path, relative in sources_of(chain.from_iterable(crates.PACKAGES.values())):
         source = path.relative_to(REPOSITORY)
-        text = rust(source, path.read_text(), place_of(crate, public), public, clones, used)
         file = out / target(crate, relative)
+        if is_by_hand(source, path.read_text(), file, by_hand):
+            continue
+        text = rust(source, path.read_text(), place_of(crate, public), public, clones, used)
         file.parent.mkdir(parents=True, exist_ok=True)
         file.write_text(MADE.format(source) + text)
     unused = (set(CHECKS) - used.checks) | (set(BOTH_FORMS) - used.both_forms)
+    unused |= (set(LEFT_OUT) - used.left_out) | (set(crates.BY_HAND) - by_hand)
     if unused:
         raise Refusal("cargo/rt_to_rust", 0, f"rows of tables that nothing uses: {', '.join(sorted(unused))}")
 
@@ -91,8 +111,8 @@ def main(arguments):
         print(__doc__.strip(), file=sys.stderr)
         return 1
     out = Path(arguments[0])
-    for package in crates.PACKAGES:
-        shutil.rmtree(out / package / "src", ignore_errors=True)
+    for package, folder in product(crates.PACKAGES, ("src", "tests")):
+        shutil.rmtree(out / package / folder, ignore_errors=True)
     shutil.copytree(TEMPLATES, out, dirs_exist_ok=True)
     try:
         convert(out)

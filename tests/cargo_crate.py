@@ -5,10 +5,12 @@ Usage: cargo_crate.py [OUT]
 
 The packages are made in OUT, or in a temporary folder, and built without network, with checks of overflow: the crates
 that they depend on are Debian's, `PACKAGES`. A test each: what the converter's own tests check; each test of the
-sources, converted; and each case: samples, damaged copies and encoded logs, of which the programs, the models and the
-encoder have to print the same. The last line is `N passed, M failed`; the exit status is 1 if something failed.
+sources, converted, and each written by hand; that neither clippy nor the documentation gives a warning; and each case:
+samples, damaged copies and encoded logs, of which the programs, the models and the encoder have to print the same. The
+last line is `N passed, M failed`; the exit status is 1 if something failed.
 
-Where cargo or those crates aren't there, it says so, and passes with no test.
+Where cargo or those crates aren't there, it says so, and passes with no test. `OPTIONAL` crates are behind features of
+the same name; where one isn't there, it says so, and the packages are tested without that feature.
 """
 
 import os
@@ -28,7 +30,10 @@ from damaged_copies import PROCESSES_AT_A_TIME, REPOSITORY
 CONVERTER = REPOSITORY / "cargo"
 TOOLS = ("cargo", "rustc", "rustfmt")
 REGISTRY = Path("/usr/share/cargo/registry")
-PACKAGES = [f"librust-{name}-dev" for name in ("byteorder", "hex", "memchr", "thiserror", "uuid")]
+PACKAGES = [f"librust-{name}-dev" for name in ("byteorder", "hex", "itoa", "memchr", "thiserror", "uuid")]
+
+# The optional crates, which are features of the packages too, and the tests that each needs.
+OPTIONAL = {"crc32fast": "crc32"}
 
 # Of the damaged copies of samples one in so many is a case, and of the encoder's logs the first so many: they are of each
 # kind of event under the first description, then of the next.
@@ -51,10 +56,14 @@ def missing():
         if shutil.which(tool) is None:
             return f"there is no {tool}"
     for package in PACKAGES:
-        name = package.removeprefix("librust-").removesuffix("-dev")
-        if not any(REGISTRY.glob(f"{name}-*")):
+        if not is_there(package.removeprefix("librust-").removesuffix("-dev")):
             return f"Debian's package {package} isn't installed"
     return None
+
+
+def is_there(crate):
+    """Whether a crate is among Debian's."""
+    return any(REGISTRY.glob(f"{crate}-[0-9]*"))
 
 
 def tests_of_converter():
@@ -69,11 +78,21 @@ def tests_of_converter():
     return count - failed, failed
 
 
+def without_missing_features(out):
+    """Takes the optional crates that aren't there out of the manifests: their features are empty then."""
+    for crate in OPTIONAL:
+        if not is_there(crate):
+            print(f"The feature {crate} isn't tested: Debian's package librust-{crate}-dev isn't installed.")
+            manifest = Path(out) / "binlog/Cargo.toml"
+            text = re.sub(rf"^{crate} = {{.*\n", "", manifest.read_text(), flags=re.MULTILINE)
+            manifest.write_text(text.replace(f'"dep:{crate}"', ""))
+
+
 def cargo(out, *arguments):
     """Runs cargo on the packages, without network; its output goes to ours if it fails."""
     settings = ['source.crates-io.replace-with="debian"', f'source.debian.directory="{REGISTRY}"']
-    command = ["cargo", *(part for setting in settings for part in ("--config", setting))]
-    command += [*arguments, "--offline", "--jobs", "1", "--workspace", "--profile", PROFILE]
+    command = ["cargo", arguments[0], *(part for setting in settings for part in ("--config", setting))]
+    command += ["--offline", "--jobs", "1", "--profile", PROFILE, *arguments[1:]]
     finished = subprocess.run(
         command, cwd=out, stdout=subprocess.PIPE, stderr=subprocess.STDOUT, text=True
     )
@@ -82,12 +101,30 @@ def cargo(out, *arguments):
     return finished
 
 
-def tests_of_sources(out):
-    """How many of the sources' tests, converted, passed and failed; one failure if they weren't built."""
-    finished = cargo(out, "test", "--no-fail-fast")
+def tests_of_packages(out, *arguments):
+    """How many of the packages' tests passed and failed; one failure if they weren't built."""
+    finished = cargo(out, "test", "--no-fail-fast", *arguments)
     counts = re.findall(r"^test result: .* (\d+) passed; (\d+) failed", finished.stdout, re.MULTILINE)
     passed, failed = (sum(int(count[place]) for count in counts) for place in (0, 1))
     return passed, max(failed, int(finished.returncode != 0))
+
+
+def lints(out):
+    """Of the checks of the packages' own code without a warning, how many passed and failed: clippy's, where it is there,
+    and those of the documentation, which has to be complete."""
+    checks = [("doc", "--no-deps", "--workspace")]
+    if shutil.which("cargo-clippy") is None:
+        print("The cargo packages aren't checked by clippy: there is no cargo-clippy.")
+    else:
+        checks.append(("clippy", "--workspace", "--all-targets"))
+    failed = 0
+    for check in checks:
+        finished = cargo(out, *check)
+        if finished.returncode == 0 and (warnings := re.findall(r"^warning: .*\n.*", finished.stdout, re.MULTILINE)):
+            print("\n".join([f"cargo {check[0]}:", *warnings]))
+            failed += 1
+        failed += finished.returncode != 0
+    return len(checks) - failed, failed
 
 
 def cases(stated):
@@ -126,8 +163,14 @@ def tests(out):
     if made.returncode != 0:
         yield 0, 1
         return
-    yield tests_of_sources(out)
-    if cargo(out, "build").returncode != 0:
+    without_missing_features(out)
+    yield tests_of_packages(out, "--workspace")
+    for feature, test in OPTIONAL.items():
+        if is_there(feature):
+            arguments = ("--package", "binlog-tests", "--test", test, "--features", feature)
+            yield tests_of_packages(out, *arguments)
+    yield lints(out)
+    if cargo(out, "build", "--workspace").returncode != 0:
         yield 0, 1
         return
     built = Path(os.environ.get("CARGO_TARGET_DIR", Path(out) / "target")) / PROFILE

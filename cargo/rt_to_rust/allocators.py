@@ -42,12 +42,25 @@ def bindings(source):
         yield source.span(index, end)
 
 
+def lone_values(source):
+    """`let (a) = (b);`: what is left of a pair with an allocator."""
+    for index in source.places("let", "("):
+        close = source.partner[index + 1]
+        if close != index + 3 or not source.is_at(close + 1, "=", "("):
+            continue
+        end = source.partner[close + 2]
+        if source.is_at(end + 1, ";"):
+            for bracket in (index + 1, close, close + 2, end):
+                yield source.span(bracket, bracket)
+
+
 def without_allocators(source):
     """The source without allocators: parameters, fields, arguments, bindings."""
     source = source.changed(bindings(source))
     # Of nested groups the inner ones hold the allocators themselves, so no change is in another.
     groups = [index for index, token in enumerate(source.code) if token.text in OPENING]
     source = source.changed(change for opening in groups for change in group_without(source, opening))
+    source = source.changed(lone_values(source))
     for word in WORDS:
         for index in source.places(word):
             raise source.refusal(index, f"`{word}` in a place that isn't known")

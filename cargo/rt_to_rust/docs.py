@@ -6,6 +6,9 @@ import textwrap
 # What only a reader of the proofs asks for.
 PROOFS = re.compile(r"\b[Cc]ontracts?\b|\bproved?\b|\bprover\b|specs/|\blaws?\b|\bghost\b")
 
+# What isn't so in the packages, in which interruptions are tried again.
+OTHERWISE = re.compile(r"\binterrupted (isn't\s+retried|write is a failure)")
+
 # A paragraph that begins so is about a contract as a whole.
 CONTRACT = re.compile(r"Its contract is\b")
 
@@ -65,11 +68,11 @@ def sentences_without(lines, words):
 
 
 def for_users(lines, members):
-    """Lines of documentation without what only a reader of the proofs asks for: sentences on contracts, and on the
-    ghost members of a trait."""
+    """Lines of documentation without what only a reader of the proofs asks for, sentences on contracts, and on the
+    ghost members of a trait; and without what isn't so in the packages."""
 
     def is_of_proofs(sentence):
-        return PROOFS.search(sentence) or any(f"`{member}`" in sentence for member in members)
+        return PROOFS.search(sentence) or OTHERWISE.search(sentence) or any(f"`{member}`" in sentence for member in members)
 
     kept = []
     for paragraph in paragraphs(lines):

@@ -21,7 +21,6 @@ STAND_INS = {
     "std::borrow::CowSlice": "std::borrow::Cow",
     "std::borrow::CowStr": "std::borrow::Cow",
     "std::simd::Simd": "crate::simd::Simd",
-    "itoa::Buffer": "crate::digits::Buffer",
     "itoa::write_digits": "crate::digits::write_digits",
     "json::Writer": "crate::json::Writer",
     "bitflags::Flag": "crate::bitflags::Flag",
@@ -33,7 +32,7 @@ STAND_INS = {
 SAME = re.compile(
     r"(std::(cell::Cell|cmp::Ordering|fmt|hash::\w+|io(::\w+)?|marker::PhantomData|mem(::swap)?|process::ExitCode|str)"
     r"|std::sync::Arc"
-    r"|byteorder::\w+|memchr::\w+|hex::encode_to_slice|uuid::Uuid|thiserror::Error)"
+    r"|byteorder::\w+|memchr::\w+|hex::encode_to_slice|itoa::Buffer|uuid::Uuid|thiserror::Error)"
 )
 
 # The calls of the module for memory, by the name that a file has to import.
@@ -187,13 +186,26 @@ def in_import(source, index):
     return source.code[index].text == "use"
 
 
-def links(source, place):
+# The crate whose root has the names of all others, which are elsewhere in the package.
+FACADE = "binlog_file"
+
+
+def linked(source, place, public, path):
+    """The path of a name in documentation, or None for another path."""
+    if path[0] == "crate" and place.module == FACADE and path[1] in public:
+        return "::".join(["crate", *public[path[1]].split("::")[1:], *path[2:]])
+    return crate_path(source, 0, place, path)
+
+
+def links(source, place, public):
     """Paths of the crates in documentation."""
     head = re.compile(rf"(?<=[`\[(])({'|'.join(LIBRARY + TOOLS)}|crate)((?:::\w+)+)")
     for token in source.tokens:
         if token.kind != "doc":
             continue
-        text = head.sub(lambda found: crate_path(source, 0, place, found.group().split("::")) or found.group(), token.text)
+        text = head.sub(
+            lambda found: linked(source, place, public, found.group().split("::")) or found.group(), token.text
+        )
         if text != token.text:
             yield token.start, token.end, text
 
@@ -241,9 +253,9 @@ def without_leaf(source, index):
     return source.span(index - 1, index)
 
 
-def placed(source, place):
-    """The source with the paths of its package."""
-    return source.changed([*imports(source, place), *paths(source, place), *links(source, place)])
+def placed(source, place, public):
+    """The source with the paths of its package, of which `public` are those of the library's public names."""
+    return source.changed([*imports(source, place), *paths(source, place), *links(source, place, public)])
 
 
 def with_memory(source, place):

@@ -102,6 +102,14 @@ def block_at(source, index):
     return None
 
 
+def head_of(source, block):
+    """`impl` with the generic parameters of a block, and the type that it is for."""
+    start = source.code[block.first].start
+    cut = source.code[after_generics(source, block.first + 1) - 1].end
+    rest = source.text[cut : source.code[block.body].start].strip()
+    return source.text[start:cut], rest.partition(" for ")[2] if block.trait else rest
+
+
 def function_at(source, index):
     """The innermost function that a place of the code is in, or None."""
     found = None

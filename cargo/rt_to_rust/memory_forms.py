@@ -3,7 +3,7 @@ expects, which panics then."""
 
 from rt_to_rust.allocators import is_allocator
 from rt_to_rust.docs import rewritten, sentences_without
-from rt_to_rust.items import after_generics, block_at, functions
+from rt_to_rust.items import block_at, functions, head_of
 from rt_to_rust.kinds import kind_of
 from rt_to_rust.source import segments
 
@@ -92,14 +92,6 @@ def answer(source, function):
     if not source.is_at(last - 2, ",", "Error", ">"):
         raise source.refusal(function.name, "a call with two forms whose error isn't `Error`")
     return source.between(first, last - 3)
-
-
-def head_of(source, block):
-    """`impl` with the generic parameters of a block, and the type that it is for."""
-    start = source.code[block.first].start
-    cut = source.code[after_generics(source, block.first + 1) - 1].end
-    rest = source.text[cut : source.code[block.body].start].strip()
-    return source.text[start:cut], rest.partition(" for ")[2] if block.trait else rest
 
 
 def clone_of(source, block):

@@ -4,11 +4,15 @@ from rt_to_rust import forms
 from rt_to_rust.allocators import without_allocators
 from rt_to_rust.borrowing import borrowed
 from rt_to_rust.bounds import without_drops
+from rt_to_rust.by_value import by_value, lent_on
+from rt_to_rust.defaults import with_defaults
 from rt_to_rust.derive_where import written_out
+from rt_to_rust.devices import with_devices
 from rt_to_rust.docs import ghost_members, spoken
 from rt_to_rust.ghosts import without_proofs
 from rt_to_rust.growth import grown
 from rt_to_rust.imports import placed, with_memory
+from rt_to_rust.inlined import with_inlined
 from rt_to_rust.memory_forms import renamed, with_plain_forms
 from rt_to_rust.runtime import without_runtime
 from rt_to_rust.source import Source
@@ -21,6 +25,7 @@ class Used:
     def __init__(self):
         self.checks = set()
         self.both_forms = set()
+        self.left_out = set()
 
 
 def rust(path, text, place, public, clones, used):
@@ -34,13 +39,18 @@ def rust(path, text, place, public, clones, used):
     source = without_drops(source)
     if place.has_runtime:
         source = without_runtime(source.changed(forms.programs(source)))
+    source = with_devices(source, place.is_test(), used.left_out)
+    source = lent_on(source) if place.has_runtime else by_value(source, None if place.public else public)
     source = borrowed(source)
     source = source.changed(forms.json_writers(source))
     source = renamed(source, clones, used.both_forms)
     source = grown(source)
-    source = placed(source, place)
+    source = placed(source, place, public)
     source = forms.rust_calls(without_allocators(source))
     # From here lines are added.
     source = with_memory(source, place)
     source = with_panics(with_plain_forms(written_out(source), public))
+    source = with_defaults(source)
+    if not place.has_runtime:
+        source = with_inlined(source)
     return spoken(source, members).marks_removed().lstrip("\n")

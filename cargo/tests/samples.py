@@ -24,8 +24,9 @@ def converted(text, place=LIBRARY, clones=()):
 
 
 def spaceless(text):
-    """A text without spaces, and without commas in front of a closing bracket, which `rustfmt` sets."""
-    return "".join(text.split()).replace(",)", ")").replace(",}", "}")
+    """A text without spaces, and without commas in front of a closing bracket, which `rustfmt` sets; and without the
+    attribute of the small functions that most samples are."""
+    return "".join(text.split()).replace(",)", ")").replace(",}", "}").replace("#[inline]", "")
 
 
 class Case(unittest.TestCase):

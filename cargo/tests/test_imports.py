@@ -2,6 +2,8 @@
 
 import unittest
 
+from rt_to_rust.imports import Place
+
 from rt_to_rust.facade import public_names
 from tests.samples import Case, PROGRAM, TOOL, converted, refusal, source
 
@@ -37,6 +39,12 @@ class Imports(Case):
 
     def test_links_in_documentation_are_paths(self):
         self.gives("/// See [`crate::a::B`].\nstruct A;", "/// See [`crate::binlog_wire::a::B`]. struct A;")
+
+    def test_links_from_the_facade_lead_to_public_names(self):
+        place = Place("binlog_file", None, has_runtime=False)
+        text = "/// See [`crate::Held::f`] and [`crate::Other`].\nstruct A;"
+        wanted = "/// See [`crate::events::Held::f`] and [`crate::binlog_file::Other`]. struct A;"
+        self.gives(text, wanted, place=place)
 
 
 class PublicNames(Case):

@@ -14,6 +14,9 @@ class Allocators(Case):
         text = "struct A {\n    a: u8,\n    alloc: Global,\n}\nfn f() {\n    let alloc = *self.a.allocator();\n    A { a, alloc }\n}"
         self.gives(text, "struct A { a: u8, } fn f() { A { a } }")
 
+    def test_what_is_left_of_a_pair_is_no_pair(self):
+        self.gives("fn f() {\n    let (alloc, a) = (rt.alloc(), g());\n}", "fn f() { let a = g(); }")
+
     def test_another_form_is_refused(self):
         self.assertEqual(refusal("fn f() {\n    g(&alloc)\n}"), "sample.rt:2: `alloc` in a place that isn't known")
 

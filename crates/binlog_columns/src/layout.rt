@@ -16,9 +16,19 @@ pub enum Layout {
     /// A time and a fraction of this many decimal digits, 0 to 6.
     Time2(u8),
     /// A decimal number of `precision` digits, 1 to 65, of which `scale`, at most 38, are after the point.
-    Decimal { precision: u8, scale: u8 },
+    Decimal {
+        /// The number of digits, 1 to 65.
+        precision: u8,
+        /// The number of digits after the point, at most 38.
+        scale: u8,
+    },
     /// Bytes, at most `max`, after their length in `prefix` bytes, 1 to 4.
-    Counted { prefix: u8, max: u32 },
+    Counted {
+        /// The number of bytes of the length, 1 to 4.
+        prefix: u8,
+        /// The greatest number of bytes of a value.
+        max: u32,
+    },
     /// Numbers of four bytes each, after their length in this many bytes, 1 to 4.
     Vector(u8),
 }

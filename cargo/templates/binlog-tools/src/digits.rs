@@ -1,32 +1,11 @@
-//! Decimal digits of numbers.
+//! Decimal digits of numbers, at a place of the caller's.
 
 /// Writes the decimal digits of a number so that they end in front of `end`, and answers where they begin.
 #[inline]
-pub fn write_digits(mut number: u64, bytes: &mut [u8], end: usize) -> usize {
-    let mut at = end;
-    loop {
-        at -= 1;
-        bytes[at] = b'0' + (number % 10) as u8;
-        number /= 10;
-        if number == 0 {
-            return at;
-        }
-    }
-}
-
-/// Room for the decimal digits of a number.
-pub struct Buffer {
-    bytes: [u8; 20],
-}
-
-impl Buffer {
-    pub fn new() -> Self {
-        Buffer { bytes: [0; 20] }
-    }
-
-    /// The decimal digits of a number.
-    pub fn format(&mut self, number: u64) -> &str {
-        let start = write_digits(number, &mut self.bytes, 20);
-        std::str::from_utf8(&self.bytes[start..]).unwrap_or_default()
-    }
+pub fn write_digits(number: u64, bytes: &mut [u8], end: usize) -> usize {
+    let mut buffer = itoa::Buffer::new();
+    let digits = buffer.format(number).as_bytes();
+    let start = end - digits.len();
+    bytes[start..end].copy_from_slice(digits);
+    start
 }

@@ -34,12 +34,8 @@ impl Writer {
 
     /// Writes a signed number.
     pub fn i64(&mut self, number: i64) -> Result<(), AllocError> {
-        let mut digits = [0; 20];
-        let start = crate::digits::write_digits(number.unsigned_abs(), &mut digits, 20);
-        if number < 0 {
-            self.0.try_push(b'-')?;
-        }
-        self.0.try_extend_from_slice(&digits[start..])
+        let mut buffer = itoa::Buffer::new();
+        self.0.try_extend_from_slice(buffer.format(number).as_bytes())
     }
 
     /// The bytes.

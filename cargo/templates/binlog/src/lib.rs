@@ -48,11 +48,13 @@ mod binlog_statements;
 mod binlog_values;
 mod binlog_wire;
 mod bitflags;
+mod checksums;
 mod crc32_ieee;
 #[doc(hidden)]
 pub mod memory;
 
 pub use crate::binlog_description::{BinlogCtx, BinlogEvent, BinlogStruct, DescriptionRef, read_body};
+pub use crate::binlog_ends::DeviceError;
 pub use crate::binlog_events::{BinlogFileHeader, EventRef};
 pub use crate::binlog_file::{
     BinlogFile, BinlogFileOf, BinlogSlice, EventStreamReader, Items, Unverified, Verification,
@@ -61,6 +63,7 @@ pub use crate::binlog_file::{
 pub use crate::binlog_gtid_sets::GtidTracker;
 pub use crate::binlog_gtids::GnoSet;
 pub use crate::binlog_wire::{Error, Field, IntoOwned, Invalid, TryClone};
+pub use crate::checksums::{Crc32File, Crc32Slice, crc32};
 pub use crate::crc32_ieee::Crc32;
 pub use crate::memory::AllocError;
 
@@ -138,14 +141,16 @@ pub mod values {
     pub use crate::binlog_values::{Timestamp2, Value};
 }
 
-/// The error of a reader, a writer or a body, among those of input and output.
+/// The error of a reader, a writer or a body, among those of input and output. That of a device has the device's kind.
 impl From<Error> for std::io::Error {
     fn from(error: Error) -> Self {
         use std::io::ErrorKind;
-        let kind = match error {
+        let kind = match &error {
             Error::EndOfInput | Error::EndOfBody => ErrorKind::UnexpectedEof,
             Error::Memory | Error::FrameMemory => ErrorKind::OutOfMemory,
-            Error::Reader | Error::ReaderInFrame | Error::Writer => ErrorKind::Other,
+            Error::Reader(device) | Error::ReaderInFrame(device) | Error::Writer(device) => {
+                device.kind()
+            }
             Error::Unwritable(_) | Error::EventTooLong => ErrorKind::InvalidInput,
             Error::UnknownChecksumAlg(_) | Error::BadGno(_) => ErrorKind::InvalidInput,
             _ => ErrorKind::InvalidData,
