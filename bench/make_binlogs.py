@@ -25,7 +25,7 @@ import make_sample  # noqa: E402  (found by way of the line above)
 LARGE, SMALL = 500_000_000, 5_000_000
 LONG_EVENT = 5_000_000
 
-QUERY, TABLE_MAP, WRITE_ROWS, UPDATE_ROWS, GTID, GTID_TAGGED = 2, 19, 30, 31, 33, 42
+QUERY, XID, TABLE_MAP, WRITE_ROWS, UPDATE_ROWS, GTID, GTID_TAGGED = 2, 16, 19, 30, 31, 33, 42
 
 SIZE_OFFSET = 9
 LOG_POS_OFFSET = 13
@@ -85,6 +85,26 @@ def gtid_events(generator):
         else:
             tag = generator.choice([b"backup", b"reports_2026", b"a"])
             yield event(GTID_TAGGED, tagged_gtid(sid, tag, number, times, length), number)
+
+
+def transaction_events(generator):
+    """Transactions of a GTID, BEGIN, a table map of 44 bytes, two row events of 1,650 to 1,860 bytes and an XID."""
+    sid = generator.randbytes(16)
+    for number in range(512):
+        length = generator.randrange(200, 100_000)
+        yield event(GTID, untagged_gtid(sid, number, gtid_times(generator), length), number)
+        yield event(QUERY, make_sample.query_body(b"test", b"BEGIN"), number)
+        yield event(TABLE_MAP, short_table_map_body(number % 4), number)
+        for type_number in [WRITE_ROWS, UPDATE_ROWS]:
+            size = generator.randrange(1650, 1861) - make_sample.HEADER.size
+            rows = generator.randbytes(size - len(rows_body(1, b"")))
+            yield event(type_number, rows_body(number % 4, rows), number)
+        yield event(XID, struct.pack("<Q", number), number)
+
+
+def short_table_map_body(table):
+    """A table with a number and a text, without optional metadata: an event of 44 bytes."""
+    return table.to_bytes(6, "little") + b"\1\0" + b"\4test\0" + b"\2t%d\0" % table + b"\2\3\x0f" + b"\2\xfc\3" + b"\3"
 
 
 def maps_kind(tables):
@@ -189,6 +209,7 @@ KINDS = {
     "rows": row_events,
     "long": long_events,
     "gtids": gtid_events,
+    "transactions": transaction_events,
     **{maps_kind(tables): mapped_row_events(tables) for tables in MAPPED_TABLES},
     "statements_crc32": statement_events,
     "rows_crc32": row_events,

@@ -71,11 +71,6 @@ def printing(command, path, output_path):
         return run(command, path, output)
 
 
-def compare_listings(program, baseline, path):
-    """Both commands list the file alike, but for the word at the end of a line, which the baseline doesn't have."""
-    compare_outputs(["sh", "-c", f"'{program[0]}' | sed 's/ [a-z]*$//'"], baseline, path)
-
-
 def compare_outputs(program, baseline, path):
     """Both commands read the file, and print the same."""
     program_output = path.with_suffix(".program_output")
@@ -297,7 +292,7 @@ def main(arguments):
     lister, copier, typed, reader, slice_lister, baseline, slice_baseline = paths
     folder = Path(arguments[7])
     works = {
-        "Listing": ([lister], [baseline], compare_listings),
+        "Listing": ([lister], [baseline], compare_outputs),
         "Writing back": ([copier], [baseline, "--write-back"], compare_written_back),
         "Typed": ([typed], [baseline, "--typed"], compare_outputs),
     }

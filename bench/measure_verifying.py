@@ -6,8 +6,7 @@ Usage: measure_verifying.py [PROGRAM [LISTING [FOLDER]]]
 PROGRAM is the built bench_verifying, and LISTING the built binlog_list, if not given. FOLDER, `work` beside this file if not
 given, holds the files of make_binlogs.py; those with checksums are made if they are missing. The baseline is built first.
 
-The first table is of listings that verify each checksum: their outputs must be equal, but for the word at the end of a
-line, and their exit statuses. Instructions are those of the small log, less those of its first event alone; the cost of
+The first table is of listings that verify each checksum: their outputs and their exit statuses must be equal. Instructions are those of the small log, less those of its first event alone; the cost of
 verifying is what they are more than those of LISTING. The second is of verifying alone: `bench_verifying count`, the
 baseline's `--mismatches`, and `mariadb-binlog --verify-binlog-checksum`, of Debian's package `mariadb-client`. Times are
 processor times, the best of 5, in turns, with output to /dev/null.
@@ -18,7 +17,7 @@ import sys
 from pathlib import Path
 
 import make_binlogs
-from measure import build_baseline, compare_listings
+from measure import build_baseline, compare_outputs
 from measure_json import instructions, seconds
 
 KINDS = ("statements_crc32", "rows_crc32")
@@ -56,7 +55,7 @@ def further(command, folder, kind):
 
 def listing_row(program, listing, baseline, folder, kind):
     path, small = folder / f"{kind}.binlog", folder / f"{kind}_small.binlog"
-    compare_listings([program], [baseline, "--verify"], path)
+    compare_outputs([program], [baseline, "--verify"], path)
     ours, theirs = best_of([[program], [baseline, "--verify"]], path)
     with open(small, "rb") as file:
         few = subprocess.run([listing], stdin=file, stdout=subprocess.PIPE, check=True).stdout.count(b"\n")

@@ -4,7 +4,7 @@ use Rattle.std.specs.Io.KnownBytes.{Appends}
 use Rattle.binlog_wire.specs.declared.error.Error.{Error}
 use Rattle.binlog_wire.specs.declared.error.Error.TheVariants.{Writer}
 use Rattle.binlog_events.specs.Events.{EventView}
-use Rattle.binlog_lines.specs.Lines.{AppendsFront}
+use Rattle.binlog_ends.specs.Counts.{AppendsFront}
 
 -- The bytes of an item: those of its event, and none of an error.
 abbrev pub item_bytes : Result EventView Error → List ℕ

@@ -1,11 +1,10 @@
 //! A visitor that collects the GTIDs of a log.
 ghost use Rattle.std.specs.Prelude.{◌≡◌, []};
 
-use binlog_file::{Error, EventRef, GtidTracker};
+use binlog_file::{Error, EventRef, GtidTracker, WriteCounted};
 use binlog_gtid_listing::{list_refused, track_event};
 use binlog_visits::Visitor;
 use std::alloc::Global;
-use std::io::Write;
 
 /// Adds the GTIDs of each event to a set, and writes the line of each error, as `binlog_gtid_listing` does: of an item, and
 /// of an event whose GTIDs can't be read. The output isn't flushed.
@@ -36,7 +35,7 @@ impl<W> GtidCollector<W> {
 }
 
 /// A visit adds the GTIDs of the item, or writes its line. It is refused with [`Error::Memory`] or [`Error::Writer`].
-impl<W: Write> Visitor for GtidCollector<W> {
+impl<W: WriteCounted> Visitor for GtidCollector<W> {
     ghost use Rattle.binlog_commands.specs.Collecting.{Collects, RefusesCollected};
 
     ghost visits = { λ old index item new. Collects index item old.gtids (W.contents old.output) new.gtids (W.contents new.output) };

@@ -19,7 +19,8 @@ use Rattle.binlog_file.proofs.StreamItems.{few_items}
 use Rattle.binlog_file.proofs.Iterating.{some_left, next_is_first, next_is_none}
 use Rattle.binlog_gtid_sets.specs.declared.gtid_group.GtidGroup.{GtidGroup}
 use Rattle.binlog_gtid_sets.specs.GtidGroups.{Pair, is_tracked, AreGroups}
-use Rattle.binlog_lines.specs.Lines.{AppendsFront, HasLine, ListsNext, LeavesLooked}
+use Rattle.binlog_ends.specs.Counts.{AppendsFront}
+use Rattle.binlog_lines.specs.Lines.{HasLine, ListsNext, LeavesLooked}
 use Rattle.binlog_lines.proofs.Listed as listed
 use Rattle.binlog_lines.proofs.Listed.{looked_to, looked_from}
 use Rattle.binlog_listing.specs.Listing.{error_line}

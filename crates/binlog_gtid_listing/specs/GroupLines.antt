@@ -7,7 +7,7 @@ use Rattle.binlog_wire.specs.declared.error.Error.TheVariants.{Memory, Writer}
 use Rattle.binlog_numbers.specs.declared.gno_interval.GnoInterval.{GnoInterval}
 use Rattle.binlog_gtids.specs.GnoSets.{AreApart, is_held, is_missing}
 use Rattle.binlog_gtid_sets.specs.declared.gtid_group.GtidGroup.{GtidGroup}
-use Rattle.binlog_lines.specs.Lines.{AppendsFront}
+use Rattle.binlog_ends.specs.Counts.{AppendsFront}
 
 -- ---- texts
 

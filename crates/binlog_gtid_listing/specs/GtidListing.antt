@@ -12,7 +12,8 @@ use Rattle.binlog_file.specs.Streams.{Gives}
 use Rattle.binlog_file.specs.StreamItems.{AreLeft}
 use Rattle.binlog_gtid_sets.specs.declared.gtid_group.GtidGroup.{GtidGroup}
 use Rattle.binlog_gtid_sets.specs.GtidGroups.{Pair, is_tracked, AreGroups}
-use Rattle.binlog_lines.specs.Lines.{listing, AppendsFront, HasLine, ListsItem, ListsItems, LeavesLooked}
+use Rattle.binlog_ends.specs.Counts.{AppendsFront}
+use Rattle.binlog_lines.specs.Lines.{listing, HasLine, ListsItem, ListsItems, LeavesLooked}
 use Rattle.binlog_gtid_listing.specs.GtidItems.{gtids_in, gtid_line, is_refused, are_added, MayGrow, GrowsBy}
 use Rattle.binlog_gtid_listing.specs.GroupLines.{AreGroupLines}
 

@@ -5,8 +5,7 @@ ghost use Rattle.binlog_gtid_sets.specs.GtidGroups.{AreGroups, pair_of, interval
 ghost use Rattle.binlog_gtid_listing.specs.GroupLines.{Writes, WritesGroup, WritesGroups, group_line};
 
 use crate::parts::{write_intervals, write_part, write_sid, write_tag};
-use binlog_file::{Error, GnoInterval, GtidTracker, Tag};
-use std::io::Write;
+use binlog_file::{Error, GnoInterval, GtidTracker, Tag, WriteCounted};
 
 /// Writes the line of each group of a set, in their order.
 ///
@@ -14,7 +13,7 @@ use std::io::Write;
 ///
 /// - [`Error::Memory`] where memory ran out for the gaps of a group, after the lines of all groups before.
 /// - [`Error::Writer`] where the writer failed; it has a front of the lines.
-pub fn write_groups<W: Write>(gtids: &GtidTracker, output: &mut W) -> Result<(), Error>
+pub fn write_groups<W: WriteCounted>(gtids: &GtidTracker, output: &mut W) -> Result<(), Error>
     ensures groups { AreGroups gtids.now }
     ensures written { WritesGroups gtids.now (W.contents output.old) result (W.contents output.new) }
 {
@@ -28,7 +27,7 @@ pub fn write_groups<W: Write>(gtids: &GtidTracker, output: &mut W) -> Result<(),
 }
 
 // Writes the line of the numbers of a source and a tag.
-fn write_group<W: Write>(
+fn write_group<W: WriteCounted>(
     gtids: &GtidTracker,
     sid: [u8; 16],
     tag: Option<&Tag<'_>>,
@@ -42,7 +41,7 @@ fn write_group<W: Write>(
 }
 
 // Writes a line of these parts.
-fn write_parts<W: Write>(
+fn write_parts<W: WriteCounted>(
     sid: [u8; 16],
     tag: Option<&Tag<'_>>,
     intervals: &[GnoInterval],

@@ -5,17 +5,16 @@ ghost use Rattle.binlog_gtids.specs.GnoSets.{AreApart};
 ghost use Rattle.binlog_listing.specs.Listing.{error_line};
 ghost use Rattle.binlog_gtid_listing.specs.GroupLines.{Writes, tag_suffix, interval_text, intervals_text};
 
-use binlog_file::{Error, GnoInterval, Tag};
+use binlog_file::{Error, GnoInterval, Tag, WriteCounted};
 use binlog_lines::{ItemLines, write_line};
 use binlog_listing::TextLines;
 use hex::encode_to_slice;
 use itoa::Buffer;
 use std::alloc::Global;
-use std::io::Write;
 
 /// Writes these bytes. Refused by [`Error::Writer`] alone; the writer then has a front of the bytes. So it is with each
 /// function of this module.
-pub(crate) fn write_part<W: Write>(part: &[u8], output: &mut W) -> Result<(), Error>
+pub(crate) fn write_part<W: WriteCounted>(part: &[u8], output: &mut W) -> Result<(), Error>
     ensures { Writes part.now (W.contents output.old) result (W.contents output.new) }
 {
     write_line(output, part)
@@ -23,7 +22,7 @@ pub(crate) fn write_part<W: Write>(part: &[u8], output: &mut W) -> Result<(), Er
 
 /// Writes the line of an error.
 #[inline(never)]
-pub(crate) fn write_error<W: Write>(
+pub(crate) fn write_error<W: WriteCounted>(
     alloc: Global,
     index: u64,
     error: &Error,
@@ -39,7 +38,7 @@ pub(crate) fn write_error<W: Write>(
 }
 
 /// Writes the UUID of a source in lower-case hexadecimal digits.
-pub(crate) fn write_sid<W: Write>(sid: &[u8], output: &mut W) -> Result<(), Error>
+pub(crate) fn write_sid<W: WriteCounted>(sid: &[u8], output: &mut W) -> Result<(), Error>
     requires { length sid.now ≡ 16 }
     ensures { Writes (encode_lower sid.now) (W.contents output.old) result (W.contents output.new) }
 {
@@ -51,7 +50,7 @@ pub(crate) fn write_sid<W: Write>(sid: &[u8], output: &mut W) -> Result<(), Erro
 }
 
 /// Writes a colon and the tag; nothing for no tag.
-pub(crate) fn write_tag<W: Write>(tag: Option<&Tag<'_>>, output: &mut W) -> Result<(), Error>
+pub(crate) fn write_tag<W: WriteCounted>(tag: Option<&Tag<'_>>, output: &mut W) -> Result<(), Error>
     ensures { Writes (tag_suffix (option_copied tag.entry)) (W.contents output.old) result (W.contents output.new) }
 {
     match tag {
@@ -64,7 +63,7 @@ pub(crate) fn write_tag<W: Write>(tag: Option<&Tag<'_>>, output: &mut W) -> Resu
 }
 
 // Writes a number in decimal digits.
-fn write_number<W: Write>(number: u64, output: &mut W) -> Result<(), Error>
+fn write_number<W: WriteCounted>(number: u64, output: &mut W) -> Result<(), Error>
     ensures { Writes (decimal number) (W.contents output.old) result (W.contents output.new) }
 {
     let mut digits = Buffer::new();
@@ -72,7 +71,7 @@ fn write_number<W: Write>(number: u64, output: &mut W) -> Result<(), Error>
 }
 
 // Writes the first number of an interval, and the last one if it is another.
-fn write_interval<W: Write>(interval: &GnoInterval, output: &mut W) -> Result<(), Error>
+fn write_interval<W: WriteCounted>(interval: &GnoInterval, output: &mut W) -> Result<(), Error>
     requires { interval.now.start < interval.now.end }
     ensures { Writes (interval_text interval.now) (W.contents output.old) result (W.contents output.new) }
 {
@@ -87,7 +86,7 @@ fn write_interval<W: Write>(interval: &GnoInterval, output: &mut W) -> Result<()
 }
 
 /// Writes intervals with commas between them, or `-` if there are none.
-pub(crate) fn write_intervals<W: Write>(
+pub(crate) fn write_intervals<W: WriteCounted>(
     intervals: &[GnoInterval],
     output: &mut W,
 ) -> Result<(), Error>

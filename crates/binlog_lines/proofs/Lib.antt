@@ -1,4 +1,4 @@
 pub mod Listed
 pub mod OtherChecksums
-pub mod Written
 pub mod SliceListed
+pub mod Counting

@@ -4,6 +4,7 @@ use Rattle.std.proofs.lemmas.List.{map-append}
 use Rattle.std.specs.List.{list_any}
 use Rattle.std.specs.Iterator.{Yields, YieldsThen}
 use Rattle.std.specs.Io.KnownBytes.{Appends}
+use Rattle.binlog_ends.specs.Counts.{AppendsFront}
 use Rattle.std.proofs.lemmas.List.Folds.{list_any-append}
 use Rattle.std.proofs.KnownBytes.{Appends-nil, Appends-trans}
 use Rattle.binlog_wire.specs.declared.error.Error.{Error}
@@ -17,7 +18,7 @@ use Rattle.binlog_file.specs.Slices.{slice_fde, SliceGives}
 use Rattle.binlog_file.specs.State.{Handles}
 use Rattle.binlog_file.specs.StreamItems.{AreItems}
 use Rattle.binlog_file.proofs.WholeSlices.{all_of_slice, items_and_left, few_so_far}
-use Rattle.binlog_lines.specs.Lines.{listing, AppendsFront, ListsFront, LeavesLooked, ListsItem}
+use Rattle.binlog_lines.specs.Lines.{listing, ListsFront, LeavesLooked, ListsItem}
 use Rattle.binlog_lines.specs.SliceLines.{state_under, ListsSlice}
 use Rattle.binlog_lines.proofs.Listed.{listing-more}
 

@@ -2,6 +2,7 @@
 use Rattle.std.specs.Prelude.{◌≡◌, ◌≢◌, ℕ, ◌+◌, ◌<◌, ◌≤◌, Bool, true, false, List, [], ◌∷◌, ◌++◌, length, take, ◌⊎◌, Option, Some, None, Result, Ok, Err, is_err, ⊤}
 use Rattle.std.specs.List.{list_any}
 use Rattle.std.specs.Io.KnownBytes.{Appends}
+use Rattle.binlog_ends.specs.Counts.{AppendsFront}
 use Rattle.binlog_wire.specs.declared.error.Error.{Error}
 use Rattle.binlog_wire.specs.declared.error.Error.TheVariants.{EndOfInput, InvalidFileHeader, Memory, Reader, Writer}
 use Rattle.binlog_wire.specs.Errors.{is_environment_error}
@@ -13,13 +14,6 @@ use Rattle.binlog_file.specs.Verifications.{Handling, HandlesVerified}
 use Rattle.binlog_file.specs.Streams.{Gives, IsLeft}
 use Rattle.binlog_file.specs.StreamItems.{AreLeft}
 use Rattle.binlog_file.specs.VerifiedFiles.{AreVerifiedItems}
-
--- A prefix of these bytes was appended.
-pub record AppendsFront (old new : Option (List ℕ)) (bytes : List ℕ) : Type 0 where
-  pub front : List ℕ
-  pub cut : List ℕ
-  pub whole : bytes ≡ front ++ cut
-  pub written : Appends old new front
 
 -- An item that gets a line: every item except a failure of memory or of the reader.
 abbrev pub HasLine : Result EventView Error → Type 0

@@ -8,6 +8,6 @@ mod output;
 mod slice_listing;
 
 pub use item_lines::ItemLines;
-pub use listing::{list, list_items, list_verified, status};
+pub use listing::{list, list_counted, list_items, list_verified, status};
 pub use output::write_line;
 pub use slice_listing::list_slice;

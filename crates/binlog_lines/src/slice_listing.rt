@@ -2,12 +2,13 @@
 ghost use Rattle.std.specs.Prelude.{◌≡◌, false, Some, IfErr};
 ghost use Rattle.binlog_wire.specs.Errors.{is_environment_error};
 ghost use Rattle.binlog_events.specs.EventRefs.{item_view};
+ghost use Rattle.binlog_events.specs.Writing.{CountsWriter};
 ghost use Rattle.binlog_lines.specs.Lines.{Lists, ListsItem};
 ghost use Rattle.binlog_lines.specs.SliceLines.{ListsSlice, answered};
 
 use crate::item_lines::ItemLines;
 use crate::output::write_line;
-use binlog_file::{BinlogSlice, BinlogVersion, Error, EventRef};
+use binlog_file::{BinlogSlice, BinlogVersion, CountedRef, Error, EventRef, WriteCounted};
 use std::alloc::Global;
 use std::io::Write;
 
@@ -29,18 +30,20 @@ pub fn list_slice<W: Write, L: ItemLines>(
     ensures { Lists L.line L.takes bytes.now (W.contents output.old) result (W.contents output.new) }
 {
     let slice = BinlogSlice::new(BinlogVersion::Version4, bytes)?;
-    list_items(alloc, slice, lines, output)
+    let mut output = CountedRef::new(&mut *output);
+    list_items(alloc, slice, lines, &mut output)
 }
 
 // Writes the line of each item of a slice, with indexes from 0.
-fn list_items<W: Write, L: ItemLines>(
+fn list_items<W: WriteCounted, L: ItemLines>(
     alloc: Global,
     slice: BinlogSlice<'_>,
     lines: &mut L,
     output: &mut W,
 ) -> Result<bool, Error>
     requires { slice.is_ended ≡ false }
-    ensures { ListsSlice L.line L.takes slice.entry (W.contents output.old) result (W.contents output.new) }
+    ensures lists { ListsSlice L.line L.takes slice.entry (W.contents output.old) result (W.contents output.new) }
+    ensures writer { CountsWriter result (W.count output.old) (W.count output.new) }
 {
     let mut has_errors = false;
     let mut index = 0;
@@ -53,7 +56,7 @@ fn list_items<W: Write, L: ItemLines>(
 
 // Writes the line of an item. The result is whether the item is an error.
 #[inline(always)]
-fn list_item<W: Write, L: ItemLines>(
+fn list_item<W: WriteCounted, L: ItemLines>(
     alloc: Global,
     index: u64,
     item: Result<EventRef<'_>, Error>,
@@ -61,7 +64,8 @@ fn list_item<W: Write, L: ItemLines>(
     output: &mut W,
 ) -> Result<bool, Error>
     requires { IfErr item (λ e. is_environment_error e ≡ false) }
-    ensures { ListsItem L.line L.takes index (Some (item_view item.entry)) (W.contents output.old) (W.contents output.new) (answered result) }
+    ensures lists { ListsItem L.line L.takes index (Some (item_view item.entry)) (W.contents output.old) (W.contents output.new) (answered result) }
+    ensures writer { CountsWriter result (W.count output.old) (W.count output.new) }
 {
     match item {
         Ok(event) => {

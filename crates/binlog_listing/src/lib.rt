@@ -5,4 +5,4 @@ mod line;
 mod listing;
 mod word;
 
-pub use listing::{TextLines, list, list_slice, list_verified};
+pub use listing::{TextLines, list, list_counted, list_slice, list_verified};

@@ -4,7 +4,7 @@ use Rattle.std.specs.Io.KnownBytes.{Appends}
 use Rattle.binlog_wire.specs.declared.error.Error.{Error}
 use Rattle.binlog_wire.specs.declared.error.Error.TheVariants.{Memory, Writer}
 use Rattle.binlog_events.specs.Events.{EventView}
-use Rattle.binlog_lines.specs.Lines.{AppendsFront}
+use Rattle.binlog_ends.specs.Counts.{AppendsFront}
 
 -- The line of the item is written.
 abbrev pub WritesItem : (ℕ → Result EventView Error → List ℕ) → ℕ → Result EventView Error → Option (List ℕ) → Option (List ℕ) → Type 0

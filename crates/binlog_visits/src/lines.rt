@@ -2,7 +2,7 @@
 ghost use Rattle.std.specs.Prelude.{◌≡◌};
 
 use crate::visitor::Visitor;
-use binlog_file::{Error, EventRef};
+use binlog_file::{CountedRef, Error, EventRef};
 use binlog_lines::{ItemLines, write_line};
 use std::alloc::Global;
 use std::io::Write;
@@ -48,11 +48,13 @@ impl<L: ItemLines, W: Write> Visitor for LineWriter<L, W> {
     #[inline(always)]
     fn visit_event(&mut self, index: u64, event: &EventRef<'_>) -> Result<(), Error> {
         let line = self.lines.event_line(self.alloc, index, event)?;
-        write_line(&mut self.output, line)
+        let mut output = CountedRef::new(&mut self.output);
+        write_line(&mut output, line)
     }
 
     fn visit_error(&mut self, index: u64, error: &Error) -> Result<(), Error> {
         let line = self.lines.error_line(self.alloc, index, error)?;
-        write_line(&mut self.output, line)
+        let mut output = CountedRef::new(&mut self.output);
+        write_line(&mut output, line)
     }
 }

@@ -1,11 +1,11 @@
 //! Readers that fail at each of their calls.
-use crate::devices::FailingReader;
 use binlog_file::{
-    BinlogFileHeader, BinlogVersion, Counted, CountsFailures, Error, EventStreamReader, SliceReader,
+    BinlogFileHeader, BinlogFileOf, BinlogVersion, Counted, CountsFailures, Error,
+    EventStreamReader, ReadCounted, SliceReader, Unverified,
 };
 use std::alloc::Global;
 use std::io::ErrorKind;
-use testkit_logs::{COUNTED_XID, FILE_HEADER};
+use testkit_logs::{COUNTED, COUNTED_XID, DESCRIPTION, FILE_HEADER, FailingReader, joined};
 
 // The number of the error that reading the file header returns if the reader fails after this many bytes, or 0, and how
 // many failures are counted.
@@ -70,4 +70,66 @@ fn reads_slice(alloc: Global) -> Result<bool, Error> {
 #[test]
 fn a_slice_never_fails(rt: HostRuntime) {
     assert!(rt; reads_slice(rt.alloc()) == Ok(true));
+}
+
+/// The type of an event, or the number of an error; None at the end.
+type Kind = Option<Result<u8, u8>>;
+
+// The next item of a file.
+fn next_kind<R: ReadCounted + Drop>(file: &mut BinlogFileOf<R, Unverified>) -> Kind {
+    match file.next_ref() {
+        Some(Ok(event)) => Some(Ok(event.header().event_type_raw())),
+        Some(Err(error)) => Some(Err(error.number())),
+        None => None,
+    }
+}
+
+// The first four items of a file. The error of the file header is in the place of the first item.
+fn kinds_of<R: ReadCounted + Drop>(alloc: Global, input: R) -> [Kind; 4] {
+    let mut kinds = [None; 4];
+    match BinlogFileOf::new_counted(alloc, BinlogVersion::Version4, input) {
+        Ok(mut file) => {
+            for slot in kinds.iter_mut() {
+                *slot = next_kind(&mut file);
+            }
+        }
+        Err(error) => kinds[0] = Some(Err(error.number())),
+    }
+    kinds
+}
+
+// The first four items of a file whose reader fails after this many bytes, and how many failures are counted.
+fn items_of(alloc: Global, bytes: &[u8], taken: usize, kind: ErrorKind) -> ([Kind; 4], u64) {
+    let mut input = Counted::new(FailingReader::new(bytes, taken, kind));
+    let kinds = kinds_of(alloc, &mut input);
+    let failures = input.failures();
+    drop(input);
+    (kinds, failures)
+}
+
+// What these are: the file header has 4 bytes, the description 81, and the event after it 31.
+fn wanted(taken: usize) -> [Kind; 4] {
+    let (description, xid) = (Some(Ok(15)), Some(Ok(16)));
+    let (before, within) = (Some(Err(14)), Some(Err(15)));
+    match taken {
+        0..=3 => [before, None, None, None],
+        4 => [before, description, xid, None],
+        5..=84 => [within, None, None, None],
+        85 => [description, before, xid, None],
+        86..=115 => [description, within, None, None],
+        _ => [description, xid, before, None],
+    }
+}
+
+#[test]
+fn a_failure_at_each_call_is_one_item(rt: HostRuntime) {
+    let parts = [FILE_HEADER, DESCRIPTION, COUNTED, COUNTED_XID];
+    if let Ok(log) = joined(rt.alloc(), &parts) {
+        for taken in 0..=log.len() {
+            for kind in [ErrorKind::Other, ErrorKind::Interrupted] {
+                let items = items_of(rt.alloc(), log.as_slice(), taken, kind);
+                assert!(rt; items == (wanted(taken), 1));
+            }
+        }
+    }
 }

@@ -1,5 +1,5 @@
 //! The listing of a log that is shown a byte at a time, and a writer that fails at each of its calls.
-use binlog_file::Error;
+use binlog_file::{Counted, Error};
 use binlog_gtid_listing::list_gtids;
 use std::alloc::Global;
 use std::io::BufReader;
@@ -32,14 +32,14 @@ fn is_told(alloc: Global, calls_before: usize) -> bool {
     let Ok(input) = BufReader::with_capacity(alloc, 1, LOG) else {
         return false;
     };
-    let mut output = FailingWriter::new(alloc, calls_before);
-    let answer = list_gtids(alloc, input, &mut output);
+    let mut output = Counted::new(FailingWriter::new(alloc, calls_before));
+    let answer = list_gtids(alloc, Counted::new(input), &mut output);
     let wanted = if calls_before < LINES.len() {
         Err(Error::Writer)
     } else {
         Ok(true)
     };
-    answer == wanted && Some(output.written.as_slice()) == LINES.get(..calls_before)
+    answer == wanted && Some(output.get_ref().written.as_slice()) == LINES.get(..calls_before)
 }
 
 #[test]

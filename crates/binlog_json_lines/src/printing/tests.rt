@@ -1,4 +1,5 @@
 use super::print_events;
+use binlog_file::{Counted, SliceReader};
 use std::io;
 use std::io::Write;
 
@@ -29,11 +30,15 @@ impl Write for FlushedWriter {
 
 #[test]
 fn leaves_the_flush_to_the_caller(rt: HostRuntime) {
-    let mut output = FlushedWriter {
+    let mut output = Counted::new(FlushedWriter {
         flushes: 0,
         lines: 0,
-    };
-    assert!(rt; print_events(rt.alloc(), TWO_EVENTS, &mut output) == Ok(false));
-    assert!(rt; output.lines == 2);
-    assert!(rt; output.flushes == 0);
+    });
+    let answer = print_events(rt.alloc(), &mut SliceReader::new(TWO_EVENTS), &mut output);
+    let device = output.into_inner();
+    let (flushes, lines) = (device.flushes, device.lines);
+    drop(device);
+    assert!(rt; answer == Ok(false));
+    assert!(rt; lines == 2);
+    assert!(rt; flushes == 0);
 }

@@ -3,4 +3,4 @@ use Rattle.binlog_gtid_listing.proofs.group_lines.write_groups.Given as goal
 
 -- the lines of the groups so far are written
 abbrev pub invariant-loop-index : goal.invariant-loop-index
-invariant-loop-index g l = AreListed l.gtids l.index (g.W.Write.contents l.fn.output) (g.W.Write.contents l.output)
+invariant-loop-index g l = AreListed l.gtids l.index (g.W.WriteCounted.contents l.fn.output) (g.W.WriteCounted.contents l.output)

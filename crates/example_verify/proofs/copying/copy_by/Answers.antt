@@ -1,6 +1,7 @@
 use Rattle.std.specs.Fn.{FnReturnsAt}
 use Rattle.std.proofs.Common.{List, ℕ}
 use Rattle.std.proofs.lemmas.Result.{err_from_is_err_and}
+use Rattle.binlog_file.specs.Views.{CountedView}
 use Rattle.binlog_file.specs.declared.file.BinlogFileOf.{BinlogFileOf}
 use Rattle.binlog_file.specs.declared.verified.Verified.{Verified}
 use Rattle.binlog_file.proofs.OtherChecksums.{handles_other}
@@ -11,7 +12,7 @@ use Rattle.example_verify.proofs.copying.copy_by.Goals as goal
 pub returns-in_err-file : goal.returns-in_err-file
 returns-in_err-file g c =
     let p = err_from_is_err_and c.from_residual.result c.from_residual.ensures.1 in
-    rw (p.1, p.2) (not_opened (BinlogFileOf g.row.R.Denot (Verified g.row.F.Denot)) _ _ _ c.in_err-file.ensures.header.1)
+    rw (p.1, p.2) (not_opened (BinlogFileOf (CountedView g.row.R.Denot) (Verified g.row.F.Denot)) _ _ _ c.in_err-file.ensures.header.1)
 
 pub copy_items-requires-clause-ready : goal.copy_items-requires-clause-ready
 copy_items-requires-clause-ready g c = rw c.in_ok-file.ensures.function c.requires.callable

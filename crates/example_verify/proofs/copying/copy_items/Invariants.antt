@@ -7,7 +7,7 @@ use Rattle.example_verify.proofs.copying.copy_items.Given as goal
 
 abbrev pub invariant-items : goal.invariant-items
 invariant-items g l = record {
-  written : IsWrittenSoFar (prepend_known file_header (unread g.R.Read.remaining l.fn.file)) (state l.file) (unread g.R.Read.remaining l.file) (is_ended l.file)
+  written : IsWrittenSoFar (prepend_known file_header (unread g.R.ReadCounted.remaining l.fn.file)) (state l.file) (unread g.R.ReadCounted.remaining l.file) (is_ended l.file)
       (g.W.Write.contents l.fn.output) (g.W.Write.contents l.output) l.counter;
   same : verification_of l.file ≡ verification_of l.fn.file;
 }
