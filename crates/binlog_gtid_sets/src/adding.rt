@@ -18,7 +18,8 @@ impl GtidTracker {
     ///
     /// The GTID of a GTID event takes constant time if its group and its number are the last ones, and otherwise
     /// logarithmic time and a move of the groups or intervals after it. Memory is allocated only for a new group or a
-    /// new interval. For a PREVIOUS_GTIDS event the set is copied, unless it contains all of the event's GTIDs.
+    /// new interval. For a PREVIOUS_GTIDS event the set is copied, unless it contains all of the event's GTIDs; the copy
+    /// makes room once for all groups, and once in each group for an entry's intervals.
     ///
     /// # Errors
     ///
@@ -68,6 +69,7 @@ impl GtidTracker {
     }
 
     // Adds the numbers of entries, in a copy of the set that replaces it; nothing is copied if the set contains them all.
+    // The copy makes room for all groups at once, and each group for all intervals of an entry.
     // The only error is [`Error::Memory`], which leaves the set unchanged.
     fn unite(&mut self, entries: &[PreviousGtidsSid<'_>]) -> Result<(), Error>
         requires { bad_gno_listed entries.now ≡ None }
@@ -78,19 +80,20 @@ impl GtidTracker {
         if self.contains_listed(entries) {
             return Ok(());
         }
-        let mut union = self.clone()?;
+        let mut union = self.clone_with_room(entries.len())?;
         union.insert_entries(entries)?;
         *self = union;
         Ok(())
     }
 
-    // Adds the numbers of a source and a tag in an interval, which may be empty. The only error is [`Error::Memory`],
-    // which leaves the set unchanged.
+    // Adds the numbers of a source and a tag in an interval, which may be empty; a new group gets room for `count`
+    // intervals. The only error is [`Error::Memory`], which leaves the set unchanged.
     fn insert_interval(
         &mut self,
         sid: &[u8; 16],
         tag: Option<&Tag<'_>>,
         interval: &GnoInterval,
+        count: usize,
     ) -> Result<(), Error>
         requires { bad_gno_in interval.now ≡ None }
         ensures ok { OnOk result ((pair : Pair) (n : ℕ) → is_tracked self.new pair n ≡ ((is_same (pair_of sid.now (option_copied tag.entry)) pair && is_within interval.now n) || is_tracked self.old pair n)) }
@@ -100,7 +103,7 @@ impl GtidTracker {
         if interval.start() >= interval.end() {
             return Ok(());
         }
-        self.insert(sid, tag, interval.start(), interval.end())
+        self.insert_with_room(sid, tag, interval.start(), interval.end(), count)
     }
 
     // Adds the numbers of a source and a tag in intervals, of which some may be empty. The only error is
@@ -115,8 +118,9 @@ impl GtidTracker {
         ensures ok { OnOk result ((pair : Pair) (n : ℕ) → is_tracked self.new pair n ≡ ((is_same (pair_of sid.now (option_copied tag.entry)) pair && is_held intervals.now n) || is_tracked self.old pair n)) }
         ensures memory { IsOkUnless result Memory }
     {
+        self.reserve(sid, tag, intervals.len())?;
         for interval in intervals {
-            self.insert_interval(sid, tag, interval)?;
+            self.insert_interval(sid, tag, interval, intervals.len())?;
         }
         Ok(())
     }

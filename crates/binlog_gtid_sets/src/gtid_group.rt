@@ -19,13 +19,15 @@ pub struct GtidGroup {
 }
 
 impl GtidGroup {
-    /// A group with the numbers from `start` to `end`, `end` excluded. The only error is [`Error::Memory`].
+    /// A group with the numbers from `start` to `end`, `end` excluded, and room for `count` intervals. The only error is
+    /// [`Error::Memory`].
     pub(crate) fn new(
         alloc: Global,
         sid: &[u8; 16],
         tag: Option<&Tag<'_>>,
         start: u64,
         end: u64,
+        count: usize,
     ) -> Result<Self, Error>
         requires positive { 1 ≤ start }
         requires some { start < end }
@@ -37,6 +39,7 @@ impl GtidGroup {
     {
         let tag = owned_tag(alloc, tag)?;
         let mut gnos = GnoSet::new(alloc);
+        gnos.reserve(count)?;
         gnos.insert(start, end)?;
         Ok(GtidGroup {
             sid: *sid,
@@ -58,6 +61,14 @@ impl GtidGroup {
         ensures memory { IsOkUnless result Memory }
     {
         self.gnos.insert(start, end)
+    }
+
+    /// Makes room for `count` more intervals. The only error is [`Error::Memory`]. The group never changes.
+    pub(crate) fn reserve(&mut self, count: usize) -> Result<(), Error>
+        ensures same { self.new ≡ self.old }
+        ensures memory { IsOkUnless result Memory }
+    {
+        self.gnos.reserve(count)
     }
 
     /// Compares the group's source and tag with others.

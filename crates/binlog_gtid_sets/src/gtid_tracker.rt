@@ -116,8 +116,16 @@ impl GtidTracker {
         ensures ok { IfOk result (λ copy. copy ≡ self.now) }
         ensures memory { IsOkUnless result Memory }
     {
+        self.clone_with_room(0)
+    }
+
+    // A copy of the set with room for `count` more groups. The only error is [`Error::Memory`].
+    pub(crate) fn clone_with_room(&self, count: usize) -> Result<Self, Error>
+        ensures ok { IfOk result (λ copy. copy ≡ self.now) }
+        ensures memory { IsOkUnless result Memory }
+    {
         let alloc = *self.groups.allocator();
-        let mut groups = Vec::with_capacity(alloc, self.groups.len())?;
+        let mut groups = Vec::with_capacity(alloc, self.groups.len().saturating_add(count))?;
         for group in &self.groups {
             let copy = group.clone(alloc)?;
             push(&mut groups, copy)?;
@@ -141,12 +149,49 @@ impl GtidTracker {
         ensures err { OnErr result (self.new ≡ self.old) }
         ensures memory { IsOkUnless result Memory }
     {
+        self.insert_with_room(sid, tag, start, end, 1)
+    }
+
+    // The same; a new group gets room for `count` intervals.
+    pub(crate) fn insert_with_room(
+        &mut self,
+        sid: &[u8; 16],
+        tag: Option<&Tag<'_>>,
+        start: u64,
+        end: u64,
+        count: usize,
+    ) -> Result<(), Error>
+        requires positive { 1 ≤ start }
+        requires some { start < end }
+        requires small { end ≤ 2 ^ 63 }
+        ensures ok { OnOk result ((pair : Pair) (n : ℕ) → is_tracked self.new pair n ≡ ((is_same (pair_of sid.now (option_copied tag.entry)) pair && is_within (record { start = start; end = end }) n) || is_tracked self.old pair n)) }
+        ensures err { OnErr result (self.new ≡ self.old) }
+        ensures memory { IsOkUnless result Memory }
+    {
         match find(&self.groups, sid, tag_text(tag)) {
             Ok(at) => self.groups[at].insert(start, end),
             Err(at) => {
-                let group = GtidGroup::new(*self.groups.allocator(), sid, tag, start, end)?;
+                let alloc = *self.groups.allocator();
+                let group = GtidGroup::new(alloc, sid, tag, start, end, count)?;
                 add(&mut self.groups, at, group)
             }
+        }
+    }
+
+    // Makes room for `count` more intervals of a source and a tag, if the set has a number of them. The only error is
+    // [`Error::Memory`]. The set never changes.
+    pub(crate) fn reserve(
+        &mut self,
+        sid: &[u8; 16],
+        tag: Option<&Tag<'_>>,
+        count: usize,
+    ) -> Result<(), Error>
+        ensures same { self.new ≡ self.old }
+        ensures memory { IsOkUnless result Memory }
+    {
+        match find(&self.groups, sid, tag_text(tag)) {
+            Ok(at) => self.groups[at].reserve(count),
+            Err(_) => Ok(()),
         }
     }
 }

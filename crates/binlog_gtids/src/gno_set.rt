@@ -52,6 +52,15 @@ impl GnoSet {
         self.intervals.as_slice()
     }
 
+    /// Makes room for `count` more intervals, so that as many calls of [`insert`](Self::insert) allocate nothing. The only
+    /// error is [`Error::Memory`]. The set never changes.
+    pub fn reserve(&mut self, count: usize) -> Result<(), Error>
+        ensures same { self.new ≡ self.old }
+        ensures memory { IsOkUnless result Memory }
+    {
+        Ok(self.intervals.reserve(count)?)
+    }
+
     /// Adds the numbers from `start` to `end`, `end` excluded. `start` is at least 1 and below `end`; `end` is at most
     /// 2^63. The only error is [`Error::Memory`], which leaves the set unchanged.
     ///

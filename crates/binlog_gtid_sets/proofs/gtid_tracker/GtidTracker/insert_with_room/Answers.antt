@@ -3,7 +3,7 @@ use Rattle.std.specs.Prelude.{option_copied}
 use Rattle.binlog_gtid_sets.specs.GtidGroups.{pair_of, pair_in, IsAt, IsGapFor}
 use Rattle.binlog_gtids.specs.GnoSets.{is_within}
 use Rattle.binlog_gtid_sets.proofs.GtidGroups.{interval, inserts_at, are_at, adds_in_gap, are_added, some_from_interval}
-use Rattle.binlog_gtid_sets.proofs.gtid_tracker.GtidTracker.insert.Goals as goal
+use Rattle.binlog_gtid_sets.proofs.gtid_tracker.GtidTracker.insert_with_room.Goals as goal
 
 pub invariant_of-self : goal.invariant_of-self
 invariant_of-self c =
