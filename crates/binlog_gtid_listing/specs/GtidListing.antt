@@ -1,19 +1,17 @@
 -- The listing of the GTIDs of a log: the lines of its errors, and then those of the groups of its GTIDs.
-use Rattle.std.specs.Prelude.{◌≡◌, ◌≢◌, ◌⊎◌, ℕ, ◌<◌, ◌≤◌, Bool, false, List, [], ◌++◌, length, take, Option, Some, None, Result, Ok, Err}
+use Rattle.std.specs.Prelude.{◌≡◌, ◌≢◌, ◌⊎◌, ℕ, ◌<◌, ◌≤◌, Bool, List, [], ◌++◌, length, take, Option, Some, None, Result, Ok, Err}
 use Rattle.std.specs.List.{list_any}
 use Rattle.std.specs.Io.KnownBytes.{Appends}
 use Rattle.binlog_wire.specs.declared.error.Error.{Error}
 use Rattle.binlog_wire.specs.declared.error.Error.TheVariants.{EndOfInput, InvalidFileHeader, Memory, Reader, Writer}
-use Rattle.binlog_consts.specs.declared.version.BinlogVersion.TheVariants.{Version4}
 use Rattle.binlog_events.specs.FileHeader.{file_header}
 use Rattle.binlog_events.specs.Events.{EventView}
-use Rattle.binlog_file.specs.State.{StreamState, Handles, first_state}
-use Rattle.binlog_file.specs.Streams.{Gives}
-use Rattle.binlog_file.specs.StreamItems.{AreLeft}
+use Rattle.binlog_file.specs.State.{Handles}
 use Rattle.binlog_gtid_sets.specs.declared.gtid_group.GtidGroup.{GtidGroup}
 use Rattle.binlog_gtid_sets.specs.GtidGroups.{Pair, is_tracked, AreGroups}
 use Rattle.binlog_ends.specs.Counts.{AppendsFront}
-use Rattle.binlog_lines.specs.Lines.{listing, HasLine, ListsItem, ListsItems, LeavesLooked}
+use Rattle.binlog_lines.specs.Places.{Place, first_place, GivesFrom, LeavesLooked}
+use Rattle.binlog_lines.specs.Lines.{listing, HasLine, ListsItem, ListsItems}
 use Rattle.binlog_gtid_listing.specs.GtidItems.{gtids_in, gtid_line, is_refused, are_added, MayGrow, GrowsBy}
 use Rattle.binlog_gtid_listing.specs.GroupLines.{AreGroupLines}
 
@@ -24,18 +22,18 @@ error_lines items = listing gtid_line 0 items
 -- ---- the items
 
 -- All items that are left are read: the lines of their errors are written, and the set has what they add.
-pub record TracksAll (s : StreamState) (rest : List ℕ) (was : Bool) (old new : Option (List ℕ)) (groups : List GtidGroup) (has_errors : Bool) : Type 0 where
+pub record TracksAll (start : Place) (old new : Option (List ℕ)) (groups : List GtidGroup) (has_errors : Bool) : Type 0 where
   pub items : List (Result EventView Error)
-  pub are : AreLeft s.fde rest was items
+  pub are : LeavesLooked start items
   pub written : Appends old new (error_lines items)
   pub errors : has_errors ≡ list_any is_refused items
   pub same : (pair : Pair) (n : ℕ) → is_tracked groups pair n ≡ are_added items pair n
 
--- What reading the items that are left may answer. After an error the lines of all items before it are written, or a front
--- of the items' lines where the writer failed.
-abbrev pub TracksItems : StreamState → List ℕ → Bool → Option (List ℕ) → Result Bool Error → StreamState → Option (List ℕ) → Bool → Option (List ℕ) → List GtidGroup → Type 0
-TracksItems s rest was old (Ok has_errors) after left is new groups = TracksAll s rest was old new groups has_errors
-TracksItems s rest was old (Err error) after left is new groups = ListsItems Handles LeavesLooked gtid_line MayGrow s rest was old (Err error) after left is new
+-- What reading the items that are left at `start` may answer. After an error the lines of all items before it are written, or
+-- a front of the items' lines where the writer failed.
+abbrev pub TracksItems : (start : Place) (old : Option (List ℕ)) (answer : Result Bool Error) (after : Place) (new : Option (List ℕ)) (groups : List GtidGroup) → Type 0
+TracksItems start old (Ok has_errors) after new groups = TracksAll start old new groups has_errors
+TracksItems start old (Err error) after new groups = ListsItems Handles LeavesLooked gtid_line MayGrow start old (Err error) after new
 
 -- ---- the whole listing
 
@@ -45,9 +43,9 @@ pub record AreGtidsOf (items : List (Result EventView Error)) (groups : List Gti
   pub same : (pair : Pair) (n : ℕ) → is_tracked groups pair n ≡ are_added items pair n
 
 -- The lines of all errors are written, and then those of all groups, and nothing else.
-pub record ListsAllGtids (s : StreamState) (rest : List ℕ) (was : Bool) (old new : Option (List ℕ)) (has_errors : Bool) : Type 0 where
+pub record ListsAllGtids (start : Place) (old new : Option (List ℕ)) (has_errors : Bool) : Type 0 where
   pub items : List (Result EventView Error)
-  pub are : AreLeft s.fde rest was items
+  pub are : LeavesLooked start items
   pub groups : List GtidGroup
   pub union : AreGtidsOf items groups
   pub lines : List ℕ
@@ -57,9 +55,9 @@ pub record ListsAllGtids (s : StreamState) (rest : List ℕ) (was : Bool) (old n
 
 -- Memory ran out or the writer failed in the lines of the groups: those of the first groups are written behind those of all
 -- errors, or a front of these lines.
-pub record ListsSomeGtids (error : Error) (s : StreamState) (rest : List ℕ) (was : Bool) (old new : Option (List ℕ)) : Type 0 where
+pub record ListsSomeGtids (error : Error) (start : Place) (old new : Option (List ℕ)) : Type 0 where
   pub items : List (Result EventView Error)
-  pub are : AreLeft s.fde rest was items
+  pub are : LeavesLooked start items
   pub groups : List GtidGroup
   pub union : AreGtidsOf items groups
   pub count : ℕ
@@ -67,20 +65,18 @@ pub record ListsSomeGtids (error : Error) (s : StreamState) (rest : List ℕ) (w
   pub listed : AreGroupLines (take count groups) lines
   pub written : ((error ≡ Memory) × Appends old new (error_lines items ++ lines)) ⊎ ((error ≡ Writer) × AppendsFront old new (error_lines items ++ lines))
 
--- What listing the GTIDs of the items that are left may answer, and what is then written.
-abbrev pub ListsGtidItems : StreamState → List ℕ → Bool → Option (List ℕ) → Result Bool Error → StreamState → Option (List ℕ) → Bool → Option (List ℕ) → Type 0
-ListsGtidItems s rest was old (Ok has_errors) after left is new = ListsAllGtids s rest was old new has_errors
-ListsGtidItems s rest was old (Err error) after left is new =
-    ListsItems Handles LeavesLooked gtid_line MayGrow s rest was old (Err error) after left is new ⊎ ListsSomeGtids error s rest was old new
+-- What listing the GTIDs of the items that are left at `start` may answer, and what is then written.
+abbrev pub ListsGtidItems : (start : Place) (old : Option (List ℕ)) (answer : Result Bool Error) (after : Place) (new : Option (List ℕ)) → Type 0
+ListsGtidItems start old (Ok has_errors) after new = ListsAllGtids start old new has_errors
+ListsGtidItems start old (Err error) after new =
+    ListsItems Handles LeavesLooked gtid_line MayGrow start old (Err error) after new ⊎ ListsSomeGtids error start old new
 
 -- The input is a binlog file, whose GTIDs are listed.
 pub record ListsGtidsFile (bytes : List ℕ) (old : Option (List ℕ)) (answer : Result Bool Error) (new : Option (List ℕ)) : Type 0 where
   pub stream : List ℕ
   pub file : bytes ≡ file_header ++ stream
-  pub after : StreamState
-  pub left : Option (List ℕ)
-  pub ended : Bool
-  pub lists : ListsGtidItems (first_state Version4) stream false old answer after left ended new
+  pub after : Place
+  pub lists : ListsGtidItems (first_place stream) old answer after new
 
 -- What listing the GTIDs of a file's bytes may answer, and what is then written.
 abbrev pub ListsGtids : List ℕ → Option (List ℕ) → Result Bool Error → Option (List ℕ) → Type 0
@@ -101,8 +97,17 @@ TracksItem index (Some item) before old after new (Ok (Some is_error)) =
 TracksItem index item before old after new (Err error) = ListsItem gtid_line MayGrow index item old new (Err error)
 TracksItem index item before old after new answer = ⊥
 
+-- What there is so far: the set, and the bytes that are written.
+pub record Tracking : Type 0 where
+  pub groups : List GtidGroup
+  pub written : Option (List ℕ)
+
+-- The record of these parts.
+abbrev pub tracked : (groups : List GtidGroup) (written : Option (List ℕ)) → Tracking
+tracked groups written = record { groups = groups; written = written }
+
 -- The next item is given, and its line written or what it adds added.
-pub record TracksNext (index : ℕ) (s then : StreamState) (rest : Option (List ℕ)) (was : Bool) (left : Option (List ℕ)) (is : Bool) (before after : List GtidGroup) (old new : Option (List ℕ)) (answer : Result (Option Bool) Error) : Type 0 where
+pub record TracksNext (index : ℕ) (before : Place) (old : Tracking) (answer : Result (Option Bool) Error) (after : Place) (new : Tracking) : Type 0 where
   pub item : Option (Result EventView Error)
-  pub gives : Gives Handles s then rest was item left is
-  pub tracks : TracksItem index item before old after new answer
+  pub gives : GivesFrom Handles before item after
+  pub tracks : TracksItem index item old.groups old.written new.groups new.written answer

@@ -1,5 +1,6 @@
 //! The lines of the groups of a set of GTIDs.
 ghost use Rattle.std.specs.Prelude.{◌≡◌, option_copied};
+ghost use Rattle.binlog_events.specs.Writing.{CountsWriter};
 ghost use Rattle.binlog_gtids.specs.GnoSets.{AreApart};
 ghost use Rattle.binlog_gtid_sets.specs.GtidGroups.{AreGroups, pair_of, intervals_of};
 ghost use Rattle.binlog_gtid_listing.specs.GroupLines.{Writes, WritesGroup, WritesGroups, group_line};
@@ -16,6 +17,7 @@ use binlog_file::{Error, GnoInterval, GtidTracker, Tag, WriteCounted};
 pub fn write_groups<W: WriteCounted>(gtids: &GtidTracker, output: &mut W) -> Result<(), Error>
     ensures groups { AreGroups gtids.now }
     ensures written { WritesGroups gtids.now (W.contents output.old) result (W.contents output.new) }
+    ensures writer { CountsWriter result (W.count output.old) (W.count output.new) }
 {
     for index in 0..gtids.len() {
         if let Some(group) = gtids.group(index) {
@@ -33,8 +35,9 @@ fn write_group<W: WriteCounted>(
     tag: Option<&Tag<'_>>,
     output: &mut W,
 ) -> Result<(), Error>
-    ensures { WritesGroup sid (option_copied tag.entry) (intervals_of gtids.now (pair_of sid (option_copied tag.entry)))
+    ensures written { WritesGroup sid (option_copied tag.entry) (intervals_of gtids.now (pair_of sid (option_copied tag.entry)))
         (W.contents output.old) result (W.contents output.new) }
+    ensures writer { CountsWriter result (W.count output.old) (W.count output.new) }
 {
     let gaps = gtids.gaps(sid, tag)?;
     write_parts(sid, tag, gtids.intervals(sid, tag), &gaps, output)
@@ -50,8 +53,9 @@ fn write_parts<W: WriteCounted>(
 ) -> Result<(), Error>
     requires intervals { AreApart 0 intervals.now }
     requires gaps { AreApart 0 gaps.now }
-    ensures { Writes (group_line sid (option_copied tag.entry) intervals.now gaps.now)
+    ensures writes { Writes (group_line sid (option_copied tag.entry) intervals.now gaps.now)
         (W.contents output.old) result (W.contents output.new) }
+    ensures writer { CountsWriter result (W.count output.old) (W.count output.new) }
 {
     write_sid(&sid, output)?;
     write_tag(tag, output)?;

@@ -2,6 +2,7 @@
 ghost use Rattle.std.specs.Prelude.{◌≡◌, ◌<◌, length, option_copied, decimal};
 ghost use Rattle.hex.specs.Hex.{encode_lower};
 ghost use Rattle.binlog_gtids.specs.GnoSets.{AreApart};
+ghost use Rattle.binlog_events.specs.Writing.{CountsWriter};
 ghost use Rattle.binlog_listing.specs.Listing.{error_line};
 ghost use Rattle.binlog_gtid_listing.specs.GroupLines.{Writes, tag_suffix, interval_text, intervals_text};
 
@@ -15,7 +16,8 @@ use std::alloc::Global;
 /// Writes these bytes. Refused by [`Error::Writer`] alone; the writer then has a front of the bytes. So it is with each
 /// function of this module.
 pub(crate) fn write_part<W: WriteCounted>(part: &[u8], output: &mut W) -> Result<(), Error>
-    ensures { Writes part.now (W.contents output.old) result (W.contents output.new) }
+    ensures writes { Writes part.now (W.contents output.old) result (W.contents output.new) }
+    ensures writer { CountsWriter result (W.count output.old) (W.count output.new) }
 {
     write_line(output, part)
 }
@@ -28,7 +30,8 @@ pub(crate) fn write_error<W: WriteCounted>(
     error: &Error,
     output: &mut W,
 ) -> Result<(), Error>
-    ensures { Writes (error_line index error.now) (W.contents output.old) result (W.contents output.new) }
+    ensures writes { Writes (error_line index error.now) (W.contents output.old) result (W.contents output.new) }
+    ensures writer { CountsWriter result (W.count output.old) (W.count output.new) }
 {
     let mut lines = TextLines::new();
     match lines.error_line(alloc, index, error) {
@@ -40,7 +43,8 @@ pub(crate) fn write_error<W: WriteCounted>(
 /// Writes the UUID of a source in lower-case hexadecimal digits.
 pub(crate) fn write_sid<W: WriteCounted>(sid: &[u8], output: &mut W) -> Result<(), Error>
     requires { length sid.now ≡ 16 }
-    ensures { Writes (encode_lower sid.now) (W.contents output.old) result (W.contents output.new) }
+    ensures writes { Writes (encode_lower sid.now) (W.contents output.old) result (W.contents output.new) }
+    ensures writer { CountsWriter result (W.count output.old) (W.count output.new) }
 {
     let mut digits = [0; 32];
     match encode_to_slice(sid, &mut digits) {
@@ -51,7 +55,8 @@ pub(crate) fn write_sid<W: WriteCounted>(sid: &[u8], output: &mut W) -> Result<(
 
 /// Writes a colon and the tag; nothing for no tag.
 pub(crate) fn write_tag<W: WriteCounted>(tag: Option<&Tag<'_>>, output: &mut W) -> Result<(), Error>
-    ensures { Writes (tag_suffix (option_copied tag.entry)) (W.contents output.old) result (W.contents output.new) }
+    ensures writes { Writes (tag_suffix (option_copied tag.entry)) (W.contents output.old) result (W.contents output.new) }
+    ensures writer { CountsWriter result (W.count output.old) (W.count output.new) }
 {
     match tag {
         None => Ok(()),
@@ -64,7 +69,8 @@ pub(crate) fn write_tag<W: WriteCounted>(tag: Option<&Tag<'_>>, output: &mut W) 
 
 // Writes a number in decimal digits.
 fn write_number<W: WriteCounted>(number: u64, output: &mut W) -> Result<(), Error>
-    ensures { Writes (decimal number) (W.contents output.old) result (W.contents output.new) }
+    ensures writes { Writes (decimal number) (W.contents output.old) result (W.contents output.new) }
+    ensures writer { CountsWriter result (W.count output.old) (W.count output.new) }
 {
     let mut digits = Buffer::new();
     write_part(digits.format(number).as_bytes(), output)
@@ -73,7 +79,8 @@ fn write_number<W: WriteCounted>(number: u64, output: &mut W) -> Result<(), Erro
 // Writes the first number of an interval, and the last one if it is another.
 fn write_interval<W: WriteCounted>(interval: &GnoInterval, output: &mut W) -> Result<(), Error>
     requires { interval.now.start < interval.now.end }
-    ensures { Writes (interval_text interval.now) (W.contents output.old) result (W.contents output.new) }
+    ensures writes { Writes (interval_text interval.now) (W.contents output.old) result (W.contents output.new) }
+    ensures writer { CountsWriter result (W.count output.old) (W.count output.new) }
 {
     let first = interval.start();
     let last = interval.end() - 1;
@@ -91,7 +98,8 @@ pub(crate) fn write_intervals<W: WriteCounted>(
     output: &mut W,
 ) -> Result<(), Error>
     requires { AreApart 0 intervals.now }
-    ensures { Writes (intervals_text intervals.now) (W.contents output.old) result (W.contents output.new) }
+    ensures writes { Writes (intervals_text intervals.now) (W.contents output.old) result (W.contents output.new) }
+    ensures writer { CountsWriter result (W.count output.old) (W.count output.new) }
 {
     let Some((first, rest)) = intervals.split_first() else {
         return write_part(b"-", output);

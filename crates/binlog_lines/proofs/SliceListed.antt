@@ -14,12 +14,12 @@ use Rattle.binlog_events.specs.Events.{EventView}
 use Rattle.binlog_events.specs.EventRefs.{item_view}
 use Rattle.binlog_events.specs.declared.event_ref.EventRef.{EventRef}
 use Rattle.binlog_file.specs.declared.slice.BinlogSlice.{BinlogSlice}
-use Rattle.binlog_file.specs.Slices.{slice_fde, SliceGives}
+use Rattle.binlog_file.specs.Slices.{SliceGives}
 use Rattle.binlog_file.specs.State.{Handles}
-use Rattle.binlog_file.specs.StreamItems.{AreItems}
 use Rattle.binlog_file.proofs.WholeSlices.{all_of_slice, items_and_left, few_so_far}
-use Rattle.binlog_lines.specs.Lines.{listing, ListsFront, LeavesLooked, ListsItem}
-use Rattle.binlog_lines.specs.SliceLines.{state_under, ListsSlice}
+use Rattle.binlog_lines.specs.Places.{LeavesLooked, AreFirst}
+use Rattle.binlog_lines.specs.Lines.{listing, ListsFront, ListsItem}
+use Rattle.binlog_lines.specs.SliceLines.{slice_place, ListsSlice}
 use Rattle.binlog_lines.proofs.Listed.{listing-more}
 
 -- `line` and `takes` are those of the listing.
@@ -80,16 +80,20 @@ module _ (line : ℕ → Result EventView Error → List ℕ) (takes : Result Ev
   all_listed slice end items old new failed index goes given listed =
       let whole = all_of_slice slice end items goes given in
       record {
-        after = state_under (slice_fde end);
-        behind = Some end.rest.now;
-        ended = end.is_ended;
+        after = slice_place end end.is_ended;
         lists = (record { items = map item_view items; are = whole.are; written = listed.written; errors = listed.errors }, whole.ends);
       }
+
+  -- The items up to one more are the first ones.
+  first_of_slice : (slice then next : BinlogSlice) (items : List (Result EventRef Error)) (item : Result EventRef Error) → slice.is_ended ≡ false → Yields SliceGives slice items then
+      → SliceGives then (Some item) next → AreFirst LeavesLooked (slice_place slice false) (map item_view (items ++ item ∷ [])) (slice_place next next.is_ended)
+  first_of_slice slice then next items item goes given gives =
+      record { known = refl; before = λ more are. items_and_left slice next (items ++ item ∷ []) more goes (yields_more slice items then item next given gives) are }
 
   -- The writer failed in the line of an item.
   front_listed : (slice then next : BinlogSlice) (items : List (Result EventRef Error)) (item : Result EventRef Error) (old mid new : Option (List ℕ)) (failed : Bool) (index : ℕ)
       → slice.is_ended ≡ false → Yields SliceGives slice items then → SliceGives then (Some item) next → AreListed items old mid failed index → AppendsFront mid new (line index (item_view item))
-      → ListsFront Handles LeavesLooked line takes (state_under (slice_fde slice)) slice.rest.now false old new
+      → ListsFront Handles LeavesLooked line takes (slice_place slice false) old new
   front_listed slice then next items item old mid new failed index goes given gives listed wrote =
       let views = map item_view items in
       let view = item_view item in
@@ -98,10 +102,8 @@ module _ (line : ℕ → Result EventView Error → List ℕ) (takes : Result Ev
       ap (listing line 0) (views-more items item) ∙ listing-more line 0 views view ∙ ap (λ (i : ℕ). listing line 0 views ++ line i view) at in
       record {
         items = map item_view (items ++ item ∷ []);
-        state = state_under (slice_fde next);
-        unread = next.rest.now;
-        ended = next.is_ended;
-        before = λ more are. items_and_left slice next (items ++ item ∷ []) more goes (yields_more slice items then item next given gives) are;
+        place = slice_place next next.is_ended;
+        first = first_of_slice slice then next items item goes given gives;
         written = record {
           front = listing line 0 views ++ wrote.front;
           cut = wrote.cut;
@@ -116,9 +118,7 @@ module _ (line : ℕ → Result EventView Error → List ℕ) (takes : Result Ev
   writer_listed slice then next items item old mid new failed index error goes given gives listed writer wrote =
       subst (λ (e : Error). ListsSlice line takes slice old (Err e) new) (sym writer)
       (record {
-        after = state_under (slice_fde next);
-        behind = Some next.rest.now;
-        ended = next.is_ended;
+        after = slice_place next next.is_ended;
         lists = front_listed slice then next items item old mid new failed index goes given gives listed wrote;
       })
 
@@ -130,19 +130,14 @@ module _ (line : ℕ → Result EventView Error → List ℕ) (takes : Result Ev
       let views = map item_view items in
       subst (λ (e : Error). ListsSlice line takes slice old (Err e) new) (sym memory)
       (record {
-        after = state_under (slice_fde next);
-        behind = Some next.rest.now;
-        ended = next.is_ended;
+        after = slice_place next next.is_ended;
         lists = inr (record {
           items = views;
           item = item_view item;
           grows = grows;
-          unread = next.rest.now;
-          stands = refl;
-          before = λ more are.
-              subst (AreItems (slice_fde slice) slice.rest.now)
-              (ap (λ (l : List (Result EventView Error)). l ++ more) (views-more items item) ∙ append_assoc views (item_view item ∷ []) more)
-              (items_and_left slice next (items ++ item ∷ []) more goes (yields_more slice items then item next given gives) are);
+          first =
+              subst (λ (l : List (Result EventView Error)). AreFirst LeavesLooked (slice_place slice false) l (slice_place next next.is_ended)) (views-more items item)
+              (first_of_slice slice then next items item goes given gives);
           written = listed.written;
         });
       })

@@ -7,18 +7,21 @@ use Rattle.binlog_file.specs.declared.slice.BinlogSlice.{BinlogSlice}
 use Rattle.binlog_file.specs.Slices.{slice_fde}
 use Rattle.binlog_file.specs.State.{StreamState, Handles}
 use Rattle.binlog_file.specs.TableMapsInForce.{no_table_maps}
-use Rattle.binlog_lines.specs.Lines.{ListsItems, LeavesLooked}
+use Rattle.binlog_lines.specs.Places.{Place, LeavesLooked}
+use Rattle.binlog_lines.specs.Lines.{ListsItems}
 
 -- The state of an iteration that keeps no table maps.
 abbrev pub state_under : FormatDescriptionEvent → StreamState
 state_under d = record { fde = d; table_maps = no_table_maps }
 
+-- Where the iteration over a slice stands, if this says whether only None is left.
+abbrev pub slice_place : (slice : BinlogSlice) (ended : Bool) → Place
+slice_place slice ended = record { state = state_under (slice_fde slice); unread = Some slice.rest.now; ended = ended }
+
 -- The results of listing the items that are left in a slice, and what is written.
 pub record ListsSlice (line : ℕ → Result EventView Error → List ℕ) (takes : Result EventView Error → Type 0) (slice : BinlogSlice) (old : Option (List ℕ)) (answer : Result Bool Error) (new : Option (List ℕ)) : Type 0 where
-  pub after : StreamState
-  pub behind : Option (List ℕ)
-  pub ended : Bool
-  pub lists : ListsItems Handles LeavesLooked line takes (state_under (slice_fde slice)) slice.rest.now false old answer after behind ended new
+  pub after : Place
+  pub lists : ListsItems Handles LeavesLooked line takes (slice_place slice false) old answer after new
 
 -- The result of listing one item.
 abbrev pub answered : Result Bool Error → Result (Option Bool) Error

@@ -7,5 +7,5 @@ mod visiting;
 mod visitor;
 
 pub use lines::LineWriter;
-pub use visiting::{visit, visit_verified};
+pub use visiting::{visit, visit_counted, visit_verified, visit_verified_counted};
 pub use visitor::Visitor;

@@ -33,7 +33,7 @@ fn is_told(alloc: Global, calls_before: usize) -> bool {
         return false;
     };
     let mut output = Counted::new(FailingWriter::new(alloc, calls_before));
-    let answer = list_gtids(alloc, Counted::new(input), &mut output);
+    let answer = list_gtids(alloc, &mut Counted::new(input), &mut output);
     let wanted = if calls_before < LINES.len() {
         Err(Error::Writer)
     } else {

@@ -1,23 +1,26 @@
-use Rattle.std.proofs.Common.{rules}
+use Rattle.std.proofs.Common.{refl, ◌∙◌, rules}
 use Rattle.std.proofs.lemmas.Result.{err_from_is_err_and}
 use Rattle.binlog_gtid_listing.proofs.Tracked.{step_more, step_all, step_error, tracked_none, tracked_out}
 use Rattle.binlog_gtid_listing.proofs.listing.track_items.Goals as goal
 
 pub items-init : goal.items-init
-items-init g c = tracked_none _ _ _ _ _ c.requires
+items-init g c = record { tracked = tracked_none _ _ _ c.requires; reader = refl; writer = refl }
 
-pub returns-in_err-is_error : goal.returns-in_err-is_error
-returns-in_err-is_error g c =
+pub returns-in_err-is_error-clause-tracks : goal.returns-in_err-is_error-clause-tracks
+returns-in_err-is_error-clause-tracks g c =
     let p = err_from_is_err_and c.from_residual.result c.from_residual.ensures.1 in
-    rw (p.1, p.2) (step_error _ _ _ _ _ _ _ _ _ _ _ _ _ _ _ _ _ c.items.invariant (rw c.in_err-is_error.was at c.track_next.ensures))
+    rw (p.1, p.2) (step_error _ _ _ _ _ _ _ _ _ _ _ c.items.invariant.tracked (rw c.in_err-is_error.was at c.track_next.ensures.tracks))
 
-pub returns-in-None : goal.returns-in-None
-returns-in-None g c =
-    step_all _ _ _ _ _ _ _ _ _ _ _ _ _ _ _ _ c.items.invariant (rw (c.in_ok-is_error.was, c.in-None.is) at c.track_next.ensures)
+pub returns-in-None-clause-tracks : goal.returns-in-None-clause-tracks
+returns-in-None-clause-tracks g c =
+    step_all _ _ _ _ _ _ _ _ _ _ c.items.invariant.tracked (rw (c.in_ok-is_error.was, c.in-None.is) at c.track_next.ensures.tracks)
 
 pub items-preserved : goal.items-preserved
-items-preserved g c =
-    step_more _ _ _ _ _ _ _ _ _ _ _ _ _ _ _ _ _ c.items.invariant (rw (c.in_ok-is_error.was, c.in-Some.is) at c.track_next.ensures)
+items-preserved g c = record {
+  tracked = step_more _ _ _ _ _ _ _ _ _ _ _ c.items.invariant.tracked (rw (c.in_ok-is_error.was, c.in-Some.is) at c.track_next.ensures.tracks);
+  reader = (rw c.in_ok-is_error.was at c.track_next.ensures.reader) ∙ c.items.invariant.reader;
+  writer = (rw c.in_ok-is_error.was at c.track_next.ensures.writer) ∙ c.items.invariant.writer;
+}
 
-pub returns : goal.returns
-returns g c = tracked_out _ _ _ _ _ _ _ _ _ _ _ c.items.invariant (search rules)
+pub returns-clause-tracks : goal.returns-clause-tracks
+returns-clause-tracks g c = tracked_out _ _ _ _ _ _ _ c.items.invariant.tracked (search rules)
