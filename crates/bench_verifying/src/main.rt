@@ -11,11 +11,14 @@ use std::io::{BufReader, BufWriter, Write};
 use std::process::ExitCode;
 use std::{env, io};
 
-/// The size of the buffers of the input and the output, in bytes.
+/// The size of the output's buffer, in bytes.
 const BUFFER_SIZE: usize = 65_536;
 
+/// The size of the input's buffer, in bytes. The file reads past it into its own, which is larger.
+const INPUT_BUFFER_SIZE: usize = 512;
+
 fn run(rt: &(impl Input + Print + Env + AllocGlobal)) -> Result<bool, Error> {
-    let Ok(input) = BufReader::with_capacity(rt.alloc(), BUFFER_SIZE, rt.reader()) else {
+    let Ok(input) = BufReader::with_capacity(rt.alloc(), INPUT_BUFFER_SIZE, rt.reader()) else {
         return Err(Error::Memory);
     };
     let Ok(mut arguments) = env::args(rt) else {

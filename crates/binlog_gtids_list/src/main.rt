@@ -12,12 +12,13 @@ use std::process::ExitCode;
 const BUFFER_SIZE: usize = 65_536;
 
 fn run(rt: &(impl Input + Print + AllocGlobal)) -> Result<bool, Error> {
-    let input = Counted::new(Retrying::new(rt.reader()));
-    let Ok(buffered) = BufWriter::with_capacity(rt.alloc(), BUFFER_SIZE, io::writer(rt)) else {
+    let mut input = Counted::new(Retrying::new(rt.reader()));
+    let device = Retrying::new(io::writer(rt));
+    let Ok(buffered) = BufWriter::with_capacity(rt.alloc(), BUFFER_SIZE, device) else {
         return Err(Error::Memory);
     };
-    let mut output = Counted::new(Retrying::new(buffered));
-    let answer = list_gtids(rt.alloc(), input, &mut output);
+    let mut output = Counted::new(buffered);
+    let answer = list_gtids(rt.alloc(), &mut input, &mut output);
     if output.flush_counted().is_err() {
         return Err(Error::Writer);
     }

@@ -13,10 +13,11 @@ const BUFFER_SIZE: usize = 65_536;
 
 fn run(rt: &(impl Input + Print + AllocGlobal)) -> Result<bool, Error> {
     let mut input = Counted::new(Retrying::new(rt.reader()));
-    let Ok(buffered) = BufWriter::with_capacity(rt.alloc(), BUFFER_SIZE, io::writer(rt)) else {
+    let device = Retrying::new(io::writer(rt));
+    let Ok(buffered) = BufWriter::with_capacity(rt.alloc(), BUFFER_SIZE, device) else {
         return Err(Error::Memory);
     };
-    let mut output = Counted::new(Retrying::new(buffered));
+    let mut output = Counted::new(buffered);
     let answer = list_counted(rt.alloc(), &mut input, &mut output);
     if output.flush_counted().is_err() {
         return Err(Error::Writer);
