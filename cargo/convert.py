@@ -18,12 +18,14 @@ from rt_to_rust.devices import LEFT_OUT
 from rt_to_rust.facade import public_names
 from rt_to_rust.ghosts import without_proofs
 from rt_to_rust.imports import Place
+from rt_to_rust.inlined import INLINED
 from rt_to_rust.items import functions
 from rt_to_rust.memory_forms import BOTH_FORMS, fallible_clones
 from rt_to_rust.passes import Used, rust
+from rt_to_rust.shared_forms import SHARED_FORMS
 from rt_to_rust.source import Source
 from rt_to_rust.tokens import Refusal
-from rt_to_rust.visibility import CHECKS
+from rt_to_rust.visibility import CHECKS, OF_TRAITS
 
 REPOSITORY = Path(__file__).resolve().parent.parent
 TEMPLATES = REPOSITORY / "cargo/templates"
@@ -93,8 +95,9 @@ def convert(out):
         text = rust(source, path.read_text(), place_of(crate, public), public, clones, used)
         file.parent.mkdir(parents=True, exist_ok=True)
         file.write_text(MADE.format(source) + text)
-    unused = (set(CHECKS) - used.checks) | (set(BOTH_FORMS) - used.both_forms)
-    unused |= (set(LEFT_OUT) - used.left_out) | (set(crates.BY_HAND) - by_hand)
+    unused = ({*CHECKS, *OF_TRAITS} - used.checks) | (set(BOTH_FORMS) - used.both_forms)
+    unused |= (set(LEFT_OUT) - used.left_out) | (set(crates.BY_HAND) - by_hand) | (set(INLINED) - used.inlined)
+    unused |= set(SHARED_FORMS) - used.shared_forms
     if unused:
         raise Refusal("cargo/rt_to_rust", 0, f"rows of tables that nothing uses: {', '.join(sorted(unused))}")
 

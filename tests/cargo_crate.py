@@ -1,16 +1,18 @@
 #!/usr/bin/env python3
 """Makes the cargo packages, tests them, and compares their programs with the proved ones.
 
-Usage: cargo_crate.py [OUT]
+Usage: cargo_crate.py [--all-logs] [OUT]
 
 The packages are made in OUT, or in a temporary folder, and built without network, with checks of overflow: the crates
 that they depend on are Debian's, `PACKAGES`. A test each: what the converter's own tests check; each test of the
 sources, converted, and each written by hand; that neither clippy nor the documentation gives a warning; and each case:
-samples, damaged copies and encoded logs, of which the programs, the models and the encoder have to print the same. The
-last line is `N passed, M failed`; the exit status is 1 if something failed.
+samples, damaged copies and encoded logs, of which the programs, the models and the encoder have to print the same: one
+in `STEP` of the damaged copies and `LOGS` of the encoded logs, or all with `--all-logs`. The last line is
+`N passed, M failed`; the exit status is 1 if something failed.
 
 Where cargo or those crates aren't there, it says so, and passes with no test. `OPTIONAL` crates are behind features of
-the same name; where one isn't there, it says so, and the packages are tested without that feature.
+the same name; where one isn't there, it says so, and the packages are tested without that feature. Where a proved program
+isn't built, it says so and runs everything else, and the exit status is 2 if nothing failed.
 """
 
 import os
@@ -127,8 +129,15 @@ def lints(out):
     return len(checks) - failed, failed
 
 
-def cases(stated):
-    """Samples and some of their damaged copies, and some logs of the encoder with what it states of their output."""
+def cases(stated, takes_all):
+    """Samples and their damaged copies, and logs of the encoder with what it states of their output: all or some."""
+    if takes_all:
+        return damaged_copies.all_cases(make_sample.sample(), stated)
+    return some_cases(stated)
+
+
+def some_cases(stated):
+    """Samples and some of their damaged copies, and some logs of the encoder."""
     sample = make_sample.sample()
     yield from damaged_copies.no_change(sample)
     for kind in (damaged_copies.truncations, damaged_copies.changed_bytes, damaged_copies.changed_sizes):
@@ -144,11 +153,12 @@ def cases(stated):
     yield from islice(damaged_copies.encoded(stated), LOGS)
 
 
-def compared(made, kind):
-    """How many cases passed and failed on which the program made, the proved one, the model and the encoder were compared."""
-    programs = [str(made), str(kind.program)]
+def compared(made, kind, takes_all):
+    """How many cases passed and failed on which the program made, the proved one where it is built, the model and the
+    encoder were compared."""
+    programs = [str(made), *([str(kind.program)] if kind.program.is_file() else [])]
     with ThreadPoolExecutor(PROCESSES_AT_A_TIME) as pool:
-        every = cases(kind.stated)
+        every = cases(kind.stated, takes_all)
         results = list(pool.map(lambda case: damaged_copies.failure(programs, kind.model, case), every))
     failures = [result for result in results if result is not None]
     for message in failures[: damaged_copies.SHOWN_FAILURES]:
@@ -156,7 +166,7 @@ def compared(made, kind):
     return len(results) - len(failures), len(failures)
 
 
-def tests(out):
+def tests(out, takes_all):
     """The counts of all tests, each (passed, failed)."""
     yield tests_of_converter()
     made = subprocess.run([REPOSITORY / "bin/cargo-crate", out])
@@ -175,23 +185,24 @@ def tests(out):
         return
     built = Path(os.environ.get("CARGO_TARGET_DIR", Path(out) / "target")) / PROFILE
     for name, kind in COMPARED.items():
-        yield compared(built / name, kind)
+        yield compared(built / name, kind, takes_all)
 
 
 def main(arguments):
-    for kind in COMPARED.values():
-        if not kind.program.is_file():
-            print(f"no program at {kind.program}", file=sys.stderr)
-            return 2
+    not_built = [kind.program for kind in COMPARED.values() if not kind.program.is_file()]
     if (why := missing()) is not None:
         print(f"The cargo packages aren't tested: {why}.")
         print("0 passed, 0 failed")
         return 0
+    for program in not_built:
+        print(f"No comparison with a proved program: there is none at {program}.")
+    takes_all = "--all-logs" in arguments
+    folders = [argument for argument in arguments if argument != "--all-logs"]
     with tempfile.TemporaryDirectory() as folder:
-        counts = list(tests(arguments[0] if arguments else folder))
+        counts = list(tests(folders[0] if folders else folder, takes_all))
     passed, failed = (sum(count[place] for count in counts) for place in (0, 1))
     print(f"{passed} passed, {failed} failed")
-    return 1 if failed else 0
+    return 1 if failed else 2 if not_built else 0
 
 
 if __name__ == "__main__":

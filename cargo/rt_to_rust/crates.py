@@ -12,8 +12,11 @@ LIBRARY = [
     "binlog_rows",
     "binlog_columns",
     "binlog_values",
+    "binlog_optional_metadata",
+    "binlog_images",
     "binlog_event_data",
     "binlog_gtid_sets",
+    "binlog_gtid_text",
     "binlog_ends",
     "binlog_events",
     "binlog_mariadb",
@@ -24,8 +27,7 @@ TOOLS = ["json_line", "binlog_lines", "binlog_listing", "binlog_gtid_listing", "
 # The crates of programs, and the programs' names.
 PROGRAMS = {"binlog_list": "binlog-list", "binlog_json": "binlog-json", "binlog_gtids_list": "binlog-gtids"}
 
-# The crates of tests, and their helpers. Not among them: `test_gtid_text`, `test_images` and `test_optional_metadata`,
-# whose crates are not in the library.
+# The crates of tests, and their helpers.
 TESTKITS = ["testkit_bodies", "testkit_logs"]
 TESTS = [
     "test_ends",
@@ -35,12 +37,18 @@ TESTS = [
     "test_gtids",
     "test_rows",
     "test_values",
+    "test_optional_metadata",
+    "test_images",
     "test_gtid_sets",
+    "test_gtid_text",
     "test_mariadb",
     "test_files",
     "test_events",
     "test_failing_ends",
     "test_state",
+    "test_verified",
+    "test_failing_listing",
+    "test_gtid_listing",
 ]
 
 # The sources that are written by hand in the packages, in `templates`: what real devices are there isn't what the proved

@@ -169,6 +169,14 @@ def whole(source, function, first):
     return source.with_docs(first), source.code[source.partner[function.body]].end, ""
 
 
+def tried_again(source):
+    """`Counted::new(Retrying::new(DEVICE))`: `Counted` tries again by itself here, and `Retrying` costs time."""
+    for index in source.places("Counted", "::", "new", "(", "Retrying", "::", "new", "("):
+        close = source.partner[index + 7]
+        yield source.span(index + 4, index + 7)
+        yield source.span(close, close)
+
+
 def with_devices(source, is_test, used):
     """The source in which failures have the device's error."""
     if is_test:

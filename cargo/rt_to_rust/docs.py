@@ -6,8 +6,8 @@ import textwrap
 # What only a reader of the proofs asks for.
 PROOFS = re.compile(r"\b[Cc]ontracts?\b|\bproved?\b|\bprover\b|specs/|\blaws?\b|\bghost\b")
 
-# What isn't so in the packages, in which interruptions are tried again.
-OTHERWISE = re.compile(r"\binterrupted (isn't\s+retried|write is a failure)")
+# What isn't so in the packages, in which interruptions are tried again, and what is inlined is another thing.
+OTHERWISE = re.compile(r"\binterrupted (isn't\s+retried|write is a failure)|\bIt isn't inlined, since the inlined code\b")
 
 # A paragraph that begins so is about a contract as a whole.
 CONTRACT = re.compile(r"Its contract is\b")

@@ -37,19 +37,24 @@ def lossy_texts(source):
         yield source.span(index - 1, index + 3, f"try_lossy_text({name})")
 
 
+# What a function returns where a buffer is refused, which Rust's isn't.
+REFUSED_BUFFER = (["Err", "(", "Error", "::", "Memory", ")"], ["false"])
+
+
 def buffers(source):
-    """The buffers of a program: `let Ok(x) = Buf::with_capacity(..) else { return Err(Error::Memory); };`"""
+    """The buffers of a program or a test: `let Ok(x) = Buf::with_capacity(..) else { return Err(Error::Memory); };`"""
     for index in source.places("let", "Ok", "("):
         close = source.partner[index + 2]
         call = close + 2
         if source.texts(call, call + 1) not in (["BufReader"], ["BufWriter"]):
             continue
         behind = source.partner[call + 3] + 1
-        if not source.is_at(behind, "else", "{", "return", "Err", "(", "Error", "::", "Memory", ")", ";", "}"):
+        end = source.partner[behind + 1] if source.is_at(behind, "else", "{", "return") else behind
+        if source.texts(behind + 3, end - 1) not in REFUSED_BUFFER:
             raise source.refusal(index, "a buffer whose refusal isn't `Error::Memory`")
         yield source.span(index + 1, index + 2)
         yield source.span(close, close)
-        yield source.span(behind, behind + 10)
+        yield source.span(behind, end)
 
 
 def programs(source):

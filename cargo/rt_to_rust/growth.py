@@ -1,16 +1,20 @@
-"""Vectors that grow: Rust's `push` aborts where memory runs out, the toolchain's returns an error. A growth that was
-proved to have room (`.unwrap()`) is Rust's own call; any other one is that of the crate's `TryGrow`."""
+"""Vectors and texts that grow: Rust's `push` aborts where memory runs out, the toolchain's returns an error. A growth
+that was proved to have room (`.unwrap()`) is Rust's own call; any other one is that of the crate's `TryGrow` or
+`TryGrowText`."""
 
 from rt_to_rust.kinds import kind_of
 
-# The toolchain's calls that may be refused, and what stands for them.
+# The toolchain's calls that may be refused, and what stands for them; those of vectors, but for `TEXT_CALLS`.
 CALLS = {
     "push": "try_push",
     "insert": "try_insert",
     "resize": "try_resize",
     "extend_from_slice": "try_extend_from_slice",
+    "reserve": "try_reserve",
     "reserve_exact": "try_reserve_exact",
+    "push_str": "try_push_str",
 }
+TEXT_CALLS = ("push_str",)
 # Calls that make a vector or text with memory, and the functions of the library's module for memory in their place.
 CONSTRUCTORS = {
     ("Vec", "with_capacity"): "vec_with_capacity",
@@ -20,11 +24,11 @@ CONSTRUCTORS = {
 
 
 def growing_calls(source):
-    """Calls of vectors that grow."""
+    """Calls of vectors and texts that grow."""
     for index, token in enumerate(source.code):
         if token.text not in CALLS or not source.is_at(index - 1, ".") or not source.is_at(index + 1, "("):
             continue
-        if not is_vector(source, index):
+        if not grows(source, index):
             continue
         end = source.partner[index + 1]
         if source.is_at(end + 1, ".", "unwrap", "(", ")"):
@@ -33,9 +37,9 @@ def growing_calls(source):
             yield source.span(index, index, CALLS[token.text])
 
 
-def is_vector(source, index):
-    """Whether this call's receiver is a vector, and not a type of the crates with a call of that name."""
-    return kind_of(source, index - 1) == "Vec"
+def grows(source, index):
+    """Whether this call's receiver is a vector or a text, and not a type of the crates with a call of that name."""
+    return kind_of(source, index - 1) == ("String" if source.code[index].text in TEXT_CALLS else "Vec")
 
 
 def constructors(source):

@@ -18,6 +18,7 @@ STAND_INS = {
     "bstr::ByteSlice": None,
     "std::test::Fail": "crate::Fail",
     "std::alloc::AllocError": "MEMORY::AllocError",
+    "std::fmt::Write": "MEMORY::TryWrite",
     "std::borrow::CowSlice": "std::borrow::Cow",
     "std::borrow::CowStr": "std::borrow::Cow",
     "std::simd::Simd": "crate::simd::Simd",
@@ -38,6 +39,7 @@ SAME = re.compile(
 # The calls of the module for memory, by the name that a file has to import.
 MEMORY = {
     "TryGrow": ["try_push", "try_insert", "try_resize", "try_extend_from_slice"],
+    "TryGrowText": ["try_push_str"],
     "string_from": ["string_from"],
     "try_lossy_text": ["try_lossy_text"],
     "vec_from_slice": ["vec_from_slice"],
@@ -97,7 +99,7 @@ def crate_path(source, index, place, path):
     if head in TESTKITS + TESTS:
         return "::".join(["crate", *path])
     if head in TOOLS:
-        return "::".join(["crate" if place.module else "binlog_tools", *path])
+        return "::".join(["binlog_tools" if place.has_runtime else "crate", *path])
     if head in LIBRARY:
         return outside_path(source, index, place, path) if place.public else "::".join(["crate", *path])
     return None
@@ -229,8 +231,8 @@ def of_memory(source, place):
         yield offset, offset, "".join(f"use {path}; " for path in imported)
 
 
-# Names that the toolchain asks a source to import, and Rust doesn't: those that are in no code go.
-OFTEN_UNUSED = ("AllocError", "Cow", "Flags", "Hasher")
+# Names that the toolchain asks a source to import and Rust doesn't, or whose calls went: those that are in no code go.
+OFTEN_UNUSED = ("AllocError", "Cow", "Flags", "Hasher", "Retrying")
 
 
 def unused(source):

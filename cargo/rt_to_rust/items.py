@@ -102,6 +102,22 @@ def block_at(source, index):
     return None
 
 
+def trait_at(source, index):
+    """The name of the trait whose declaration a place of the code is in, or None."""
+    for word in source.places("trait"):
+        body = signature_end(source, word)
+        if body < index < source.partner.get(body, 0):
+            return source.code[word + 1].text
+    return None
+
+
+def full_name(source, function):
+    """A function's name, behind that of the type whose method it is."""
+    block = block_at(source, function.name)
+    name = source.code[function.name].text
+    return f"{block.type_name}::{name}" if block else name
+
+
 def head_of(source, block):
     """`impl` with the generic parameters of a block, and the type that it is for."""
     start = source.code[block.first].start

@@ -7,7 +7,7 @@ from rt_to_rust.bounds import without_drops
 from rt_to_rust.by_value import by_value, lent_on
 from rt_to_rust.defaults import with_defaults
 from rt_to_rust.derive_where import written_out
-from rt_to_rust.devices import with_devices
+from rt_to_rust.devices import tried_again, with_devices
 from rt_to_rust.docs import ghost_members, spoken
 from rt_to_rust.ghosts import without_proofs
 from rt_to_rust.growth import grown
@@ -15,6 +15,7 @@ from rt_to_rust.imports import placed, with_memory
 from rt_to_rust.inlined import with_inlined
 from rt_to_rust.memory_forms import renamed, with_plain_forms
 from rt_to_rust.runtime import without_runtime
+from rt_to_rust.shared_forms import shared_forms
 from rt_to_rust.source import Source
 from rt_to_rust.visibility import guarded, open_enums, with_panics
 
@@ -26,6 +27,8 @@ class Used:
         self.checks = set()
         self.both_forms = set()
         self.left_out = set()
+        self.inlined = set()
+        self.shared_forms = set()
 
 
 def rust(path, text, place, public, clones, used):
@@ -39,11 +42,14 @@ def rust(path, text, place, public, clones, used):
     source = without_drops(source)
     if place.has_runtime:
         source = without_runtime(source.changed(forms.programs(source)))
+    if place.has_runtime and not place.is_test():
+        source = source.changed(tried_again(source))
     source = with_devices(source, place.is_test(), used.left_out)
     source = lent_on(source) if place.has_runtime else by_value(source, None if place.public else public)
     source = borrowed(source)
     source = source.changed(forms.json_writers(source))
     source = renamed(source, clones, used.both_forms)
+    source = source.changed(shared_forms(source, used.shared_forms))
     source = grown(source)
     source = placed(source, place, public)
     source = forms.rust_calls(without_allocators(source))
@@ -52,5 +58,5 @@ def rust(path, text, place, public, clones, used):
     source = with_panics(with_plain_forms(written_out(source), public))
     source = with_defaults(source)
     if not place.has_runtime:
-        source = with_inlined(source)
+        source = with_inlined(source, used.inlined)
     return spoken(source, members).marks_removed().lstrip("\n")

@@ -1,7 +1,7 @@
 """What a proved function asks of its callers. Where nothing proves it any more, a public function that asks something
 is the crate's own, or looks itself."""
 
-from rt_to_rust.items import block_at, functions
+from rt_to_rust.items import full_name, functions, trait_at
 
 # Public functions that ask for something and stay public: what they assert, or None where any argument is safe and has
 # a right answer.
@@ -12,6 +12,14 @@ CHECKS = {
     "GnoSet::insert": "0 < start && start < end && end <= 1 << 63",
     "GnoSet::contains_all": "start < end",
     "GtidTracker::insert": "0 < start && start < end && end <= 1 << 63",
+}
+
+# Methods of public traits that ask for something, and why a caller needs no check. Other traits with such a method are
+# the crate's own (`Put`): nobody else implements or calls them.
+OF_TRAITS = {
+    "IntRepr::put": "asks for room alone, and vectors grow",
+    "WritableBytes::put": "asks for room alone, and vectors grow",
+    "Verification::verify": "only `Unverified` can be made by a caller, and it looks at nothing",
 }
 
 # Enumerations of the library that may get more variants.
@@ -32,10 +40,13 @@ def asks(source, function):
     )
 
 
-def full_name(source, function):
-    block = block_at(source, function.name)
-    name = source.code[function.name].text
-    return f"{block.type_name}::{name}" if block else name
+def of_trait(source, function, trait, public, used):
+    """Refuses a method of a public trait that asks for something, unless the table has it."""
+    name = f"{trait}::{source.code[function.name].text}"
+    if name in OF_TRAITS:
+        used.add(name)
+    elif trait in public:
+        raise source.refusal(function.name, f"`{name}` is of a public trait and asks its callers for something")
 
 
 def guarded(source, public, used):
@@ -44,7 +55,11 @@ def guarded(source, public, used):
     changes = []
     for function in functions(source):
         is_public = source.is_at(function.first, "pub") and not source.is_at(function.first + 1, "(")
-        if not is_public or not asks(source, function):
+        if not asks(source, function):
+            continue
+        if trait := trait_at(source, function.name):
+            of_trait(source, function, trait, public, used)
+        if not is_public:
             continue
         name = full_name(source, function)
         if name not in CHECKS:

@@ -7,7 +7,12 @@ from rt_to_rust.passes import Used, rust
 from rt_to_rust.source import Source
 from rt_to_rust.tokens import Refusal
 
-PUBLIC = {"Held": "binlog::events::Held", "Error": "binlog::Error", "Kind": "binlog::consts::Kind"}
+PUBLIC = {
+    "Held": "binlog::events::Held",
+    "Error": "binlog::Error",
+    "Kind": "binlog::consts::Kind",
+    "Retrying": "binlog::counted::Retrying",
+}
 LIBRARY = Place("binlog_wire", None, has_runtime=False)
 TOOL = Place("binlog_lines", PUBLIC, has_runtime=False)
 PROGRAM = Place(None, PUBLIC, has_runtime=True)

@@ -79,6 +79,11 @@ class Interruptions(Case):
         text = "/// Reads. A read that was interrupted isn't\n/// retried.\nfn f() {}"
         self.assertEqual(converted(text), "/// Reads.\nfn f() {}")
 
+    def test_a_program_leaves_it_to_the_counting_device(self):
+        text = "use binlog_file::{Error, Retrying};\nfn f() {\n    let a = Counted::new(Retrying::new(b(c)));\n}"
+        self.has(text, "use binlog::Error;", place=PROGRAM)
+        self.has(text, "let a = Counted::new(b(c));", place=PROGRAM)
+
 
 class Inlined(unittest.TestCase):
     def test_small_functions_are(self):
@@ -88,6 +93,11 @@ class Inlined(unittest.TestCase):
     def test_long_ones_and_those_that_say_otherwise_are_not(self):
         for text in ("#[cold]\nfn f() {\n    g()\n}", "#[inline(never)]\n#[a]\nfn f() {\n    g()\n}", "fn f() {\n" + 20 * "    g();\n" + "}"):
             self.assertEqual(converted(text), text)
+
+    def test_a_call_of_the_table_is_inlined_and_says_so(self):
+        text = "impl Description {\n    /// A. It isn't inlined, since the inlined code is long.\n    #[inline(never)]\n    fn get() {\n        g()\n    }\n}"
+        wanted = "impl Description {\n    /// A.\n    #[inline] fn get() {\n        g()\n    }\n}"
+        self.assertEqual(converted(text), wanted)
 
     def test_a_program_s_are_not(self):
         self.assertNotIn("inline", converted("fn f() {\n    g()\n}", place=PROGRAM))

@@ -5,7 +5,7 @@ import unittest
 from rt_to_rust.imports import Place
 
 from rt_to_rust.facade import public_names
-from tests.samples import Case, PROGRAM, TOOL, converted, refusal, source
+from tests.samples import Case, PROGRAM, TEST, TOOL, converted, refusal, source
 
 
 class Imports(Case):
@@ -21,7 +21,8 @@ class Imports(Case):
         self.gives(text, wanted, place=TOOL)
 
     def test_programs_name_the_packages_modules(self):
-        self.gives("use binlog_lines::status;", "use binlog_tools::binlog_lines::status;", place=PROGRAM)
+        for place in (PROGRAM, TEST):
+            self.gives("use binlog_lines::status;", "use binlog_tools::binlog_lines::status;", place=place)
 
     def test_a_name_that_is_not_public_is_refused(self):
         message = "sample.rt:1: binlog_file::Hidden isn't public in the library"

@@ -2,7 +2,7 @@
 
 import unittest
 
-from tests.samples import Case, PROGRAM, converted, refusal
+from tests.samples import Case, PROGRAM, TEST, converted, refusal
 
 
 class Allocators(Case):
@@ -91,6 +91,16 @@ class BothForms(Case):
         self.has(text, "Self::A(a) => a.clone(), Self::B(b) => b.try_clone()?", clones={"GnoSet"})
 
 
+    def test_room_may_be_refused(self):
+        text = "fn f(a: &mut Vec<u8>, b: &mut B) -> Result<(), Error> {\n    b.reserve(1)?;\n    Ok(a.reserve(1)?)\n}"
+        self.has(text, "b.reserve(1)?; Ok(a.try_reserve(1)?)")
+
+    def test_texts_grow_by_calls_that_may_be_refused(self):
+        text = "use std::fmt::Write;\nfn f(a: &mut String, b: B) {\n    a.push_str(c)?;\n    write!(a, \"{c}\")?;\n}"
+        wanted = 'use crate::memory::TryGrowText; use crate::memory::TryWrite; fn f(a: &mut String, b: B) { a.try_push_str(c)?; write!(a, "{c}")?; }'
+        self.gives(text, wanted)
+
+
 class Borrowing(Case):
     def test_any_value_that_makes_a_cow_is_taken(self):
         text = "use std::borrow::CowSlice;\nimpl<'a> A<'a> {\n    pub fn new(a: CowSlice<'a, u8>) -> Self {\n        A { a }\n    }\n}"
@@ -106,6 +116,14 @@ class Borrowing(Case):
         self.has(text, "self.a.as_ref(); self.b.as_slice();")
 
 
+    def test_a_proved_form_with_a_shared_owner_has_another_name(self):
+        text = "impl<'d> DescribedEvent<'d> {\n    pub fn read(fde: &Arc<B>) {}\n}\nimpl C {\n    pub fn read(fde: &Arc<B>) {}\n}"
+        self.has(text, "impl<'d> DescribedEvent<'d> { pub fn read_shared(fde: &Arc<B>) {} }")
+        self.has(text, "impl C { pub fn read(fde: &Arc<B>) {} }")
+        text = "fn f() {\n    Event::read(&a(), b);\n    C::read(b);\n}"
+        self.gives(text, "fn f() { Event::read_shared(&a(), b); C::read(b); }", place=TEST)
+
+
 class Programs(Case):
     def test_a_program_reads_standard_input(self):
         text = "fn run(rt: &(impl Input + AllocGlobal)) -> Result<bool, Error> {\n"
@@ -114,6 +132,14 @@ class Programs(Case):
         wanted = "fn run() -> Result<bool, Error> { let input = BufReader::with_capacity( 9, io::stdin().lock()) ; "
         wanted += "list( input) } fn main() { run(); }"
         self.gives(text, wanted, place=PROGRAM)
+
+    def test_a_test_s_buffer_is_never_refused(self):
+        text = "fn f() -> bool {\n    let Ok(input) = BufReader::with_capacity(alloc, 1, A) else {\n        return false;\n    };\n    true\n}"
+        self.has(text, "let input = BufReader::with_capacity(1, A);", place=TEST)
+
+    def test_a_buffer_whose_refusal_is_another_is_refused(self):
+        text = "fn f() -> bool {\n    let Ok(input) = BufReader::with_capacity(alloc, 1, A) else {\n        return g();\n    };\n    true\n}"
+        self.assertEqual(refusal(text, TEST), "sample.rt:2: a buffer whose refusal isn't `Error::Memory`")
 
 
 if __name__ == "__main__":

@@ -66,6 +66,14 @@ class Visibility(Case):
         text = "pub fn Held()\n    requires { a }\n{}"
         self.assertEqual(refusal(text), "sample.rt:1: `Held` is public and asks its callers for something")
 
+    def test_a_method_of_a_public_trait_that_asks_is_refused(self):
+        text = "pub trait Held {\n    fn f(&self)\n        requires { a };\n}"
+        self.assertEqual(refusal(text), "sample.rt:2: `Held::f` is of a public trait and asks its callers for something")
+
+    def test_a_method_of_the_crate_s_own_trait_may_ask(self):
+        text = "pub trait Kept {\n    fn f(&self)\n        requires { a };\n}"
+        self.gives(text, "pub trait Kept { fn f(&self); }")
+
     def test_a_method_of_the_table_looks_itself(self):
         text = "impl GnoSet {\n    pub fn contains_all(&self, start: u64, end: u64)\n        requires { start < end }\n    {}\n}"
         self.has(text, "{ assert!(start < end);}")

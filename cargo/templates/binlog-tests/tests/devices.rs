@@ -188,8 +188,17 @@ fn errors_are_compared_by_what_happened() {
 /// The event of a log, by a reader of any type.
 fn first_event(mut input: impl BufRead) -> Result<Event, Error> {
     BinlogFileHeader::read(&mut input)?;
+    Event::read(&FormatDescriptionEvent::new(VERSION), input)
+}
+
+#[test]
+fn a_description_is_copied_or_shared() {
     let description = Arc::new(FormatDescriptionEvent::new(VERSION));
-    Event::read(&description, input)
+    let shared = Event::read_shared(&description, &LOG[HEADER_LEN..]);
+    assert_eq!(Arc::strong_count(&description), 2);
+    assert_eq!(Event::read(&description, &LOG[HEADER_LEN..]), shared);
+    assert_eq!(Arc::strong_count(&description), 2);
+    assert_eq!(Event::read(&description, &LOG[..1]), Err(Error::EndOfInput));
 }
 
 #[test]

@@ -40,9 +40,14 @@ mod binlog_event_data;
 mod binlog_events;
 mod binlog_file;
 mod binlog_gtid_sets;
+mod binlog_gtid_text;
 mod binlog_gtids;
+mod binlog_images;
 mod binlog_mariadb;
 mod binlog_numbers;
+// Of the counts of columns by their class two are of no use yet.
+#[allow(dead_code)]
+mod binlog_optional_metadata;
 mod binlog_rows;
 mod binlog_statements;
 mod binlog_values;
@@ -52,6 +57,7 @@ mod checksums;
 mod crc32_ieee;
 #[doc(hidden)]
 pub mod memory;
+mod reading;
 
 pub use crate::binlog_description::{BinlogCtx, BinlogEvent, BinlogStruct, DescriptionRef, read_body};
 pub use crate::binlog_ends::DeviceError;
@@ -76,6 +82,7 @@ pub mod consts {
     pub use crate::binlog_consts::{UnknownItemResultType, UnknownStatusVarKey};
     pub use crate::binlog_description::{MAX_BODY_LEN, SERVER_VER_LEN};
     pub use crate::binlog_gtids::GtidFlags;
+    pub use crate::binlog_optional_metadata::{OptionalMetadataFieldType, UnknownOptionalMetadataFieldType};
 }
 
 /// Events: their headers and footers, and the bodies of each type.
@@ -89,6 +96,7 @@ pub mod events {
     pub use crate::binlog_gtids::field_id;
     pub use crate::binlog_gtids::{AnonymousGtidEvent, GtidEvent, PreviousGtidsEvent, PreviousGtidsSid};
     pub use crate::binlog_numbers::{GnoInterval, Tag};
+    pub use crate::binlog_optional_metadata::{OptionalMetadata, OptionalMetadataField};
     pub use crate::binlog_rows::{DeleteRows, DeleteRowsV1, PartialUpdateRows, UpdateRows};
     pub use crate::binlog_rows::{DeleteRowsEvent, DeleteRowsEventV1, PartialUpdateRowsEvent};
     pub use crate::binlog_rows::{HasAfterImage, HasBeforeImage, RowsForm, RowsKind};
@@ -103,7 +111,7 @@ pub mod events {
 pub mod raw {
     pub use crate::binlog_numbers::{LenEnc, LenEncBytes, ValueList, Varlen, VarlenSigned};
     pub use crate::binlog_wire::{BareBytes, BareU8Bytes, BareU16Bytes, EofBytes, FixedLengthText};
-    pub use crate::binlog_wire::{BitView, BytesRepr, Const, Constant, IntRepr, ParseBuf, Put};
+    pub use crate::binlog_wire::{BitView, BytesRepr, Const, Constant, IntRepr, ParseBuf};
     pub use crate::binlog_wire::{LeU16, LeU32, LeU48, LeU56, LeU64, MyDeserialize, MySerialize};
     pub use crate::binlog_wire::{NullBytes, RawBytes, RawConst, RawFlags, RawInt, Skip, U8Bytes};
     pub use crate::binlog_wire::{U32Bytes, WritableBytes};
@@ -133,12 +141,23 @@ pub mod mariadb {
     pub use crate::binlog_mariadb::{read_maria_body, read_maria_data};
 }
 
-/// The columns of a table map, and the values of rows.
+/// The columns of a table map, the rows of row events, and their values.
+///
+/// [`RowsEventExt::rows`](values::RowsEventExt::rows) gives the rows of an event beside its table map.
 pub mod values {
     pub use crate::binlog_columns::{Column, ColumnError, ColumnErrorKind, ColumnType, Layout};
     pub use crate::binlog_columns::{TableColumns, UnknownColumnType};
+    pub use crate::binlog_images::{ColumnValue, HasWholeRows, Image, ImageKind, Row, Rows};
+    pub use crate::binlog_images::{RowsError, RowsErrorKind, RowsEventError, RowsEventExt};
+    pub use crate::binlog_optional_metadata::{ColumnClass, MetadataBits, Names, Numbers};
+    pub use crate::binlog_optional_metadata::{OptionalMetadataError, OptionalMetadataErrorKind};
     pub use crate::binlog_values::{Bit, Date, DateTime, DateTime2, Decimal, Integer, Time, Time2};
     pub use crate::binlog_values::{Timestamp2, Value};
+}
+
+/// The text of a set of GTIDs, as servers write it.
+pub mod gtid_text {
+    pub use crate::binlog_gtid_text::{GtidTextError, GtidTextFault, parse, to_text};
 }
 
 /// The error of a reader, a writer or a body, among those of input and output. That of a device has the device's kind.

@@ -1,6 +1,7 @@
 //! Memory that may be refused: what the proved sources call of their standard library, over Rust's own.
 use std::borrow::Cow;
 use std::collections::TryReserveError;
+use std::fmt;
 
 /// An allocation failed.
 #[derive(Clone, Copy, Debug, PartialEq, Eq, thiserror::Error)]
@@ -77,6 +78,42 @@ impl<T> TryGrow<T> for Vec<T> {
         self.try_reserve(len.saturating_sub(self.len()))?;
         self.resize(len, item);
         Ok(())
+    }
+}
+
+/// Texts whose growth may be refused; they are unchanged then.
+pub trait TryGrowText {
+    /// Appends a text.
+    fn try_push_str(&mut self, more: &str) -> Result<(), AllocError>;
+}
+
+impl TryGrowText for String {
+    #[inline]
+    fn try_push_str(&mut self, more: &str) -> Result<(), AllocError> {
+        self.try_reserve(more.len())?;
+        self.push_str(more);
+        Ok(())
+    }
+}
+
+/// Texts to which `write!` appends, and may be refused; what came before the refusal is appended then.
+pub trait TryWrite {
+    /// Appends a text with its arguments.
+    fn write_fmt(&mut self, text: fmt::Arguments<'_>) -> Result<(), AllocError>;
+}
+
+impl TryWrite for String {
+    fn write_fmt(&mut self, text: fmt::Arguments<'_>) -> Result<(), AllocError> {
+        fmt::write(&mut Growing(self), text).map_err(|fmt::Error| AllocError)
+    }
+}
+
+/// A text of which a refusal is an error of formatting.
+struct Growing<'a>(&'a mut String);
+
+impl fmt::Write for Growing<'_> {
+    fn write_str(&mut self, more: &str) -> fmt::Result {
+        self.0.try_push_str(more).map_err(|AllocError| fmt::Error)
     }
 }
 

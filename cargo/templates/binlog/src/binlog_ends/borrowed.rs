@@ -24,6 +24,7 @@ impl<'a, T> CountedRef<'a, T> {
     }
 
     // Counts a failure.
+    #[cold]
     fn fail(&mut self, error: io::Error) -> Failed {
         self.failures = self.failures.saturating_add(1);
         error.into()
@@ -31,6 +32,7 @@ impl<'a, T> CountedRef<'a, T> {
 }
 
 impl<T> CountsFailures for CountedRef<'_, T> {
+    #[inline]
     fn failures(&self) -> u64 {
         self.failures
     }
@@ -43,12 +45,14 @@ impl<R: Read> ReadCounted for CountedRef<'_, R> {
 }
 
 impl<W: Write> WriteCounted for CountedRef<'_, W> {
+    #[inline]
     fn write_whole(&mut self, bytes: &[u8]) -> Result<(), Failed> {
         self.inner
             .write_all(bytes)
             .map_err(|error| self.fail(error))
     }
 
+    #[inline]
     fn flush_counted(&mut self) -> Result<(), Failed> {
         self.inner.flush().map_err(|error| self.fail(error))
     }

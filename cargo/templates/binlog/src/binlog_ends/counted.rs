@@ -47,6 +47,7 @@ impl<T> Counted<T> {
     }
 
     // Counts a failure.
+    #[cold]
     fn fail(&mut self, error: io::Error) -> Failed {
         let error = DeviceError::from(error);
         self.failures = self.failures.saturating_add(1);
@@ -56,6 +57,7 @@ impl<T> Counted<T> {
 }
 
 impl<T> CountsFailures for Counted<T> {
+    #[inline]
     fn failures(&self) -> u64 {
         self.failures
     }
@@ -70,12 +72,14 @@ impl<R: Read> ReadCounted for Counted<R> {
 
 impl<W: Write> WriteCounted for Counted<W> {
     /// Writes by `Write::write_all`. A write of 0 bytes is a failure.
+    #[inline]
     fn write_whole(&mut self, bytes: &[u8]) -> Result<(), Failed> {
         self.inner
             .write_all(bytes)
             .map_err(|error| self.fail(error))
     }
 
+    #[inline]
     fn flush_counted(&mut self) -> Result<(), Failed> {
         self.inner.flush().map_err(|error| self.fail(error))
     }
