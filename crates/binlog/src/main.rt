@@ -1,0 +1,105 @@
+//! Lists, checks, counts and copies the events of binary logs: one program with a command for each.
+#![tactic(auto)]
+
+mod commands;
+mod copying;
+mod files;
+mod following;
+mod request;
+
+use binlog_arguments::command;
+use binlog_status::{Status, out_of_memory};
+use clap::ArgMatches;
+use clap::error::ErrorKind;
+use request::{Request, Terminals};
+use std::env::Env;
+use std::io::IsTerminal;
+use std::process::ExitCode;
+use std::rt::Files;
+use std::time::Clock;
+use std::{env, io};
+
+// Runs the command that the words of the command line name.
+fn run<R: Files + Env + Clock + Input + Print + Eprint + AllocGlobal>(
+    rt: &R,
+    terminals: Terminals,
+) -> Status {
+    let words = match env::args(rt) {
+        Ok(words) => words,
+        Err(error) => return unread(rt, &error),
+    };
+    let Ok(words) = words.collect::<Vec<String>>(rt.alloc()) else {
+        return out_of_memory(rt);
+    };
+    run_words(rt, words.as_slice(), terminals)
+}
+
+// The status if the words can't be read.
+fn unread<E: Eprint>(rt: &E, error: &io::Error) -> Status {
+    if error.kind() == io::ErrorKind::OutOfMemory {
+        return out_of_memory(rt);
+    }
+    let _ = eprintln!(rt; "binlog: an argument isn't UTF-8");
+    Status::Usage
+}
+
+// Runs the command that these words name. They outlive all that the command reads of them.
+fn run_words<'a, R: Files + Clock + Input + Print + Eprint + AllocGlobal>(
+    rt: &'a R,
+    words: &'a [String],
+    terminals: Terminals,
+) -> Status {
+    let Ok(command) = command(rt.alloc()) else {
+        return out_of_memory(rt);
+    };
+    match command.try_get_matches_from(words) {
+        Ok(matches) => match matches.subcommand() {
+            Some((name, matches)) => run_command(rt, name, matches, terminals),
+            None => Status::Usage,
+        },
+        Err(error) => refused(rt, &error),
+    }
+}
+
+// Prints the help, the version, or what is wrong with the words.
+fn refused<R: Print + Eprint>(rt: &R, error: &clap::Error) -> Status {
+    let printed = error.print(rt);
+    match error.kind() {
+        ErrorKind::DisplayHelp | ErrorKind::DisplayVersion => match printed {
+            Ok(()) => Status::Fine,
+            Err(_) => Status::Failed,
+        },
+        ErrorKind::OutOfMemory => Status::Failed,
+        _ => Status::Usage,
+    }
+}
+
+// Runs a command, and answers its status, also if it can't begin.
+fn run_command<'a, R: Files + Clock + Input + Print + Eprint + AllocGlobal>(
+    rt: &'a R,
+    name: &str,
+    matches: &ArgMatches<'a>,
+    terminals: Terminals,
+) -> Status {
+    let request = Request::new(name, matches, terminals);
+    let answer = match name {
+        "list" => commands::list(rt, &request),
+        "json" => commands::json(rt, &request),
+        "gtids" => commands::gtids(rt, &request),
+        "verify" => commands::verify(rt, &request),
+        "stats" => commands::stats(rt, &request),
+        "copy" => copying::copy(rt, &request),
+        _ => Err(Status::Usage),
+    };
+    match answer {
+        Ok(status) | Err(status) => status,
+    }
+}
+
+fn main(rt: HostRuntime) -> ExitCode {
+    let terminals = Terminals {
+        output: rt.stdout().is_terminal(),
+        errors: rt.stderr().is_terminal(),
+    };
+    ExitCode::from(run(&rt, terminals) as u8)
+}

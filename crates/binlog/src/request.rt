@@ -1,0 +1,74 @@
+//! What a command is asked for.
+use binlog_status::BUFFER_SIZE;
+use clap::ArgMatches;
+
+/// Which of the standard streams are terminals.
+#[derive(Clone, Copy)]
+pub(crate) struct Terminals {
+    /// Standard output.
+    pub(crate) output: bool,
+    /// Standard error.
+    pub(crate) errors: bool,
+}
+
+impl Terminals {
+    // Whether a command has a place for progress: a terminal to which it doesn't write lines meanwhile.
+    fn has_progress(self, name: &str) -> bool {
+        self.errors && !(self.output && (name == "list" || name == "json"))
+    }
+}
+
+/// How files are read.
+#[derive(Clone, Copy, Default)]
+pub(crate) struct Reading {
+    /// Whether their checksums are verified.
+    pub(crate) is_verified: bool,
+    /// Whether the progress in large files is shown.
+    pub(crate) shows_progress: bool,
+    /// Whether more is waited for at their end.
+    pub(crate) is_followed: bool,
+}
+
+impl Reading {
+    /// How one of several files is read: only the last one is followed.
+    pub(crate) fn of_file(self, is_last: bool) -> Self {
+        Reading {
+            is_followed: self.is_followed && is_last,
+            ..self
+        }
+    }
+
+    /// The size of the buffer of the lines, in bytes: none if they have to be seen at once.
+    pub(crate) fn output_capacity(self) -> usize {
+        if self.is_followed { 0 } else { BUFFER_SIZE }
+    }
+}
+
+/// What the words of the command line ask of a command.
+#[derive(Drop)]
+pub(crate) struct Request<'m, 'a> {
+    /// The options, and their values.
+    pub(crate) options: &'m ArgMatches<'a>,
+    /// The names of the files, in order.
+    pub(crate) files: &'m [&'a str],
+    /// How they are read.
+    pub(crate) reading: Reading,
+}
+
+impl<'m, 'a> Request<'m, 'a> {
+    /// What these options ask of the command of this name.
+    pub(crate) fn new(name: &str, options: &'m ArgMatches<'a>, terminals: Terminals) -> Self {
+        let is_followed = options.get_flag("follow");
+        // A line of progress would stay while a followed file is waited for.
+        let has_progress = terminals.has_progress(name) && !is_followed;
+        Request {
+            options,
+            files: options.get_strs("FILE").unwrap_or(&[]),
+            reading: Reading {
+                is_verified: name == "verify",
+                shows_progress: has_progress && !options.get_flag("no-progress"),
+                is_followed,
+            },
+        }
+    }
+}

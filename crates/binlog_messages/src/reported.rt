@@ -1,0 +1,148 @@
+//! A visitor that writes messages.
+ghost use Rattle.std.specs.Prelude.{◌≡◌, false};
+
+use crate::progress::Progress;
+use crate::refusing::Refusing;
+use binlog_file::{Error, EventData, EventRef, GtidTracker};
+use binlog_filters::{Filtered, Place};
+use binlog_visits::Visitor;
+use std::alloc::Global;
+
+/// The name of a file in messages.
+pub fn shown_name(name: &str) -> &str {
+    if name == "-" { "standard input" } else { name }
+}
+
+/// Writes a message for each error of a file and the progress in it, and shows everything to another visitor.
+#[derive(Drop)]
+pub struct Reported<'a, E, T> {
+    rt: &'a E,
+    file: &'a str,
+    // The index of the next item, and where it begins.
+    index: u64,
+    place: Place,
+    progress: Progress,
+    /// Whether the file has an error.
+    pub has_errors: bool,
+    /// The other visitor.
+    pub visitor: T,
+}
+
+impl<'a, E: Eprint, T> Reported<'a, E, Filtered<T>> {
+    /// Messages go to the standard error of `rt`.
+    pub fn new(rt: &'a E, visitor: Filtered<T>) -> Self
+        ensures { result.visitor ≡ visitor }
+    {
+        Reported {
+            rt,
+            file: "",
+            index: 0,
+            place: Place::first(),
+            progress: Progress::hidden(),
+            has_errors: false,
+            visitor,
+        }
+    }
+
+    /// Begins with this file, and shows this progress in it.
+    pub fn begin(&mut self, file: &'a str, progress: Progress)
+        ensures { self.new.has_errors ≡ false }
+    {
+        self.file = shown_name(file);
+        self.index = 0;
+        self.place = Place::first();
+        self.progress = progress;
+        self.has_errors = false;
+        self.visitor.begin();
+    }
+
+    /// Wipes the progress in the file, which is read.
+    pub fn end(&mut self)
+        ensures visitor { self.new.visitor ≡ self.old.visitor }
+        ensures errors { self.new.has_errors ≡ self.old.has_errors }
+    {
+        self.progress.wipe(self.rt);
+    }
+
+    /// Writes the message of an error of the file as a whole.
+    pub fn report_file(&self, error: &Error) {
+        let _ = eprintln!(self.rt; "binlog: {}: {error}", self.file);
+    }
+
+    /// Writes the message of an error that ended the file, at the next item.
+    pub fn report_end(&self, error: &Error) {
+        report(self.rt, self.file, self.index, self.place, error);
+    }
+}
+
+// Writes a message. There is nowhere to say that it can't be written.
+fn report<E: Eprint>(rt: &E, file: &str, index: u64, place: Place, error: &Error) {
+    let _ = match place.position {
+        Some(position) => {
+            eprintln!(rt; "binlog: {file}: event {index} at byte {position}: {error}")
+        }
+        None => eprintln!(rt; "binlog: {file}: event {index}: {error}"),
+    };
+}
+
+// Writes the message of an event whose GTIDs can't be read or added. Why they can't doesn't depend on the set.
+fn report_refused<E: Eprint + AllocGlobal>(
+    rt: &E,
+    file: &str,
+    index: u64,
+    place: Place,
+    event: &EventRef<'_>,
+) {
+    if let Err(error) = add_alone(rt.alloc(), event) {
+        report(rt, file, index, place, &error);
+    }
+}
+
+// Adds the GTIDs of an event to an empty set.
+fn add_alone(alloc: Global, event: &EventRef<'_>) -> Result<(), Error> {
+    let data = event.read_data(alloc);
+    let added = match &data {
+        Ok(Some(data)) => add_data(alloc, data),
+        Ok(None) => Ok(()),
+        Err(error) => Err(*error),
+    };
+    drop(data);
+    added
+}
+
+// Adds the GTIDs of what was read to an empty set.
+fn add_data(alloc: Global, data: &EventData<'_>) -> Result<(), Error> {
+    let mut alone = GtidTracker::new(alloc);
+    alone.add_event(data)
+}
+
+/// A visit is one of the other visitor.
+impl<'a, E: Eprint + AllocGlobal, T: Visitor + Refusing> Visitor for Reported<'a, E, T> {
+    ghost visits = { λ old index item new. T.visits old.visitor index item new.visitor };
+
+    ghost refuses = { λ old index item error new. T.refuses old.visitor index item error new.visitor };
+
+    fn visit_event(&mut self, index: u64, event: &EventRef<'_>) -> Result<(), Error> {
+        let place = self.place;
+        let refused = self.visitor.refused();
+        self.index = index.saturating_add(1);
+        self.place = place.behind_event(event);
+        let answer = self.visitor.visit_event(index, event);
+        self.progress.note(self.rt, self.place.position, self.index);
+        if self.visitor.refused() != refused {
+            self.progress.wipe(self.rt);
+            report_refused(self.rt, self.file, index, place, event);
+            self.has_errors = true;
+        }
+        answer
+    }
+
+    fn visit_error(&mut self, index: u64, error: &Error) -> Result<(), Error> {
+        self.progress.wipe(self.rt);
+        report(self.rt, self.file, index, self.place, error);
+        self.has_errors = true;
+        self.index = index.saturating_add(1);
+        self.place = Place::behind_error();
+        self.visitor.visit_error(index, error)
+    }
+}

@@ -1,0 +1,28 @@
+//! The exit status.
+ghost use Rattle.std.specs.Prelude.{◌≡◌};
+ghost use Rattle.binlog_status.specs.declared.status.Status.TheVariants.{Failed};
+
+use binlog_wire::Error;
+
+/// How a run ended, from the best to the worst. The number is the exit status of the program.
+#[derive(Clone, Copy, Debug, PartialEq, Eq, PartialOrd, Ord)]
+pub enum Status {
+    /// All is well.
+    Fine = 0,
+    /// A file can't be opened, or isn't a binlog file.
+    NotOpened = 1,
+    /// Something in a log is damaged.
+    Damaged = 2,
+    /// Memory, a reader or a writer failed.
+    Failed = 3,
+    /// The words are no command.
+    Usage = 64,
+}
+
+/// The status if there is no memory for a command, after its message.
+pub fn out_of_memory<E: Eprint>(rt: &E) -> Status
+    ensures { result ≡ Failed }
+{
+    let _ = eprintln!(rt; "binlog: {}", Error::Memory);
+    Status::Failed
+}

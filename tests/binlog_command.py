@@ -1,0 +1,474 @@
+#!/usr/bin/env python3
+"""Runs each command of `binlog` on good and damaged logs: its output, its messages and its exit status.
+
+Usage: binlog_command.py [PROGRAM]
+
+PROGRAM is the built binlog if not given. The output of `list`, `json` and `gtids` is that of the models; what filters take,
+the counts and the copies follow from the frames of a log and their headers. The progress is what a terminal is shown, and a
+log that is followed grows while it is read. What `bin/install` and `bin/package` make of the program is tried in a temporary
+folder; without `dpkg-deb` no package is made. The last line is `N passed, M failed`; the exit status is 1 if something failed.
+"""
+
+import os
+import pty
+import re
+import shlex
+import shutil
+import subprocess
+import sys
+import tempfile
+import zlib
+from concurrent.futures import ThreadPoolExecutor
+from functools import partial
+from pathlib import Path
+
+import checksummed_sample
+import gtid_model
+import gtids_sample
+import json_model
+import listing_model
+import make_sample
+from damaged_copies import EVENT, MAGIC, PROCESSES_AT_A_TIME, REPOSITORY, SIZE_OFFSET, frame_starts, with_byte
+
+PROGRAM = REPOSITORY / "crates/binlog/out/binlog"
+COMMANDS = ("list", "json", "gtids", "verify", "stats", "copy")
+
+FINE, NOT_OPENED, DAMAGED, FAILED, USAGE = 0, 1, 2, 3, 64
+MISSING = "missing.bin"
+NOT_FOUND = rf"binlog: {MISSING}: .+\n"
+# The messages of a log: each has the file, the index, and the byte if that is known, or is about the file as a whole.
+MESSAGES = r"(binlog: (0\.bin|standard input): (event \d+( at byte \d+)?: )?[^\n]+\n)+"
+
+SAMPLE = make_sample.sample()
+CHECKSUMMED = checksummed_sample.sample()
+GTIDS = gtids_sample.sample()
+SID = "abababab-abab-abab-abab-abababababab"
+
+
+def transactions(*numbers):
+    """A log of a transaction for each number: its GTID, and two statements; the log begins with a rotate."""
+    statement = make_sample.frame(make_sample.QUERY, make_sample.query_body(b"test", b"select 1"), 0)
+    rotate = make_sample.frame(make_sample.ROTATE, make_sample.ROTATE_BODY, 0)
+    return MAGIC + rotate + b"".join(gtids_sample.gtid(number) + 2 * statement for number in numbers)
+
+
+class Result:
+    """What is wanted of a run: the output, a pattern of the messages, and the status."""
+
+    def __init__(self, output, status=FINE, messages=""):
+        self.output, self.status, self.messages = output, status, messages
+
+
+def difference(name, finished, wanted):
+    """None if a run is as wanted, else what is wrong."""
+    if finished.returncode != wanted.status:
+        return f"{name}: status {finished.returncode}, not {wanted.status}"
+    if wanted.output is not None and finished.stdout != wanted.output:
+        return f"{name}: the output is {finished.stdout[:200]!r}, not {wanted.output[:200]!r}"
+    if re.fullmatch(wanted.messages, finished.stderr.decode()) is None:
+        return f"{name}: the messages are {finished.stderr[:300]!r}, not {wanted.messages!r}"
+    return None
+
+
+class Runner:
+    """Runs the program in a folder that has the logs of a case."""
+
+    def __init__(self, program, folder):
+        self.program, self.folder = program, Path(folder)
+
+    def run(self, words, logs=(), given=b"", **ends):
+        for place, log in enumerate(logs):
+            (self.folder / f"{place}.bin").write_bytes(log)
+        ends = {"stdout": subprocess.PIPE, "stderr": subprocess.PIPE} | ends
+        return subprocess.run([self.program, *words], cwd=self.folder, input=given, **ends)
+
+    def check(self, words, wanted, logs=(), given=b""):
+        return difference(" ".join(words), self.run(words, logs, given), wanted)
+
+
+def message(place, index, position, text):
+    at = "" if position is None else f" at byte {position}"
+    return re.escape(f"binlog: {place}: event {index}{at}: {text}\n")
+
+
+def lines(log, indexes):
+    """The lines of these events in the listing."""
+    every = listing_model.expected(log)[0].splitlines(keepends=True)
+    return b"".join(every[index] for index in indexes)
+
+
+def frames(log):
+    return listing_model.split(log[len(MAGIC) :])[0]
+
+
+def copy_of(log, indexes):
+    every = frames(log)
+    return MAGIC + b"".join(every[index] for index in indexes)
+
+
+# ---- each command
+
+
+def models(runner):
+    """The commands that a model has, on good and damaged logs, from a file and from standard input."""
+    ends = [*frame_starts(SAMPLE), len(SAMPLE)]
+    cut = SAMPLE[: ends[7] + 10]
+    for log in (SAMPLE, CHECKSUMMED, GTIDS, cut, MAGIC, transactions(1, 2)):
+        for command, model in (("list", listing_model), ("json", json_model), ("gtids", gtid_model)):
+            output, status = model.expected(log)
+            messages = "" if status == FINE else MESSAGES
+            wanted = Result(output, status, messages)
+            yield runner.check([command, "0.bin"], wanted, [log])
+            yield runner.check([command, "-"], wanted, given=log)
+            yield runner.check([command], wanted, given=log)
+
+
+def damaged(runner):
+    """The message of a damaged event."""
+    starts = list(frame_starts(SAMPLE))
+    small = with_byte(SAMPLE, starts[3] + SIZE_OFFSET, 5)
+    text = "an event states the size 5, and its header alone takes 19 bytes"
+    output, status = listing_model.expected(small)
+    yield runner.check(["list", "0.bin"], Result(output, status, message("0.bin", 3, starts[3], text)), [small])
+    yield runner.check(["list", "-"], Result(output, status, message("standard input", 3, starts[3], text)), given=small)
+
+    starts = list(frame_starts(CHECKSUMMED))
+    place = starts[1] + 30
+    wrong = with_byte(CHECKSUMMED, place, CHECKSUMMED[place] ^ 1)
+    event = frames(wrong)[1]
+    computed = zlib.crc32(event[:-4]).to_bytes(4, "little").hex()
+    text = f"checksum mismatch: stored {event[-4:].hex()}, computed {computed}"
+    messages = message("0.bin", 1, starts[1], text)
+    length = len(CHECKSUMMED) - len(MAGIC)
+    count = len(starts)
+    right = f"1.bin: {count} events, {length} bytes, {count} checksums right, 0 events damaged\n"
+    found = f"0.bin: {count - 1} events, {length - len(event)} bytes, {count - 1} checksums right, 1 events damaged\n"
+    both = [wrong, CHECKSUMMED]
+    wanted = Result((found + right).encode(), DAMAGED, messages)
+    yield runner.check(["verify", "0.bin", "1.bin"], wanted, both)
+    yield runner.check(["verify", "--quiet", "0.bin", "1.bin"], Result(b"", DAMAGED, messages), both)
+    yield runner.check(["verify", "-q", "1.bin"], Result(b""), both)
+    yield runner.check(["list", "0.bin"], Result(listing_model.expected(wrong)[0]), both)
+    first = f"1.bin: 1 events, {starts[1] - starts[0]} bytes, 1 checksums right, 0 events damaged\n"
+    words = ["verify", "--stop-position", str(starts[1]), "1.bin"]
+    yield runner.check(words, Result(first.encode()), both)
+
+
+def reported(runner):
+    """The messages name the events whose lines are errors, in order, and say which error it is."""
+    small = with_byte(SAMPLE, list(frame_starts(SAMPLE))[3] + SIZE_OFFSET, 5)
+    for command, model, log in (("list", listing_model, small), ("gtids", gtid_model, GTIDS)):
+        named = re.findall(rb"binlog: 0\.bin: event (\d+) ", runner.run([command, "0.bin"], [log]).stderr)
+        wrong = re.findall(rb"^(\d+) error E", model.expected(log)[0], re.M)
+        yield None if wrong and named == wrong else f"{command}: messages of {named}, not of {wrong}"
+    log = transactions(1)
+    short = make_sample.frame(gtids_sample.GTID, b"abc", 0)
+    messages = message("0.bin", 4, len(log), "an event's body ends within a field")
+    text = "the transaction number 0 is not in 1 to 9223372036854775807"
+    messages += message("0.bin", 5, len(log + short), text)
+    wrong = log + short + gtids_sample.gtid(0)
+    yield runner.check(["gtids", "0.bin"], Result(gtid_model.expected(wrong)[0], DAMAGED, messages), [wrong])
+    yield runner.check(["gtids", "--stop-position", str(len(log)), "0.bin"], Result(gtid_model.expected(log)[0]), [wrong])
+
+
+def several(runner):
+    """Several files: all are read, and the worst status counts."""
+    once = listing_model.expected(SAMPLE)[0]
+    other = listing_model.expected(CHECKSUMMED)[0]
+    logs = [SAMPLE, CHECKSUMMED, b"no binlog", b"no"]
+    yield runner.check(["list", "0.bin", "1.bin", "0.bin"], Result(once + other + once), logs)
+    yield runner.check(["list", MISSING, "0.bin"], Result(once, NOT_OPENED, NOT_FOUND), logs)
+    yield runner.check(["list", "0.bin", MISSING], Result(once, NOT_OPENED, NOT_FOUND), logs)
+    header = "binlog: 2.bin: the file does not begin as a binlog\n"
+    yield runner.check(["list", "2.bin", "0.bin"], Result(once, NOT_OPENED, header), logs)
+    short = "binlog: 3.bin: the input ends within a file header or an event\n"
+    yield runner.check(["json", "3.bin"], Result(b"", NOT_OPENED, short), logs)
+    yield runner.check(["list", "0.bin", "-"], Result(2 * once), logs, given=SAMPLE)
+    folder = message("/", 0, 4, "x").replace("event", "[^\n]+").split("\\ ")[0]
+    yield runner.check(["list", "/", "0.bin"], Result(once, FAILED, folder + " [^\n]+\n"), logs)
+
+
+def filters(runner):
+    """What each filter takes."""
+    starts = list(frame_starts(SAMPLE))
+    every = range(len(starts))
+    types = [listing_model.type_number(frame) for frame in frames(SAMPLE)]
+    cases = [
+        (["--start-position", str(starts[5])], [i for i in every if i >= 5]),
+        (["--start-position", str(starts[5] + 1)], [i for i in every if i >= 6]),
+        (["--stop-position", str(starts[5])], [i for i in every if i < 5]),
+        (["--start-position", str(starts[2]), "--stop-position", str(starts[2] + 1)], [2]),
+        (["--start-datetime", "2009-09-24T09:03:57"], [i for i in every if i > 0]),
+        (["--stop-datetime", "2009-09-24 09:03:57"], [0]),
+        (["--start-datetime", "1960-01-01T00:00:00"], every),
+        (["--server-id", "1"], every),
+        (["--server-id", "2"], []),
+        (["--type", "XID"], [i for i in every if types[i] == 16]),
+        (["--type", "xid_event", "--type", "ROTATE"], [i for i in every if types[i] in (16, 4)]),
+        (["--type", "ROTATE", "--stop-position", str(starts[-1])], []),
+    ]
+    for words, indexes in cases:
+        yield runner.check(["list", *words, "0.bin"], Result(lines(SAMPLE, indexes)), [SAMPLE])
+
+
+def gtid_filters(runner):
+    """Whole transactions are taken, and the events of the log itself."""
+    log = transactions(1, 2, 3)
+    first, second, third = [1, 2, 3], [4, 5, 6], [7, 8, 9]
+    cases = [
+        (["--include-gtids", f"{SID}:2"], [0, *second]),
+        (["--include-gtids", f"{SID}:2-3"], [0, *second, *third]),
+        (["--exclude-gtids", f"{SID}:2"], [0, *first, *third]),
+        (["--include-gtids", f"{SID}:1-3", "--exclude-gtids", f"{SID}:1"], [0, *second, *third]),
+        (["--include-gtids", f"{SID}:tag:2"], [0]),
+        (["--include-gtids", f"{SID}:2", "--type", "QUERY"], second[1:]),
+    ]
+    for words, indexes in cases:
+        yield runner.check(["list", *words, "0.bin"], Result(lines(log, indexes)), [log])
+        # The log has no format description.
+        yield runner.check(["copy", *words, "-o", "-", "0.bin"], Result(copy_of(log, indexes)), [log])
+
+
+def gtids(runner):
+    """The GTIDs of several logs, and those that another log lacks."""
+    logs = [transactions(1, 2, 3), transactions(5), transactions(2)]
+    digits = SID.replace("-", "")
+    yield runner.check(["gtids", "0.bin", "1.bin"], Result(f"{digits} 1-3,5 gaps 4\n".encode()), logs)
+    missing = ["gtids", "--missing-in"]
+    yield runner.check([*missing, "2.bin", "0.bin"], Result(f"{digits} 1,3 gaps 2\n".encode()), logs)
+    yield runner.check([*missing, "0.bin", "2.bin"], Result(b""), logs)
+    yield runner.check([*missing, MISSING, "0.bin"], Result(b"", NOT_OPENED, NOT_FOUND), logs)
+
+
+def stats(runner):
+    """The counts of a log, from its frames."""
+    every = frames(SAMPLE)
+    size = sum(map(len, every))
+    largest = max(range(len(every)), key=lambda index: len(every[index]))
+    rows = {2: "QUERY_EVENT", 4: "ROTATE_EVENT", 15: "FORMAT_DESCRIPTION_EVENT", 16: "XID_EVENT"}
+    wanted = [f"events {len(every)}", f"bytes {size}", "damaged 0", "transactions 0"]
+    wanted += ["first 2009-09-24T09:03:56Z", "last 2009-09-24T09:03:57Z"]
+    kind = rows[listing_model.type_number(every[largest])]
+    wanted += [f"largest event {largest} of {len(every[largest])} bytes, {kind}"]
+    for number, name in rows.items():
+        sizes = [len(frame) for frame in every if listing_model.type_number(frame) == number]
+        wanted += [f"type {name} {len(sizes)} events {sum(sizes)} bytes {sum(sizes) * 100 // size}%"]
+    output = "".join(line + "\n" for line in wanted).encode()
+    yield runner.check(["stats", "0.bin"], Result(output), [SAMPLE])
+    finished = runner.run(["stats", "0.bin", "0.bin"], [transactions(1, 2)])
+    yield None if b"\ntransactions 4\n" in finished.stdout else f"stats: {finished.stdout!r}"
+
+
+def copies(runner):
+    """A copy has the events that are taken, byte for byte, and all format descriptions."""
+    starts = list(frame_starts(SAMPLE))
+    yield runner.check(["copy", "-o", "-", "0.bin"], Result(SAMPLE), [SAMPLE])
+    yield runner.check(["copy", "-o", "-", "0.bin"], Result(SAMPLE[: starts[-1]]), [SAMPLE[:-1]])
+    words = ["copy", "--start-position", str(starts[17]), "--output", "out.bin", "0.bin"]
+    yield runner.check(words, Result(b""), [SAMPLE])
+    later = range(17, len(starts))
+    copied = (runner.folder / "out.bin").read_bytes()
+    yield None if copied == copy_of(SAMPLE, [0, *later]) else f"copy: {copied[:80]!r}"
+    yield runner.check(["verify", "-q", "out.bin"], Result(b""))
+    yield runner.check(["copy", "-o", "/missing/out.bin", "0.bin"], Result(b"", FAILED, "binlog: /missing/out.bin: .+\n"))
+    wrong = ["copy", "--start-datetime", "today", "-o", "out.bin", "0.bin"]
+    yield runner.check(wrong, Result(b"", USAGE, "binlog: .+\n"))
+    is_kept = (runner.folder / "out.bin").read_bytes() == copied
+    yield None if is_kept else "copy: wrong usage changes the output"
+
+
+# ---- words and ends
+
+
+def words(runner):
+    """The help, the version, and wrong usage."""
+    for command in COMMANDS:
+        finished = runner.run([command, "--help"])
+        is_shown = finished.returncode == FINE and b"Examples:\n" in finished.stdout and not finished.stderr
+        yield None if is_shown else f"{command} --help: {finished}"
+    yield runner.check(["--version"], Result(b"binlog 0.1.0\n"))
+    finished = runner.run([])
+    yield None if finished.returncode == USAGE and b"Commands:" in finished.stderr else f"no words: {finished}"
+    wrong = [["lists"], ["list", "--bogus"], ["copy", "0.bin"], ["list", "--start-position", "x"]]
+    wrong += [["list", "--type", "NO_TYPE"], ["list", "--start-datetime", "today"], ["list", "--server-id", "4294967296"]]
+    wrong += [["list", "--include-gtids", "no-uuid:1"], ["list", "--quiet"]]
+    for refused in wrong:
+        yield runner.check(refused, Result(b"", USAGE, r"(?s).+"), [SAMPLE])
+
+
+def ends(runner):
+    """An output that fails, and one that nobody reads any more."""
+    long_log = MAGIC + 20_000 * EVENT
+    for command in ("list", "json", "stats", "verify", "gtids"):
+        unread, writing = os.pipe()
+        os.close(unread)
+        log = transactions(1) + 20_000 * EVENT
+        closed = runner.run([command, "0.bin"], [log], stdout=writing)
+        os.close(writing)
+        closed.stdout = b""
+        yield difference(f"{command} into a closed pipe", closed, Result(b""))
+        with open("/dev/full", "wb") as full:
+            finished = runner.run([command, "0.bin"], [log], stdout=full)
+        finished.stdout = b""
+        full = re.escape("binlog: the output: No space left on device (os error 28)\n")
+        yield difference(f"{command} to a full device", finished, Result(b"", FAILED, full))
+    piped = f"{runner.program} list 0.bin | head -n 1"
+    finished = runner.run(["list", "0.bin"], [long_log])
+    first = subprocess.run(["bash", "-c", f"set -o pipefail; {piped}"], cwd=runner.folder, capture_output=True)
+    yield difference("head", first, Result(finished.stdout.splitlines(keepends=True)[0]))
+
+
+def write_large(path):
+    """Writes a log of 110 events of a mebibyte each, and returns its size."""
+    size = 1 << 20
+    header = make_sample.frame(make_sample.QUERY, b"", 0)
+    header = header[:SIZE_OFFSET] + size.to_bytes(4, "little") + header[SIZE_OFFSET + 4 :]
+    with open(path, "wb") as log:
+        log.write(MAGIC)
+        for number in range(110):
+            log.seek(len(MAGIC) + number * size)
+            log.write(header)
+        log.truncate(len(MAGIC) + 110 * size)
+    return len(MAGIC) + 110 * size
+
+
+def on_terminal(runner, words, has_output=False):
+    """What a run writes to a terminal that is its standard error, and its output if that is asked for."""
+    reading, writing = pty.openpty()
+    output = writing if has_output else subprocess.PIPE
+    shown = b""
+    with subprocess.Popen([runner.program, *words], cwd=runner.folder, stdout=output, stderr=writing) as running:
+        os.close(writing)
+        while True:
+            try:
+                piece = os.read(reading, 65536)
+            except OSError:
+                # The other side of the terminal is closed.
+                break
+            shown += piece
+    os.close(reading)
+    return shown.replace(b"\r\n", b"\n").decode()
+
+
+def progress(runner):
+    """The progress in a large file: on a terminal alone, and wiped at the end and before a message."""
+    size = write_large(runner.folder / "large.bin")
+    line = rf"\r\d+ of {size} bytes, \d+ events\x1b\[K"
+    wiped = r"\r\x1b\[K"
+    for words in (["verify", "-q"], ["stats"], ["list"]):
+        shown = on_terminal(runner, [*words, "large.bin"])
+        yield None if re.fullmatch(f"({line})+{wiped}", shown) else f"{words} shows {shown!r}"
+        shown = on_terminal(runner, [*words, "--no-progress", "large.bin"])
+        yield None if not shown else f"{words} --no-progress shows {shown!r}"
+    shown = on_terminal(runner, ["list", "large.bin"], has_output=True)
+    yield None if "of" not in shown and shown.count("\n") == 110 else f"beside the listing {shown!r} is shown"
+    yield runner.check(["verify", "-q", "large.bin"], Result(b""))
+
+    place = size - (1 << 20)
+    with open(runner.folder / "large.bin", "r+b") as log:
+        log.seek(place + SIZE_OFFSET)
+        log.write((5).to_bytes(4, "little"))
+    text = message("large.bin", 109, place, "an event states the size 5, and its header alone takes 19 bytes")
+    shown = on_terminal(runner, ["stats", "large.bin"])
+    yield None if re.fullmatch(f"({line})+{wiped}{text}", shown) else f"a damaged log shows {shown!r}"
+    shown = on_terminal(runner, ["stats", "0.bin"])
+    yield None if "No such file" in shown else f"a missing log shows {shown!r}"
+    (runner.folder / "0.bin").write_bytes(SAMPLE)
+    shown = on_terminal(runner, ["stats", "0.bin"])
+    yield None if not shown else f"a small log shows {shown!r}"
+
+
+def followed(runner):
+    """Events that come to a file while it is followed have their lines at once; the first files aren't waited for."""
+    first = listing_model.expected(SAMPLE)[0]
+    ends = [*frame_starts(SAMPLE), len(SAMPLE)]
+    (runner.folder / "0.bin").write_bytes(SAMPLE)
+    for option in ("--follow", "-f"):
+        with open(runner.folder / "1.bin", "wb") as log:
+            log.write(SAMPLE[: ends[2]])
+            log.flush()
+            words = [runner.program, "list", option, "0.bin", "1.bin"]
+            with subprocess.Popen(words, cwd=runner.folder, stdout=subprocess.PIPE) as running:
+                shown = b"".join(running.stdout.readline() for _ in range(first.count(b"\n") + 2))
+                for piece in (SAMPLE[ends[2] : ends[3]], SAMPLE[ends[3] : ends[5] - 1], SAMPLE[ends[5] - 1 :]):
+                    log.write(piece)
+                    log.flush()
+                    shown += running.stdout.readline()
+                shown += b"".join(running.stdout.readline() for _ in ends[6:])
+                is_waiting = running.poll() is None
+                running.kill()
+        yield None if is_waiting and shown == 2 * first else f"list {option}: {shown[-200:]!r}"
+
+
+# ---- installed
+
+
+def completed(runner, completions, *words):
+    """What bash completes the last of these words to."""
+    given = " ".join(map(shlex.quote, ("binlog", *words)))
+    script = f"source {shlex.quote(str(completions))}; COMP_WORDS=({given}); COMP_CWORD={len(words)}; _binlog; "
+    script += 'printf "%s\\n" "${COMPREPLY[@]}"'
+    finished = subprocess.run(["bash", "-c", script], cwd=runner.folder, capture_output=True, text=True, check=True)
+    return finished.stdout.splitlines()
+
+
+def laid_out(runner, prefix):
+    """The program, the man page and the completions below a prefix."""
+    version = subprocess.run([prefix / "bin/binlog", "--version"], capture_output=True)
+    yield difference("the installed program", version, Result(b"binlog 0.1.0\n"))
+    page = prefix / "share/man/man1/binlog.1"
+    completions = prefix / "share/bash-completion/completions/binlog"
+    text = page.read_text().replace("\\", "")
+    yield None if completed(runner, completions, "ve") == ["verify"] else "binlog ve isn't completed"
+    yield None if completed(runner, completions, "list", "--type", "") == [""] else "a type is completed to a file"
+    (runner.folder / "kept here.bin").touch()
+    yield None if completed(runner, completions, "copy", "-o", "kept") == ["kept here.bin"] else "a file isn't completed"
+    for command in COMMANDS:
+        options = set(re.findall(r"--[\w-]+", runner.run([command, "--help"]).stdout.decode().split("\n\n")[3]))
+        is_whole = len(options) > 1 and options <= set(completed(runner, completions, command, "--"))
+        yield None if is_whole else f"the options of {command} aren't completed"
+        section = text.partition(f"\n.SS {command}\n")[2].partition("\n.SS ")[0]
+        yield None if all(option in section for option in options) else f"the man page of {command} lacks an option"
+    if shutil.which("man"):
+        shown = subprocess.run(["man", "--warnings", "-l", page], capture_output=True, env=os.environ | {"MANPAGER": "cat"})
+        yield None if shown.returncode == 0 and not shown.stderr else f"man: {shown.stderr!r}"
+
+
+def installs(runner):
+    """What is installed, and what a package holds."""
+    prefix = runner.folder / "prefix"
+    finished = subprocess.run([REPOSITORY / "bin/install", prefix, runner.program], capture_output=True)
+    yield difference("bin/install", finished, Result(b""))
+    yield from laid_out(runner, prefix)
+    if shutil.which("dpkg-deb") is None:
+        print("without dpkg-deb no package is tried")
+        return
+    finished = subprocess.run([REPOSITORY / "bin/package", runner.folder / "binlog.deb", runner.program], capture_output=True)
+    yield None if finished.returncode == 0 else f"bin/package: {finished.stderr!r}"
+    subprocess.run(["dpkg-deb", "-x", runner.folder / "binlog.deb", runner.folder / "unpacked"], check=True)
+    yield from laid_out(runner, runner.folder / "unpacked/usr")
+
+
+PARTS = (models, damaged, reported, several, filters, gtid_filters, gtids, stats, copies, words, ends, progress, followed, installs)
+
+
+def results_of(program, part):
+    """What a part finds, in a folder of its own."""
+    with tempfile.TemporaryDirectory() as folder:
+        return list(part(Runner(program, folder)))
+
+
+def main(arguments):
+    program = str(Path(arguments[0] if arguments else PROGRAM).resolve())
+    with ThreadPoolExecutor(PROCESSES_AT_A_TIME) as pool:
+        found = list(pool.map(partial(results_of, program), PARTS))
+    results = [result for results in found for result in results]
+    failures = [result for result in results if result is not None]
+    for failure in failures:
+        print(failure)
+    print(f"{len(results) - len(failures)} passed, {len(failures)} failed")
+    return 1 if failures else 0
+
+
+if __name__ == "__main__":
+    sys.exit(main(sys.argv[1:]))
