@@ -21,11 +21,12 @@ pub(crate) enum Word {
 
 impl Word {
     /// The word of an event. The only error is [`Error::Memory`], only for GTIDs with a tag and previous GTIDs.
+    #[inline(always)]
     pub(crate) fn of(alloc: Global, event: &EventRef<'_>) -> Result<Word, Error>
         ensures ok { IfOk result (λ word. word ≡ word_of (view_of event.now)) }
         ensures memory { IfErr result (λ e. (e ≡ Memory) × TakesMemoryFor (view_of event.now)) }
     {
-        match event.read_data(alloc) {
+        match event.read_data_in_place(alloc) {
             Ok(Some(data)) => {
                 drop(data);
                 Ok(Word::Read)

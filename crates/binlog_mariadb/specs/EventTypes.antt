@@ -60,3 +60,7 @@ event_again DELETE_ROWS_COMPRESSED_EVENT = refl
 -- The event types have unique codes of one byte.
 pub maria_event_type_is_code : IsCode 1 maria_event_number maria_event_type_of
 maria_event_type_is_code = is_code 1 maria_event_number maria_event_types (λ n. record { 0 = n }) refl event_again
+
+-- Only the number of a type is read as the type.
+pub maria_event_type_number : (n : ℕ) (e : MariaEventType) → maria_event_type_of n ≡ Ok e → n ≡ maria_event_number e
+maria_event_type_number n e h = maria_event_type_is_code.only n e h

@@ -48,6 +48,7 @@ impl Progress {
 
     /// Writes the line if it is due: how many bytes are read of how many, and the number of events. Nothing is written if the
     /// position isn't known.
+    #[inline(always)]
     pub fn note<E: Eprint>(&mut self, rt: &E, position: Option<u64>, events: u64)
         ensures unknown { IsNone position → self.new ≡ self.old }
         ensures early { IfSome position (λ n. n < self.old.due → self.new ≡ self.old) }
@@ -56,9 +57,16 @@ impl Progress {
         let Some(position) = position else {
             return;
         };
-        if position < self.due {
-            return;
+        if position >= self.due {
+            self.show(rt, position, events);
         }
+    }
+
+    // Writes the line. It isn't inlined, so that it costs nothing where no line is due.
+    #[inline(never)]
+    fn show<E: Eprint>(&mut self, rt: &E, position: u64, events: u64)
+        ensures { self.new.is_shown ≡ true }
+    {
         self.due = position.saturating_add(BYTES_BETWEEN);
         self.is_shown = true;
         let size = self.size;

@@ -1,5 +1,5 @@
 //! A visitor that writes messages.
-ghost use Rattle.std.specs.Prelude.{◌≡◌, false};
+ghost use Rattle.std.specs.Prelude.{◌≡◌, ◌≢◌, codes, false};
 
 use crate::progress::Progress;
 use crate::refusing::Refusing;
@@ -8,8 +8,11 @@ use binlog_filters::{Filtered, Place};
 use binlog_visits::Visitor;
 use std::alloc::Global;
 
-/// The name of a file in messages.
-pub fn shown_name(name: &str) -> &str {
+/// The name of a file in messages: that of standard input for `-`.
+pub fn shown_name(name: &str) -> &str
+    ensures input { name.now ≡ codes "-" → result.now ≡ codes "standard input" }
+    ensures file { name.now ≢ codes "-" → result.now ≡ name.now }
+{
     if name == "-" { "standard input" } else { name }
 }
 
@@ -86,6 +89,7 @@ fn report<E: Eprint>(rt: &E, file: &str, index: u64, place: Place, error: &Error
 }
 
 // Writes the message of an event whose GTIDs can't be read or added. Why they can't doesn't depend on the set.
+#[inline(never)]
 fn report_refused<E: Eprint + AllocGlobal>(
     rt: &E,
     file: &str,
@@ -122,6 +126,7 @@ impl<'a, E: Eprint + AllocGlobal, T: Visitor + Refusing> Visitor for Reported<'a
 
     ghost refuses = { λ old index item error new. T.refuses old.visitor index item error new.visitor };
 
+    #[inline(always)]
     fn visit_event(&mut self, index: u64, event: &EventRef<'_>) -> Result<(), Error> {
         let place = self.place;
         let refused = self.visitor.refused();

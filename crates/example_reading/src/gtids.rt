@@ -23,7 +23,7 @@ pub fn list_gtids<R: BufRead + Drop, W: Write>(
 }
 
 // Writes a line for an event if it is the GTID of a transaction.
-fn list_gtid<W: Write>(alloc: Global, event: &Event, output: &mut W) -> Result<(), Error> {
+fn list_gtid<W: Write>(alloc: Global, event: &Event<'static>, output: &mut W) -> Result<(), Error> {
     match event.header().event_type() {
         Ok(EventType::GTID_EVENT | EventType::GTID_TAGGED_LOG_EVENT) => {
             write_gtid(&event.read_event(alloc)?, output)

@@ -35,7 +35,7 @@ pub fn follow(alloc: Global, events: &[u8]) -> Result<Place, Error> {
 
 impl Place {
     // Moves to the position after an event.
-    fn go_behind(&mut self, alloc: Global, event: &Event) -> Result<(), Error> {
+    fn go_behind(&mut self, alloc: Global, event: &Event<'static>) -> Result<(), Error> {
         let header = event.header();
         if let Ok(EventType::ROTATE_EVENT) = header.event_type() {
             let rotate: RotateEvent = event.read_event(alloc)?;

@@ -23,6 +23,9 @@ const ALTER: &[u8] = b"\x14\0\0\0\0\0\0\0\x03\0\0\0\x29\x02\0\0\0\0\0";
 /// The second half of it, with the sequence number of the first.
 const ALTERED: &[u8] = b"\x15\0\0\0\0\0\0\0\x03\0\0\0\x29\x04\x14\0\0\0\0\0\0\0";
 
+/// The same if it is rolled back.
+const ROLLED_BACK: &[u8] = b"\x15\0\0\0\0\0\0\0\x03\0\0\0\x29\x08\x14\0\0\0\0\0\0\0";
+
 /// A GTID without flags, 3-7-1.
 const NEW: &[u8] = b"\x01\0\0\0\0\0\0\0\x03\0\0\0\0\0\0\0\0\0\0";
 
@@ -87,6 +90,8 @@ fn halves_of_an_alter_are_read(rt: HostRuntime) {
     assert!(rt; is_read(rt.alloc(), ALTER, (3, 20, None, None), start) == Ok(true));
     let commit = Some((GtidExtra::FL_COMMIT_ALTER, None, Some(20)));
     assert!(rt; is_read(rt.alloc(), ALTERED, (3, 21, None, None), commit) == Ok(true));
+    let rollback = Some((GtidExtra::FL_ROLLBACK_ALTER, None, Some(20)));
+    assert!(rt; is_read(rt.alloc(), ROLLED_BACK, (3, 21, None, None), rollback) == Ok(true));
 }
 
 #[test]

@@ -158,7 +158,7 @@ fn the_in_use_flag_counts_as_clear(rt: HostRuntime) {
 }
 
 // What is stored and what is computed, where an item is a mismatch.
-fn both_checksums(item: &Option<Result<Event, Error>>) -> Option<(u32, u32)> {
+fn both_checksums(item: &Option<Result<Event<'static>, Error>>) -> Option<(u32, u32)> {
     match item {
         Some(Err(Error::ChecksumMismatch { stored, computed })) => Some((*stored, *computed)),
         _ => None,
