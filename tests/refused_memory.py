@@ -7,12 +7,13 @@ The programs and tests are those that are built in crates/NAME/out. Each runs wi
 its second one, and so on until a run makes fewer. Listings and JSON lines must then be a prefix of all lines, with
 status 3; what is written back must be a prefix of the log; and a program must free all its memory. A test must pass;
 those are run whose full name contains `memory`. A test whose name ends in `takes_no_memory` or `take_no_memory` must
-make no allocation, not even one whose refusal it would hide, and one whose name ends in `makes_one_allocation` exactly
-one.
+make no allocation, not even one whose refusal it would hide. One whose name ends in `makes_one_allocation` or
+`make_two_allocations` must make exactly as many; the names count to nine.
 The last line is `N passed, M failed`, where each run counts; the exit status is 1 if one failed. Without the C compiler `cc`
 nothing is run, and both numbers are 0.
 """
 
+import re
 import sys
 from itertools import count
 
@@ -109,11 +110,16 @@ def test_fault(run):
     return None if run.status == SUCCESS else f"it fails:\n{run.output.decode(errors='replace')}"
 
 
+NUMBERS = ["one", "two", "three", "four", "five", "six", "seven", "eight", "nine"]
+MADE = re.compile(rf"makes?_({'|'.join(NUMBERS)})_allocations?$")
+
+
 def stated_allocations(name):
     """How many allocations a test makes according to its name, or None if the name doesn't state it."""
     if name.endswith(("takes_no_memory", "take_no_memory")):
         return 0
-    return 1 if name.endswith("makes_one_allocation") else None
+    made = MADE.search(name)
+    return NUMBERS.index(made[1]) + 1 if made else None
 
 
 def stated_fault(run, stated):

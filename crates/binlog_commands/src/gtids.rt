@@ -37,10 +37,11 @@ impl<W> GtidCollector<W> {
 /// A visit adds the GTIDs of the item, or writes its line. It is refused with [`Error::Memory`] or [`Error::Writer`].
 impl<W: WriteCounted> Visitor for GtidCollector<W> {
     ghost use Rattle.binlog_commands.specs.Collecting.{Collects, RefusesCollected};
+    ghost use Rattle.binlog_gtid_listing.specs.GtidListing.{tracked};
 
-    ghost visits = { λ old index item new. Collects index item old.gtids (W.contents old.output) new.gtids (W.contents new.output) };
+    ghost visits = { λ old index item new. Collects index item (tracked old.gtids (W.contents old.output)) (tracked new.gtids (W.contents new.output)) };
 
-    ghost refuses = { λ old index item error new. RefusesCollected index item old.gtids (W.contents old.output) error new.gtids (W.contents new.output) };
+    ghost refuses = { λ old index item error new. RefusesCollected index item (tracked old.gtids (W.contents old.output)) error (tracked new.gtids (W.contents new.output)) };
 
     fn visit_event(&mut self, index: u64, event: &EventRef<'_>) -> Result<(), Error> {
         match track_event(self.alloc, index, event, &mut self.gtids, &mut self.output) {

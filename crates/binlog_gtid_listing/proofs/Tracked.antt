@@ -34,12 +34,12 @@ no_line index (Err error) out fine = absurd cc
 
 -- an event added what it gives
 pub event_added : (index : ℕ) (event : EventView) (before after : List GtidGroup) (out : Option (List ℕ)) → AddsGtids event before (Ok tt) after
-    → TracksItem index (Some (Ok event)) before out after out (Ok (Some false))
+    → TracksItem index (Some (Ok event)) (tracked before out) (tracked after out) (Ok (Some false))
 event_added index event before after out added = (added.1, no_line index (gtids_of event) out added.0, sym added.0, tt)
 
 -- memory ran out for it
 pub event_memory : (index : ℕ) (event : EventView) (before after : List GtidGroup) (out : Option (List ℕ)) (e : Error) → AddsGtids event before (Err e) after
-    → is_environment_error e ≡ true → TracksItem index (Some (Ok event)) before out after out (Err e)
+    → is_environment_error e ≡ true → TracksItem index (Some (Ok event)) (tracked before out) (tracked after out) (Err e)
 event_memory index event before after out e (same, inl memory) outside = inr (inl (memory.0, tt, refl, memory.1))
 event_memory index event before after out e (same, inr why) outside = absurd (let inside : is_environment_error e ≡ false = why.1 in cc)
 
@@ -49,7 +49,7 @@ why_of event before after e (same, inr why) inside = why.0
 
 -- its line is written
 pub event_refused : (index : ℕ) (event : EventView) (before after : List GtidGroup) (old new : Option (List ℕ)) (e : Error) → AddsGtids event before (Err e) after
-    → is_environment_error e ≡ false → Appends old new (error_line index e) → TracksItem index (Some (Ok event)) before old after new (Ok (Some true))
+    → is_environment_error e ≡ false → Appends old new (error_line index e) → TracksItem index (Some (Ok event)) (tracked before old) (tracked after new) (Ok (Some true))
 event_refused index event before after old new e added inside wrote =
     let why = why_of event before after e added inside in (
       λ pair n. ap (λ (gs : List GtidGroup). is_tracked gs pair n) added.0 ∙ ap (λ (f : Result (Option EventData) Error). adds f pair n || is_tracked before pair n) (sym why),
@@ -60,18 +60,18 @@ event_refused index event before after old new e added inside wrote =
 
 -- the writer failed in its line
 pub event_stops : (index : ℕ) (event : EventView) (before after : List GtidGroup) (old new : Option (List ℕ)) (e failure : Error) → AddsGtids event before (Err e) after
-    → is_environment_error e ≡ false → (failure ≡ Writer) × AppendsFront old new (error_line index e) → TracksItem index (Some (Ok event)) before old after new (Err failure)
+    → is_environment_error e ≡ false → (failure ≡ Writer) × AppendsFront old new (error_line index e) → TracksItem index (Some (Ok event)) (tracked before old) (tracked after new) (Err failure)
 event_stops index event before after old new e failure added inside wrote =
     let why = why_of event before after e added inside in
     inl (wrote.0, tt, subst (λ (f : Result (Option EventData) Error). AppendsFront old new (line_for index f)) (sym why) wrote.1)
 
 -- the line of an item that is an error
 pub error_listed : (index : ℕ) (error : Error) (groups : List GtidGroup) (old new : Option (List ℕ)) → is_environment_error error ≡ false → Appends old new (error_line index error)
-    → TracksItem index (Some (Err error)) groups old groups new (Ok (Some true))
+    → TracksItem index (Some (Err error)) (tracked groups old) (tracked groups new) (Ok (Some true))
 error_listed index error groups old new inside wrote = (λ pair n. refl, wrote, refl, inside)
 
 pub error_stops : (index : ℕ) (error failure : Error) (groups : List GtidGroup) (old new : Option (List ℕ)) → is_environment_error error ≡ false
-    → (failure ≡ Writer) × AppendsFront old new (error_line index error) → TracksItem index (Some (Err error)) groups old groups new (Err failure)
+    → (failure ≡ Writer) × AppendsFront old new (error_line index error) → TracksItem index (Some (Err error)) (tracked groups old) (tracked groups new) (Err failure)
 error_stops index error failure groups old new inside wrote = inl (wrote.0, inside, wrote.1)
 
 -- ---- the items so far
@@ -144,7 +144,7 @@ tracked_item start place behind old mid new before after failed index item so_fa
     }
 
 more_by : (start place behind : Place) (old mid new : Option (List ℕ)) (before after : List GtidGroup) (failed e : Bool) (index : ℕ) (item : Option (Result EventView Error))
-    → IsTracked start place old mid before failed index → GivesFrom Handles place item behind → TracksItem index item before mid after new (Ok (Some e))
+    → IsTracked start place old mid before failed index → GivesFrom Handles place item behind → TracksItem index item (tracked before mid) (tracked after new) (Ok (Some e))
     → IsTracked start behind old new after (failed || e) (index + 1)
 more_by start place behind old mid new before after failed e index None so_far gives tracks = absurd tracks
 more_by start place behind old mid new before after failed e index (Some item) so_far gives tracks =
@@ -161,7 +161,7 @@ step_more start place behind old mid new before after failed e index so_far next
 
 -- no item is left
 all_by : (start place behind : Place) (old mid new : Option (List ℕ)) (before after : List GtidGroup) (failed : Bool) (index : ℕ) (item : Option (Result EventView Error))
-    → IsTracked start place old mid before failed index → GivesFrom Handles place item behind → TracksItem index item before mid after new (Ok None)
+    → IsTracked start place old mid before failed index → GivesFrom Handles place item behind → TracksItem index item (tracked before mid) (tracked after new) (Ok None)
     → TracksAll start old new after failed
 all_by start place behind old mid new before after failed index (Some item) so_far gives tracks = absurd tracks
 all_by start place behind old mid new before after failed index None so_far gives tracks =
@@ -187,7 +187,7 @@ as_listed start place old new groups failed index so_far =
     record { items = so_far.items; first = so_far.first; written = so_far.written; errors = refl; count = so_far.count; taken = so_far.taken }
 
 stop_by : (start place behind : Place) (old mid new : Option (List ℕ)) (before after : List GtidGroup) (failed : Bool) (index : ℕ) (error : Error) (item : Option (Result EventView Error))
-    → IsTracked start place old mid before failed index → GivesFrom Handles place item behind → TracksItem index item before mid after new (Err error)
+    → IsTracked start place old mid before failed index → GivesFrom Handles place item behind → TracksItem index item (tracked before mid) (tracked after new) (Err error)
     → ListsItems Handles (LeavesItems Handles) gtid_line MayGrow start old (Err error) behind new
 stop_by start place behind old mid new before after failed index error None so_far gives tracks = absurd tracks
 stop_by start place behind old mid new before after failed index error (Some item) so_far gives tracks =

@@ -89,14 +89,6 @@ ListsGtids bytes old answer new = ListsGtidsFile bytes old answer new
 
 -- ---- one item
 
--- What is written, added and answered for an answer of `next_ref`.
-abbrev pub TracksItem : ℕ → Option (Result EventView Error) → List GtidGroup → Option (List ℕ) → List GtidGroup → Option (List ℕ) → Result (Option Bool) Error → Type 0
-TracksItem index None before old after new (Ok None) = (after ≡ before) × (new ≡ old)
-TracksItem index (Some item) before old after new (Ok (Some is_error)) =
-    GrowsBy (gtids_in item) before after × Appends old new (gtid_line index item) × (is_error ≡ is_refused item) × HasLine item
-TracksItem index item before old after new (Err error) = ListsItem gtid_line MayGrow index item old new (Err error)
-TracksItem index item before old after new answer = ⊥
-
 -- What there is so far: the set, and the bytes that are written.
 pub record Tracking : Type 0 where
   pub groups : List GtidGroup
@@ -106,8 +98,16 @@ pub record Tracking : Type 0 where
 abbrev pub tracked : (groups : List GtidGroup) (written : Option (List ℕ)) → Tracking
 tracked groups written = record { groups = groups; written = written }
 
+-- What is written, added and answered for an answer of `next_ref`.
+abbrev pub TracksItem : (index : ℕ) (item : Option (Result EventView Error)) (old new : Tracking) (answer : Result (Option Bool) Error) → Type 0
+TracksItem index None old new (Ok None) = (new.groups ≡ old.groups) × (new.written ≡ old.written)
+TracksItem index (Some item) old new (Ok (Some is_error)) =
+    GrowsBy (gtids_in item) old.groups new.groups × Appends old.written new.written (gtid_line index item) × (is_error ≡ is_refused item) × HasLine item
+TracksItem index item old new (Err error) = ListsItem gtid_line MayGrow index item old.written new.written (Err error)
+TracksItem index item old new answer = ⊥
+
 -- The next item is given, and its line written or what it adds added.
 pub record TracksNext (index : ℕ) (before : Place) (old : Tracking) (answer : Result (Option Bool) Error) (after : Place) (new : Tracking) : Type 0 where
   pub item : Option (Result EventView Error)
   pub gives : GivesFrom Handles before item after
-  pub tracks : TracksItem index item old.groups old.written new.groups new.written answer
+  pub tracks : TracksItem index item old new answer

@@ -10,4 +10,6 @@ mod groups;
 #[cfg(test)]
 mod memory;
 #[cfg(test)]
+mod room;
+#[cfg(test)]
 mod sets;
