@@ -1,1 +1,2 @@
 pub mod CopiedLogs
+pub mod FilteredCopies

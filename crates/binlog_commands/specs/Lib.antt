@@ -3,3 +3,4 @@ pub mod Collecting
 pub mod Copying
 pub mod Parts
 pub mod Statistics
+pub mod FilteredCopies

@@ -102,3 +102,16 @@ FollowsEvent filter was event (Err error) = error ≡ Memory
 abbrev pub Takes : Filter → Option ℕ → Bool → Result EventView Error → Bool → Bool → Type 0
 Takes filter position was (Ok event) now taken = FollowsEvent filter was event (Ok now) × (taken ≡ is_taken filter (start_of position event) event now)
 Takes filter position was (Err error) now taken = (now ≡ was) × (taken ≡ true)
+
+-- These events, and before them the item if it is a taken event.
+abbrev pub with_taken : (taken : Bool) (item : Result EventView Error) (others : List EventView) → List EventView
+with_taken true (Ok event) others = event ∷ others
+with_taken taken item others = others
+
+-- The events that are taken of items one after another. The first item begins at `position`, and `was` says whether the
+-- transaction before it is wanted.
+abbrev pub TakesEvents : (filter : Filter) (position : Option ℕ) (was : Bool) (items : List (Result EventView Error)) (events : List EventView) → Type 0
+TakesEvents filter position was [] events = events ≡ []
+TakesEvents filter position was (item ∷ items) events =
+    (now : Bool) × (taken : Bool) × Takes filter position was item now taken
+    × (others : List EventView) × TakesEvents filter (behind position item) now items others × (events ≡ with_taken taken item others)

@@ -1,6 +1,8 @@
 //! The output of a command.
-ghost use Rattle.std.specs.Prelude.{◌≡◌, ◌⊎◌, None, IfErr, IfOk};
+ghost use Rattle.std.specs.Prelude.{◌≡◌, ◌⊎◌, Some, None, IfErr, IfOk, IfSome, IsSome};
+ghost use Rattle.std.specs.Io.KnownBytes.{Keeps};
 ghost use Rattle.binlog_status.specs.declared.status.Status.TheVariants.{Failed};
+ghost use Rattle.binlog_status.specs.Statuses.{EndsBehind, failed_or};
 
 use crate::status::{Status, out_of_memory};
 use binlog_ends::Retrying;
@@ -34,21 +36,57 @@ impl<W: Write + Drop> Output<BufWriter<Retrying<W>>> {
 }
 
 impl<B: Write + Drop> Output<B> {
-    /// Flushes the output, and answers the status of the run, which was `status` up to here. A pipe that nobody reads any
-    /// more ends a run quietly.
+    /// Flushes the output, and answers the status of the run, which was `status` up to here: the first failure of the output
+    /// makes it at least [`Status::Failed`]. A pipe that nobody reads any more ends a run quietly.
     pub fn finish<E: Eprint>(mut self, rt: &E, status: Status) -> Status
-        ensures { (result ≡ status) ⊎ (result ≡ Failed) }
+        // The output failed before.
+        ensures failed { IfSome self.failure (λ failure. EndsBehind failure status result) }
+        // If at all, it fails now.
+        ensures fine { self.failure ≡ None → (result ≡ status) ⊎ (result ≡ failed_or status) }
     {
-        let _ = self.flush();
-        let Some(error) = self.failure else {
-            return status;
-        };
-        if error.kind() == ErrorKind::BrokenPipe {
-            return status;
+        let _ = self.flush_first();
+        match self.failure {
+            Some(failure) => end_behind(rt, &failure, status),
+            None => status,
         }
-        let _ = eprintln!(rt; "binlog: the output: {error}");
-        status.max(Status::Failed)
     }
+}
+
+impl<B: Write> Output<B> {
+    // Flushes the output, and keeps why that fails if it is the first failure.
+    fn flush_first(&mut self) -> io::Result<()>
+        ensures bytes { Keeps (B.contents self.old.inner) (B.contents self.new.inner) }
+        ensures err { IfErr result (λ error. IsSome self.new.failure) }
+        ensures first { IfSome self.old.failure (λ failure. self.new.failure ≡ Some failure) }
+    {
+        let flushed = self.inner.flush();
+        self.note(&flushed);
+        flushed
+    }
+
+    // Keeps why a call failed if it is the first failure.
+    fn note<T>(&mut self, answer: &io::Result<T>)
+        ensures inner { self.new.inner ≡ self.old.inner }
+        ensures err { IfErr answer.now (λ error. IsSome self.new.failure) }
+        ensures first { IfSome self.old.failure (λ failure. self.new.failure ≡ Some failure) }
+    {
+        if let Err(error) = answer
+            && self.failure.is_none()
+        {
+            self.failure = Some(*error);
+        }
+    }
+}
+
+// The status of a run behind a failure of its output.
+fn end_behind<E: Eprint>(rt: &E, failure: &io::Error, status: Status) -> Status
+    ensures { EndsBehind failure.now status result }
+{
+    if failure.kind() == ErrorKind::BrokenPipe {
+        return status;
+    }
+    let _ = eprintln!(rt; "binlog: the output: {failure}");
+    status.max(Status::Failed)
 }
 
 /// Its bytes are those of the writer.
@@ -57,17 +95,11 @@ impl<B: Write> Write for Output<B> {
 
     fn write(&mut self, buf: &[u8]) -> io::Result<usize> {
         let written = self.inner.write(buf);
-        if let Err(error) = &written {
-            self.failure = Some(*error);
-        }
+        self.note(&written);
         written
     }
 
     fn flush(&mut self) -> io::Result<()> {
-        let flushed = self.inner.flush();
-        if let Err(error) = &flushed {
-            self.failure = Some(*error);
-        }
-        flushed
+        self.flush_first()
     }
 }

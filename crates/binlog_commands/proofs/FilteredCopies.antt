@@ -1,0 +1,223 @@
+-- The copy of the events that a filter takes is a log of these events.
+use Rattle.std.specs.Prelude.{nat_lt, ⊤}
+use Rattle.std.proofs.Common.{◌≡◌, ◌⊎◌, inl, inr, ℕ, ◌+◌, ◌-◌, ◌<◌, Bool, true, false, cond, ◌&&◌, ◌||◌, List, [], ◌∷◌, ◌++◌, length, Option, Some, None, Result, Ok, Err, refl, sym, ap, subst, ◌∙◌, unwrap_or, arith, length-take}
+use Rattle.std.specs.Io.KnownBytes.{Appends}
+use Rattle.std.proofs.KnownBytes.{Appends-nil, Appends-trans}
+use Rattle.std.proofs.lemmas.Bool.Decides.{nat_tests}
+use Rattle.binlog_wire.specs.declared.error.Error.{Error}
+use Rattle.binlog_wire.specs.declared.error.Error.TheVariants.{TooShortForChecksum, EventSizeTooSmall}
+use Rattle.binlog_wire.specs.Reading.{Read, ends}
+use Rattle.binlog_consts.specs.declared.version.BinlogVersion.TheVariants.{Version4}
+use Rattle.binlog_description.specs.declared.footer.BinlogEventFooter.{BinlogEventFooter}
+use Rattle.binlog_description.specs.declared.format_description.FormatDescriptionEvent.{FormatDescriptionEvent}
+use Rattle.binlog_description.specs.FormatDescription.{format_description_at, default_description}
+use Rattle.binlog_description.specs.FormatDescriptionLaws.{description_ends}
+use Rattle.binlog_description.specs.Footers.{footer_of}
+use Rattle.binlog_events.specs.FileHeader.{file_header}
+use Rattle.binlog_events.specs.Frames.{is_undersized, stated_size}
+use Rattle.binlog_events.specs.Events.{EventView, event_of}
+use Rattle.binlog_events.specs.Parts.{is_description, body, data_of, suffix_len, has_checksum, footer_under, is_too_short}
+use Rattle.binlog_file.specs.Descriptions.{read_description, described, accepted, in_force}
+use Rattle.binlog_file.specs.Items.{unless_refused, checked_event, item_of}
+use Rattle.binlog_file.specs.State.{Looks}
+use Rattle.binlog_file.specs.Streams.{tail_items, AreHandled}
+use Rattle.binlog_file.specs.StreamItems.{AreItems, items_behind}
+use Rattle.binlog_file.proofs.OwnFrames.{event_is}
+use Rattle.binlog_file.proofs.StreamItems.{items_looked}
+use Rattle.binlog_visits.specs.Visits.{Visits}
+use Rattle.binlog_filters.specs.Places.{behind}
+use Rattle.binlog_filters.specs.Taking.{Takes, TakesEvents, with_taken, is_taken, meets_conditions}
+use Rattle.binlog_filters.specs.Filtering.{Filters, VisitsIf}
+use Rattle.binlog_filters.specs.declared.filter.Filter.{Filter}
+use Rattle.binlog_filters.specs.declared.filtered.Filtered.{Filtered}
+use Rattle.binlog_commands.specs.Copying.{CopiesItem}
+use Rattle.binlog_commands.specs.Parts.{ArePart, event_bytes}
+use Rattle.binlog_commands.specs.FilteredCopies.{IsFilteredCopy}
+use Rattle.binlog_commands.proofs.CopiedLogs.{copied_log}
+
+-- The events that are taken of these items, and the bytes that are written of them.
+record IsCopied (d : FormatDescriptionEvent) (frames : List (List ℕ)) (filter : Filter) (position : Option ℕ) (was : Bool) (items : List (Result EventView Error)) (old new : Option (List ℕ)) : Type 0 where
+  events : List EventView
+  part : ArePart d frames events
+  taken : TakesEvents filter position was items events
+  written : Appends old new (event_bytes events)
+
+-- ---- frames that aren't taken
+
+no_description : (t b m : Bool) → t ≡ true → false ≡ ((t && b) || m) → b ≡ false
+no_description true true m is out = absurd cc
+no_description true false m is out = refl
+no_description false b m is out = absurd cc
+
+brings_none : (b : Bool) (found : Option FormatDescriptionEvent) (d : FormatDescriptionEvent) → b ≡ false → unwrap_or (cond b found None) d ≡ d
+brings_none false found d is = refl
+brings_none true found d is = absurd cc
+
+-- An event that isn't taken, though all descriptions are, brings no description into force.
+left_out : (d : FormatDescriptionEvent) (frame : List ℕ) (event : EventView) (filter : Filter) (start : Option ℕ) (wanted : Bool) → item_of d frame ≡ Ok event
+    → filter.takes_descriptions ≡ true → false ≡ is_taken filter start event wanted → unwrap_or (accepted frame) d ≡ d
+left_out d frame event filter start wanted item all out =
+    let own : event.frame ≡ frame = ap (λ (e : EventView). e.frame) (event_is d frame event item).1 in
+    let none = no_description filter.takes_descriptions (is_description event.frame) (meets_conditions filter start event wanted) all out in
+    brings_none (is_description frame) _ d (ap (λ (f : List ℕ). is_description f) (sym own) ∙ none)
+
+few_bytes : (due : Bool) (count : ℕ) → (due && nat_lt count 4) ≡ true → count < 4
+few_bytes true count short = grind (arith, nat_tests)
+few_bytes false count short = absurd cc
+
+-- A body that is too short for its checksum is no description.
+short_has_none : (footer : BinlogEventFooter) (frame : List ℕ) → is_too_short footer frame ≡ true → (x : FormatDescriptionEvent × List ℕ) → read_description footer frame ≡ Ok x → ⊥
+unfolding read_description
+short_has_none footer frame short x got =
+    let few : length (body frame) < 4 = few_bytes (has_checksum footer frame) (length (body frame)) short in
+    let none : format_description_at (data_of footer frame) ≡ Err ends =
+    (description_ends (data_of footer frame)).1 (omega (arith, few, length-take (length (body frame) - suffix_len footer frame) (body frame))) in
+    absurd cc
+
+no_value : (short is : Bool) (event : EventView) (other : Result EventView Error) (read : Read FormatDescriptionEvent) (error : Error)
+    → (short ≡ true → is ≡ true → (x : FormatDescriptionEvent × List ℕ) → read ≡ Ok x → ⊥)
+    → Err error ≡ cond short (Err TooShortForChecksum) (cond is (unless_refused event read) other) → is ≡ true → (x : FormatDescriptionEvent × List ℕ) → read ≡ Ok x → ⊥
+no_value true true event other read error few item type x got = few refl refl x got
+no_value true false event other read error few item type x got = absurd cc
+no_value false true event other (Ok y) error few item type x got = absurd cc
+no_value false true event other (Err why) error few item type x got = absurd cc
+no_value false false event other read error few item type x got = absurd cc
+
+brings_nothing : (is : Bool) (footer : BinlogEventFooter) (read : Read FormatDescriptionEvent) (d : FormatDescriptionEvent)
+    → (is ≡ true → (x : FormatDescriptionEvent × List ℕ) → read ≡ Ok x → ⊥) → unwrap_or (cond is (described footer read) None) d ≡ d
+brings_nothing false footer read d none = refl
+brings_nothing true footer (Err why) d none = refl
+brings_nothing true footer (Ok x) d none = absurd (none refl x refl)
+
+-- A frame whose item is an error brings no description into force.
+refused : (d : FormatDescriptionEvent) (frame : List ℕ) (error : Error) → Err error ≡ item_of d frame → unwrap_or (accepted frame) d ≡ d
+refused d frame error item =
+    let read : Read FormatDescriptionEvent = read_description (footer_of (body frame)) frame in
+    brings_nothing (is_description frame) (footer_of (body frame)) read d
+    (no_value (is_too_short (footer_under d.footer frame) frame) (is_description frame) (event_of d frame) (checked_event (event_of d frame)) read error
+    (λ short type. short_has_none (footer_of (body frame)) frame
+    (subst (λ (f : BinlogEventFooter). is_too_short f frame ≡ true) (ap (λ (b : Bool). cond b (footer_of (body frame)) d.footer) type) short)) item)
+
+-- ---- one item
+
+-- These items are errors.
+abbrev AreErrors : List (Result EventView Error) → Type 0
+AreErrors [] = ⊤
+AreErrors (Ok event ∷ items) = ⊥
+AreErrors (Err error ∷ items) = AreErrors items
+
+tail_by : (is : Bool) (size : ℕ) → AreErrors (cond is (Err (EventSizeTooSmall size) ∷ []) [])
+tail_by true size = tt
+tail_by false size = tt
+
+without_error : (taken : Bool) (error : Error) (others : List EventView) → others ≡ with_taken taken (Err error) others
+without_error true error others = refl
+without_error false error others = refl
+
+module _ {T : Type 0} (contents : T → Option (List ℕ)) where
+  -- A visit writes the bytes of the item's event.
+  abbrev Copies : T → ℕ → Result EventView Error → T → Type 0
+  Copies old index item new = CopiesItem item (contents old) (contents new)
+
+  -- The same filter goes on behind an item.
+  goes_on : (index : ℕ) (item : Result EventView Error) (items : List (Result EventView Error)) (old mid : Filtered T) (events : List EventView) → Filters Copies old index item mid
+      → TakesEvents mid.filter mid.place.position mid.is_wanted items events → TakesEvents old.filter (behind old.place.position item) mid.is_wanted items events
+  goes_on index item items old mid events one rest =
+      subst (λ (f : Filter). TakesEvents f (behind old.place.position item) mid.is_wanted items events) one.same
+      (subst (λ (p : Option ℕ). TakesEvents mid.filter p mid.is_wanted items events) one.place rest)
+
+  error_by : (taken : Bool) (index : ℕ) (error : Error) (old new : T) → taken ≡ true → VisitsIf Copies taken old index (Err error) new → contents new ≡ contents old
+  error_by true index error old new is does = does
+  error_by false index error old new is does = absurd cc
+
+  -- Nothing is written for an error.
+  error_visited : (index : ℕ) (error : Error) (old mid : Filtered T) → Filters Copies old index (Err error) mid → contents mid.visitor ≡ contents old.visitor
+  error_visited index error old mid one = error_by one.taken index error old.visitor mid.visitor one.takes.1 one.does
+
+  taken_event : (taken : Bool) (d : FormatDescriptionEvent) (frame : List ℕ) (frames : List (List ℕ)) (event : EventView) (items : List (Result EventView Error)) (index : ℕ) (old mid new : Filtered T)
+      → old.filter.takes_descriptions ≡ true → Ok event ≡ item_of d frame
+      → Takes old.filter old.place.position old.is_wanted (Ok event) mid.is_wanted taken → VisitsIf Copies taken old.visitor index (Ok event) mid.visitor
+      → (rest : IsCopied (unwrap_or (accepted frame) d) frames mid.filter mid.place.position mid.is_wanted items (contents mid.visitor) (contents new.visitor))
+      → TakesEvents old.filter (behind old.place.position (Ok event)) mid.is_wanted items rest.events
+      → IsCopied d (frame ∷ frames) old.filter old.place.position old.is_wanted (Ok event ∷ items) (contents old.visitor) (contents new.visitor)
+  taken_event true d frame frames event items index old mid new all item takes does rest taken = record {
+    events = event ∷ rest.events;
+    part = inr (event, rest.events, refl, sym item, rest.part);
+    taken = (mid.is_wanted, true, takes, rest.events, taken, refl);
+    written = Appends-trans (contents old.visitor) (contents mid.visitor) (contents new.visitor) event.frame (event_bytes rest.events) does rest.written;
+  }
+  taken_event false d frame frames event items index old mid new all item takes does rest taken =
+      let stays = left_out d frame event old.filter _ mid.is_wanted (sym item) all takes.1 in
+      record {
+        events = rest.events;
+        part = inl (stays, subst (λ (x : FormatDescriptionEvent). ArePart x frames rest.events) stays rest.part);
+        taken = (mid.is_wanted, false, takes, rest.events, taken, refl);
+        written = subst (λ (t : T). Appends (contents t) (contents new.visitor) (event_bytes rest.events)) does rest.written;
+      }
+
+  -- One more frame.
+  one_frame : (d : FormatDescriptionEvent) (frame : List ℕ) (frames : List (List ℕ)) (item : Result EventView Error) (items : List (Result EventView Error)) (index : ℕ) (old mid new : Filtered T)
+      → old.filter.takes_descriptions ≡ true → item ≡ item_of d frame → Filters Copies old index item mid
+      → IsCopied (unwrap_or (accepted frame) d) frames mid.filter mid.place.position mid.is_wanted items (contents mid.visitor) (contents new.visitor)
+      → IsCopied d (frame ∷ frames) old.filter old.place.position old.is_wanted (item ∷ items) (contents old.visitor) (contents new.visitor)
+  one_frame d frame frames (Ok event) items index old mid new all item one rest =
+      taken_event one.taken d frame frames event items index old mid new all item one.takes one.does rest (goes_on index (Ok event) items old mid rest.events one rest.taken)
+  one_frame d frame frames (Err error) items index old mid new all item one rest =
+      let stays = refused d frame error item in
+      record {
+        events = rest.events;
+        part = inl (stays, subst (λ (x : FormatDescriptionEvent). ArePart x frames rest.events) stays rest.part);
+        taken = (mid.is_wanted, one.taken, one.takes, rest.events, goes_on index (Err error) items old mid rest.events one rest.taken, without_error one.taken error rest.events);
+        written = subst (λ (w : Option (List ℕ)). Appends w (contents new.visitor) (event_bytes rest.events)) (error_visited index error old mid one) rest.written;
+      }
+
+  -- ---- all items
+
+  copied_tail : (d : FormatDescriptionEvent) (items : List (Result EventView Error)) (index : ℕ) (old new : Filtered T) → AreErrors items → Visits (Filters Copies) index items old new
+      → IsCopied d [] old.filter old.place.position old.is_wanted items (contents old.visitor) (contents new.visitor)
+  copied_tail d [] index old new errors visited = record {
+    events = [];
+    part = refl;
+    taken = refl;
+    written = subst (λ (t : Filtered T). Appends (contents old.visitor) (contents t.visitor) []) (sym visited) (Appends-nil (contents old.visitor));
+  }
+  copied_tail d (Ok event ∷ items) index old new errors visited = absurd errors
+  copied_tail d (Err error ∷ items) index old new errors visited =
+      let rest = copied_tail d items (index + 1) visited.0 new errors visited.2 in
+      record {
+        events = rest.events;
+        part = rest.part;
+        taken = (visited.0.is_wanted, visited.1.taken, visited.1.takes, rest.events, goes_on index (Err error) items old visited.0 rest.events visited.1 rest.taken, without_error visited.1.taken error rest.events);
+        written = subst (λ (w : Option (List ℕ)). Appends w (contents new.visitor) (event_bytes rest.events)) (error_visited index error old visited.0 visited.1) rest.written;
+      }
+
+  copied_frames : (d e : FormatDescriptionEvent) (frames : List (List ℕ)) (items tail : List (Result EventView Error)) (index : ℕ) (old new : Filtered T) → AreErrors tail
+      → old.filter.takes_descriptions ≡ true → AreHandled Looks d e frames items → Visits (Filters Copies) index (items ++ tail) old new
+      → IsCopied d frames old.filter old.place.position old.is_wanted (items ++ tail) (contents old.visitor) (contents new.visitor)
+  copied_frames d e [] [] tail index old new errors all handled visited = copied_tail d tail index old new errors visited
+  copied_frames d e [] (item ∷ items) tail index old new errors all handled visited = absurd handled
+  copied_frames d e (frame ∷ frames) [] tail index old new errors all handled visited = absurd handled
+  copied_frames d e (frame ∷ frames) (item ∷ items) tail index old new errors all handled visited =
+      let mid = visited.0 in
+      let one = visited.1 in
+      let behind_it = subst (λ (x : FormatDescriptionEvent). AreHandled Looks x e frames items) handled.1.1 handled.2 in
+      let rest = copied_frames (unwrap_or (accepted frame) d) e frames items tail (index + 1) mid new errors (ap (λ (f : Filter). f.takes_descriptions) one.same ∙ all) behind_it visited.2 in
+      one_frame d frame frames item (items ++ tail) index old mid new all handled.1.0 one rest
+
+  pub filtered_copy : (bytes stream : List ℕ) (items : List (Result EventView Error)) (old new : Filtered T) → old.filter.takes_descriptions ≡ true → bytes ≡ file_header ++ stream
+      → AreItems (default_description Version4) stream items → Visits (Filters Copies) 0 items old new
+      → IsFilteredCopy old.filter old.place.position old.is_wanted bytes (contents old.visitor) (contents new.visitor)
+  filtered_copy bytes stream items old new all file are visited =
+      let d : FormatDescriptionEvent = default_description Version4 in
+      let copied = copied_frames d (in_force d are.frames) are.frames (items_behind d [] are.frames) (tail_items are.tail) 0 old new (tail_by (is_undersized are.tail) (stated_size are.tail)) all
+      (items_looked d are.frames) (subst (λ (l : List (Result EventView Error)). Visits (Filters Copies) 0 l old new) are.all visited) in
+      record {
+        stream = stream;
+        file = file;
+        items = items;
+        are = are;
+        events = copied.events;
+        taken = subst (λ (l : List (Result EventView Error)). TakesEvents old.filter old.place.position old.is_wanted l copied.events) (sym are.all) copied.taken;
+        written = copied.written;
+        log = copied_log d are.frames copied.events are.split.each copied.part;
+      }
