@@ -2,7 +2,7 @@
 ghost use Rattle.std.specs.Prelude.{◌≡◌, ◌∷◌, ◌++◌, [], codes, IsUtf8, IfOk, OnErr};
 ghost use Rattle.std.specs.Fmt.{signed_decimal};
 ghost use Rattle.json.specs.Lex.{tokens as read_tokens};
-ghost use Rattle.json.specs.Print.{escape, print, token_text};
+ghost use Rattle.json.specs.Print.{escape, print, token_text, IsNumber};
 ghost use Rattle.json.specs.Token as tokens;
 ghost use Rattle.json_line.specs.Lines.{IsPlainText};
 ghost use Rattle.json_line.specs.Tokens.{Adds, number_value, bytes_value, text_value, uuid_value, or_null, member, bytes_member_if_any};
@@ -154,6 +154,43 @@ impl Line {
         Ok(())
     }
 
+    /// Writes the name of a member and a colon, escaped where needed.
+    #[inline]
+    pub fn escaped_key(&mut self, name: &str) -> Result<(), AllocError>
+        ensures added { Adds result self.old self.new (tokens.key name.now ∷ []) }
+        ensures unchanged { OnErr result (self.new ≡ self.old) }
+    {
+        if is_plain(name.as_bytes()) {
+            return self.key_as_it_is(name);
+        }
+        self.key_with_escapes(name)
+    }
+
+    #[inline(always)]
+    fn key_as_it_is(&mut self, name: &str) -> Result<(), AllocError>
+        requires { escape name.now ≡ name.now }
+        ensures added { Adds result self.old self.new (tokens.key name.now ∷ []) }
+        ensures unchanged { OnErr result (self.new ≡ self.old) }
+    {
+        self.text.add_name(self.after_value, name.as_bytes())?;
+        self.after_value = false;
+        Ok(())
+    }
+
+    // Through the general token writer.
+    #[inline(never)]
+    fn key_with_escapes(&mut self, name: &str) -> Result<(), AllocError>
+        ensures added { Adds result self.old self.new (tokens.key name.now ∷ []) }
+        ensures unchanged { OnErr result (self.new ≡ self.old) }
+    {
+        let mut writer = token_writer(&mut self.token, self.alloc);
+        writer.key(name)?;
+        self.token = writer.into_inner();
+        self.text.add(self.after_value, &self.token)?;
+        self.after_value = false;
+        Ok(())
+    }
+
     /// Writes `null`.
     #[inline]
     pub fn null(&mut self) -> Result<(), AllocError>
@@ -243,6 +280,18 @@ impl Line {
         writer.i64(number)?;
         self.token = writer.into_inner();
         self.text.add(self.after_value, &self.token)?;
+        self.after_value = true;
+        Ok(())
+    }
+
+    /// Writes a number that is given by its text, which has to be a number of JSON.
+    #[inline]
+    pub fn number_text(&mut self, text: &str) -> Result<(), AllocError>
+        requires { IsNumber text.now }
+        ensures added { Adds result self.old self.new (tokens.number text.now ∷ []) }
+        ensures unchanged { OnErr result (self.new ≡ self.old) }
+    {
+        self.text.add(self.after_value, text.as_bytes())?;
         self.after_value = true;
         Ok(())
     }

@@ -1,0 +1,6 @@
+mod Parts
+mod DigitTexts
+mod DecimalTexts
+mod FixedValues
+mod RowTexts
+mod Integers

@@ -1,0 +1,9 @@
+use Rattle.std.proofs.Common.{◌≡◌, ◌+◌, ◌-◌, ◌*◌, ◌++◌, string_bytes}
+use Rattle.binlog_values.specs.Contents.{magnitude}
+use Rattle.binlog_row_lines.specs.Decimals.{nines_text}
+use Rattle.binlog_row_lines.proofs.decimals.push_nines.Given as goal
+
+-- The groups so far, with those to come, are all of them.
+abbrev pub invariant-loop-index : goal.invariant-loop-index
+invariant-loop-index l = (l.place ≡ l.start + 4 * l._index)
+    × (string_bytes l.text ++ nines_text (l.count - l._index) l.place l.is_begun (magnitude l.bytes) ≡ string_bytes l.fn.text ++ nines_text l.count l.start l.was_begun (magnitude l.bytes))

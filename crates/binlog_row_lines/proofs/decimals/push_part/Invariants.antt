@@ -1,0 +1,9 @@
+use Rattle.std.proofs.Common.{◌≡◌, ◌+◌, ◌-◌, ◌*◌, ◌++◌, string_bytes}
+use Rattle.binlog_values.specs.Contents.{magnitude}
+use Rattle.binlog_row_lines.specs.Decimals.{part_text}
+use Rattle.binlog_row_lines.proofs.decimals.push_part.Given as goal
+
+-- The groups so far, with those to come, are all of them.
+abbrev pub invariant-loop-index : goal.invariant-loop-index
+invariant-loop-index l = (l.place ≡ l.start + 4 * l._index)
+    × (string_bytes l.text ++ part_text (l.count - l._index) l.place l.tail (magnitude l.bytes) ≡ string_bytes l.fn.text ++ part_text l.count l.start l.tail (magnitude l.bytes))

@@ -1,0 +1,8 @@
+pub mod Facts
+pub mod Parts
+pub mod Numbers
+pub mod Decimals
+pub mod Times
+pub mod Values
+pub mod Rows
+pub mod Written

@@ -1,0 +1,105 @@
+-- Values as tokens, by what they mean.
+use Rattle.std.specs.Prelude.{ℕ, ◌+◌, ◌/◌, ◌%◌, ◌^◌, ◌==◌, ◌&&◌, Bool, true, false, List, [], ◌∷◌, ◌++◌, codes, nat_le, nat_lt, if◌then◌else◌}
+use Rattle.json.specs.Token.{Token, null, string}
+use Rattle.json_line.specs.Tokens.{number_value, bytes_value, text_value, member, object}
+use Rattle.binlog_values.specs.Contents.{Content, number_in, bytes_in, before_fraction, time2_zero, time2_distance}
+use Rattle.binlog_values.specs.Times.{microseconds_of, date_time_of, time_distance}
+use Rattle.binlog_values.specs.Values.{Meaning}
+use Rattle.binlog_values.specs.Values as meanings
+use Rattle.binlog_row_lines.specs.Facts.{Facts}
+use Rattle.binlog_row_lines.specs.Parts.{Part, exactly, utc, exact}
+use Rattle.binlog_row_lines.specs.Numbers.{integer_value, single_parts, double_parts}
+use Rattle.binlog_row_lines.specs.Decimals.{decimal_text}
+use Rattle.binlog_row_lines.specs.Times.{date_text, clock_text, fraction_text, sign_text}
+
+-- The year of a YEAR: 0, or years since 1900.
+abbrev pub year_of : ℕ → ℕ
+year_of n = if n == 0 then 0 else 1900 + n % 256
+
+-- A DATE.
+abbrev pub date_of : ℕ → List ℕ
+date_of n = date_text (n / 512) (n / 32 % 16) (n % 32)
+
+-- A TIME, by its distance from zero: decimal digits of hours, minutes and seconds.
+abbrev pub time_of : ℕ → List ℕ
+time_of n =
+    sign_text (nat_le (2 ^ 23) n)
+    ++ clock_text (time_distance n / 10000) (time_distance n / 100 % 100) (time_distance n % 100)
+
+-- A DATETIME: decimal digits of its parts.
+abbrev pub datetime_of : ℕ → List ℕ
+datetime_of n =
+    date_text (n / 10000000000) (n / 100000000 % 100) (n / 1000000 % 100) ++ 32 ∷ []
+    ++ clock_text (n / 10000 % 100) (n / 100 % 100) (n % 100)
+
+-- A DATETIME2: bits of its parts.
+abbrev pub datetime2_of : ℕ → ℕ → List ℕ
+datetime2_of digits n =
+    date_text (date_time_of digits n / 2 ^ 22 / 13) (date_time_of digits n / 2 ^ 22 % 13) (date_time_of digits n / 2 ^ 17 % 32) ++ 32 ∷ []
+    ++ clock_text (date_time_of digits n / 2 ^ 12 % 32) (date_time_of digits n / 2 ^ 6 % 64) (date_time_of digits n % 64)
+    ++ fraction_text digits (microseconds_of digits n)
+
+-- The time of a TIME2 without its sign and fraction.
+abbrev pub time2_parts : ℕ → ℕ → ℕ
+time2_parts digits n = before_fraction digits (time2_distance digits n)
+
+-- A TIME2: bits of its parts.
+abbrev pub time2_of : ℕ → ℕ → List ℕ
+time2_of digits n =
+    sign_text (nat_lt n (time2_zero digits))
+    ++ clock_text (time2_parts digits n / 2 ^ 12) (time2_parts digits n / 2 ^ 6 % 64) (time2_parts digits n % 64)
+    ++ fraction_text digits (microseconds_of digits (time2_distance digits n))
+
+-- The zero timestamp, with this many digits of a fraction.
+abbrev pub zero_text : ℕ → List ℕ
+zero_text digits = date_text 0 0 0 ++ 32 ∷ [] ++ clock_text 0 0 0 ++ fraction_text digits 0
+
+abbrev pub is_zero : ℕ → ℕ → Bool
+is_zero seconds microseconds = (seconds == 0) && (microseconds == 0)
+
+-- A timestamp, in UTC; all zero is the zero timestamp. Its seconds have 32 bits.
+abbrev pub timestamp_parts : ℕ → ℕ → ℕ → List Part
+timestamp_parts digits seconds microseconds =
+    if is_zero seconds microseconds then exactly (string (zero_text digits)) ∷ [] else utc (seconds % 2 ^ 32) digits microseconds ∷ []
+
+-- The bytes of a string: hexadecimal digits if the character set is `binary`, else text.
+abbrev pub string_value : Bool → List ℕ → List Token
+string_value true s = bytes_value s
+string_value false s = text_value s
+
+-- An object with one member, the hexadecimal digits of bytes that aren't decoded.
+abbrev pub encoded_value : List ℕ → List ℕ → List Token
+encoded_value name s = object (member name (bytes_value s))
+
+-- Values whose text is fixed.
+abbrev pub value_tokens : Facts → Meaning → Content → List Token
+value_tokens facts meanings.null content = null ∷ []
+value_tokens facts (meanings.integer size) content = integer_value facts.is_unsigned size (number_in content)
+value_tokens facts meanings.float content = []
+value_tokens facts meanings.double content = []
+value_tokens facts (meanings.decimal precision scale) content = string (decimal_text precision scale (bytes_in content)) ∷ []
+value_tokens facts meanings.date content = string (date_of (number_in content)) ∷ []
+value_tokens facts meanings.year content = number_value (year_of (number_in content))
+value_tokens facts meanings.timestamp content = []
+value_tokens facts meanings.time content = string (time_of (number_in content)) ∷ []
+value_tokens facts meanings.datetime content = string (datetime_of (number_in content)) ∷ []
+value_tokens facts (meanings.timestamp2 digits) content = []
+value_tokens facts (meanings.datetime2 digits) content = string (datetime2_of digits (number_in content)) ∷ []
+value_tokens facts (meanings.time2 digits) content = string (time2_of digits (number_in content)) ∷ []
+value_tokens facts (meanings.bit count) content = number_value (number_in content)
+value_tokens facts meanings.enumeration content = number_value (number_in content)
+value_tokens facts meanings.members content = number_value (number_in content)
+value_tokens facts meanings.string content = string_value facts.is_binary (bytes_in content)
+value_tokens facts meanings.json content = encoded_value (codes "jsonb") (bytes_in content)
+value_tokens facts meanings.geometry content = bytes_value (bytes_in content)
+value_tokens facts meanings.vector content = bytes_value (bytes_in content)
+value_tokens facts meanings.compressed content = encoded_value (codes "stored") (bytes_in content)
+
+-- A value of this meaning and content.
+abbrev pub value_parts : Facts → Meaning → Content → List Part
+value_parts facts meanings.float content = single_parts (number_in content)
+value_parts facts meanings.double content = double_parts (number_in content)
+value_parts facts meanings.timestamp content = timestamp_parts 0 (number_in content) 0
+value_parts facts (meanings.timestamp2 digits) content =
+    timestamp_parts digits (before_fraction digits (number_in content)) (microseconds_of digits (number_in content))
+value_parts facts meaning content = exact (value_tokens facts meaning content)

@@ -1,0 +1,18 @@
+-- Rows that are written.
+use Rattle.std.specs.Prelude.{List, Result}
+use Rattle.json.specs.Token.{Token}
+use Rattle.binlog_images.specs.Cells.{RowCells}
+use Rattle.binlog_images.specs.RowsLeft.{row_shape}
+use Rattle.binlog_images.specs.Splits.{AreRows}
+use Rattle.binlog_images.specs.declared.rows.Rows.{Rows}
+use Rattle.binlog_images.specs.declared.rows_error.RowsError.{RowsError}
+use Rattle.binlog_row_lines.specs.declared.column_facts.ColumnFacts.{ColumnFacts}
+use Rattle.binlog_row_lines.specs.Parts.{Shows}
+use Rattle.binlog_row_lines.specs.Rows.{rows_parts}
+
+-- The array of the rows into which the bytes split, one by one, up to their end or to the first that is refused. There
+-- is exactly one such split (`rows_are_split` of `binlog_images`).
+pub record ShowsRows (columns : List ColumnFacts) (rows : Rows) (old new : List Token) : Type 0 where
+  pub items : List (Result RowCells RowsError)
+  pub are : AreRows (row_shape rows) rows.row rows.rest.now items
+  pub shown : Shows old new (rows_parts columns items)

@@ -1,0 +1,18 @@
+//! The values of row events as JSON.
+//!
+//! `specs/Values` defines the tokens of a value. For two kinds of values it says what the text means, and not its digits:
+//! the text of a floating-point number reads back as the same number, and that of a timestamp is the date with its day
+//! number.
+#![tactic(auto)]
+
+mod column_facts;
+mod decimals;
+mod digits;
+mod numbers;
+mod rows;
+mod times;
+mod timestamps;
+mod values;
+
+pub use column_facts::ColumnFacts;
+pub use values::ValueWriter;

@@ -1,0 +1,243 @@
+//! Rows as JSON.
+#![tactic(auto, using(std::proofs::Common::append_assoc))]
+
+ghost use Rattle.std.specs.Prelude.{◌≡◌, ◌+◌, ◌<◌, ◌^◌, ◌++◌, ◌∷◌, [], drop, Option, option_map, OnOk};
+ghost use Rattle.std.specs.String.{string_bytes};
+ghost use Rattle.json.specs.Token.{key};
+ghost use Rattle.json_line.specs.Lines.{IsPlainText};
+ghost use Rattle.json_line.specs.Tokens.{Adds};
+ghost use Rattle.binlog_wire.specs.Fields.{IsBytes};
+ghost use Rattle.binlog_images.specs.ColumnValues.{cell_of};
+ghost use Rattle.binlog_images.specs.ImageCells.{cells_of};
+ghost use Rattle.binlog_images.specs.RowCells.{row_cells, answer_row};
+ghost use Rattle.binlog_row_lines.specs.Facts.{facts_of};
+ghost use Rattle.binlog_row_lines.specs.Parts.{Writes};
+ghost use Rattle.binlog_row_lines.specs.Rows.{column_name, cell_parts, first_parts, image_parts, image_member, row_parts, kind_name, image_name, fault_image, fault_column, refusal_tokens, item_parts};
+ghost use Rattle.binlog_row_lines.specs.Written.{ShowsRows};
+
+use crate::column_facts::ColumnFacts;
+use crate::digits::push_number;
+use crate::values::ValueWriter;
+use binlog_images::{ColumnValue, Image, ImageKind, Row, Rows, RowsError, RowsErrorKind};
+use json_line::Line;
+use std::alloc::AllocError;
+
+/// The name of a kind of fault.
+fn kind_name(kind: RowsErrorKind) -> &'static str
+    ensures name { result.now ≡ kind_name kind }
+    ensures plain { IsPlainText result.now }
+{
+    match kind {
+        RowsErrorKind::Truncated => "Truncated",
+        RowsErrorKind::BadValue => "BadValue",
+        RowsErrorKind::LeftOver => "LeftOver",
+    }
+}
+
+/// The name of an image.
+fn image_name(image: ImageKind) -> &'static str
+    ensures name { result.now ≡ image_name image }
+    ensures plain { IsPlainText result.now }
+{
+    match image {
+        ImageKind::Before => "before",
+        ImageKind::After => "after",
+    }
+}
+
+/// Writes the image of a fault, where it is in one.
+fn write_fault_image(line: &mut Line, image: Option<ImageKind>) -> Result<(), AllocError>
+    ensures { Adds result line.old line.new (fault_image image) }
+{
+    match image {
+        Some(image) => {
+            line.key("image")?;
+            line.plain_string(image_name(image))
+        }
+        None => Ok(()),
+    }
+}
+
+/// Writes the column of a fault, where it is in one.
+fn write_fault_column(line: &mut Line, column: Option<u64>) -> Result<(), AllocError>
+    ensures { Adds result line.old line.new (fault_column column) }
+{
+    match column {
+        Some(column) => line.number_member("column", column),
+        None => Ok(()),
+    }
+}
+
+/// Writes an object for a row that is refused.
+fn write_refusal(line: &mut Line, error: &RowsError) -> Result<(), AllocError>
+    ensures { Adds result line.old line.new (refusal_tokens error.now) }
+{
+    line.begin_object()?;
+    line.key("error")?;
+    line.plain_string(kind_name(error.kind))?;
+    line.number_member("row", error.row)?;
+    write_fault_image(line, error.image)?;
+    write_fault_column(line, error.column)?;
+    line.end_object()
+}
+
+impl ValueWriter {
+    /// Writes the name of the column with this index, counted from 0.
+    fn write_name(
+        &mut self,
+        line: &mut Line,
+        facts: &ColumnFacts<'_>,
+        index: u64,
+    ) -> Result<(), AllocError>
+        requires { index + 1 < 2 ^ 64 }
+        ensures { Adds result line.old line.new (key (column_name (facts_of facts.now) index) ∷ []) }
+    {
+        match facts.name {
+            Some(name) => line.escaped_key(name),
+            None => {
+                self.text.clear();
+                self.text.push_str("@")?;
+                push_number(&mut self.text, index + 1)?;
+                line.escaped_key(self.text.as_str())
+            }
+        }
+    }
+
+    /// Writes the member of the column with this index; nothing for one that is absent.
+    fn write_cell(
+        &mut self,
+        line: &mut Line,
+        facts: &ColumnFacts<'_>,
+        index: u64,
+        cell: &ColumnValue<'_>,
+    ) -> Result<(), AllocError>
+        requires { index + 1 < 2 ^ 64 }
+        ensures { Writes result line.old line.new (cell_parts (facts_of facts.now) index (cell_of cell.now)) }
+    {
+        match cell {
+            ColumnValue::Absent => Ok(()),
+            ColumnValue::Null => {
+                self.write_name(line, facts, index)?;
+                line.null()
+            }
+            ColumnValue::Value(value) => {
+                self.write_name(line, facts, index)?;
+                self.write(line, facts, value)
+            }
+        }
+    }
+
+    /// Writes the member of the next column of an image, if one is left.
+    fn write_next(
+        &mut self,
+        line: &mut Line,
+        facts: &ColumnFacts<'_>,
+        index: u64,
+        image: &mut Image<'_>,
+    ) -> Result<(), AllocError>
+        requires { index + 1 < 2 ^ 64 }
+        ensures written { Writes result line.old line.new (first_parts (facts_of facts.now) index (cells_of image.old)) }
+        ensures rest { cells_of image.new ≡ drop 1 (cells_of image.old) }
+    {
+        match image.next() {
+            Some(cell) => self.write_cell(line, facts, index, &cell),
+            None => Ok(()),
+        }
+    }
+
+    /// Writes an image of a table with these columns: an object with a member for each column that is present.
+    ///
+    /// # Errors
+    ///
+    /// [`AllocError`] if an allocation fails. Some tokens may then have been written.
+    pub fn write_image(
+        &mut self,
+        line: &mut Line,
+        columns: &[ColumnFacts<'_>],
+        image: Image<'_>,
+    ) -> Result<(), AllocError>
+        ensures { Writes result line.old line.new (image_parts columns.now (cells_of image.entry)) }
+    {
+        let mut cells = image;
+        line.begin_object()?;
+        for (index, facts) in columns.iter().enumerate() {
+            self.write_next(line, facts, index as u64, &mut cells)?;
+        }
+        line.end_object()
+    }
+
+    /// Writes the member of an image that a row has; nothing if it hasn't.
+    fn write_image_member(
+        &mut self,
+        line: &mut Line,
+        name: &str,
+        columns: &[ColumnFacts<'_>],
+        image: Option<Image<'_>>,
+    ) -> Result<(), AllocError>
+        requires { IsPlainText name.now }
+        ensures { Writes result line.old line.new (image_member name.now columns.now (option_map cells_of image.entry)) }
+    {
+        match image {
+            Some(image) => {
+                line.key(name)?;
+                self.write_image(line, columns, image)
+            }
+            None => Ok(()),
+        }
+    }
+
+    /// Writes a row of a table with these columns: an object with its images, `before` and `after`.
+    ///
+    /// # Errors
+    ///
+    /// [`AllocError`] if an allocation fails. Some tokens may then have been written.
+    pub fn write_row(
+        &mut self,
+        line: &mut Line,
+        columns: &[ColumnFacts<'_>],
+        row: &Row<'_>,
+    ) -> Result<(), AllocError>
+        ensures { Writes result line.old line.new (row_parts columns.now (row_cells row.now)) }
+    {
+        line.begin_object()?;
+        self.write_image_member(line, "before", columns, row.before())?;
+        self.write_image_member(line, "after", columns, row.after())?;
+        line.end_object()
+    }
+
+    /// Writes a row, or why it is refused.
+    fn write_item(
+        &mut self,
+        line: &mut Line,
+        columns: &[ColumnFacts<'_>],
+        item: &Result<Row<'_>, RowsError>,
+    ) -> Result<(), AllocError>
+        ensures { Writes result line.old line.new (item_parts columns.now (answer_row item.now)) }
+    {
+        match item {
+            Ok(row) => self.write_row(line, columns, row),
+            Err(error) => write_refusal(line, error),
+        }
+    }
+
+    /// Writes the rows that are left of an event of a table with these columns: an array of the rows, up to the last or
+    /// to the first that is refused, for which there is an object that says why.
+    ///
+    /// # Errors
+    ///
+    /// [`AllocError`] if an allocation fails. Some tokens may then have been written.
+    pub fn write_rows(
+        &mut self,
+        line: &mut Line,
+        columns: &[ColumnFacts<'_>],
+        rows: Rows<'_>,
+    ) -> Result<(), AllocError>
+        ensures { IsBytes rows.entry.rest.now → OnOk result (ShowsRows columns.now rows.entry line.old line.new) }
+    {
+        line.begin_array()?;
+        'rows: for item in rows {
+            self.write_item(line, columns, &item)?;
+        }
+        line.end_array()
+    }
+}

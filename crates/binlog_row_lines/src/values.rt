@@ -1,0 +1,227 @@
+//! Values as JSON.
+#![tactic(auto, using(std::proofs::Common::append_assoc))]
+
+ghost use Rattle.std.specs.Prelude.{◌≡◌, ◌++◌, ◌∷◌, []};
+ghost use Rattle.json.specs.Token.{string};
+ghost use Rattle.json_line.specs.Lines.{IsPlainText};
+ghost use Rattle.json_line.specs.Tokens.{Adds};
+ghost use Rattle.binlog_values.specs.Values.{meaning_of, content_of};
+ghost use Rattle.binlog_row_lines.specs.Facts.{facts_of};
+ghost use Rattle.binlog_row_lines.specs.Parts.{Writes};
+ghost use Rattle.binlog_row_lines.specs.Decimals.{decimal_text};
+ghost use Rattle.binlog_row_lines.specs.Values.{year_of, date_of, time_of, datetime_of, datetime2_of, time2_of, string_value, encoded_value, value_tokens, value_parts};
+
+use crate::column_facts::ColumnFacts;
+use crate::decimals::push_decimal;
+use crate::numbers::{write_double, write_integer, write_single};
+use crate::times::{push_clock, push_date, push_fraction, push_sign};
+use crate::timestamps::write_timestamp;
+use binlog_values::{Date, DateTime, DateTime2, Decimal, Time, Time2, Value};
+use json_line::Line;
+use std::alloc::{AllocError, Global};
+
+/// Writes values, in memory that is reused from value to value.
+#[derive(Drop)]
+pub struct ValueWriter {
+    pub(crate) text: String,
+}
+
+impl ValueWriter {
+    /// A writer. Nothing is allocated.
+    pub fn new(alloc: Global) -> Self {
+        ValueWriter {
+            text: String::new(alloc),
+        }
+    }
+
+    /// Writes a value of a column of which these facts are known.
+    ///
+    /// # Errors
+    ///
+    /// [`AllocError`] if an allocation fails. Some tokens of the value may then have been written.
+    pub fn write(
+        &mut self,
+        line: &mut Line,
+        facts: &ColumnFacts<'_>,
+        value: &Value<'_>,
+    ) -> Result<(), AllocError>
+        ensures { Writes result line.old line.new (value_parts (facts_of facts.now) (meaning_of value.now) (content_of value.now)) }
+    {
+        match value {
+            Value::Float(bits) => write_single(line, *bits),
+            Value::Double(bits) => write_double(line, *bits),
+            Value::Timestamp(seconds) => write_timestamp(line, &mut self.text, 0, *seconds, 0),
+            Value::Timestamp2(time) => write_timestamp(
+                line,
+                &mut self.text,
+                time.digits(),
+                time.seconds(),
+                time.microseconds(),
+            ),
+            _ => write_fixed(line, &mut self.text, facts, value),
+        }
+    }
+}
+
+/// Writes a value whose text is fixed; nothing for any other.
+fn write_fixed(
+    line: &mut Line,
+    text: &mut String,
+    facts: &ColumnFacts<'_>,
+    value: &Value<'_>,
+) -> Result<(), AllocError>
+    ensures { Adds result line.old line.new (value_tokens (facts_of facts.now) (meaning_of value.now) (content_of value.now)) }
+{
+    match value {
+        Value::Float(_) | Value::Double(_) | Value::Timestamp(_) | Value::Timestamp2(_) => Ok(()),
+        Value::Null => line.null(),
+        Value::Integer(integer) => write_integer(
+            line,
+            facts.is_unsigned,
+            integer.size(),
+            integer.unsigned(),
+        ),
+        Value::Decimal(decimal) => write_decimal(line, text, decimal),
+        Value::Date(date) => write_date(line, text, date),
+        Value::Year(year) => line.number(year_of(*year)),
+        Value::Time(time) => write_time(line, text, time),
+        Value::DateTime(time) => write_datetime(line, text, time),
+        Value::DateTime2(time) => write_datetime2(line, text, time),
+        Value::Time2(time) => write_time2(line, text, time),
+        Value::Bit(bits) => line.number(bits.bits()),
+        Value::Enum(number) | Value::Set(number) => line.number(*number),
+        Value::Bytes(bytes) => write_string(line, facts.is_binary, bytes),
+        Value::Geometry(bytes) | Value::Vector(bytes) => line.bytes(bytes),
+        Value::Json(bytes) => write_encoded(line, "jsonb", bytes),
+        Value::Compressed(bytes) => write_encoded(line, "stored", bytes),
+    }
+}
+
+/// The year of a YEAR, which is 0 or the number of years since 1900.
+fn year_of(year: u64) -> u64
+    ensures { result ≡ year_of year }
+{
+    if year == 0 { 0 } else { 1_900 + year % 256 }
+}
+
+/// Writes a decimal number.
+fn write_decimal(
+    line: &mut Line,
+    text: &mut String,
+    decimal: &Decimal<'_>,
+) -> Result<(), AllocError>
+    ensures { Adds result line.old line.new (string (decimal_text decimal.now.precision decimal.now.scale decimal.now.bytes.now) ∷ []) }
+{
+    text.clear();
+    push_decimal(text, decimal)?;
+    line.string(text.as_str())
+}
+
+/// Writes a date.
+fn write_date(line: &mut Line, text: &mut String, date: &Date) -> Result<(), AllocError>
+    ensures { Adds result line.old line.new (string (date_of date.now.bits) ∷ []) }
+{
+    text.clear();
+    push_date(
+        text,
+        date.year(),
+        u64::from(date.month()),
+        u64::from(date.day()),
+    )?;
+    line.string(text.as_str())
+}
+
+/// Writes a time without a fraction.
+fn write_time(line: &mut Line, text: &mut String, time: &Time) -> Result<(), AllocError>
+    ensures { Adds result line.old line.new (string (time_of time.now.bits) ∷ []) }
+{
+    text.clear();
+    push_sign(text, time.is_negative())?;
+    push_clock(
+        text,
+        time.hour(),
+        u64::from(time.minute()),
+        u64::from(time.second()),
+    )?;
+    line.string(text.as_str())
+}
+
+/// Writes a date and a time without a fraction.
+fn write_datetime(line: &mut Line, text: &mut String, time: &DateTime) -> Result<(), AllocError>
+    ensures { Adds result line.old line.new (string (datetime_of time.now.digits) ∷ []) }
+{
+    text.clear();
+    push_date(
+        text,
+        time.year(),
+        u64::from(time.month()),
+        u64::from(time.day()),
+    )?;
+    text.push_str(" ")?;
+    push_clock(
+        text,
+        u64::from(time.hour()),
+        u64::from(time.minute()),
+        u64::from(time.second()),
+    )?;
+    line.string(text.as_str())
+}
+
+/// Writes a date and a time with a fraction.
+fn write_datetime2(line: &mut Line, text: &mut String, time: &DateTime2) -> Result<(), AllocError>
+    ensures { Adds result line.old line.new (string (datetime2_of time.now.digits time.now.number) ∷ []) }
+{
+    text.clear();
+    push_date(
+        text,
+        time.year(),
+        u64::from(time.month()),
+        u64::from(time.day()),
+    )?;
+    text.push_str(" ")?;
+    push_clock(
+        text,
+        u64::from(time.hour()),
+        u64::from(time.minute()),
+        u64::from(time.second()),
+    )?;
+    push_fraction(text, time.digits(), time.microseconds())?;
+    line.string(text.as_str())
+}
+
+/// Writes a time with a fraction.
+fn write_time2(line: &mut Line, text: &mut String, time: &Time2) -> Result<(), AllocError>
+    ensures { Adds result line.old line.new (string (time2_of time.now.digits time.now.number) ∷ []) }
+{
+    text.clear();
+    push_sign(text, time.is_negative())?;
+    push_clock(
+        text,
+        time.hour(),
+        u64::from(time.minute()),
+        u64::from(time.second()),
+    )?;
+    push_fraction(text, time.digits(), time.microseconds())?;
+    line.string(text.as_str())
+}
+
+/// Writes the bytes of a string.
+fn write_string(line: &mut Line, is_binary: bool, bytes: &[u8]) -> Result<(), AllocError>
+    ensures { Adds result line.old line.new (string_value is_binary bytes.now) }
+{
+    if is_binary {
+        line.bytes(bytes)
+    } else {
+        line.text(bytes)
+    }
+}
+
+/// Writes an object with one member: bytes that aren't decoded.
+fn write_encoded(line: &mut Line, name: &str, bytes: &[u8]) -> Result<(), AllocError>
+    requires { IsPlainText name.now }
+    ensures { Adds result line.old line.new (encoded_value name.now bytes.now) }
+{
+    line.begin_object()?;
+    line.bytes_member(name, bytes)?;
+    line.end_object()
+}

@@ -1,0 +1,11 @@
+//! Tests of `binlog_row_lines`: values and rows as JSON.
+#![tactic(auto)]
+
+#[cfg(test)]
+mod rows;
+#[cfg(test)]
+mod shown;
+#[cfg(test)]
+mod temporal;
+#[cfg(test)]
+mod values;
