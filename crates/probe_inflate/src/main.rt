@@ -1,0 +1,52 @@
+//! Writes the text of the zlib stream on standard input, or the reason why it is refused on standard error. A test
+//! compares it with Python's `zlib`. The exit status is 0, 1 for a refusal, or 2 where input, output or memory failed.
+#![tactic(auto)]
+
+use inflate::{Error, decompress_zlib};
+use std::io::{self, BufReader, Read, Write};
+use std::process::ExitCode;
+
+/// The size of the input buffer, in bytes.
+const BUFFER_SIZE: usize = 65_536;
+
+/// The longest text, in bytes.
+const LIMIT: usize = 1 << 30;
+
+#[derive(Clone, Copy)]
+enum Outcome {
+    Written,
+    Refused,
+    Failed,
+}
+
+fn read_stream(rt: &(impl Input + AllocGlobal)) -> io::Result<Vec<u8>> {
+    let mut input = BufReader::with_capacity(rt.alloc(), BUFFER_SIZE, rt.reader())?;
+    let mut stream = Vec::new(rt.alloc());
+    input.read_to_end(&mut stream)?;
+    Ok(stream)
+}
+
+fn run(rt: &(impl Input + Print + Eprint + AllocGlobal)) -> io::Result<Outcome> {
+    let stream = read_stream(rt)?;
+    match decompress_zlib(rt.alloc(), &stream, LIMIT) {
+        Ok(text) => {
+            let mut output = io::writer(rt);
+            output.write_all(&text)?;
+            output.flush()?;
+            Ok(Outcome::Written)
+        }
+        Err(Error::Memory) => Ok(Outcome::Failed),
+        Err(error) => {
+            eprintln!(rt; "{error}")?;
+            Ok(Outcome::Refused)
+        }
+    }
+}
+
+fn main(rt: HostRuntime) -> ExitCode {
+    match run(&rt) {
+        Ok(Outcome::Written) => ExitCode::SUCCESS,
+        Ok(Outcome::Refused) => ExitCode::from(1),
+        _ => ExitCode::from(2),
+    }
+}
