@@ -437,13 +437,14 @@ def laid_out(runner, prefix):
 def installs(runner):
     """What is installed, and what a package holds."""
     prefix = runner.folder / "prefix"
-    finished = subprocess.run([REPOSITORY / "bin/install", prefix, runner.program], capture_output=True)
+    finished = subprocess.run([REPOSITORY / "bin/install", prefix, f"program={runner.program}"], capture_output=True)
     yield difference("bin/install", finished, Result(b""))
     yield from laid_out(runner, prefix)
     if shutil.which("dpkg-deb") is None:
         print("without dpkg-deb no package is tried")
         return
-    finished = subprocess.run([REPOSITORY / "bin/package", runner.folder / "binlog.deb", runner.program], capture_output=True)
+    words = [REPOSITORY / "bin/package", runner.folder / "binlog.deb", f"program={runner.program}"]
+    finished = subprocess.run(words, capture_output=True)
     yield None if finished.returncode == 0 else f"bin/package: {finished.stderr!r}"
     subprocess.run(["dpkg-deb", "-x", runner.folder / "binlog.deb", runner.folder / "unpacked"], check=True)
     yield from laid_out(runner, runner.folder / "unpacked/usr")

@@ -1,48 +1,55 @@
 #!/usr/bin/env python3
 """Tests the library for C, C++ and Python over the logs of the other tests.
 
-Usage: libraries.py [--build]
+Usage: libraries.py [--build | --over-ci]
 
 A C program and a C++ one over include/binlog.h list the samples, the encoder's logs and the damaged copies: their
 listing has to be that of the built binlog_list without its last word. The C program also lists with room for one item,
 and built with the sanitizers of the C compiler. A third program calls the library with 10,000 cursors that it did not
 make over each of some logs. Then the tests of the Python package run over the shared library, which is made of the
-static one.
+static one. At last what bin/install and bin/package make of the library: a C program is built against each by pkg-config
+and lists the sample, and Python lists it by the package that is installed. Without pkg-config the flags are written out;
+without dpkg-deb there is no package; a line says so.
 
-With --build the static library is first proved and built by bin/build if a source is newer. Without it, and without a
-library, a line says so, nothing is run, and both numbers are 0: the gate proves the crate, but builds no static library.
-The same is true without the C compiler `cc`; without a C++ compiler `c++`, or sanitizers, a line says so. The last line
-is `N passed, M failed`; the exit status is 1 if something failed.
+With --build the static library is first proved and built by bin/build if a source is newer. With --over-ci it is built by
+static_library.py over what `rt ci` left, which proves the crate binlog_c alone once more. Where there is no library then, a
+line says so, nothing is run, and both numbers are 0; the same is true without the C compiler `cc`. Without a C++ compiler
+`c++`, sanitizers, Dask, or the program `binlog`, a line says so, and what needs them isn't run. The last line is
+`N passed, M failed`; the exit status is 1 if something failed.
 """
 
 import os
+import re
 import shutil
 import struct
 import subprocess
 import sys
 import tempfile
-import unittest
 from concurrent.futures import ThreadPoolExecutor
 from pathlib import Path
 
 import checksummed_sample
 import encoded_logs
 import make_sample
+import static_library
 from damaged_copies import LISTING_PROGRAM, PROCESSES_AT_A_TIME, REPOSITORY, all_cases, first_difference, rows_log, run
 
 LIBRARY = REPOSITORY / "crates/binlog_c/out/libbinlog_c.a"
+PROGRAM = REPOSITORY / "crates/binlog/out/binlog"
+# Those that may have Debian's Dask.
+INTERPRETERS = (sys.executable, "/usr/bin/python3")
 SOURCES = REPOSITORY / "tests/c"
 WARNINGS = ["-Wall", "-Wextra", "-Wpedantic", "-Wconversion", "-Werror", "-O1", "-g"]
 SANITIZERS = ["-fsanitize=address,undefined", "-fno-sanitize-recover=all"]
 DAMAGED_CURSORS = 10_000
 
 
-def build(folder, name, source, flags=()):
-    """The program of a source file, over the static library."""
+def build(folder, name, source, flags=(), library=(f"-I{REPOSITORY / 'include'}", LIBRARY)):
+    """The program of a source file, over the static library, or over what these flags for the compiler name."""
     compiler, standard = ("cc", "-std=c11") if source.endswith(".c") else ("c++", "-std=c++17")
     program = folder / name
-    command = [compiler, standard, *WARNINGS, *flags, f"-I{REPOSITORY / 'include'}", SOURCES / source, LIBRARY]
-    subprocess.run([*command, "-o", program], check=True)
+    command = [compiler, standard, *WARNINGS, *flags, SOURCES / source, *library, "-o", program]
+    subprocess.run(command, check=True)
     return program
 
 
@@ -138,17 +145,92 @@ def cursor_failures(program):
         yield None if finished.returncode == 0 else f"damaged cursors, {name}: {wrong}"
 
 
+def interpreter():
+    """The first interpreter that has Dask, or else this one."""
+    for command in filter(shutil.which, INTERPRETERS):
+        found = subprocess.run([command, "-c", "import dask, distributed"], stderr=subprocess.DEVNULL)
+        if found.returncode == 0:
+            return command
+    return sys.executable
+
+
 def python_failures(folder):
-    """For each test of the Python package, None or what failed."""
+    """For each test of the Python package that was run, None or what failed. What is skipped is said once."""
     shared = folder / "libbinlog.so"
-    subprocess.run([REPOSITORY / "bin/shared-library", shared], check=True)
-    os.environ["BINLOG_LIBRARY"] = str(shared)
-    sys.path.insert(0, str(REPOSITORY / "python"))
-    suite = unittest.defaultTestLoader.discover(str(REPOSITORY / "python/tests"))
-    result = unittest.TextTestRunner(stream=sys.stdout, verbosity=0).run(suite)
-    wrong = [f"Python, {test}: failed" for test, _ in result.failures + result.errors]
-    yield from wrong
-    yield from [None] * (result.testsRun - len(wrong))
+    subprocess.run([REPOSITORY / "bin/shared-library", shared, LIBRARY], check=True)
+    environment = os.environ | {"BINLOG_LIBRARY": str(shared), "PYTHONPATH": str(REPOSITORY / "python")}
+    environment |= {"BINLOG_PROGRAM": str(PROGRAM)} if PROGRAM.exists() else {}
+    command = [interpreter(), "-m", "unittest", "discover", "--verbose", "--start-directory", REPOSITORY / "python/tests"]
+    said = subprocess.run(command, env=environment, stderr=subprocess.PIPE, text=True).stderr
+    skipped = re.findall(r" skipped ['\"](.*)['\"]$", said, re.MULTILINE)
+    for reason in sorted(set(skipped)):
+        print(reason)
+    ran = re.search(r"^Ran (\d+) tests? in ", said, re.MULTILINE)
+    wrong = sum(map(int, re.findall(r"(?:failures|errors)=(\d+)", said.splitlines()[-1])))
+    if ran is None or wrong:
+        print(said)
+    yield from ["Python: a test failed"] * (1 if ran is None else wrong)
+    yield from [None] * (0 if ran is None else int(ran[1]) - wrong - len(skipped))
+
+
+def flags_of(prefix):
+    """The compiler's flags for the library that is installed below a prefix."""
+    if not shutil.which("pkg-config"):
+        print("no pkg-config: its file isn't read")
+        return [f"-I{prefix / 'include'}", f"-L{prefix / 'lib'}", "-lbinlog_c"]
+    environment = os.environ | {"PKG_CONFIG_PATH": str(prefix / "lib/pkgconfig")}
+    command = ["pkg-config", "--cflags", "--libs", "binlog = 0.1.0"]
+    return subprocess.run(command, capture_output=True, text=True, check=True, env=environment).stdout.split()
+
+
+# Prints what the library that is installed says of a log, as binlog_list does.
+LISTER = """
+import sys, binlog
+for index, event in enumerate(binlog.open(sys.argv[1])):
+    checksum = "-" if event.checksum is None else event.checksum.hex()
+    print(index, event.event_type, event.event_size, event.log_pos, f"{event.flags:04x}", len(event.data), checksum)
+"""
+
+
+def installed_failures(folder, name, library, python):
+    """None or what is wrong with the library below one prefix and the Python package below another."""
+    content = make_sample.sample()
+    wanted = [listed(content)]
+    folder.mkdir()
+    static = build(folder, "static", "list.c", library=flags_of(library))
+    yield from listing_failures(f"{name}, C", listings(static, [content]), ["the sample"], wanted)
+    flags = [f"-I{library / 'include'}", f"-L{library / 'lib'}", f"-Wl,-rpath,{library / 'lib'}", "-lbinlog"]
+    shared = build(folder, "shared", "list.c", library=flags)
+    yield from listing_failures(f"{name}, C, shared", listings(shared, [content]), ["the sample"], wanted)
+    (folder / "log").write_bytes(content)
+    environment = {name: value for name, value in os.environ.items() if name != "BINLOG_LIBRARY"}
+    environment |= {"PYTHONPATH": str(python / "lib/python3/dist-packages"), "PYTHONDONTWRITEBYTECODE": "1"}
+    command = [sys.executable, "-c", LISTER, folder / "log"]
+    finished = subprocess.run(command, cwd=folder, env=environment, capture_output=True)
+    found = [(finished.stdout, finished.returncode)]
+    yield from listing_failures(f"{name}, Python", found, ["the sample"], wanted)
+
+
+def install_failures(folder):
+    """None or what is wrong with what is installed and what the packages hold."""
+    parts = [f"library={LIBRARY}", f"python={LIBRARY}"]
+    prefix = folder / "prefix"
+    subprocess.run([REPOSITORY / "bin/install", prefix, *parts], check=True)
+    yield from installed_failures(folder / "installed", "bin/install", prefix, prefix)
+    wrong = subprocess.run([REPOSITORY / "bin/install", prefix, "libraries"], stderr=subprocess.DEVNULL)
+    yield None if wrong.returncode == 64 else "bin/install takes an unknown part"
+    if not shutil.which("dpkg-deb"):
+        print("no dpkg-deb: no package is tried")
+        return
+    packages = folder / "packages"
+    subprocess.run([REPOSITORY / "bin/package", packages, *parts], check=True, stdout=subprocess.DEVNULL)
+    for name in ("libbinlog-dev", "python3-binlog"):
+        (package,) = packages.glob(f"{name}_0.1.0_*.deb")
+        subprocess.run(["dpkg-deb", "-x", package, folder / name], check=True)
+    below = [folder / name / "usr" for name in ("libbinlog-dev", "python3-binlog")]
+    yield from installed_failures(folder / "packaged", "bin/package", *below)
+    wrong = subprocess.run([REPOSITORY / "bin/package", folder / "both.deb", *parts], stderr=subprocess.DEVNULL)
+    yield None if wrong.returncode == 64 else "bin/package puts two packages into one file"
 
 
 def missing():
@@ -156,13 +238,28 @@ def missing():
     if not shutil.which("cc"):
         return "no cc"
     if not LIBRARY.exists():
-        return "the library for C isn't built (tests/libraries.py --build builds it)"
+        return "the library for C isn't built: tests/libraries.py --build builds it"
     return None
+
+
+def is_built_over_ci():
+    """Whether the library is built over what `rt ci` left, or can't be since something is missing."""
+    try:
+        status = static_library.build("binlog_c")
+    except static_library.NotBuilt as error:
+        print(error)
+        return True
+    if status != 0:
+        print(f"tests/static_library.py: FAILED: status {status}")
+    return status == 0
 
 
 def main():
     if sys.argv[1:] == ["--build"]:
         subprocess.run([REPOSITORY / "bin/build", "binlog_c"], check=True)
+    if sys.argv[1:] == ["--over-ci"] and not is_built_over_ci():
+        print("0 passed, 1 failed")
+        return 1
     reason = missing()
     if reason:
         print(f"{reason}: nothing is run")
@@ -171,7 +268,7 @@ def main():
     with tempfile.TemporaryDirectory() as name:
         folder = Path(name)
         cases = list(all_cases(make_sample.sample(), lambda log: None))
-        results = [*program_failures(folder, cases), *python_failures(folder)]
+        results = [*program_failures(folder, cases), *python_failures(folder), *install_failures(folder)]
     failures = [result for result in results if result is not None]
     for message in failures[:20]:
         print(message)

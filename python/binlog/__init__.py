@@ -6,20 +6,30 @@
         print(event.position, event.event_type, len(event.data))
 """
 
-from ._errors import BinlogError, InvalidLog, LogError
+from ._errors import BinlogError, InvalidLog, LogError, ProgramFailed, ProgramNotFound
 from ._library import library_version
 from ._log import Cursor, Damage, Event, Log, open
 from ._types import EventType
+from ._whole import DamagedEvent, Stats, TypeStats, Verification, gtid_set, stats, verify
 
 __all__ = [
     "BinlogError",
     "Cursor",
     "Damage",
+    "DamagedEvent",
     "Event",
     "EventType",
     "InvalidLog",
     "Log",
     "LogError",
+    "ProgramFailed",
+    "ProgramNotFound",
+    "Stats",
+    "TypeStats",
+    "Verification",
+    "gtid_set",
     "library_version",
     "open",
+    "stats",
+    "verify",
 ]

@@ -157,8 +157,12 @@ class Log:
         """How many bytes the log has."""
         return self._size
 
-    def _fields_from(self, start: Optional[Cursor]) -> Iterator[Iterator[tuple]]:
-        """The fields of the items from a place on, batch after batch."""
+    def batches(self, start: Optional[Cursor] = None) -> Iterator[list[tuple]]:
+        """The items from a place on, as they stand in the library's structures, batch after batch: for each a tuple of the
+        members of `binlog_item` in their order, which are in include/binlog.h. It is the fastest way to the fields of headers.
+
+        Raises LogError, InvalidCursor, where the place isn't one of this log.
+        """
         place = CursorStruct(*(self._first if start is None else start))
         items = ctypes.create_string_buffer(_BATCH * ITEM.size)
         error = ctypes.c_uint8()
@@ -167,7 +171,7 @@ class Log:
             count = LIBRARY.binlog_next(self._at, self._size, place, items, _BATCH, error)
             if error.value:
                 raise LogError(error.value, place.position)
-            yield ITEM.iter_unpack(memoryview(items)[: count * ITEM.size])
+            yield list(ITEM.iter_unpack(memoryview(items)[: count * ITEM.size]))
 
     def items(self, start: Optional[Cursor] = None) -> Iterator[Union[Event, Damage]]:
         """The events from a place on, and a Damage in the place of each damaged one; from the first event if not given.
@@ -175,7 +179,7 @@ class Log:
         Raises LogError, InvalidCursor, where the place isn't one of this log.
         """
         log_bytes = self._bytes
-        for batch in self._fields_from(start):
+        for batch in self.batches(start):
             for fields in batch:
                 yield Damage(log_bytes, fields) if fields[10] else Event(log_bytes, fields)
 
@@ -185,7 +189,7 @@ class Log:
         Raises LogError in the place of a damaged event, and where the place isn't one of this log.
         """
         log_bytes = self._bytes
-        for batch in self._fields_from(start):
+        for batch in self.batches(start):
             for fields in batch:
                 if fields[10]:
                     raise LogError(fields[10], fields[0])

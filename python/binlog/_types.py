@@ -49,3 +49,13 @@ class EventType(enum.IntEnum):
     TRANSACTION_PAYLOAD_EVENT = 40
     GTID_TAGGED_LOG_EVENT = 42
     ENUM_END_EVENT = 43
+
+
+_NAMES = [str(number) for number in range(256)]
+for _kind in EventType:
+    _NAMES[_kind] = _kind.name
+
+
+def name_of(event_type: int) -> str:
+    """The name of a type by its number, or the number if no type has it."""
+    return _NAMES[event_type]
