@@ -20,6 +20,7 @@ from rt_to_rust.ghosts import without_proofs
 from rt_to_rust.imports import Place
 from rt_to_rust.inlined import INLINED
 from rt_to_rust.items import functions
+from rt_to_rust.lifetimes import FIXED
 from rt_to_rust.memory_forms import BOTH_FORMS, fallible_clones
 from rt_to_rust.passes import Used, rust
 from rt_to_rust.shared_forms import SHARED_FORMS
@@ -97,7 +98,7 @@ def convert(out):
         file.write_text(MADE.format(source) + text)
     unused = ({*CHECKS, *OF_TRAITS} - used.checks) | (set(BOTH_FORMS) - used.both_forms)
     unused |= (set(LEFT_OUT) - used.left_out) | (set(crates.BY_HAND) - by_hand) | (set(INLINED) - used.inlined)
-    unused |= set(SHARED_FORMS) - used.shared_forms
+    unused |= (set(SHARED_FORMS) - used.shared_forms) | ({name for _, name in FIXED} - used.lifetimes)
     if unused:
         raise Refusal("cargo/rt_to_rust", 0, f"rows of tables that nothing uses: {', '.join(sorted(unused))}")
 

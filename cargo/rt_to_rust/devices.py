@@ -137,6 +137,9 @@ def of_tests(source):
         yield source.span(index + 4, index + 7)
     for index in source.places("Err", "(", *INTERRUPTED, ".", "into", "(", ")"):
         yield source.span(index + 4, index + 4, "Other")
+    # The kind with which a device that a test makes is to fail.
+    for index in source.places(",", *INTERRUPTED, ")"):
+        yield source.span(index + 3, index + 3, "Other")
 
 
 def without_left_out(source, used):

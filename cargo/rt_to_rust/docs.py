@@ -67,12 +67,12 @@ def sentences_without(lines, words):
     return without_blank_ends(kept)
 
 
-def for_users(lines, members):
+def for_users(lines, unspoken):
     """Lines of documentation without what only a reader of the proofs asks for, sentences on contracts, and on the
-    ghost members of a trait; and without what isn't so in the packages."""
+    names that only proofs need; and without what isn't so in the packages."""
 
     def is_of_proofs(sentence):
-        return PROOFS.search(sentence) or OTHERWISE.search(sentence) or any(f"`{member}`" in sentence for member in members)
+        return PROOFS.search(sentence) or OTHERWISE.search(sentence) or any(f"`{name}`" in sentence for name in unspoken)
 
     kept = []
     for paragraph in paragraphs(lines):
@@ -115,12 +115,13 @@ def ghost_members(source):
     return names - words
 
 
-def spoken(source, members):
-    """The source whose documentation is for users of Rust; `members` are the ghost members that it had."""
+def spoken(source, unspoken):
+    """The source whose documentation is for users of Rust; `unspoken` are names of which it has no sentence: the ghost
+    members that it had, and the parameters that are fixed."""
     changes = []
     for run in blocks_of(source):
         lines = [token.text[3:].removeprefix(" ") for token in run]
-        kept = for_users(lines, members)
+        kept = for_users(lines, unspoken)
         if kept == without_blank_ends(lines):
             continue
         mark = run[0].text[:3]

@@ -47,10 +47,6 @@ MEMORY = {
 }
 
 
-# Names that a crate passes on beside another: rustdoc shows no method of an alias whose type has no name outside.
-ALSO = {("binlog_events", "event::Event"): "event::DescribedEvent"}
-
-
 class Place(NamedTuple):
     """Where a source goes: the module of its crate in the package, None in a program, whose modules are the package's
     own; the path of each public name of the library, outside of it; and whether its functions take the runtime."""
@@ -133,8 +129,8 @@ def memory_path(place):
 
 
 def imports(source, place):
-    """Each `use`, with the paths of the package; an import that stands for two is written once. What a crate of the
-    library passes on of another one goes: the library's root does that."""
+    """Each `use`, with the paths of the package. What a crate of the library passes on of another one goes: the
+    library's root does that."""
     for index in source.places("use"):
         start = index - 1 if source.is_at(index - 1, "pub") else index
         end = index
@@ -147,8 +143,6 @@ def imports(source, place):
                 continue
             if found := path_for(source, index, place, path):
                 paths[found + (f" as {alias}" if alias else "")] = None
-            if also := ALSO.get((place.module, found)):
-                paths[also] = None
         public = "pub " if start < index else ""
         yield source.span(start, end, " ".join(f"{public}use {text};" for text in merged(paths)))
 

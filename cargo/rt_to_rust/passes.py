@@ -13,6 +13,7 @@ from rt_to_rust.ghosts import without_proofs
 from rt_to_rust.growth import grown
 from rt_to_rust.imports import placed, with_memory
 from rt_to_rust.inlined import with_inlined
+from rt_to_rust.lifetimes import fixed_parameters, with_fixed_lifetimes
 from rt_to_rust.memory_forms import renamed, with_plain_forms
 from rt_to_rust.runtime import without_runtime
 from rt_to_rust.shared_forms import shared_forms
@@ -28,6 +29,7 @@ class Used:
         self.both_forms = set()
         self.left_out = set()
         self.inlined = set()
+        self.lifetimes = set()
         self.shared_forms = set()
 
 
@@ -35,10 +37,11 @@ def rust(path, text, place, public, clones, used):
     """The Rust source of a Rattle source. `public` has the public names of the library, and `clones` the types whose
     copies may be refused."""
     source = Source(path, text)
-    members = ghost_members(source)
+    unspoken = ghost_members(source) | fixed_parameters(place)
     if not place.public:
         source = open_enums(guarded(source, public, used.checks))
     source = without_proofs(source, is_test=place.is_test())
+    source = with_fixed_lifetimes(source, place, used.lifetimes)
     source = without_drops(source)
     if place.has_runtime:
         source = without_runtime(source.changed(forms.programs(source)))
@@ -59,4 +62,4 @@ def rust(path, text, place, public, clones, used):
     source = with_defaults(source)
     if not place.has_runtime:
         source = with_inlined(source, used.inlined)
-    return spoken(source, members).marks_removed().lstrip("\n")
+    return spoken(source, unspoken).marks_removed().lstrip("\n")

@@ -4,10 +4,7 @@ and a form that is written by hand has theirs."""
 from rt_to_rust.items import full_name, functions
 
 # The proved forms, and their names in the packages.
-SHARED_FORMS = {"DescribedEvent::read": "read_shared"}
-
-# What else a type is called.
-ALIASES = {"DescribedEvent": "Event"}
+SHARED_FORMS = {"Event::read": "read_shared"}
 
 
 def shared_forms(source, used):
@@ -19,6 +16,5 @@ def shared_forms(source, used):
             yield source.span(function.name, function.name, SHARED_FORMS[name])
     for name, shared in SHARED_FORMS.items():
         type_name, call = name.split("::")
-        for called in (type_name, ALIASES[type_name]):
-            for index in source.places(called, "::", call, "("):
-                yield source.span(index + 2, index + 2, shared)
+        for index in source.places(type_name, "::", call, "("):
+            yield source.span(index + 2, index + 2, shared)

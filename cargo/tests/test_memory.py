@@ -117,8 +117,8 @@ class Borrowing(Case):
 
 
     def test_a_proved_form_with_a_shared_owner_has_another_name(self):
-        text = "impl<'d> DescribedEvent<'d> {\n    pub fn read(fde: &Arc<B>) {}\n}\nimpl C {\n    pub fn read(fde: &Arc<B>) {}\n}"
-        self.has(text, "impl<'d> DescribedEvent<'d> { pub fn read_shared(fde: &Arc<B>) {} }")
+        text = "impl Event {\n    pub fn read(fde: &Arc<B>) {}\n}\nimpl C {\n    pub fn read(fde: &Arc<B>) {}\n}"
+        self.has(text, "impl Event { pub fn read_shared(fde: &Arc<B>) {} }")
         self.has(text, "impl C { pub fn read(fde: &Arc<B>) {} }")
         text = "fn f() {\n    Event::read(&a(), b);\n    C::read(b);\n}"
         self.gives(text, "fn f() { Event::read_shared(&a(), b); C::read(b); }", place=TEST)

@@ -1,4 +1,4 @@
-//! Texts and signed numbers as JSON.
+//! Texts, members' names and signed numbers as JSON.
 use binlog::memory::{AllocError, TryGrow};
 
 /// Writes JSON behind the bytes of a vector.
@@ -30,6 +30,12 @@ impl Writer {
             }
         }
         self.0.try_push(b'"')
+    }
+
+    /// Writes a member's name, and the colon behind it.
+    pub fn key(&mut self, name: &str) -> Result<(), AllocError> {
+        self.string(name)?;
+        self.0.try_push(b':')
     }
 
     /// Writes a signed number.

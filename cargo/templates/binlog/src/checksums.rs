@@ -4,7 +4,7 @@ use std::io::{BufRead, Write};
 
 use crate::binlog_consts::{BinlogChecksumAlg, BinlogVersion};
 use crate::binlog_ends::Counted;
-use crate::binlog_events::{DescribedEvent, EventRef};
+use crate::binlog_events::{Event, EventRef};
 use crate::binlog_file::{BinlogFileOf, Verified, VerifiedFile, VerifiedSlice};
 use crate::binlog_wire::Error;
 
@@ -62,7 +62,7 @@ impl EventRef<'_> {
     }
 }
 
-impl DescribedEvent<'_> {
+impl Event {
     /// The checksum that the event has to have, as [`EventRef::calc_crc32`] computes it.
     ///
     /// # Errors

@@ -92,7 +92,7 @@ pub mod events {
     pub use crate::binlog_description::{BinlogEventFooter, BinlogEventHeader, FormatDescriptionEvent};
     pub use crate::binlog_description::split_version;
     pub use crate::binlog_event_data::EventData;
-    pub use crate::binlog_events::{DescribedEvent, Event};
+    pub use crate::binlog_events::Event;
     pub use crate::binlog_gtids::field_id;
     pub use crate::binlog_gtids::{AnonymousGtidEvent, GtidEvent, PreviousGtidsEvent, PreviousGtidsSid};
     pub use crate::binlog_numbers::{GnoInterval, Tag};

@@ -9,8 +9,7 @@ use crate::binlog_wire::{Error, IntoOwned};
 
 impl Event {
     /// Reads the event at the start of the input under a format description, and takes exactly its bytes, as
-    /// [`DescribedEvent::read_shared`](crate::events::DescribedEvent::read_shared) does. The event has a copy of the
-    /// description; that call shares it.
+    /// [`Event::read_shared`] does. The event has a copy of the description; that call shares it.
     ///
     /// ```
     /// use binlog::consts::BinlogVersion;
