@@ -9,7 +9,7 @@ use std::alloc::Global;
 
 /// The text for which these bytes are stored: a byte that names the method and how many bytes of length follow, the
 /// length of the text, its most significant byte first, and a zlib stream of the text. A text of more than `limit` bytes
-/// is refused. No memory is taken beyond that of the text, whatever length is stated.
+/// is refused. Memory grows with the text that comes out, whatever length is stated.
 ///
 /// Source: MariaDB's documentation, "Compressed Binlog Events", and its function `binlog_buf_uncompress`.
 ///
