@@ -12,7 +12,7 @@ use Rattle.binlog_optional_metadata.specs.declared.metadata_error.OptionalMetada
 use Rattle.binlog_optional_metadata.specs.declared.metadata_error.OptionalMetadataErrorKind.TheVariants.{LeftOver}
 
 -- An error is of the kind of its refusal.
-kind_is : {V : Type 0} (e : Error) (read : Read V) → Refuses ⊥ e read → (d : Refusal) × (read ≡ Err d) × (kind_of e ≡ kind_as d)
+pub kind_is : {V : Type 0} (e : Error) (read : Read V) → Refuses ⊥ e read → (d : Refusal) × (read ≡ Err d) × (kind_of e ≡ kind_as d)
 kind_is errors.EndOfBody read h = (ends, h, refl)
 kind_is (errors.InvalidData why) read h = (invalid why, h, refl)
 kind_is (errors.WrongEventType number) read h = (other_type number, h, refl)

@@ -5,6 +5,7 @@ use Rattle.binlog_wire.specs.declared.error.Error.{Error}
 use Rattle.binlog_wire.specs.Reading.{Read, Refusal, Refuses, read_as}
 use Rattle.binlog_numbers.specs.Repeated.{times_at}
 use Rattle.binlog_numbers.specs.Laws.Refusing.{refused_as}
+use Rattle.binlog_optional_metadata.proofs.Fields.{kind_is}
 use Rattle.binlog_optional_metadata.specs.Sequences.{values}
 
 -- A value, and the values after it.
@@ -56,6 +57,12 @@ some_refused f n s d read whole =
 pub never_refused : {V : Type 0} (f : List ℕ → Read V) (n : ℕ) (s : List ℕ) (d : Refusal) → 0 < n → f s ≡ Err d → is_ok (times_at n f s) ≡ true → ⊥
 never_refused f zero s d more read whole = omega (arith, more)
 never_refused f (suc n) s d more read whole = some_refused f n s d read whole
+
+-- Nor is it refused with an error.
+pub never_an_error : {V : Type 0} (f : List ℕ → Read V) (n : ℕ) (s : List ℕ) (e : Error) → 0 < n → Refuses ⊥ e (f s) → is_ok (times_at n f s) ≡ true → ⊥
+never_an_error f n s e more refused whole =
+    let d = kind_is e (f s) refused in
+    never_refused f n s d.0 more d.1 whole
 
 count_by : {V : Type 0} (f : List ℕ → Read V) (n : ℕ) (first : Read V) → ((s : List ℕ) → is_ok (times_at n f s) ≡ true → length (values (times_at n f s)) ≡ n)
     → (s : List ℕ) → f s ≡ first → is_ok (times_at (suc n) f s) ≡ true → length (values (times_at (suc n) f s)) ≡ suc n

@@ -7,9 +7,13 @@
 
 mod class_counts;
 mod column_class;
+mod column_index;
 mod content;
+mod default_charset;
 mod field;
 mod field_type;
+mod indexed_numbers;
+mod member_lists;
 mod metadata_bits;
 mod metadata_error;
 mod names;
@@ -17,8 +21,11 @@ mod numbers;
 mod optional_metadata;
 
 pub use column_class::ColumnClass;
+pub use default_charset::DefaultCharset;
 pub use field::OptionalMetadataField;
 pub use field_type::{OptionalMetadataFieldType, UnknownOptionalMetadataFieldType};
+pub use indexed_numbers::IndexedNumbers;
+pub use member_lists::MemberLists;
 pub use metadata_bits::MetadataBits;
 pub use metadata_error::{OptionalMetadataError, OptionalMetadataErrorKind};
 pub use names::Names;

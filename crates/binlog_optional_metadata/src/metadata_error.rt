@@ -8,9 +8,9 @@ use thiserror::Error as ErrorMessage;
 /// What is wrong with a field.
 #[derive(Clone, Copy, Debug, PartialEq, Eq, Hash)]
 pub enum OptionalMetadataErrorKind {
-    /// The bytes end within the field or its content.
+    /// The bytes end within the field or its content, or a list is to have more members than bytes are left.
     Truncated,
-    /// A length-encoded integer begins with `fb` or `ff`, or the index of a column is out of range.
+    /// A length-encoded integer begins with `fb` or `ff`, or there is no column with an index.
     BadValue,
     /// Bytes are left after the content.
     LeftOver,

@@ -1,4 +1,4 @@
-//! Names of columns.
+//! Names of columns, and of members of ENUM and SET columns.
 ghost use Rattle.std.specs.Prelude.{◌≡◌, is_ok, true, length};
 ghost use Rattle.binlog_wire.specs.Reading.{Gives};
 ghost use Rattle.binlog_numbers.specs.LenEncTexts.{lenenc_text};
@@ -7,7 +7,7 @@ ghost use Rattle.binlog_numbers.specs.Repeated.{times_at};
 use binlog_numbers::LenEncBytes;
 use binlog_wire::{BytesRepr, Error, ParseBuf};
 
-/// A name for each column: an iterator over their bytes, which borrows them and allocates nothing.
+/// Names in sequence: an iterator over their bytes, which borrows them and allocates nothing.
 #[derive(Clone, Copy, Debug)]
 pub struct Names<'a> {
     left: u64,

@@ -1,18 +1,38 @@
 //! Numbers of columns.
-ghost use Rattle.std.specs.Prelude.{◌≡◌, is_ok, true, length};
-ghost use Rattle.binlog_wire.specs.Reading.{Gives};
+ghost use Rattle.std.specs.Prelude.{◌≡◌, is_ok, true, length, MatchResult};
+ghost use Rattle.binlog_wire.specs.Reading.{Gives, Refuses};
 ghost use Rattle.binlog_numbers.specs.LenEnc.{lenenc_at};
 ghost use Rattle.binlog_numbers.specs.Repeated.{times_at};
+ghost use Rattle.binlog_optional_metadata.specs.Columns.{column_indexes};
+ghost use Rattle.binlog_optional_metadata.specs.Sequences.{IsCount};
 
+use crate::column_index::read_column_index;
 use binlog_numbers::LenEnc;
 use binlog_wire::{Error, IntRepr, ParseBuf};
 
-/// A number for each column of a class: an iterator over them, which borrows their bytes and allocates nothing.
+/// Numbers in sequence: an iterator over them, which borrows their bytes and allocates nothing.
 #[derive(Clone, Copy, Debug)]
 pub struct Numbers<'a> {
     left: u64,
     rest: &'a [u8],
     ghost is_whole: { is_ok (times_at left lenenc_at rest.now) ≡ true },
+}
+
+/// The number of indexes of this many columns that these bytes consist of.
+fn count_indexes(columns: u64, bytes: &[u8]) -> Result<u64, Error>
+    ensures { MatchResult result
+        (λ count. IsCount lenenc_at bytes.now ((column_indexes columns).reads bytes.now) count)
+        (λ e. Refuses ⊥ e ((column_indexes columns).reads bytes.now)) }
+{
+    let mut buf = ParseBuf(bytes);
+    let mut count = 0;
+    while !buf.is_empty() {
+        if let Err(error) = read_column_index(columns, &mut buf) {
+            return Err(error);
+        }
+        count += 1;
+    }
+    Ok(count)
 }
 
 impl<'a> Numbers<'a> {
@@ -29,6 +49,16 @@ impl<'a> Numbers<'a> {
                 return Err(error);
             }
         }
+        Ok(Numbers { left, rest })
+    }
+
+    /// Takes indexes of this many columns, up to the end of `buf`.
+    pub(crate) fn read_indexes(columns: u64, buf: &mut ParseBuf<'a>) -> Result<Self, Error>
+        ensures { Gives ⊥ buf.new (answer_numbers result) ((column_indexes columns).reads buf.old) }
+    {
+        let rest = buf.0;
+        let left = count_indexes(columns, rest)?;
+        buf.0 = &[];
         Ok(Numbers { left, rest })
     }
 

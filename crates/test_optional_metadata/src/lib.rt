@@ -3,3 +3,5 @@
 
 #[cfg(test)]
 mod fields;
+#[cfg(test)]
+mod named_columns;

@@ -149,7 +149,8 @@ pub mod values {
     pub use crate::binlog_columns::{TableColumns, UnknownColumnType};
     pub use crate::binlog_images::{ColumnValue, HasWholeRows, Image, ImageKind, Row, Rows};
     pub use crate::binlog_images::{RowsError, RowsErrorKind, RowsEventError, RowsEventExt};
-    pub use crate::binlog_optional_metadata::{ColumnClass, MetadataBits, Names, Numbers};
+    pub use crate::binlog_optional_metadata::{ColumnClass, DefaultCharset, IndexedNumbers};
+    pub use crate::binlog_optional_metadata::{MemberLists, MetadataBits, Names, Numbers};
     pub use crate::binlog_optional_metadata::{OptionalMetadataError, OptionalMetadataErrorKind};
     pub use crate::binlog_values::{Bit, Date, DateTime, DateTime2, Decimal, Integer, Time, Time2};
     pub use crate::binlog_values::{Timestamp2, Value};
