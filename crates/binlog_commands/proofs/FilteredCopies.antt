@@ -3,15 +3,12 @@ use Rattle.std.specs.Prelude.{nat_lt, ⊤}
 use Rattle.std.proofs.Common.{◌≡◌, ◌⊎◌, inl, inr, ℕ, ◌+◌, ◌-◌, ◌<◌, Bool, true, false, cond, ◌&&◌, ◌||◌, List, [], ◌∷◌, ◌++◌, length, Option, Some, None, Result, Ok, Err, refl, sym, ap, subst, ◌∙◌, unwrap_or, arith, length-take}
 use Rattle.std.specs.Io.KnownBytes.{Appends}
 use Rattle.std.proofs.KnownBytes.{Appends-nil, Appends-trans}
-use Rattle.std.proofs.lemmas.Bool.Decides.{nat_tests}
 use Rattle.binlog_wire.specs.declared.error.Error.{Error}
 use Rattle.binlog_wire.specs.declared.error.Error.TheVariants.{TooShortForChecksum, EventSizeTooSmall}
-use Rattle.binlog_wire.specs.Reading.{Read, ends}
 use Rattle.binlog_consts.specs.declared.version.BinlogVersion.TheVariants.{Version4}
 use Rattle.binlog_description.specs.declared.footer.BinlogEventFooter.{BinlogEventFooter}
 use Rattle.binlog_description.specs.declared.format_description.FormatDescriptionEvent.{FormatDescriptionEvent}
 use Rattle.binlog_description.specs.FormatDescription.{format_description_at, default_description}
-use Rattle.binlog_description.specs.FormatDescriptionLaws.{description_ends}
 use Rattle.binlog_description.specs.Footers.{footer_of}
 use Rattle.binlog_events.specs.FileHeader.{file_header}
 use Rattle.binlog_events.specs.Frames.{is_undersized, stated_size}
@@ -23,6 +20,7 @@ use Rattle.binlog_file.specs.State.{Looks}
 use Rattle.binlog_file.specs.Streams.{tail_items, AreHandled}
 use Rattle.binlog_file.specs.StreamItems.{AreItems, items_behind}
 use Rattle.binlog_file.proofs.OwnFrames.{event_is}
+use Rattle.binlog_file.proofs.AcceptedDescriptions.{error_is_none}
 use Rattle.binlog_file.proofs.StreamItems.{items_looked}
 use Rattle.binlog_visits.specs.Visits.{Visits}
 use Rattle.binlog_filters.specs.Places.{behind}
@@ -60,43 +58,6 @@ left_out d frame event filter start wanted item all out =
     let own : event.frame ≡ frame = ap (λ (e : EventView). e.frame) (event_is d frame event item).1 in
     let none = no_description filter.takes_descriptions (is_description event.frame) (meets_conditions filter start event wanted) all out in
     brings_none (is_description frame) _ d (ap (λ (f : List ℕ). is_description f) (sym own) ∙ none)
-
-few_bytes : (due : Bool) (count : ℕ) → (due && nat_lt count 4) ≡ true → count < 4
-few_bytes true count short = grind (arith, nat_tests)
-few_bytes false count short = absurd cc
-
--- A body that is too short for its checksum is no description.
-short_has_none : (footer : BinlogEventFooter) (frame : List ℕ) → is_too_short footer frame ≡ true → (x : FormatDescriptionEvent × List ℕ) → read_description footer frame ≡ Ok x → ⊥
-unfolding read_description
-short_has_none footer frame short x got =
-    let few : length (body frame) < 4 = few_bytes (has_checksum footer frame) (length (body frame)) short in
-    let none : format_description_at (data_of footer frame) ≡ Err ends =
-    (description_ends (data_of footer frame)).1 (omega (arith, few, length-take (length (body frame) - suffix_len footer frame) (body frame))) in
-    absurd cc
-
-no_value : (short is : Bool) (event : EventView) (other : Result EventView Error) (read : Read FormatDescriptionEvent) (error : Error)
-    → (short ≡ true → is ≡ true → (x : FormatDescriptionEvent × List ℕ) → read ≡ Ok x → ⊥)
-    → Err error ≡ cond short (Err TooShortForChecksum) (cond is (unless_refused event read) other) → is ≡ true → (x : FormatDescriptionEvent × List ℕ) → read ≡ Ok x → ⊥
-no_value true true event other read error few item type x got = few refl refl x got
-no_value true false event other read error few item type x got = absurd cc
-no_value false true event other (Ok y) error few item type x got = absurd cc
-no_value false true event other (Err why) error few item type x got = absurd cc
-no_value false false event other read error few item type x got = absurd cc
-
-brings_nothing : (is : Bool) (footer : BinlogEventFooter) (read : Read FormatDescriptionEvent) (d : FormatDescriptionEvent)
-    → (is ≡ true → (x : FormatDescriptionEvent × List ℕ) → read ≡ Ok x → ⊥) → unwrap_or (cond is (described footer read) None) d ≡ d
-brings_nothing false footer read d none = refl
-brings_nothing true footer (Err why) d none = refl
-brings_nothing true footer (Ok x) d none = absurd (none refl x refl)
-
--- A frame whose item is an error brings no description into force.
-refused : (d : FormatDescriptionEvent) (frame : List ℕ) (error : Error) → Err error ≡ item_of d frame → unwrap_or (accepted frame) d ≡ d
-refused d frame error item =
-    let read : Read FormatDescriptionEvent = read_description (footer_of (body frame)) frame in
-    brings_nothing (is_description frame) (footer_of (body frame)) read d
-    (no_value (is_too_short (footer_under d.footer frame) frame) (is_description frame) (event_of d frame) (checked_event (event_of d frame)) read error
-    (λ short type. short_has_none (footer_of (body frame)) frame
-    (subst (λ (f : BinlogEventFooter). is_too_short f frame ≡ true) (ap (λ (b : Bool). cond b (footer_of (body frame)) d.footer) type) short)) item)
 
 -- ---- one item
 
@@ -163,7 +124,7 @@ module _ {T : Type 0} (contents : T → Option (List ℕ)) where
   one_frame d frame frames (Ok event) items index old mid new all item one rest =
       taken_event one.taken d frame frames event items index old mid new all item one.takes one.does rest (goes_on index (Ok event) items old mid rest.events one rest.taken)
   one_frame d frame frames (Err error) items index old mid new all item one rest =
-      let stays = refused d frame error item in
+      let stays = ap (λ (found : Option FormatDescriptionEvent). unwrap_or found d) (error_is_none d frame error item) in
       record {
         events = rest.events;
         part = inl (stays, subst (λ (x : FormatDescriptionEvent). ArePart x frames rest.events) stays rest.part);
