@@ -5,7 +5,7 @@ use Rattle.binlog_file.specs.Views.{CountedView}
 use Rattle.binlog_file.specs.declared.file.BinlogFileOf.{BinlogFileOf}
 use Rattle.binlog_file.specs.declared.verified.Verified.{Verified}
 use Rattle.binlog_file.proofs.OtherChecksums.{handles_other}
-use Rattle.example_verify.specs.Checksums.{IsCrc32}
+use Rattle.crc32_ieee.specs.Checksums.{IsCrc32}
 use Rattle.example_verify.proofs.Copied.{file_copied, not_opened}
 use Rattle.example_verify.proofs.copying.copy_by.Goals as goal
 

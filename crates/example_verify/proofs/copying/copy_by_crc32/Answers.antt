@@ -1,5 +1,5 @@
 use Rattle.std.proofs.Common.{refl, subst, List, ℕ}
-use Rattle.example_verify.specs.Checksums.{IsCrc32}
+use Rattle.crc32_ieee.specs.Checksums.{IsCrc32}
 use Rattle.example_verify.proofs.copying.copy_by_crc32.Goals as goal
 
 pub copy_by-requires-clause-gives : goal.copy_by-requires-clause-gives

@@ -2,7 +2,7 @@ use Rattle.std.proofs.Common.{List, ℕ}
 use Rattle.std.specs.Fn.{FnReturnsAt}
 use Rattle.binlog_listing.specs.Listing.{item_line, MayGrow}
 use Rattle.binlog_lines.proofs.OtherChecksums.{known_listed_other}
-use Rattle.example_verify.specs.Checksums.{IsCrc32}
+use Rattle.crc32_ieee.specs.Checksums.{IsCrc32}
 use Rattle.example_verify.proofs.verifying.list_by.Goals as goal
 
 pub returns : goal.returns

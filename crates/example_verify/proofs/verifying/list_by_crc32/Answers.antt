@@ -1,5 +1,5 @@
 use Rattle.std.proofs.Common.{refl, subst, List, ℕ}
-use Rattle.example_verify.specs.Checksums.{IsCrc32}
+use Rattle.crc32_ieee.specs.Checksums.{IsCrc32}
 use Rattle.example_verify.proofs.verifying.list_by_crc32.Goals as goal
 
 pub list_by-requires-clause-gives : goal.list_by-requires-clause-gives

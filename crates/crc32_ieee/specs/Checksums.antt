@@ -1,4 +1,4 @@
--- The checksums of MySQL's logs.
+-- Functions that give the CRC-32 of bytes.
 use Rattle.std.specs.Prelude.{◌≡◌, ◌↔◌, ℕ, List}
 use Rattle.crc32_ieee.specs.Crc32.{crc32}
 
