@@ -7,6 +7,7 @@ ghost use Rattle.binlog_gtid_sets.specs.GtidGroups.{Pair, pair_of, is_same, is_t
 
 use crate::bad_gnos::{bad_gno_listed, bad_number};
 use crate::gtid_tracker::GtidTracker;
+use crate::rooms::Rooms;
 use binlog_event_data::EventData;
 use binlog_gtids::{GtidEvent, PreviousGtidsEvent, PreviousGtidsSid};
 use binlog_numbers::{GnoInterval, Tag};
@@ -19,7 +20,7 @@ impl GtidTracker {
     /// The GTID of a GTID event takes constant time if its group and its number are the last ones, and otherwise
     /// logarithmic time and a move of the groups or intervals after it. Memory is allocated only for a new group or a
     /// new interval. For a PREVIOUS_GTIDS event the set is copied, unless it contains all of the event's GTIDs; the copy
-    /// makes room once for all groups, and once in each group for an entry's intervals.
+    /// makes room once for all groups, and each group once for all of its intervals.
     ///
     /// # Errors
     ///
@@ -69,7 +70,7 @@ impl GtidTracker {
     }
 
     // Adds the numbers of entries, in a copy of the set that replaces it; nothing is copied if the set contains them all.
-    // The copy makes room for all groups at once, and each group for all intervals of an entry.
+    // The copy makes room for all groups at once, and each group for all of its intervals.
     // The only error is [`Error::Memory`], which leaves the set unchanged.
     fn unite(&mut self, entries: &[PreviousGtidsSid<'_>]) -> Result<(), Error>
         requires { bad_gno_listed entries.now ≡ None }
@@ -80,8 +81,9 @@ impl GtidTracker {
         if self.contains_listed(entries) {
             return Ok(());
         }
+        let rooms = self.rooms_for(entries)?;
         let mut union = self.clone_with_room(entries.len())?;
-        union.insert_entries(entries)?;
+        union.insert_entries(entries, &rooms)?;
         *self = union;
         Ok(())
     }
@@ -106,34 +108,40 @@ impl GtidTracker {
         self.insert_with_room(sid, tag, interval.start(), interval.end(), count)
     }
 
-    // Adds the numbers of a source and a tag in intervals, of which some may be empty. The only error is
-    // [`Error::Memory`].
+    // Adds the numbers of a source and a tag in intervals, of which some may be empty; their group makes room for `count`
+    // intervals. The only error is [`Error::Memory`].
     fn insert_intervals(
         &mut self,
         sid: &[u8; 16],
         tag: Option<&Tag<'_>>,
         intervals: &[GnoInterval],
+        count: usize,
     ) -> Result<(), Error>
         requires { bad_gno intervals.now ≡ None }
         ensures ok { OnOk result ((pair : Pair) (n : ℕ) → is_tracked self.new pair n ≡ ((is_same (pair_of sid.now (option_copied tag.entry)) pair && is_held intervals.now n) || is_tracked self.old pair n)) }
         ensures memory { IsOkUnless result Memory }
     {
-        self.reserve(sid, tag, intervals.len())?;
+        self.reserve(sid, tag, count)?;
         for interval in intervals {
-            self.insert_interval(sid, tag, interval, intervals.len())?;
+            self.insert_interval(sid, tag, interval, count)?;
         }
         Ok(())
     }
 
-    // Adds the numbers of entries. The only error is [`Error::Memory`].
-    fn insert_entries(&mut self, entries: &[PreviousGtidsSid<'_>]) -> Result<(), Error>
+    // Adds the numbers of entries, which make this room. The only error is [`Error::Memory`].
+    fn insert_entries(
+        &mut self,
+        entries: &[PreviousGtidsSid<'_>],
+        rooms: &Rooms,
+    ) -> Result<(), Error>
         requires { bad_gno_listed entries.now ≡ None }
         ensures ok { OnOk result ((pair : Pair) (n : ℕ) → is_tracked self.new pair n ≡ (is_listed entries.now pair n || is_tracked self.old pair n)) }
         ensures memory { IsOkUnless result Memory }
     {
-        for entry in entries {
+        for (place, entry) in entries.iter().enumerate() {
             let sid = entry.uuid();
-            self.insert_intervals(&sid, entry.tag(), entry.intervals())?;
+            let count = rooms.of_entry(place, entry);
+            self.insert_intervals(&sid, entry.tag(), entry.intervals(), count)?;
         }
         Ok(())
     }

@@ -75,10 +75,7 @@ impl GtidGroup {
     pub(crate) fn compare(&self, sid: &[u8; 16], tag: &str) -> Ordering
         ensures { result ≡ compare_pairs (pair_in self.now) (record { sid = sid.now; tag = tag.now }) }
     {
-        match self.sid.cmp(sid) {
-            Ordering::Equal => tag_text(self.tag.as_ref()).cmp(tag),
-            other => other,
-        }
+        compare_pairs(&self.sid, tag_text(self.tag.as_ref()), sid, tag)
     }
 
     /// A group of the same source and tag with other numbers. The only error is [`Error::Memory`].
@@ -99,6 +96,21 @@ impl TryClone for GtidGroup {
     fn clone(&self, alloc: Global) -> Result<Self, Error> {
         let gnos = self.gnos.clone()?;
         self.with_gnos(alloc, gnos)
+    }
+}
+
+/// Compares a source and the text of its tag with others: the sources first, and then the tags.
+pub(crate) fn compare_pairs(
+    sid: &[u8; 16],
+    tag: &str,
+    other_sid: &[u8; 16],
+    other_tag: &str,
+) -> Ordering
+    ensures { result ≡ compare_pairs (record { sid = sid.now; tag = tag.now }) (record { sid = other_sid.now; tag = other_tag.now }) }
+{
+    match sid.cmp(other_sid) {
+        Ordering::Equal => tag.cmp(other_tag),
+        other => other,
     }
 }
 

@@ -10,7 +10,8 @@ mod difference;
 mod listed;
 
 use crate::gtid_group::{GtidGroup, tag_text};
-use binlog_gtids::GnoSet;
+use crate::rooms::Rooms;
+use binlog_gtids::{GnoSet, PreviousGtidsSid};
 use binlog_numbers::{GnoInterval, Tag};
 use binlog_wire::{Error, TryClone};
 use std::alloc::{AllocError, Global};
@@ -117,6 +118,14 @@ impl GtidTracker {
         ensures memory { IsOkUnless result Memory }
     {
         self.clone_with_room(0)
+    }
+
+    // For how many intervals each entry makes room, in a list from this set's allocator. The only error is
+    // [`Error::Memory`].
+    pub(crate) fn rooms_for(&self, entries: &[PreviousGtidsSid<'_>]) -> Result<Rooms, Error>
+        ensures memory { IsOkUnless result Memory }
+    {
+        Rooms::new(*self.groups.allocator(), entries)
     }
 
     // A copy of the set with room for `count` more groups. The only error is [`Error::Memory`].

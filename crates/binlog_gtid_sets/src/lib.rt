@@ -8,5 +8,6 @@ mod bad_gnos;
 mod gtid_group;
 mod gtid_tracker;
 pub mod laws;
+mod rooms;
 
 pub use gtid_tracker::GtidTracker;
