@@ -1,35 +1,41 @@
 //! The files that a command reads.
+ghost use Rattle.std.specs.Fn.{FnReturnsAt};
+ghost use Rattle.std.specs.Prelude.{◌≡◌, ◌<◌, ◌^◌, length, IfErr, IfSome};
+ghost use Rattle.binlog_wire.specs.declared.error.Error.TheVariants.{Writer};
+ghost use Rattle.crc32_ieee.specs.Checksums.{IsCrc32, GivesCrc32};
+ghost use Rattle.binlog_visits.specs.Visits.{VisitsVerifiedLog};
+ghost use Rattle.binlog_status.specs.declared.status.Status.TheVariants.{Fine};
+ghost use Rattle.binlog.specs.Reading.{VisitsInput, status_behind, unless_followed, ReadsInput, ReadsFile, ReadsFiles};
+
 use crate::following::Following;
+use crate::inputs::Inputs;
 use crate::request::Reading;
-use binlog_file::{Counted, Error, Retrying};
+use binlog_file::{Counted, Error, ReadCounted, Retrying};
 use binlog_filters::Filtered;
 use binlog_messages::{Progress, Refusing, Reported, shown_name};
 use binlog_status::Status;
 use binlog_visits::{Visitor, visit_counted, visit_verified_counted};
 use crc32_ieee::Crc32;
 use std::alloc::Global;
-use std::fs;
 use std::io::Read;
-use std::rt::Files;
 use std::time::Clock;
 
-/// Reads files in order; `-` is standard input. Only the last one is followed. The worst status counts. If the output fails,
-/// no further file is read.
-pub(crate) fn read_files<
-    'a,
-    R: Files + Clock + Input + Eprint + AllocGlobal,
-    T: Visitor + Refusing,
->(
+/// Reads files in order. Only the last one is followed. The worst status counts. If the output fails, no further file is
+/// read.
+pub(crate) fn read_files<'a, S: Inputs, R: Clock + Eprint + AllocGlobal, T: Visitor + Refusing>(
     rt: &R,
+    inputs: &S,
     names: &[&'a str],
     reading: Reading,
     visitor: &mut Reported<'a, R, Filtered<T>>,
-) -> Status {
+) -> Status
+    ensures { ReadsFiles T.visits T.refuses T.refusals reading.is_verified reading.is_followed (λ name. S.bytes inputs.now name.now) names.now Fine visitor.old result visitor.new }
+{
     let mut status = Status::Fine;
     for (place, name) in names.iter().enumerate() {
-        let is_last = place.saturating_add(1) == names.len();
-        match read_file(rt, name, reading.of_file(is_last), visitor) {
-            Ok(found) => status = status.max(found),
+        let is_last = place + 1 == names.len();
+        match read_file(rt, inputs, name, reading.of_file(is_last), visitor) {
+            Ok(found) => status = status.worse(found),
             Err(_) => return status,
         }
     }
@@ -37,18 +43,19 @@ pub(crate) fn read_files<
 }
 
 /// Reads a file. The only error is that the output failed.
-pub(crate) fn read_file<'a, R: Files + Clock + Input + Eprint + AllocGlobal, T: Visitor + Refusing>(
+pub(crate) fn read_file<'a, S: Inputs, R: Clock + Eprint + AllocGlobal, T: Visitor + Refusing>(
     rt: &R,
+    inputs: &S,
     name: &'a str,
     reading: Reading,
     visitor: &mut Reported<'a, R, Filtered<T>>,
-) -> Result<Status, Error> {
-    visitor.begin(name, progress_in(rt, name, reading));
-    if name == "-" {
-        return read_input(rt, rt.reader(), reading, visitor);
-    }
-    match fs::open(rt, name) {
-        Ok(file) => read_input(rt, file, reading, visitor),
+) -> Result<Status, Error>
+    ensures reads { ReadsFile T.visits T.refuses T.refusals reading.is_verified (unless_followed reading.is_followed (S.bytes inputs.now name.now)) visitor.old result visitor.new }
+    ensures err { IfErr result (λ error. error ≡ Writer) }
+{
+    visitor.begin(name, progress_in(inputs, name, reading));
+    match inputs.open(name) {
+        Ok(input) => read_input(rt, input, reading, visitor),
         Err(error) => {
             let _ = eprintln!(rt; "binlog: {}: {error}", shown_name(name));
             Ok(Status::NotOpened)
@@ -56,14 +63,14 @@ pub(crate) fn read_file<'a, R: Files + Clock + Input + Eprint + AllocGlobal, T: 
     }
 }
 
-// The progress that is shown in a file. The size of standard input isn't known.
-fn progress_in<R: Files>(rt: &R, name: &str, reading: Reading) -> Progress {
-    if !reading.shows_progress || name == "-" {
+// The progress that is shown in a file.
+fn progress_in<S: Inputs>(inputs: &S, name: &str, reading: Reading) -> Progress {
+    if !reading.shows_progress {
         return Progress::hidden();
     }
-    match fs::metadata(rt, name) {
-        Ok(metadata) => Progress::in_file(metadata.len()),
-        Err(_) => Progress::hidden(),
+    match inputs.size(name) {
+        Some(size) => Progress::in_file(size),
+        None => Progress::hidden(),
     }
 }
 
@@ -73,27 +80,40 @@ fn read_input<'a, R: Clock + Eprint + AllocGlobal, I: Read + Drop, T: Visitor + 
     input: I,
     reading: Reading,
     visitor: &mut Reported<'a, R, Filtered<T>>,
-) -> Result<Status, Error> {
+) -> Result<Status, Error>
+    ensures reads { IfSome (unless_followed reading.is_followed (I.remaining input)) (λ bytes. length bytes < 2 ^ 64 →
+        ReadsInput T.visits T.refuses T.refusals reading.is_verified bytes visitor.old result visitor.new) }
+    ensures err { IfErr result (λ error. error ≡ Writer) }
+{
     let input = Following::new(rt, input, reading.is_followed);
-    let answer = visit_input(rt.alloc(), input, reading, visitor);
+    let visited = visit_input(rt.alloc(), input, reading.is_verified, visitor);
     visitor.end();
-    let Err(error) = answer else {
-        return Ok(if visitor.has_errors {
-            Status::Damaged
-        } else {
-            Status::Fine
-        });
-    };
+    if let Err(error) = &visited {
+        report(visitor, error);
+    }
+    status_behind(visitor.has_errors(), visited)
+}
+
+// Writes the message of the error that ended the visit of a file. A failed output keeps its own.
+fn report<'a, R: Eprint, T>(visitor: &Reported<'a, R, Filtered<T>>, error: &Error) {
     match error {
-        Error::Writer => Err(Error::Writer),
-        Error::EndOfInput | Error::InvalidFileHeader => {
-            visitor.report_file(&error);
-            Ok(Status::NotOpened)
-        }
-        _ => {
-            visitor.report_end(&error);
-            Ok(Status::Failed)
-        }
+        Error::Writer => {}
+        Error::EndOfInput | Error::InvalidFileHeader => visitor.report_file(error),
+        _ => visitor.report_end(error),
+    }
+}
+
+// The status behind a file, by the result of its visit.
+fn status_behind(has_errors: bool, visited: Result<(), Error>) -> Result<Status, Error>
+    ensures status { result ≡ status_behind has_errors visited }
+    ensures err { IfErr result (λ error. error ≡ Writer) }
+{
+    match visited {
+        Ok(()) if has_errors => Ok(Status::Damaged),
+        Ok(()) => Ok(Status::Fine),
+        Err(Error::Writer) => Err(Error::Writer),
+        Err(Error::EndOfInput | Error::InvalidFileHeader) => Ok(Status::NotOpened),
+        Err(_) => Ok(Status::Failed),
     }
 }
 
@@ -101,13 +121,34 @@ fn read_input<'a, R: Clock + Eprint + AllocGlobal, I: Read + Drop, T: Visitor + 
 fn visit_input<I: Read + Drop, T: Visitor>(
     alloc: Global,
     input: I,
-    reading: Reading,
+    is_verified: bool,
     visitor: &mut T,
-) -> Result<(), Error> {
+) -> Result<(), Error>
+    ensures { IfSome (I.remaining input) (λ bytes. length bytes < 2 ^ 64 →
+        VisitsInput T.visits T.refuses is_verified bytes visitor.old result visitor.new) }
+{
     let input = Counted::new(Retrying::new(input));
-    if !reading.is_verified {
+    if !is_verified {
         return visit_counted(alloc, input, visitor);
     }
     let crc32 = Crc32::new();
-    visit_verified_counted(alloc, |bytes: &[u8]| crc32.checksum(bytes), input, visitor)
+    let checksum = |bytes: &[u8]| -> u32
+        ensures { IsCrc32 bytes.now result }
+    { crc32.checksum(bytes) };
+    visit_by_crc32(alloc, checksum, input, visitor)
+}
+
+// Visits the items of an open file whose checksums are verified by a function that gives the CRC-32.
+fn visit_by_crc32<F: Fn(&[u8]) -> u32 + Drop, I: ReadCounted + Drop, T: Visitor>(
+    alloc: Global,
+    checksum: F,
+    input: I,
+    visitor: &mut T,
+) -> Result<(), Error>
+    requires callable { F.IsAlwaysCallable checksum }
+    requires gives { GivesCrc32 (λ bytes given. FnReturnsAt F.Fn checksum bytes given) }
+    ensures { IfSome (I.remaining input) (λ bytes. length bytes < 2 ^ 64 →
+        VisitsVerifiedLog IsCrc32 T.visits T.refuses bytes visitor.old result visitor.new) }
+{
+    visit_verified_counted(alloc, checksum, input, visitor)
 }

@@ -5,6 +5,7 @@ mod commands;
 mod copying;
 mod files;
 mod following;
+mod inputs;
 mod request;
 
 use binlog_arguments::command;

@@ -1,4 +1,6 @@
 //! What a command is asked for.
+ghost use Rattle.std.specs.Prelude.{◌≡◌, ◌&&◌};
+
 use binlog_status::BUFFER_SIZE;
 use clap::ArgMatches;
 
@@ -31,7 +33,9 @@ pub(crate) struct Reading {
 
 impl Reading {
     /// How one of several files is read: only the last one is followed.
-    pub(crate) fn of_file(self, is_last: bool) -> Self {
+    pub(crate) fn of_file(self, is_last: bool) -> Self
+        ensures { result ≡ record self { is_followed = self.is_followed && is_last } }
+    {
         Reading {
             is_followed: self.is_followed && is_last,
             ..self

@@ -1,5 +1,5 @@
 -- A visitor that is shown the events that a filter takes.
-use Rattle.std.specs.Prelude.{◌≡◌, ◌⊎◌, ℕ, Bool, true, false, Result, Ok, Err}
+use Rattle.std.specs.Prelude.{◌≡◌, ◌⊎◌, ℕ, Bool, true, false, Some, is_none, Result, Ok, Err}
 use Rattle.binlog_wire.specs.declared.error.Error.{Error}
 use Rattle.binlog_wire.specs.declared.error.Error.TheVariants.{Memory}
 use Rattle.binlog_events.specs.Events.{EventView}
@@ -8,6 +8,10 @@ use Rattle.binlog_filters.specs.Taking.{Takes}
 use Rattle.binlog_filters.specs.declared.filtered.Filtered.{Filtered}
 
 module _ {T : Type 0} where
+  -- The same filter and visitor, at the start of a log.
+  abbrev pub begun : Filtered T → Filtered T
+  begun filtered = record filtered { place = record { position = Some 4 }; is_wanted = is_none filtered.filter.include_gtids }
+
   -- A visit of the visitor if the item is taken; else it is as it was.
   abbrev pub VisitsIf : (T → ℕ → Result EventView Error → T → Type 0) → Bool → T → ℕ → Result EventView Error → T → Type 0
   VisitsIf visits true old index item new = visits old index item new

@@ -1,3 +1,4 @@
 pub mod Places
 pub mod Taking
 pub mod Filtering
+pub mod TakenLines

@@ -4,6 +4,7 @@
 
 mod filter;
 mod filtered;
+pub mod laws;
 mod place;
 
 pub use filter::Filter;

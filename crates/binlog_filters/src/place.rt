@@ -15,7 +15,7 @@ pub struct Place {
 impl Place {
     /// Behind the file header.
     pub fn first() -> Place
-        ensures { result.position ≡ Some 4 }
+        ensures { result ≡ record { position = Some 4 } }
     {
         Place {
             position: Some(BinlogFileHeader::LEN as u64),

@@ -17,7 +17,7 @@ left_by gives other to s None ended items left = absurd left
 left_by gives other to s (Some rest) true items left = left
 left_by gives other to s (Some rest) false items left = items_other gives other to s.fde rest items left
 
-left_other : (gives other : List ℕ → ℕ → Type 0) → ((bytes : List ℕ) (checksum : ℕ) → gives bytes checksum → other bytes checksum)
+pub left_other : (gives other : List ℕ → ℕ → Type 0) → ((bytes : List ℕ) (checksum : ℕ) → gives bytes checksum → other bytes checksum)
     → (place : Place) (items : List (Result EventView Error)) → LeavesVerified gives place items → LeavesVerified other place items
 left_other gives other to place items left = left_by gives other to place.state place.unread place.ended items left
 

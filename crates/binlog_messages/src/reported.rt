@@ -1,5 +1,6 @@
 //! A visitor that writes messages.
 ghost use Rattle.std.specs.Prelude.{◌≡◌, ◌≢◌, codes, false};
+ghost use Rattle.binlog_messages.specs.Reports.{begun_file};
 
 use crate::progress::Progress;
 use crate::refusing::Refusing;
@@ -7,6 +8,7 @@ use binlog_file::{Error, EventData, EventRef, GtidTracker};
 use binlog_filters::{Filtered, Place};
 use binlog_visits::Visitor;
 use std::alloc::Global;
+use std::marker::Model;
 
 /// The name of a file in messages: that of standard input for `-`.
 pub fn shown_name(name: &str) -> &str
@@ -17,6 +19,8 @@ pub fn shown_name(name: &str) -> &str
 }
 
 /// Writes a message for each error of a file and the progress in it, and shows everything to another visitor.
+///
+/// Contracts see the other visitor, and whether the file has an error.
 #[derive(Drop)]
 pub struct Reported<'a, E, T> {
     rt: &'a E,
@@ -25,16 +29,46 @@ pub struct Reported<'a, E, T> {
     index: u64,
     place: Place,
     progress: Progress,
+    // Whether the file has an error.
+    has_errors: bool,
+    visitor: T,
+}
+
+impl<'a, E, T> Model for Reported<'a, E, T> {
+    ghost use Rattle.binlog_messages.specs.Reports.{ReportedView};
+
+    ghost Value = { ReportedView T };
+
+    ghost view = { λ reported. record { visitor = reported.visitor; has_errors = reported.has_errors } };
+}
+
+impl<'a, E, T> Reported<'a, E, T> {
     /// Whether the file has an error.
-    pub has_errors: bool,
+    pub fn has_errors(&self) -> bool
+        ensures { result ≡ self.now.has_errors }
+    {
+        self.has_errors
+    }
+
     /// The other visitor.
-    pub visitor: T,
+    pub fn visitor(&self) -> &T
+        ensures { result.now ≡ self.now.visitor }
+    {
+        &self.visitor
+    }
+
+    /// The other visitor.
+    pub fn into_visitor(self) -> T
+        ensures { result ≡ self.entry.visitor }
+    {
+        self.visitor
+    }
 }
 
 impl<'a, E: Eprint, T> Reported<'a, E, Filtered<T>> {
     /// Messages go to the standard error of `rt`.
     pub fn new(rt: &'a E, visitor: Filtered<T>) -> Self
-        ensures { result.visitor ≡ visitor }
+        ensures { result ≡ record { visitor = visitor; has_errors = false } }
     {
         Reported {
             rt,
@@ -47,9 +81,18 @@ impl<'a, E: Eprint, T> Reported<'a, E, Filtered<T>> {
         }
     }
 
+    /// Goes on with another visitor, which is shown what the same filter takes.
+    pub fn replace_visitor(&mut self, visitor: T)
+    where
+        T: Drop,
+        ensures { self.new ≡ record self.old { visitor = record self.old.visitor { visitor = visitor } } }
+    {
+        self.visitor.visitor = visitor;
+    }
+
     /// Begins with this file, and shows this progress in it.
     pub fn begin(&mut self, file: &'a str, progress: Progress)
-        ensures { self.new.has_errors ≡ false }
+        ensures { self.new ≡ begun_file self.old }
     {
         self.file = shown_name(file);
         self.index = 0;
@@ -61,8 +104,7 @@ impl<'a, E: Eprint, T> Reported<'a, E, Filtered<T>> {
 
     /// Wipes the progress in the file, which is read.
     pub fn end(&mut self)
-        ensures visitor { self.new.visitor ≡ self.old.visitor }
-        ensures errors { self.new.has_errors ≡ self.old.has_errors }
+        ensures { self.new ≡ self.old }
     {
         self.progress.wipe(self.rt);
     }
@@ -120,9 +162,11 @@ fn add_data(alloc: Global, data: &EventData<'_>) -> Result<(), Error> {
     alone.add_event(data)
 }
 
-/// A visit is one of the other visitor.
+/// A visit is one of the other visitor, and notes an error.
 impl<'a, E: Eprint + AllocGlobal, T: Visitor + Refusing> Visitor for Reported<'a, E, T> {
-    ghost visits = { λ old index item new. T.visits old.visitor index item new.visitor };
+    ghost use Rattle.binlog_messages.specs.Reports.{Reports};
+
+    ghost visits = { λ old index item new. Reports T.visits T.refusals old index item new };
 
     ghost refuses = { λ old index item error new. T.refuses old.visitor index item error new.visitor };
 

@@ -1,6 +1,7 @@
 //! The exit status.
 ghost use Rattle.std.specs.Prelude.{◌≡◌};
 ghost use Rattle.binlog_status.specs.declared.status.Status.TheVariants.{Failed};
+ghost use Rattle.binlog_status.specs.Statuses.{worse};
 
 use binlog_wire::Error;
 
@@ -17,6 +18,15 @@ pub enum Status {
     Failed = 3,
     /// The words are no command.
     Usage = 64,
+}
+
+impl Status {
+    /// The worse one of this status and another.
+    pub fn worse(self, other: Status) -> Status
+        ensures { result ≡ worse self other }
+    {
+        self.max(other)
+    }
 }
 
 /// The status if there is no memory for a command, after its message.

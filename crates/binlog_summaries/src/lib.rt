@@ -1,6 +1,10 @@
 //! The texts of the commands of `binlog` that count.
 #![tactic(auto)]
 
+ghost use Rattle.std.specs.Io.KnownBytes.{Appends};
+ghost use Rattle.std.specs.Prelude.{OnOk};
+ghost use Rattle.binlog_summaries.specs.Texts.{tally_line};
+
 use binlog_commands::{Stats, Tally};
 use binlog_file::EventType;
 use binlog_json_lines::name_of;
@@ -9,7 +13,9 @@ use std::io;
 use std::io::Write;
 
 /// Writes the line of `binlog verify` for a file.
-pub fn write_tally<W: Write>(name: &str, tally: &Tally, output: &mut W) -> io::Result<()> {
+pub fn write_tally<W: Write>(name: &str, tally: &Tally, output: &mut W) -> io::Result<()>
+    ensures { OnOk result (Appends (W.contents output.old) (W.contents output.new) (tally_line name.now tally.now)) }
+{
     let events = tally.events;
     let bytes = tally.bytes;
     let checksums = tally.checksums;

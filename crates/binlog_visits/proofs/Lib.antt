@@ -1,1 +1,2 @@
 pub mod Visited
+pub mod OtherChecksums

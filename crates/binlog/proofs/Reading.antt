@@ -1,0 +1,89 @@
+-- Files that are read one after another.
+use Rattle.std.specs.Prelude.{◌==◌, ◌&&◌}
+use Rattle.std.proofs.Common.{◌≡◌, inl, inr, ℕ, zero, suc, ◌+◌, ◌^◌, ◌<◌, ◌≤◌, Bool, true, false, List, [], ◌∷◌, length, drop, get_or, Option, Some, None, IfSome, Result, refl, sym, ap, subst, ◌∙◌, arith}
+use Rattle.std.proofs.lemmas.Bool.{cases_lt}
+use Rattle.std.proofs.lemmas.Bool.Decides.{nat_tests}
+use Rattle.std.proofs.lemmas.List.{drop_all}
+use Rattle.binlog_wire.specs.declared.error.Error.{Error}
+use Rattle.binlog_events.specs.Events.{EventView}
+use Rattle.binlog_filters.specs.Filtering.{Filters, RefusesTaken}
+use Rattle.binlog_filters.specs.declared.filtered.Filtered.{Filtered}
+use Rattle.binlog_status.specs.declared.status.Status.{Status}
+use Rattle.binlog_messages.specs.Reports.{ReportedView, Reports}
+use Rattle.binlog.specs.Reading.{VisitsInput, status_behind, unless_followed, is_last_followed, ReadsInput, ReadsFile, GoesOn, ReadsFiles}
+
+and_true : (b : Bool) → (b && true) ≡ b
+and_true true = refl
+and_true false = refl
+
+and_false : (b : Bool) → (b && false) ≡ false
+and_false true = refl
+and_false false = refl
+
+none_behind : {N : Type 0} (is_followed : Bool) (names : List N) (count : ℕ) → length names ≤ count → is_last_followed is_followed (drop count names) ≡ is_followed
+none_behind is_followed names count all = ap (is_last_followed is_followed) (drop_all count names all)
+
+some_behind : {N : Type 0} (is_followed : Bool) (names : List N) (count : ℕ) → count < length names → is_last_followed is_followed (drop count names) ≡ false
+some_behind is_followed [] count within = absurd (omega arith)
+some_behind is_followed (name ∷ names) zero within = refl
+some_behind is_followed (name ∷ names) (suc count) within = some_behind is_followed names count (omega arith)
+
+-- The last one of the files is followed if any is.
+pub last_is_followed : {N : Type 0} (is_followed : Bool) (names : List N) (count : ℕ) → count ≤ length names → (is_followed && (count == length names)) ≡ is_last_followed is_followed (drop count names)
+last_is_followed is_followed names count within =
+    elim (cases_lt count (length names)) [
+      | inl more ↦
+          let test : (count == length names) ≡ false = grind (arith, nat_tests) in
+          ap (λ (b : Bool). is_followed && b) test ∙ and_false is_followed ∙ sym (some_behind is_followed names count more)
+      | inr all ↦
+          let test : (count == length names) ≡ true = grind (arith, nat_tests) in
+          ap (λ (b : Bool). is_followed && b) test ∙ and_true is_followed ∙ sym (none_behind is_followed names count all)
+    ]
+
+reads_next : {T N : Type 0} (visits : T → ℕ → Result EventView Error → T → Type 0) (refuses : T → ℕ → Result EventView Error → Error → T → Type 0) (refused : T → ℕ)
+    (is_verified is_followed : Bool) (bytes : N → Option (List ℕ)) (names : List N) (place : ℕ) (d : N) → place < length names
+    → (status : Status) (old : ReportedView (Filtered T)) (answer : Result Status Error) (mid : ReportedView (Filtered T)) (result : Status) (new : ReportedView (Filtered T))
+    → ReadsFile visits refuses refused is_verified (unless_followed (is_last_followed is_followed (drop (suc place) names)) (bytes (get_or names place d))) old answer mid
+    → GoesOn visits refuses refused (λ worst next. ReadsFiles visits refuses refused is_verified is_followed bytes (drop (suc place) names) worst next result new) status answer result mid new
+    → ReadsFiles visits refuses refused is_verified is_followed bytes (drop place names) status old result new
+reads_next visits refuses refused is_verified is_followed bytes [] place d within status old answer mid result new reads goes = absurd (omega arith)
+reads_next visits refuses refused is_verified is_followed bytes (name ∷ names) zero d within status old answer mid result new reads goes = (answer, mid, reads, goes)
+reads_next visits refuses refused is_verified is_followed bytes (name ∷ names) (suc place) d within status old answer mid result new reads goes =
+    reads_next visits refuses refused is_verified is_followed bytes names place d (omega arith) status old answer mid result new reads goes
+
+-- The file at a place is read, and then the others.
+pub reads_at : {T N : Type 0} (visits : T → ℕ → Result EventView Error → T → Type 0) (refuses : T → ℕ → Result EventView Error → Error → T → Type 0) (refused : T → ℕ)
+    (is_verified is_followed : Bool) (bytes : N → Option (List ℕ)) (names : List N) (place : ℕ) (d : N) → place < length names
+    → (status : Status) (old : ReportedView (Filtered T)) (answer : Result Status Error) (mid : ReportedView (Filtered T)) (result : Status) (new : ReportedView (Filtered T))
+    → ReadsFile visits refuses refused is_verified (unless_followed (is_followed && (place + 1 == length names)) (bytes (get_or names place d))) old answer mid
+    → GoesOn visits refuses refused (λ worst next. ReadsFiles visits refuses refused is_verified is_followed bytes (drop (place + 1) names) worst next result new) status answer result mid new
+    → ReadsFiles visits refuses refused is_verified is_followed bytes (drop place names) status old result new
+reads_at visits refuses refused is_verified is_followed bytes names place d within status old answer mid result new reads goes =
+    let next : place + 1 ≡ suc place = omega arith in
+    let last = last_is_followed is_followed names (place + 1) (omega (arith, within)) in
+    reads_next visits refuses refused is_verified is_followed bytes names place d within status old answer mid result new
+    (subst (λ (count : ℕ). ReadsFile visits refuses refused is_verified (unless_followed (is_last_followed is_followed (drop count names)) (bytes (get_or names place d))) old answer mid) next
+    (subst (λ (b : Bool). ReadsFile visits refuses refused is_verified (unless_followed b (bytes (get_or names place d))) old answer mid) last reads))
+    (subst (λ (count : ℕ). GoesOn visits refuses refused (λ worst others. ReadsFiles visits refuses refused is_verified is_followed bytes (drop count names) worst others result new) status answer result mid new) next goes)
+
+-- No file is left.
+pub reads_none : {T N : Type 0} (visits : T → ℕ → Result EventView Error → T → Type 0) (refuses : T → ℕ → Result EventView Error → Error → T → Type 0) (refused : T → ℕ)
+    (is_verified is_followed : Bool) (bytes : N → Option (List ℕ)) (names : List N) (place : ℕ) → length names ≤ place → (status : Status) (new : ReportedView (Filtered T))
+    → ReadsFiles visits refuses refused is_verified is_followed bytes (drop place names) status new status new
+reads_none {T} {N} visits refuses refused is_verified is_followed bytes names place all status new =
+    subst (λ (left : List N). ReadsFiles visits refuses refused is_verified is_followed bytes left status new status new) (sym (drop_all place names all)) (refl, refl)
+
+-- What is shown of an input whose bytes may be known.
+pub reads_input : {T : Type 0} (visits : T → ℕ → Result EventView Error → T → Type 0) (refuses : T → ℕ → Result EventView Error → Error → T → Type 0) (refused : T → ℕ)
+    (is_verified : Bool) (known : Option (List ℕ)) (old mid new : ReportedView (Filtered T)) (visited : Result (Unit {0}) Error) (answer : Result Status Error)
+    → IfSome known (λ bytes. length bytes < 2 ^ 64 → VisitsInput (Reports (Filters visits) (λ filtered. refused filtered.visitor))
+    (λ (before : ReportedView (Filtered T)) index item error after. RefusesTaken refuses before.visitor index item error after.visitor) is_verified bytes old visited mid)
+    → new ≡ mid → answer ≡ status_behind new.has_errors visited
+    → IfSome known (λ bytes. length bytes < 2 ^ 64 → ReadsInput visits refuses refused is_verified bytes old answer new)
+reads_input visits refuses refused is_verified None old mid new visited answer shown same status = tt
+reads_input {T} visits refuses refused is_verified (Some bytes) old mid new visited answer shown same status = λ small. record {
+  visited = visited;
+  does = subst (λ (t : ReportedView (Filtered T)). VisitsInput (Reports (Filters visits) (λ filtered. refused filtered.visitor))
+      (λ (before : ReportedView (Filtered T)) index item error after. RefusesTaken refuses before.visitor index item error after.visitor) is_verified bytes old visited t) (sym same) (shown small);
+  status = status;
+}

@@ -1,0 +1,13 @@
+use Rattle.std.proofs.Common.{ap}
+use Rattle.binlog_filters.specs.declared.filtered.Filtered.{Filtered}
+use Rattle.binlog.proofs.commands.read_taken.Goals as goal
+
+pub returns : goal.returns
+returns g c = record {
+  start = c.new.result;
+  filtered = c.new.ensures.filter;
+  shown = c.new.ensures.visitor;
+  behind = c.read_files-status.new.visitor;
+  reads = rw c.new-reported.ensures at c.read_files-status.ensures;
+  ends = ap (λ (filtered : Filtered g.row.T.Denot). filtered.visitor) c.into_visitor.ensures;
+}

@@ -1,0 +1,77 @@
+-- What is shown to a visitor of the files that a command reads, and the status behind them.
+use Rattle.std.specs.Prelude.{◌≡◌, ◌⊎◌, ℕ, ◌<◌, ◌^◌, Bool, true, false, List, [], ◌∷◌, length, Option, None, IfSome, Result, Ok, Err}
+use Rattle.binlog_wire.specs.declared.error.Error.{Error}
+use Rattle.binlog_wire.specs.declared.error.Error.TheVariants.{EndOfInput, InvalidFileHeader, Writer}
+use Rattle.crc32_ieee.specs.Checksums.{IsCrc32}
+use Rattle.binlog_events.specs.Events.{EventView}
+use Rattle.binlog_visits.specs.Visits.{VisitsLog, VisitsVerifiedLog}
+use Rattle.binlog_filters.specs.Filtering.{Filters, RefusesTaken}
+use Rattle.binlog_filters.specs.declared.filter.Filter.{Filter}
+use Rattle.binlog_filters.specs.declared.filtered.Filtered.{Filtered}
+use Rattle.binlog_status.specs.Statuses.{worse}
+use Rattle.binlog_status.specs.declared.status.Status.{Status}
+use Rattle.binlog_status.specs.declared.status.Status.TheVariants.{Fine, NotOpened, Damaged, Failed}
+use Rattle.binlog_messages.specs.Reports.{ReportedView, begun_file, Reports}
+
+-- The results of visiting a file of these bytes, whose checksums are verified by their CRC-32 or not.
+abbrev pub VisitsInput : {T : Type 0} → (T → ℕ → Result EventView Error → T → Type 0) → (T → ℕ → Result EventView Error → Error → T → Type 0) → (is_verified : Bool) → List ℕ → T → Result (Unit {0}) Error → T → Type 0
+VisitsInput visits refuses true = VisitsVerifiedLog IsCrc32 visits refuses
+VisitsInput visits refuses false = VisitsLog visits refuses
+
+-- The status behind a file, by the result of its visit. The only error is that of a failed output.
+abbrev pub status_behind : (has_errors : Bool) → Result (Unit {0}) Error → Result Status Error
+status_behind true (Ok done) = Ok Damaged
+status_behind false (Ok done) = Ok Fine
+status_behind has_errors (Err Writer) = Err Writer
+status_behind has_errors (Err EndOfInput) = Ok NotOpened
+status_behind has_errors (Err InvalidFileHeader) = Ok NotOpened
+status_behind has_errors (Err error) = Ok Failed
+
+-- What is known of the bytes of a file that is read: nothing if more is waited for at its end.
+abbrev pub unless_followed : (is_followed : Bool) → Option (List ℕ) → Option (List ℕ)
+unless_followed true bytes = None
+unless_followed false bytes = bytes
+
+-- Whether a file is followed, where these are behind it: only the last one is.
+abbrev pub is_last_followed : {X : Type 0} → (is_followed : Bool) → (behind : List X) → Bool
+is_last_followed is_followed [] = is_followed
+is_last_followed is_followed (x ∷ behind) = false
+
+-- A visitor that is shown what a filter takes, of which `visits` says what a visit makes of it, `refuses` when it refuses one,
+-- and `refused` how many events it has counted as errors.
+module _ {T : Type 0} (visits : T → ℕ → Result EventView Error → T → Type 0) (refuses : T → ℕ → Result EventView Error → Error → T → Type 0) (refused : T → ℕ) where
+  -- It is shown what the filter takes of a file of these bytes.
+  pub record ReadsInput (is_verified : Bool) (bytes : List ℕ) (old : ReportedView (Filtered T)) (answer : Result Status Error) (new : ReportedView (Filtered T)) : Type 0 where
+    pub visited : Result (Unit {0}) Error
+    pub does : VisitsInput (Reports (Filters visits) (λ filtered. refused filtered.visitor))
+        (λ (before : ReportedView (Filtered T)) index item error after. RefusesTaken refuses before.visitor index item error after.visitor) is_verified bytes old visited new
+    pub status : answer ≡ status_behind new.has_errors visited
+
+  -- A file can't be opened, or it is shown what the filter takes of it, if its bytes are known.
+  abbrev pub ReadsFile : (is_verified : Bool) (known : Option (List ℕ)) (old : ReportedView (Filtered T)) (answer : Result Status Error) (new : ReportedView (Filtered T)) → Type 0
+  ReadsFile is_verified known old answer new =
+      ((answer ≡ Ok NotOpened) × (new ≡ begun_file old))
+      ⊎ IfSome known (λ bytes. length bytes < 2 ^ 64 → ReadsInput is_verified bytes (begun_file old) answer new)
+
+  -- The other files are read after one, unless the output failed. The worst status counts.
+  abbrev pub GoesOn : (others : Status → ReportedView (Filtered T) → Type 0) (status : Status) (answer : Result Status Error) (result : Status) (mid new : ReportedView (Filtered T)) → Type 0
+  GoesOn others status (Ok found) result mid new = others (worse status found) mid
+  GoesOn others status (Err error) result mid new = (result ≡ status) × (new ≡ mid)
+
+  -- Files with these names are read in order, where `status` is that of the files before them. `bytes` are those of a file with
+  -- a name, and only the last one is followed.
+  abbrev pub ReadsFiles : {N : Type 0} (is_verified is_followed : Bool) (bytes : N → Option (List ℕ)) (names : List N) (status : Status) (old : ReportedView (Filtered T)) (result : Status) (new : ReportedView (Filtered T)) → Type 0
+  ReadsFiles is_verified is_followed bytes [] status old result new = (result ≡ status) × (new ≡ old)
+  ReadsFiles is_verified is_followed bytes (name ∷ names) status old result new =
+      (answer : Result Status Error) × (mid : ReportedView (Filtered T))
+      × ReadsFile is_verified (unless_followed (is_last_followed is_followed names) (bytes name)) old answer mid
+      × GoesOn (λ worst next. ReadsFiles is_verified is_followed bytes names worst next result new) status answer result mid new
+
+  -- The visitor is shown what the filter takes of files with these names, in order.
+  pub record ShowsTaken {N : Type 0} (filter : Filter) (is_verified is_followed : Bool) (bytes : N → Option (List ℕ)) (names : List N) (old : T) (status : Status) (new : T) : Type 0 where
+    pub start : Filtered T
+    pub filtered : start.filter ≡ filter
+    pub shown : start.visitor ≡ old
+    pub behind : ReportedView (Filtered T)
+    pub reads : ReadsFiles is_verified is_followed bytes names Fine (record { visitor = start; has_errors = false }) status behind
+    pub ends : new ≡ behind.visitor.visitor

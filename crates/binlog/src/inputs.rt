@@ -1,0 +1,77 @@
+//! Where the files of a command come from.
+ghost use Rattle.std.specs.Prelude.{◌≡◌, ℕ, List, Option, None, IfOk};
+
+use std::io::Read;
+use std::rt::Files;
+use std::{fs, io};
+
+/// Opens files by their names; `-` is standard input.
+pub(crate) trait Inputs {
+    /// An open file.
+    type Opened: Read + Drop;
+
+    /// The bytes of the file of this name, where they are known.
+    ghost bytes: { Self → List ℕ → Option (List ℕ) };
+
+    /// Opens a file.
+    fn open(&self, name: &str) -> io::Result<Self::Opened>
+        ensures { IfOk result (λ input. Self.Opened.remaining input ≡ bytes self.now name.now) };
+
+    /// The size of a file in bytes, if it is known.
+    fn size(&self, name: &str) -> Option<u64>;
+}
+
+/// The files of the machine. What they have isn't known.
+#[derive(Drop)]
+pub(crate) struct HostInputs<'a, R> {
+    rt: &'a R,
+}
+
+impl<'a, R> HostInputs<'a, R> {
+    /// Those that `rt` opens.
+    pub(crate) fn new(rt: &'a R) -> Self {
+        HostInputs { rt }
+    }
+}
+
+impl<'a, R: Files + Input> Inputs for HostInputs<'a, R> {
+    type Opened = HostInput<R::Reader, R::File>;
+
+    ghost bytes = { λ inputs name. None };
+
+    fn open(&self, name: &str) -> io::Result<HostInput<R::Reader, R::File>> {
+        if name == "-" {
+            return Ok(HostInput::Standard(self.rt.reader()));
+        }
+        match fs::open(self.rt, name) {
+            Ok(file) => Ok(HostInput::File(file)),
+            Err(error) => Err(error),
+        }
+    }
+
+    fn size(&self, name: &str) -> Option<u64> {
+        if name == "-" {
+            return None;
+        }
+        match fs::metadata(self.rt, name) {
+            Ok(metadata) => Some(metadata.len()),
+            Err(_) => None,
+        }
+    }
+}
+
+/// Standard input, or a file.
+#[derive(Drop)]
+pub(crate) enum HostInput<S, F> {
+    Standard(S),
+    File(F),
+}
+
+impl<S: Read, F: Read> Read for HostInput<S, F> {
+    fn read(&mut self, buf: &mut [u8]) -> io::Result<usize> {
+        match self {
+            HostInput::Standard(input) => input.read(buf),
+            HostInput::File(file) => file.read(buf),
+        }
+    }
+}

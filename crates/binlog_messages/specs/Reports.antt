@@ -1,0 +1,29 @@
+-- A visitor whose errors are reported.
+use Rattle.std.specs.Prelude.{◌≡◌, ℕ, ◌==◌, Bool, true, false, ◌||◌, not, Result, Ok, Err}
+use Rattle.binlog_wire.specs.declared.error.Error.{Error}
+use Rattle.binlog_events.specs.Events.{EventView}
+use Rattle.binlog_filters.specs.Filtering.{begun}
+use Rattle.binlog_filters.specs.declared.filtered.Filtered.{Filtered}
+
+-- What contracts see of it: the visitor, and whether the file has an error.
+pub record ReportedView (T : Type 0) : Type 0 where
+  pub visitor : T
+  pub has_errors : Bool
+
+-- The same at the start of a file.
+abbrev pub begun_file : {T : Type 0} → ReportedView (Filtered T) → ReportedView (Filtered T)
+begun_file old = record { visitor = begun old.visitor; has_errors = false }
+
+-- Whether the file has an error behind an item: one before it, the item, or an event that the visitor refused. It counts
+-- those that it refuses: so many before the item, and so many behind it.
+abbrev pub has_error : (was : Bool) (item : Result EventView Error) (before after : ℕ) → Bool
+has_error was (Ok event) before after = was || not (after == before)
+has_error was (Err error) before after = true
+
+-- `visits old index item new` says what a visit of an item makes of the visitor, and `refused` is the number of events that it
+-- has refused.
+module _ {T : Type 0} (visits : T → ℕ → Result EventView Error → T → Type 0) (refused : T → ℕ) where
+  -- The item is shown to the visitor, and noted if it is an error.
+  pub record Reports (old : ReportedView T) (index : ℕ) (item : Result EventView Error) (new : ReportedView T) : Type 0 where
+    pub does : visits old.visitor index item new.visitor
+    pub notes : new.has_errors ≡ has_error old.has_errors item (refused old.visitor) (refused new.visitor)
