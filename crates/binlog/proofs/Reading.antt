@@ -1,4 +1,4 @@
--- Files that are read one after another.
+-- Files that are taken one after another.
 use Rattle.std.specs.Prelude.{◌==◌, ◌&&◌}
 use Rattle.std.proofs.Common.{◌≡◌, inl, inr, ℕ, zero, suc, ◌+◌, ◌^◌, ◌<◌, ◌≤◌, Bool, true, false, List, [], ◌∷◌, length, drop, get_or, Option, Some, None, IfSome, Result, refl, sym, ap, subst, ◌∙◌, arith}
 use Rattle.std.proofs.lemmas.Bool.{cases_lt}
@@ -10,7 +10,7 @@ use Rattle.binlog_filters.specs.Filtering.{Filters, RefusesTaken}
 use Rattle.binlog_filters.specs.declared.filtered.Filtered.{Filtered}
 use Rattle.binlog_status.specs.declared.status.Status.{Status}
 use Rattle.binlog_messages.specs.Reports.{ReportedView, Reports}
-use Rattle.binlog.specs.Reading.{VisitsInput, status_behind, unless_followed, is_last_followed, ReadsInput, ReadsFile, GoesOn, ReadsFiles}
+use Rattle.binlog.specs.Reading.{VisitsInput, status_behind, is_last_followed, GoesOn, InOrder, ReadsInput}
 
 and_true : (b : Bool) → (b && true) ≡ b
 and_true true = refl
@@ -40,38 +40,27 @@ last_is_followed is_followed names count within =
           ap (λ (b : Bool). is_followed && b) test ∙ and_true is_followed ∙ sym (none_behind is_followed names count all)
     ]
 
-reads_next : {T N : Type 0} (visits : T → ℕ → Result EventView Error → T → Type 0) (refuses : T → ℕ → Result EventView Error → Error → T → Type 0) (refused : T → ℕ)
-    (is_verified is_followed : Bool) (bytes : N → Option (List ℕ)) (names : List N) (place : ℕ) (d : N) → place < length names
-    → (status : Status) (old : ReportedView (Filtered T)) (answer : Result Status Error) (mid : ReportedView (Filtered T)) (result : Status) (new : ReportedView (Filtered T))
-    → ReadsFile visits refuses refused is_verified (unless_followed (is_last_followed is_followed (drop (suc place) names)) (bytes (get_or names place d))) old answer mid
-    → GoesOn visits refuses refused (λ worst next. ReadsFiles visits refuses refused is_verified is_followed bytes (drop (suc place) names) worst next result new) status answer result mid new
-    → ReadsFiles visits refuses refused is_verified is_followed bytes (drop place names) status old result new
-reads_next visits refuses refused is_verified is_followed bytes [] place d within status old answer mid result new reads goes = absurd (omega arith)
-reads_next visits refuses refused is_verified is_followed bytes (name ∷ names) zero d within status old answer mid result new reads goes = (answer, mid, reads, goes)
-reads_next visits refuses refused is_verified is_followed bytes (name ∷ names) (suc place) d within status old answer mid result new reads goes =
-    reads_next visits refuses refused is_verified is_followed bytes names place d (omega arith) status old answer mid result new reads goes
+module _ {V N : Type 0} (step : (behind : List N) (name : N) (old : V) (answer : Result Status Error) (new : V) → Type 0) where
+  -- The file at a place is taken, and then those behind it.
+  taken_next : (names : List N) (place : ℕ) (d : N) → place < length names → (status : Status) (old : V) (answer : Result Status Error) (mid : V) (result : Status) (new : V)
+      → step (drop (suc place) names) (get_or names place d) old answer mid
+      → GoesOn (λ worst next. InOrder step (drop (suc place) names) worst next result new) status answer result mid new → InOrder step (drop place names) status old result new
+  taken_next [] place d within status old answer mid result new one goes = absurd (omega arith)
+  taken_next (name ∷ names) zero d within status old answer mid result new one goes = (answer, mid, one, goes)
+  taken_next (name ∷ names) (suc place) d within status old answer mid result new one goes = taken_next names place d (omega arith) status old answer mid result new one goes
 
--- The file at a place is read, and then the others.
-pub reads_at : {T N : Type 0} (visits : T → ℕ → Result EventView Error → T → Type 0) (refuses : T → ℕ → Result EventView Error → Error → T → Type 0) (refused : T → ℕ)
-    (is_verified is_followed : Bool) (bytes : N → Option (List ℕ)) (names : List N) (place : ℕ) (d : N) → place < length names
-    → (status : Status) (old : ReportedView (Filtered T)) (answer : Result Status Error) (mid : ReportedView (Filtered T)) (result : Status) (new : ReportedView (Filtered T))
-    → ReadsFile visits refuses refused is_verified (unless_followed (is_followed && (place + 1 == length names)) (bytes (get_or names place d))) old answer mid
-    → GoesOn visits refuses refused (λ worst next. ReadsFiles visits refuses refused is_verified is_followed bytes (drop (place + 1) names) worst next result new) status answer result mid new
-    → ReadsFiles visits refuses refused is_verified is_followed bytes (drop place names) status old result new
-reads_at visits refuses refused is_verified is_followed bytes names place d within status old answer mid result new reads goes =
-    let next : place + 1 ≡ suc place = omega arith in
-    let last = last_is_followed is_followed names (place + 1) (omega (arith, within)) in
-    reads_next visits refuses refused is_verified is_followed bytes names place d within status old answer mid result new
-    (subst (λ (count : ℕ). ReadsFile visits refuses refused is_verified (unless_followed (is_last_followed is_followed (drop count names)) (bytes (get_or names place d))) old answer mid) next
-    (subst (λ (b : Bool). ReadsFile visits refuses refused is_verified (unless_followed b (bytes (get_or names place d))) old answer mid) last reads))
-    (subst (λ (count : ℕ). GoesOn visits refuses refused (λ worst others. ReadsFiles visits refuses refused is_verified is_followed bytes (drop count names) worst others result new) status answer result mid new) next goes)
+  pub taken_at : (names : List N) (place : ℕ) (d : N) → place < length names → (status : Status) (old : V) (answer : Result Status Error) (mid : V) (result : Status) (new : V)
+      → step (drop (place + 1) names) (get_or names place d) old answer mid
+      → GoesOn (λ worst next. InOrder step (drop (place + 1) names) worst next result new) status answer result mid new → InOrder step (drop place names) status old result new
+  taken_at names place d within status old answer mid result new one goes =
+      let next : place + 1 ≡ suc place = omega arith in
+      taken_next names place d within status old answer mid result new
+      (subst (λ (count : ℕ). step (drop count names) (get_or names place d) old answer mid) next one)
+      (subst (λ (count : ℕ). GoesOn (λ worst others. InOrder step (drop count names) worst others result new) status answer result mid new) next goes)
 
--- No file is left.
-pub reads_none : {T N : Type 0} (visits : T → ℕ → Result EventView Error → T → Type 0) (refuses : T → ℕ → Result EventView Error → Error → T → Type 0) (refused : T → ℕ)
-    (is_verified is_followed : Bool) (bytes : N → Option (List ℕ)) (names : List N) (place : ℕ) → length names ≤ place → (status : Status) (new : ReportedView (Filtered T))
-    → ReadsFiles visits refuses refused is_verified is_followed bytes (drop place names) status new status new
-reads_none {T} {N} visits refuses refused is_verified is_followed bytes names place all status new =
-    subst (λ (left : List N). ReadsFiles visits refuses refused is_verified is_followed bytes left status new status new) (sym (drop_all place names all)) (refl, refl)
+  -- No file is left.
+  pub none_left : (names : List N) (place : ℕ) → length names ≤ place → (status : Status) (new : V) → InOrder step (drop place names) status new status new
+  none_left names place all status new = subst (λ (left : List N). InOrder step left status new status new) (sym (drop_all place names all)) (refl, refl)
 
 -- What is shown of an input whose bytes may be known.
 pub reads_input : {T : Type 0} (visits : T → ℕ → Result EventView Error → T → Type 0) (refuses : T → ℕ → Result EventView Error → Error → T → Type 0) (refused : T → ℕ)

@@ -1,2 +1,4 @@
 pub mod Reading
 pub mod Copying
+pub mod Gtids
+pub mod Verifying

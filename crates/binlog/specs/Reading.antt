@@ -37,6 +37,19 @@ abbrev pub is_last_followed : {X : Type 0} → (is_followed : Bool) → (behind 
 is_last_followed is_followed [] = is_followed
 is_last_followed is_followed (x ∷ behind) = false
 
+-- The other files follow after one, unless the output failed. The worst status counts.
+abbrev pub GoesOn : {V : Type 0} (others : Status → V → Type 0) (status : Status) (answer : Result Status Error) (result : Status) (mid new : V) → Type 0
+GoesOn others status (Ok found) result mid new = others (worse status found) mid
+GoesOn others status (Err error) result mid new = (result ≡ status) × (new ≡ mid)
+
+-- `step behind name old answer new` says what a file with this name makes of something, where the names in `behind` follow.
+module _ {V N : Type 0} (step : (behind : List N) (name : N) (old : V) (answer : Result Status Error) (new : V) → Type 0) where
+  -- Files with these names are taken in order, where `status` is that of the files before them.
+  abbrev pub InOrder : (names : List N) (status : Status) (old : V) (result : Status) (new : V) → Type 0
+  InOrder [] status old result new = (result ≡ status) × (new ≡ old)
+  InOrder (name ∷ names) status old result new =
+      (answer : Result Status Error) × (mid : V) × step names name old answer mid × GoesOn (λ worst next. InOrder names worst next result new) status answer result mid new
+
 -- A visitor that is shown what a filter takes, of which `visits` says what a visit makes of it, `refuses` when it refuses one,
 -- and `refused` how many events it has counted as errors.
 module _ {T : Type 0} (visits : T → ℕ → Result EventView Error → T → Type 0) (refuses : T → ℕ → Result EventView Error → Error → T → Type 0) (refused : T → ℕ) where
@@ -53,19 +66,10 @@ module _ {T : Type 0} (visits : T → ℕ → Result EventView Error → T → T
       ((answer ≡ Ok NotOpened) × (new ≡ begun_file old))
       ⊎ IfSome known (λ bytes. length bytes < 2 ^ 64 → ReadsInput is_verified bytes (begun_file old) answer new)
 
-  -- The other files are read after one, unless the output failed. The worst status counts.
-  abbrev pub GoesOn : (others : Status → ReportedView (Filtered T) → Type 0) (status : Status) (answer : Result Status Error) (result : Status) (mid new : ReportedView (Filtered T)) → Type 0
-  GoesOn others status (Ok found) result mid new = others (worse status found) mid
-  GoesOn others status (Err error) result mid new = (result ≡ status) × (new ≡ mid)
-
-  -- Files with these names are read in order, where `status` is that of the files before them. `bytes` are those of a file with
-  -- a name, and only the last one is followed.
+  -- Files with these names are read in order. `bytes` are those of a file with a name, and only the last one is followed.
   abbrev pub ReadsFiles : {N : Type 0} (is_verified is_followed : Bool) (bytes : N → Option (List ℕ)) (names : List N) (status : Status) (old : ReportedView (Filtered T)) (result : Status) (new : ReportedView (Filtered T)) → Type 0
-  ReadsFiles is_verified is_followed bytes [] status old result new = (result ≡ status) × (new ≡ old)
-  ReadsFiles is_verified is_followed bytes (name ∷ names) status old result new =
-      (answer : Result Status Error) × (mid : ReportedView (Filtered T))
-      × ReadsFile is_verified (unless_followed (is_last_followed is_followed names) (bytes name)) old answer mid
-      × GoesOn (λ worst next. ReadsFiles is_verified is_followed bytes names worst next result new) status answer result mid new
+  ReadsFiles is_verified is_followed bytes =
+      InOrder (λ behind name old answer new. ReadsFile is_verified (unless_followed (is_last_followed is_followed behind) (bytes name)) old answer new)
 
   -- The visitor is shown what the filter takes of files with these names, in order.
   pub record ShowsTaken {N : Type 0} (filter : Filter) (is_verified is_followed : Bool) (bytes : N → Option (List ℕ)) (names : List N) (old : T) (status : Status) (new : T) : Type 0 where

@@ -5,8 +5,10 @@ mod commands;
 mod copying;
 mod files;
 mod following;
+mod gtids;
 mod inputs;
 mod request;
+mod verifying;
 
 use binlog_arguments::command;
 use binlog_status::{Status, out_of_memory};
@@ -86,8 +88,8 @@ fn run_command<'a, R: Files + Clock + Input + Print + Eprint + AllocGlobal>(
     let answer = match name {
         "list" => commands::list(rt, &request),
         "json" => commands::json(rt, &request),
-        "gtids" => commands::gtids(rt, &request),
-        "verify" => commands::verify(rt, &request),
+        "gtids" => gtids::gtids(rt, &request),
+        "verify" => verifying::verify(rt, &request),
         "stats" => commands::stats(rt, &request),
         "copy" => copying::copy(rt, &request),
         _ => Err(Status::Usage),

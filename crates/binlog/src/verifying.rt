@@ -1,0 +1,135 @@
+//! The command that verifies checksums.
+ghost use Rattle.std.specs.Prelude.{◌≡◌};
+ghost use Rattle.binlog_status.specs.declared.status.Status.TheVariants.{Fine};
+ghost use Rattle.binlog.specs.Reading.{unless_followed};
+ghost use Rattle.binlog.specs.Verifying.{verifying, none_counted, has_line, WritesLine, VerifiesFile, VerifiesFiles};
+
+use crate::files::read_file;
+use crate::inputs::{HostInputs, Inputs};
+use crate::request::{Reading, Request};
+use binlog_commands::Tally;
+use binlog_file::Error;
+use binlog_filter_arguments::filter;
+use binlog_filters::Filtered;
+use binlog_messages::{Reported, shown_name};
+use binlog_status::{BUFFER_SIZE, Output, Status};
+use binlog_summaries::write_tally;
+use std::io;
+use std::io::Write;
+use std::rt::Files;
+use std::time::Clock;
+
+/// `binlog verify`.
+pub(crate) fn verify<'a, R: Files + Clock + Input + Print + Eprint + AllocGlobal>(
+    rt: &'a R,
+    request: &Request<'_, 'a>,
+) -> Result<Status, Status> {
+    write_tallies(rt, &HostInputs::new(rt), request, io::writer(rt))
+}
+
+// Verifies each file, and writes its line.
+fn write_tallies<'a, S: Inputs, R: Clock + Eprint + AllocGlobal, W: Write + Drop>(
+    rt: &'a R,
+    inputs: &S,
+    request: &Request<'_, 'a>,
+    writer: W,
+) -> Result<Status, Status> {
+    let filter = filter(rt, request.options)?;
+    let is_quiet = request.options.get_flag("quiet");
+    let mut output = Output::new(rt, BUFFER_SIZE, writer)?;
+    let mut reported = Reported::new(rt, Filtered::new(rt.alloc(), filter, none_counted()));
+    let (files, reading) = (request.files, request.reading);
+    let status = verify_files(
+        rt,
+        inputs,
+        files,
+        reading,
+        is_quiet,
+        &mut reported,
+        &mut output,
+    );
+    Ok(output.finish(rt, status))
+}
+
+// Verifies files in order. If the output fails, no further file is read.
+fn verify_files<'a, S: Inputs, R: Clock + Eprint + AllocGlobal, W: Write>(
+    rt: &R,
+    inputs: &S,
+    files: &[&'a str],
+    reading: Reading,
+    is_quiet: bool,
+    reported: &mut Reported<'a, R, Filtered<Tally>>,
+    output: &mut W,
+) -> Status
+    ensures { VerifiesFiles reading.is_verified reading.is_followed is_quiet (λ name. name.now) (λ name. S.bytes inputs.now name.now) files.now Fine
+        (verifying reported.old (W.contents output.old)) result (verifying reported.new (W.contents output.new)) }
+{
+    let mut status = Status::Fine;
+    for file in files {
+        match verify_file(rt, inputs, file, reading, is_quiet, reported, output) {
+            Ok(found) => status = status.worse(found),
+            Err(_) => return status,
+        }
+    }
+    status
+}
+
+// Verifies a file, and writes its line if it could be opened. The only error is that the output failed.
+fn verify_file<'a, S: Inputs, R: Clock + Eprint + AllocGlobal, W: Write>(
+    rt: &R,
+    inputs: &S,
+    file: &'a str,
+    reading: Reading,
+    is_quiet: bool,
+    reported: &mut Reported<'a, R, Filtered<Tally>>,
+    output: &mut W,
+) -> Result<Status, Error>
+    ensures { VerifiesFile reading.is_verified (unless_followed reading.is_followed (S.bytes inputs.now file.now)) is_quiet file.now
+        (verifying reported.old (W.contents output.old)) result (verifying reported.new (W.contents output.new)) }
+{
+    reported.replace_visitor(none_counted());
+    let read = read_file(rt, inputs, file, reading, reported);
+    let name = shown_name(file);
+    write_line(name, &reported.visitor().visitor, is_quiet, read, output)
+}
+
+// Nothing is counted yet.
+fn none_counted() -> Tally
+    ensures { result ≡ none_counted }
+{
+    Tally {
+        events: 0,
+        bytes: 0,
+        checksums: 0,
+        errors: 0,
+    }
+}
+
+// Writes the line of a file that was read with this result, if it has one.
+fn write_line<W: Write>(
+    name: &str,
+    tally: &Tally,
+    is_quiet: bool,
+    read: Result<Status, Error>,
+    output: &mut W,
+) -> Result<Status, Error>
+    ensures { WritesLine (has_line is_quiet read) name.now tally.now read (W.contents output.old) result (W.contents output.new) }
+{
+    if !has_line(is_quiet, &read) {
+        return read;
+    }
+    match write_tally(name, tally, output) {
+        Ok(()) => read,
+        Err(_) => Err(Error::Writer),
+    }
+}
+
+// Whether a file that was read with this result has a line.
+fn has_line(is_quiet: bool, read: &Result<Status, Error>) -> bool
+    ensures { result ≡ has_line is_quiet read.now }
+{
+    match read {
+        Ok(Status::NotOpened) | Err(_) => false,
+        Ok(_) => !is_quiet,
+    }
+}
