@@ -2,7 +2,7 @@
 ghost use Rattle.std.specs.Prelude.{◌≡◌};
 ghost use Rattle.binlog_status.specs.declared.status.Status.TheVariants.{Fine};
 ghost use Rattle.binlog.specs.Reading.{unless_followed};
-ghost use Rattle.binlog.specs.Verifying.{verifying, none_counted, has_line, WritesLine, VerifiesFile, VerifiesFiles};
+ghost use Rattle.binlog.specs.Verifying.{verifying, has_line, WritesLine, VerifiesFile, VerifiesFiles};
 
 use crate::files::read_file;
 use crate::inputs::{HostInputs, Inputs};
@@ -37,7 +37,7 @@ fn write_tallies<'a, S: Inputs, R: Clock + Eprint + AllocGlobal, W: Write + Drop
     let filter = filter(rt, request.options)?;
     let is_quiet = request.options.get_flag("quiet");
     let mut output = Output::new(rt, BUFFER_SIZE, writer)?;
-    let mut reported = Reported::new(rt, Filtered::new(rt.alloc(), filter, none_counted()));
+    let mut reported = Reported::new(rt, Filtered::new(rt.alloc(), filter, Tally::new()));
     let (files, reading) = (request.files, request.reading);
     let status = verify_files(
         rt,
@@ -87,22 +87,10 @@ fn verify_file<'a, S: Inputs, R: Clock + Eprint + AllocGlobal, W: Write>(
     ensures { VerifiesFile reading.is_verified (unless_followed reading.is_followed (S.bytes inputs.now file.now)) is_quiet file.now
         (verifying reported.old (W.contents output.old)) result (verifying reported.new (W.contents output.new)) }
 {
-    reported.replace_visitor(none_counted());
+    reported.replace_visitor(Tally::new());
     let read = read_file(rt, inputs, file, reading, reported);
     let name = shown_name(file);
     write_line(name, &reported.visitor().visitor, is_quiet, read, output)
-}
-
-// Nothing is counted yet.
-fn none_counted() -> Tally
-    ensures { result ≡ none_counted }
-{
-    Tally {
-        events: 0,
-        bytes: 0,
-        checksums: 0,
-        errors: 0,
-    }
 }
 
 // Writes the line of a file that was read with this result, if it has one.

@@ -5,6 +5,10 @@ use Rattle.binlog_events.specs.Events.{EventView}
 use Rattle.binlog_events.specs.Parts.{checksum_of}
 use Rattle.binlog_commands.specs.declared.tally.Tally.{Tally}
 
+-- Nothing is counted yet.
+abbrev pub none_counted : Tally
+none_counted = record { events = 0; bytes = 0; checksums = 0; errors = 0 }
+
 -- A visit that is never refused.
 abbrev pub IsNever : Type 0
 IsNever = ⊥

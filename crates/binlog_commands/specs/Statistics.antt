@@ -3,6 +3,7 @@ use Rattle.std.specs.Prelude.{◌≡◌, ℕ, ◌==◌, Bool, ◌||◌, length, 
 use Rattle.binlog_wire.specs.declared.error.Error.{Error}
 use Rattle.binlog_description.specs.Headers.{header_of}
 use Rattle.binlog_events.specs.Events.{EventView}
+use Rattle.binlog_filters.specs.Taking.{begins_transaction}
 use Rattle.binlog_commands.specs.Counting.{counted, counted_if}
 use Rattle.binlog_commands.specs.declared.stats.Stats.{Stats}
 use Rattle.binlog_commands.specs.declared.stats.Largest.{Largest}
@@ -11,10 +12,6 @@ use Rattle.binlog_commands.specs.declared.stats.Largest.{Largest}
 abbrev pub larger : Option Largest → Largest → Option Largest
 larger None event = Some event
 larger (Some largest) event = if nat_lt largest.size event.size then Some event else Some largest
-
--- The types of events with which a transaction begins: GTID, ANONYMOUS_GTID, GTID_TAGGED_LOG.
-abbrev pub begins_transaction : ℕ → Bool
-begins_transaction type = (type == 33) || ((type == 34) || (type == 42))
 
 -- The item is counted.
 abbrev pub CountsItem : Stats → ℕ → Result EventView Error → Stats → Type 0

@@ -1,5 +1,6 @@
 //! A visitor that counts what it is shown.
 ghost use Rattle.std.specs.Prelude.{◌≡◌};
+ghost use Rattle.binlog_commands.specs.Counting.{none_counted};
 
 use binlog_file::{Error, EventRef};
 use binlog_visits::Visitor;
@@ -16,6 +17,20 @@ pub struct Tally {
     pub checksums: u64,
     /// The number of errors in the places of events.
     pub errors: u64,
+}
+
+impl Tally {
+    /// Nothing is counted yet.
+    pub fn new() -> Self
+        ensures { result ≡ none_counted }
+    {
+        Tally {
+            events: 0,
+            bytes: 0,
+            checksums: 0,
+            errors: 0,
+        }
+    }
 }
 
 /// A visit counts the item, and is never refused.

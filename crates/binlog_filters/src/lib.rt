@@ -7,6 +7,6 @@ mod filtered;
 pub mod laws;
 mod place;
 
-pub use filter::Filter;
+pub use filter::{Filter, begins_transaction};
 pub use filtered::Filtered;
 pub use place::Place;

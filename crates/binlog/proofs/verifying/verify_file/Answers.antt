@@ -9,7 +9,7 @@ use Rattle.binlog.proofs.verifying.verify_file.Goals as goal
 
 pub returns : goal.returns
 returns g c =
-    let replaced : c.replace_visitor.new.self ≡ counting c.args.reported.now = rw c.none_counted.ensures at c.replace_visitor.ensures in
+    let replaced : c.replace_visitor.new.self ≡ counting c.args.reported.now = rw c.new.ensures at c.replace_visitor.ensures in
     record {
       read = c.read_file-read.result;
       reads = subst (λ (v : ReportedView (Filtered Tally)). ReadsFile (λ before index item after. Counts before item after) (λ before index item error after. IsNever) (λ tally. 0) c.args.reading.is_verified
