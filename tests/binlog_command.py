@@ -28,6 +28,7 @@ import gtids_sample
 import json_model
 import listing_model
 import make_sample
+import maria_events
 from damaged_copies import EVENT, MAGIC, PROCESSES_AT_A_TIME, REPOSITORY, SIZE_OFFSET, frame_starts, with_byte
 
 PROGRAM = REPOSITORY / "crates/binlog/out/binlog"
@@ -277,6 +278,12 @@ def copies(runner):
     yield None if is_kept else "copy: wrong usage changes the output"
 
 
+def maria(runner):
+    """MariaDB's own events as lines of JSON, in the logs that it wrote, and as unknown ones in those of other servers."""
+    for log in maria_events.logs():
+        yield runner.check(["json", "0.bin"], Result(log.lines), [log.content])
+
+
 # ---- words and ends
 
 
@@ -450,7 +457,7 @@ def installs(runner):
     yield from laid_out(runner, runner.folder / "unpacked/usr")
 
 
-PARTS = (models, damaged, reported, several, filters, gtid_filters, gtids, stats, copies, words, ends, progress, followed, installs)
+PARTS = (models, damaged, reported, several, filters, gtid_filters, gtids, stats, copies, maria, words, ends, progress, followed, installs)
 
 
 def results_of(program, part):

@@ -24,6 +24,7 @@ import json_model
 import json_sample
 import listing_model
 import make_sample
+import maria_events
 import watched
 
 SUCCESS, FAILURE, OUTSIDE = 0, 1, 3
@@ -60,7 +61,10 @@ def status_fault(run, wanted):
 
 def lines_fault(model, content):
     lines, _ = model.expected(content)
+    return front_fault(lines)
 
+
+def front_fault(lines):
     def fault(run):
         if not lines.startswith(run.output) or not (b"\n" + run.output).endswith(b"\n"):
             return f"{len(run.output)} bytes that are no first lines of the listing"
@@ -132,6 +136,9 @@ def all_failures(watch):
         for log, content in LOGS.items():
             command = [watched.program(name)]
             yield from failures(watch, f"{name} over {log}", command, content, fault(content))
+    maria = maria_events.sample()
+    command = [watched.program("binlog"), "json"]
+    yield from failures(watch, "binlog json over MariaDB's events", command, maria.content, front_fault(maria.lines))
     for program, name in watched.tests():
         stated = stated_allocations(name)
         if stated is not None:

@@ -11,9 +11,9 @@ use crate::request::{Reading, Request};
 use binlog_commands::Stats;
 use binlog_filter_arguments::filter;
 use binlog_filters::{Filter, Filtered};
-use binlog_json_lines::JsonLines;
 use binlog_lines::ItemLines;
 use binlog_listing::TextLines;
+use binlog_maria_json::MariaJsonWriter;
 use binlog_messages::{Refusing, Reported};
 use binlog_status::{BUFFER_SIZE, Output, Status};
 use binlog_summaries::write_stats;
@@ -42,13 +42,20 @@ pub(crate) fn json<'a, R: Files + Clock + Input + Print + Eprint + AllocGlobal>(
     rt: &'a R,
     request: &Request<'_, 'a>,
 ) -> Result<Status, Status> {
-    write_lines(
-        rt,
-        &HostInputs::new(rt),
-        request,
-        JsonLines::new(rt.alloc()),
-        io::writer(rt),
-    )
+    write_json(rt, &HostInputs::new(rt), request, io::writer(rt))
+}
+
+// Writes the line of JSON of each item that the filter takes.
+fn write_json<'a, S: Inputs, R: Clock + Eprint + AllocGlobal, W: Write + Drop>(
+    rt: &'a R,
+    inputs: &S,
+    request: &Request<'_, 'a>,
+    writer: W,
+) -> Result<Status, Status> {
+    let output = Output::new(rt, request.reading.output_capacity(), writer)?;
+    let lines = MariaJsonWriter::new(rt.alloc(), output);
+    let (status, lines) = read_all(rt, inputs, request, lines)?;
+    Ok(lines.into_output().finish(rt, status))
 }
 
 // Writes the line of each item that the filter takes.

@@ -7,31 +7,53 @@ use Rattle.binlog_events.specs.Events.{EventView}
 use Rattle.binlog_visits.specs.Visits.{Visits}
 use Rattle.binlog_filters.specs.Places.{behind}
 use Rattle.binlog_filters.specs.Filtering.{Filters, VisitsIf}
-use Rattle.binlog_filters.specs.TakenLines.{with_line, TakesLines, WritesTaken}
+use Rattle.binlog_filters.specs.TakenLines.{AddsLine, TakesLines, WritesTaken}
 use Rattle.binlog_filters.specs.declared.filter.Filter.{Filter}
 use Rattle.binlog_filters.specs.declared.filtered.Filtered.{Filtered}
 
-module _ {T : Type 0} (contents : T → Option (List ℕ)) (line : ℕ → Result EventView Error → List ℕ) where
-  -- A visit writes the line of the item.
-  abbrev Writes : T → ℕ → Result EventView Error → T → Type 0
-  Writes old index item new = Appends (contents old) (contents new) (line index item)
+-- A line of the item is written.
+pub record Writes (is_line : ℕ → Result EventView Error → List ℕ → Type 0) (index : ℕ) (item : Result EventView Error) (old new : Option (List ℕ)) : Type 0 where
+  pub line : List ℕ
+  pub is : is_line index item line
+  pub written : Appends old new line
+
+-- Each visit writes a line of the item.
+abbrev pub WritesEach : {T : Type 0} (contents : T → Option (List ℕ)) (is_line : ℕ → Result EventView Error → List ℕ → Type 0)
+    (visits : T → ℕ → Result EventView Error → T → Type 0) → Type 0
+WritesEach {T} contents is_line visits =
+    (old : T) (index : ℕ) (item : Result EventView Error) (new : T) → visits old index item new → Writes is_line index item (contents old) (contents new)
+
+module _ {T : Type 0} (contents : T → Option (List ℕ)) (is_line : ℕ → Result EventView Error → List ℕ → Type 0)
+    (visits : T → ℕ → Result EventView Error → T → Type 0) (writes : WritesEach contents is_line visits) where
+  -- The text of an item and of those behind it.
+  record Adds (taken : Bool) (index : ℕ) (item : Result EventView Error) (others : List ℕ) (old new : Option (List ℕ)) : Type 0 where
+    text : List ℕ
+    adds : AddsLine is_line taken index item others text
+    written : Appends old new text
 
   -- The line of the item if it is taken, and then the text behind it.
-  appends_item : (taken : Bool) (index : ℕ) (item : Result EventView Error) (old mid new : T) (text : List ℕ) → VisitsIf Writes taken old index item mid
-      → Appends (contents mid) (contents new) text → Appends (contents old) (contents new) (with_line line taken index item text)
-  appends_item true index item old mid new text one rest = Appends-trans (contents old) (contents mid) (contents new) (line index item) text one rest
-  appends_item false index item old mid new text one rest = subst (λ (t : T). Appends (contents t) (contents new) text) one rest
+  adds_item : (taken : Bool) (index : ℕ) (item : Result EventView Error) (old mid new : T) (others : List ℕ) → VisitsIf visits taken old index item mid
+      → Appends (contents mid) (contents new) others → Adds taken index item others (contents old) (contents new)
+  adds_item true index item old mid new others one rest =
+      let wrote = writes old index item mid one in
+      record {
+        text = wrote.line ++ others;
+        adds = (wrote.line, wrote.is, refl);
+        written = Appends-trans (contents old) (contents mid) (contents new) wrote.line others wrote.written rest;
+      }
+  adds_item false index item old mid new others one rest =
+      record { text = others; adds = refl; written = subst (λ (t : T). Appends (contents t) (contents new) others) one rest }
 
   -- The same filter goes on behind an item.
-  goes_on : (index : ℕ) (item : Result EventView Error) (items : List (Result EventView Error)) (old mid : Filtered T) (text : List ℕ) → Filters Writes old index item mid
-      → TakesLines line mid.filter mid.place.position mid.is_wanted (index + 1) items text
-      → TakesLines line old.filter (behind old.place.position item) mid.is_wanted (index + 1) items text
+  goes_on : (index : ℕ) (item : Result EventView Error) (items : List (Result EventView Error)) (old mid : Filtered T) (text : List ℕ) → Filters visits old index item mid
+      → TakesLines is_line mid.filter mid.place.position mid.is_wanted (index + 1) items text
+      → TakesLines is_line old.filter (behind old.place.position item) mid.is_wanted (index + 1) items text
   goes_on index item items old mid text one rest =
-      subst (λ (f : Filter). TakesLines line f (behind old.place.position item) mid.is_wanted (index + 1) items text) one.same
-      (subst (λ (p : Option ℕ). TakesLines line mid.filter p mid.is_wanted (index + 1) items text) one.place rest)
+      subst (λ (f : Filter). TakesLines is_line f (behind old.place.position item) mid.is_wanted (index + 1) items text) one.same
+      (subst (λ (p : Option ℕ). TakesLines is_line mid.filter p mid.is_wanted (index + 1) items text) one.place rest)
 
-  pub taken_lines : (index : ℕ) (items : List (Result EventView Error)) (old new : Filtered T) → Visits (Filters Writes) index items old new
-      → WritesTaken line old.filter old.place.position old.is_wanted index items (contents old.visitor) (contents new.visitor)
+  pub taken_lines : (index : ℕ) (items : List (Result EventView Error)) (old new : Filtered T) → Visits (Filters visits) index items old new
+      → WritesTaken is_line old.filter old.place.position old.is_wanted index items (contents old.visitor) (contents new.visitor)
   taken_lines index [] old new visited = record {
     text = [];
     taken = refl;
@@ -41,8 +63,9 @@ module _ {T : Type 0} (contents : T → Option (List ℕ)) (line : ℕ → Resul
       let mid = visited.0 in
       let one = visited.1 in
       let rest = taken_lines (index + 1) items mid new visited.2 in
+      let both = adds_item one.taken index item old.visitor mid.visitor new.visitor rest.text one.does rest.written in
       record {
-        text = with_line line one.taken index item rest.text;
-        taken = (mid.is_wanted, one.taken, one.takes, rest.text, goes_on index item items old mid rest.text one rest.taken, refl);
-        written = appends_item one.taken index item old.visitor mid.visitor new.visitor rest.text one.does rest.written;
+        text = both.text;
+        taken = (mid.is_wanted, one.taken, one.takes, rest.text, goes_on index item items old mid rest.text one rest.taken, both.adds);
+        written = both.written;
       }

@@ -1,5 +1,5 @@
 //! Laws of filters. Each is a function without effect whose contract states it.
-ghost use Rattle.std.specs.Prelude.{ℕ, List, Result};
+ghost use Rattle.std.specs.Prelude.{◌≡◌, ℕ, List, Result};
 ghost use Rattle.binlog_wire.specs.declared.error.Error.{Error};
 ghost use Rattle.binlog_events.specs.Events.{EventView};
 ghost use Rattle.binlog_visits.specs.Visits.{Visits};
@@ -17,5 +17,5 @@ use std::io::Write;
 pub fn taken_lines<L: ItemLines, W: Write>()
     ensures { (index : ℕ) (items : List (Result EventView Error)) (old new : Filtered (LineWriter L W))
         → Visits ⟦<Filtered<LineWriter<L, W>> as Visitor>⟧.visits index items old new
-        → WritesTaken L.line old.filter old.place.position old.is_wanted index items (W.contents old.visitor.output) (W.contents new.visitor.output) }
+        → WritesTaken (λ index item line. line ≡ L.line index item) old.filter old.place.position old.is_wanted index items (W.contents old.visitor.output) (W.contents new.visitor.output) }
 {}

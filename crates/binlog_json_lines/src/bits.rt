@@ -7,8 +7,12 @@ use json_line::Line;
 use std::alloc::AllocError;
 
 /// Writes the bits as an array of booleans.
+///
+/// # Errors
+///
+/// [`AllocError`] if an allocation fails.
 #[tactic(auto, unfolding(crate::specs::Bits::bits_value))]
-pub(crate) fn write_bits(line: &mut Line, bits: BitView<'_>) -> Result<(), AllocError>
+pub fn write_bits(line: &mut Line, bits: BitView<'_>) -> Result<(), AllocError>
     ensures { Adds result line.old line.new (bits_value (bits.entry.len, bits.entry.bytes.now)) }
 {
     line.begin_array()?;

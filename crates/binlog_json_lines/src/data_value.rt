@@ -81,8 +81,12 @@ fn write_statement(line: &mut Line, alloc: Global, event: &EventRef<'_>) -> Resu
     }
 }
 
-// Writes an object with the number of an error. A failed allocation isn't written; it is the result.
-fn write_refusal(line: &mut Line, error: &Error) -> Result<(), AllocError>
+/// Writes an object with the number of an error, in the place of data that can't be read.
+///
+/// # Errors
+///
+/// [`AllocError`] if an allocation fails, and if the error is one itself, which isn't written.
+pub fn write_refusal(line: &mut Line, error: &Error) -> Result<(), AllocError>
     ensures number { Adds result line.old line.new (error_object (error_number error.now)) }
     ensures inside { OnOk result (is_environment_error error.now ≡ false) }
 {

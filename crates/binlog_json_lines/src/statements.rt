@@ -30,8 +30,13 @@ pub(crate) fn write_query(
     Ok(())
 }
 
+/// Writes the thread id, the execution time and the error code of a statement, as members of its object.
+///
+/// # Errors
+///
+/// [`AllocError`] if an allocation fails.
 #[inline(always)]
-fn write_query_head(line: &mut Line, event: &QueryEvent<'_>) -> Result<(), AllocError>
+pub fn write_query_head(line: &mut Line, event: &QueryEvent<'_>) -> Result<(), AllocError>
     ensures { Adds result line.old line.new (statement_head event.now.statement) }
 {
     line.number_member("thread_id", u64::from(event.thread_id()))?;
@@ -40,8 +45,13 @@ fn write_query_head(line: &mut Line, event: &QueryEvent<'_>) -> Result<(), Alloc
     Ok(())
 }
 
+/// Writes the status variables, the schema and the text of a statement, as members of its object.
+///
+/// # Errors
+///
+/// [`AllocError`] if an allocation fails.
 #[inline(always)]
-fn write_query_texts(
+pub fn write_query_texts(
     line: &mut Line,
     alloc: Global,
     event: &QueryEvent<'_>,

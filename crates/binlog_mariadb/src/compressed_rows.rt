@@ -1,5 +1,5 @@
 //! Compressed row events.
-ghost use Rattle.std.specs.Prelude.{◌≡◌, ◌<◌, ◌^◌, option_map, bit_and};
+ghost use Rattle.std.specs.Prelude.{◌≡◌, ◌<◌, ◌^◌, option_map, bit_and, take};
 ghost use Rattle.bitflags.specs.Sets.{known_bits};
 ghost use Rattle.binlog_consts.specs.Flags.{rows_event_flags};
 ghost use Rattle.binlog_rows.specs.Images.{bitmap_of};
@@ -61,6 +61,20 @@ impl<'a> RowsCompressedEvent<'a> {
         ensures { result.now ≡ (event_in self.now.event).rows }
     {
         self.event.rows_data()
+    }
+
+    /// The extra bytes, at most 65,533; None for an older (V1) event type, which keeps none.
+    pub fn extra_data(&self) -> Option<&[u8]>
+        ensures { option_map (λ bytes. bytes.now) result ≡ option_map (take 65533) (event_in self.now.event).head.extra }
+    {
+        self.event.event().extra_data()
+    }
+
+    /// All bits of the flags.
+    pub fn flags_raw(&self) -> u16
+        ensures { result ≡ (event_in self.now.event).head.flags }
+    {
+        self.event.event().flags_raw()
     }
 
     /// The known flags.

@@ -1,0 +1,6 @@
+pub mod Names
+pub mod Bodies
+pub mod Gtids
+pub mod Compressed
+pub mod Data
+pub mod Lines

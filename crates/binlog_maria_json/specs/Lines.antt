@@ -1,0 +1,82 @@
+-- The lines of JSON of a log, with MariaDB's own events.
+use Rattle.std.specs.Prelude.{◌≡◌, ◌⊎◌, ℕ, List, [], ◌∷◌, ◌++◌, codes, take, Option, Some, None, Result, Ok, Err}
+use Rattle.std.specs.Io.KnownBytes.{Appends}
+use Rattle.json.specs.Print.{print}
+use Rattle.json.specs.Token.{Token, string}
+use Rattle.json_line.specs.Tokens.{number_value, bytes_value, or_null, member, object}
+use Rattle.binlog_wire.specs.declared.error.Error.{Error}
+use Rattle.binlog_wire.specs.declared.error.Error.TheVariants.{Memory, Writer}
+use Rattle.binlog_ends.specs.Counts.{AppendsFront}
+use Rattle.binlog_description.specs.Headers.{header_of}
+use Rattle.binlog_events.specs.Events.{EventView}
+use Rattle.binlog_events.specs.Parts.{data_of, checksum_of}
+use Rattle.binlog_json_lines.specs.ItemLines.{header_members, item_line}
+use Rattle.binlog_mariadb.specs.EventBodies.{data_read}
+use Rattle.binlog_mariadb.specs.EventTypes.{maria_event_number, maria_event_type_of}
+use Rattle.binlog_mariadb.specs.Flavour.{IsMariaVersion}
+use Rattle.binlog_mariadb.specs.declared.event_type.MariaEventType.{MariaEventType}
+use Rattle.binlog_mariadb.specs.declared.event_type.UnknownMariaEventType.{UnknownMariaEventType}
+use Rattle.binlog_maria_json.specs.Names.{maria_name}
+use Rattle.binlog_maria_json.specs.Data.{IsValue}
+
+-- The event is of a log that MariaDB wrote, by the server version of the description in force.
+abbrev pub IsOfMaria : EventView → Type 0
+IsOfMaria event = IsMariaVersion (take 50 event.fde.server_version)
+
+-- The event isn't one of MariaDB's own in a log that MariaDB wrote.
+abbrev pub IsOther : EventView → Type 0
+IsOther event = (type : MariaEventType) → maria_event_type_of (header_of event.frame).event_type ≡ Ok type → IsOfMaria event → ⊥
+
+-- The number and the name of the event's type.
+abbrev pub type_members : MariaEventType → List Token
+type_members type = member (codes "type") (number_value (maria_event_number type)) ++ member (codes "name") (string (maria_name type) ∷ [])
+
+-- The members before the data.
+abbrev pub head_members : ℕ → EventView → MariaEventType → List Token
+head_members index event type =
+    member (codes "index") (number_value index)
+    ++ type_members type
+    ++ header_members (header_of event.frame)
+    ++ member (codes "checksum") (or_null bytes_value (checksum_of event.fde.footer event.frame))
+
+-- The tokens are the data of the event, of this type.
+abbrev pub IsEventData : EventView → MariaEventType → List Token → Type 0
+IsEventData event type = IsValue (header_of event.frame).server_id (data_read event.fde (data_of event.fde.footer event.frame) type)
+
+-- The tokens are the object of an event of this type.
+pub record IsEventObject (index : ℕ) (event : EventView) (type : MariaEventType) (tokens : List Token) : Type 0 where
+  pub content : List Token
+  pub read : IsEventData event type content
+  pub is : tokens ≡ object (head_members index event type ++ member (codes "data") content)
+
+-- The text is the line of an event of this type: its object, and a line feed.
+pub record IsOwnLine (index : ℕ) (event : EventView) (type : MariaEventType) (text : List ℕ) : Type 0 where
+  pub tokens : List Token
+  pub are : IsEventObject index event type tokens
+  pub is : text ≡ print tokens ++ codes "\n"
+
+-- The text is the line of an event, by its type.
+abbrev pub IsEventLine : ℕ → EventView → Result MariaEventType UnknownMariaEventType → List ℕ → Type 0
+IsEventLine index event (Ok type) text = (IsOfMaria event × IsOwnLine index event type text) ⊎ ((IsOfMaria event → ⊥) × (text ≡ item_line index (Ok event)))
+IsEventLine index event (Err unknown) text = text ≡ item_line index (Ok event)
+
+-- The text is the line of an item.
+abbrev pub IsLine : ℕ → Result EventView Error → List ℕ → Type 0
+IsLine index (Ok event) text = IsEventLine index event (maria_event_type_of (header_of event.frame).event_type) text
+IsLine index (Err error) text = text ≡ item_line index (Err error)
+
+-- The line of the item is written.
+pub record WritesLine (index : ℕ) (item : Result EventView Error) (old new : Option (List ℕ)) : Type 0 where
+  pub text : List ℕ
+  pub line : IsLine index item text
+  pub written : Appends old new text
+
+-- A prefix of the line of the item is written.
+pub record WritesFront (index : ℕ) (item : Result EventView Error) (old new : Option (List ℕ)) : Type 0 where
+  pub text : List ℕ
+  pub line : IsLine index item text
+  pub written : AppendsFront old new text
+
+-- The line isn't written whole: the writer failed, or an allocation for the line.
+abbrev pub WritesNoLine : ℕ → Result EventView Error → Option (List ℕ) → Error → Option (List ℕ) → Type 0
+WritesNoLine index item old error new = ((error ≡ Writer) × WritesFront index item old new) ⊎ ((error ≡ Memory) × (new ≡ old))

@@ -1,0 +1,22 @@
+//! Laws of the lines. Each is a function without effect whose contract states it.
+ghost use Rattle.std.specs.Prelude.{ℕ, List, Result};
+ghost use Rattle.binlog_wire.specs.declared.error.Error.{Error};
+ghost use Rattle.binlog_events.specs.Events.{EventView};
+ghost use Rattle.binlog_visits.specs.Visits.{Visits};
+ghost use Rattle.binlog_filters.specs.TakenLines.{WritesTaken};
+ghost use Rattle.binlog_filters.specs.declared.filtered.Filtered.{Filtered};
+ghost use Rattle.binlog_maria_json.specs.Lines.{IsLine};
+ghost use Rattle.binlog_maria_json.specs.declared.writer.MariaJsonWriter.{MariaJsonWriter};
+
+use crate::writer::MariaJsonWriter;
+use binlog_filters::Filtered;
+use binlog_visits::Visitor;
+use std::io::Write;
+
+/// The lines of what a filter takes. If the visits of items, one after another, are Ok, the output has grown by the lines of
+/// the items that the filter takes, in order, each with its index in the log.
+pub fn taken_json_lines<W: Write>()
+    ensures { (index : ℕ) (items : List (Result EventView Error)) (old new : Filtered (MariaJsonWriter W))
+        → Visits ⟦<Filtered<MariaJsonWriter<W>> as Visitor>⟧.visits index items old new
+        → WritesTaken IsLine old.filter old.place.position old.is_wanted index items (W.contents old.visitor.output) (W.contents new.visitor.output) }
+{}

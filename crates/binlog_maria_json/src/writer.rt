@@ -1,0 +1,68 @@
+//! A visitor that writes the line of each item.
+ghost use Rattle.std.specs.Prelude.{◌≡◌};
+
+use crate::lines::MariaJsonLines;
+use binlog_file::{CountedRef, Error, EventRef};
+use binlog_lines::write_line;
+use binlog_messages::Refusing;
+use binlog_visits::Visitor;
+use std::alloc::Global;
+use std::io::Write;
+
+/// Writes the line of JSON of each item that it visits, with those of MariaDB's own events. The output isn't flushed.
+#[derive(Drop)]
+pub struct MariaJsonWriter<W> {
+    alloc: Global,
+    lines: MariaJsonLines,
+    output: W,
+}
+
+impl<W> MariaJsonWriter<W> {
+    /// Writes to this output. Nothing is allocated.
+    pub fn new(alloc: Global, output: W) -> Self
+        ensures { result.output ≡ output }
+    {
+        MariaJsonWriter {
+            alloc,
+            lines: MariaJsonLines::new(alloc),
+            output,
+        }
+    }
+
+    /// The output.
+    pub fn into_output(self) -> W
+        ensures { result ≡ self.output }
+    {
+        self.output
+    }
+}
+
+/// A visit writes the line of the item. It is refused with [`Error::Writer`] if the writer failed, which then has a prefix
+/// of the line, or with [`Error::Memory`] if an allocation failed for the line; nothing is written then.
+impl<W: Write> Visitor for MariaJsonWriter<W> {
+    ghost use Rattle.binlog_maria_json.specs.Lines.{WritesLine, WritesNoLine};
+
+    ghost visits = { λ old index item new. WritesLine index item (W.contents old.output) (W.contents new.output) };
+
+    ghost refuses = { λ old index item error new. WritesNoLine index item (W.contents old.output) error (W.contents new.output) };
+
+    #[inline(always)]
+    fn visit_event(&mut self, index: u64, event: &EventRef<'_>) -> Result<(), Error> {
+        let line = self.lines.event_line(self.alloc, index, event)?;
+        let mut output = CountedRef::new(&mut self.output);
+        write_line(&mut output, line)
+    }
+
+    fn visit_error(&mut self, index: u64, error: &Error) -> Result<(), Error> {
+        let line = self.lines.error_line(self.alloc, index, error)?;
+        let mut output = CountedRef::new(&mut self.output);
+        write_line(&mut output, line)
+    }
+}
+
+/// Data that can't be read has the number of its error in the line, and is none of the log.
+impl<W> Refusing for MariaJsonWriter<W> {
+    fn refused(&self) -> u64 {
+        0
+    }
+}
