@@ -37,7 +37,8 @@ enum {
     BINLOG_TOO_SHORT_FOR_CHECKSUM = 4, /* an item: its event has fewer bytes after its header than the checksum has */
     BINLOG_END_OF_BODY = 5,            /* an item: a description, a rotate or a table map that ends within a field */
     BINLOG_INVALID_DATA = 6,           /* an item: one of these with a value that isn't allowed */
-    BINLOG_INVALID_CURSOR = 100        /* binlog_next: the cursor isn't a place of this log */
+    BINLOG_CHECKSUM_MISMATCH = 17,     /* an item of binlog_next_verified: its checksum isn't that of its bytes */
+    BINLOG_INVALID_CURSOR = 100        /* binlog_next, binlog_next_verified: the cursor isn't a place of this log */
 };
 
 /* A place in a log: three numbers, without padding. It can be copied, stored and sent, and used with the same log, or
@@ -63,10 +64,11 @@ typedef struct binlog_item {
     uint32_t log_pos;       /* header: the position after the event in its server's file, modulo 2^32 */
     uint16_t flags;         /* header: all bits, known or not */
     uint8_t event_type;     /* header: the number of the type, known or not */
-    uint8_t error;          /* 0 for an event, otherwise the number of the error, 3 to 6 */
-    uint8_t checksum[4];    /* the bytes of the checksum in their order, a little-endian number; zeros if there is none.
-                               It isn't verified */
-    uint32_t has_checksum;  /* 1 if the event has a checksum, otherwise 0 */
+    uint8_t error;          /* 0 for an event, otherwise the number of the error, 3 to 6 or 17 */
+    uint8_t checksum[4];    /* the bytes of the stored checksum in their order, a little-endian number; zeros if there
+                               is none, and for the errors 3 to 6 */
+    uint32_t has_checksum;  /* 1 if there are these bytes, otherwise 0 */
+    uint32_t computed_checksum; /* with BINLOG_CHECKSUM_MISMATCH the checksum of the event's bytes, otherwise 0 */
 } binlog_item;
 
 /* The version of the library: major * 1000000 + minor * 1000 + patch.
@@ -97,6 +99,21 @@ uint8_t binlog_open(const uint8_t *log, size_t size, binlog_cursor *cursor);
  *     count = binlog_next(log, size, &cursor, items, 64, &error); */
 size_t binlog_next(const uint8_t *log, size_t size, binlog_cursor *cursor, binlog_item *items, size_t room,
                    uint8_t *error);
+
+/* Does what binlog_next does, and verifies the checksums. If the stored checksum of an event isn't the CRC-32 of its
+ * bytes, the item is the error BINLOG_CHECKSUM_MISMATCH with both checksums, whatever else is wrong with the event, and
+ * the next item is the event after it. A format description whose checksum is wrong doesn't come into force. An event
+ * without a checksum, or one that is too short for it, is the item that binlog_next gives.
+ *
+ * The checksum of an event is that of its bytes before the checksum, with the flag 0x1 of its header (the log isn't
+ * closed) taken as clear. The log is only read. The description that the cursor names isn't verified.
+ *
+ * Each call first computes tables, which takes as long as the checksums of some 2,000 bytes, and needs 17 KB of stack
+ * for them. So give it room for many items.
+ *
+ *     count = binlog_next_verified(log, size, &cursor, items, 64, &error); */
+size_t binlog_next_verified(const uint8_t *log, size_t size, binlog_cursor *cursor, binlog_item *items, size_t room,
+                            uint8_t *error);
 
 /* Writes the name of an error, "EndOfInput" for 1, with a zero after it, and returns its length without the zero.
  * Nothing is written if the room isn't more than that length. The length is 0 for a number that no error has; a name

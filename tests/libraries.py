@@ -5,7 +5,8 @@ Usage: libraries.py [--build | --over-ci]
 
 A C program and a C++ one over include/binlog.h list the samples, the encoder's logs and the damaged copies: their
 listing has to be that of the built binlog_list without its last word. The C program also lists with room for one item,
-and built with the sanitizers of the C compiler. A third program calls the library with 10,000 cursors that it did not
+built with the sanitizers of the C compiler, and with checksums verified, as the built bench_verifying does; it computes
+the checksums by itself, bit by bit. A third program calls the library with 10,000 cursors that it did not
 make over each of some logs. Then the tests of the Python package run over the shared library, which is made of the
 static one. At last what bin/install and bin/package make of the library: a C program is built against each by pkg-config
 and lists the sample, and Python lists it by the package that is installed. Without pkg-config the flags are written out;
@@ -14,8 +15,8 @@ without dpkg-deb there is no package; a line says so.
 With --build the static library is first proved and built by bin/build if a source is newer. With --over-ci it is built by
 static_library.py over what `rt ci` left, which proves the crate binlog_c alone once more. Where there is no library then, a
 line says so, nothing is run, and both numbers are 0; the same is true without the C compiler `cc`. Without a C++ compiler
-`c++`, sanitizers, Dask, or the program `binlog`, a line says so, and what needs them isn't run. The last line is
-`N passed, M failed`; the exit status is 1 if something failed.
+`c++`, sanitizers, Dask, or the programs `bench_verifying` and `binlog`, a line says so, and what needs them isn't run. The
+last line is `N passed, M failed`; the exit status is 1 if something failed.
 """
 
 import os
@@ -35,6 +36,7 @@ import static_library
 from damaged_copies import LISTING_PROGRAM, PROCESSES_AT_A_TIME, REPOSITORY, all_cases, first_difference, rows_log, run
 
 LIBRARY = REPOSITORY / "crates/binlog_c/out/libbinlog_c.a"
+VERIFYING_PROGRAM = REPOSITORY / "crates/bench_verifying/out/bench_verifying"
 PROGRAM = REPOSITORY / "crates/binlog/out/binlog"
 # Those that may have Debian's Dask.
 INTERPRETERS = (sys.executable, "/usr/bin/python3")
@@ -90,8 +92,8 @@ def without_word(listing):
     )
 
 
-def listed(content):
-    listing, status = run(str(LISTING_PROGRAM), content)
+def listed(content, program=LISTING_PROGRAM):
+    listing, status = run(str(program), content)
     return without_word(listing), status
 
 
@@ -107,10 +109,15 @@ def listing_failures(name, found, names, wanted):
             yield None if status == wanted_status else f"{name}, {log}: status {status}, not {wanted_status}"
 
 
+def wanted_listings(program, contents):
+    """What a built program lists of each log, without the last words, and its status."""
+    with ThreadPoolExecutor(PROCESSES_AT_A_TIME) as pool:
+        return list(pool.map(lambda content: listed(content, program), contents))
+
+
 def program_failures(folder, cases):
     names, contents = zip(*((name, content) for name, content, *_ in cases))
-    with ThreadPoolExecutor(PROCESSES_AT_A_TIME) as pool:
-        wanted = list(pool.map(listed, contents))
+    wanted = wanted_listings(LISTING_PROGRAM, contents)
     plain = build(folder, "list", "list.c")
     yield from listing_failures("C", listings(plain, contents), names, wanted)
     yield from listing_failures("C, one item a call", listings(plain, contents, "1"), names, wanted)
@@ -120,12 +127,25 @@ def program_failures(folder, cases):
         cursors = build(folder, "damaged", "damaged.c", SANITIZERS)
     else:
         print("no sanitizers: the programs run without them")
+        checked = plain
         cursors = build(folder, "damaged", "damaged.c")
+    if VERIFYING_PROGRAM.exists():
+        yield from verified_failures(plain, checked, names, contents)
+    else:
+        print("no program bench_verifying: no checksum is verified")
     if shutil.which("c++"):
         yield from listing_failures("C++", listings(build(folder, "list_cpp", "list.cpp"), contents), names, wanted)
     else:
         print("no c++: the C++ program isn't run")
     yield from cursor_failures(cursors)
+
+
+def verified_failures(plain, checked, names, contents):
+    """For each log, None or what is wrong with the programs' listings of it with checksums verified."""
+    wanted = wanted_listings(VERIFYING_PROGRAM, contents)
+    one_a_call = listings(plain, contents, "1", "verified")
+    yield from listing_failures("C, verified, one item a call", one_a_call, names, wanted)
+    yield from listing_failures("C, verified", listings(checked, contents, "64", "verified"), names, wanted)
 
 
 def cursor_failures(program):

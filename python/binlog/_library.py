@@ -10,8 +10,8 @@ VARIABLE = "BINLOG_LIBRARY"
 FILE = "libbinlog.so"
 
 # binlog_item: position, description, data_position, data_size; timestamp, server_id, event_size, log_pos; flags,
-# event_type, error; checksum; has_checksum; four bytes of padding.
-ITEM = struct.Struct("=4Q4IHBB4sI4x")
+# event_type, error; checksum; has_checksum, computed_checksum.
+ITEM = struct.Struct("=4Q4IHBB4s2I")
 
 
 class CursorStruct(ctypes.Structure):
@@ -47,15 +47,16 @@ def _load() -> ctypes.CDLL:
     library.binlog_library_version.argtypes = []
     library.binlog_open.restype = byte
     library.binlog_open.argtypes = [ctypes.c_void_p, size, ctypes.POINTER(CursorStruct)]
-    library.binlog_next.restype = size
-    library.binlog_next.argtypes = [
-        ctypes.c_void_p,
-        size,
-        ctypes.POINTER(CursorStruct),
-        ctypes.c_void_p,
-        size,
-        ctypes.POINTER(byte),
-    ]
+    for fill in (library.binlog_next, library.binlog_next_verified):
+        fill.restype = size
+        fill.argtypes = [
+            ctypes.c_void_p,
+            size,
+            ctypes.POINTER(CursorStruct),
+            ctypes.c_void_p,
+            size,
+            ctypes.POINTER(byte),
+        ]
     for write in (library.binlog_error_name, library.binlog_error_text):
         write.restype = size
         write.argtypes = [byte, ctypes.c_char_p, size]

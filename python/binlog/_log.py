@@ -87,6 +87,11 @@ class _Item:
         except ValueError:
             return None
 
+    @property
+    def checksum(self) -> Optional[bytes]:
+        """The four bytes of the checksum, as they stand in the log, or None. A Damage has them with ChecksumMismatch alone."""
+        return self._fields[11] if self._fields[12] else None
+
 
 class Event(_Item):
     """An event of a log: its header, its data and its checksum."""
@@ -105,11 +110,6 @@ class Event(_Item):
         start = self._fields[0]
         return bytes(self._bytes[start : start + self._fields[6]])
 
-    @property
-    def checksum(self) -> Optional[bytes]:
-        """The four bytes of the checksum, as they stand in the log, or None. It is compared with nothing."""
-        return self._fields[11] if self._fields[12] else None
-
     def __repr__(self) -> str:
         return f"<Event type {self.event_type} at {self.position}, {self.event_size} bytes>"
 
@@ -124,6 +124,11 @@ class Damage(_Item):
         """The error, as an exception that can be raised."""
         return LogError(self._fields[10], self._fields[0])
 
+    @property
+    def computed_checksum(self) -> Optional[bytes]:
+        """With ChecksumMismatch the four bytes that the checksum would have to be, otherwise None."""
+        return self._fields[13].to_bytes(4, "little") if self._fields[12] else None
+
     def __repr__(self) -> str:
         return f"<Damage {self.error.name} at {self.position}>"
 
@@ -134,10 +139,13 @@ class Log:
     Iterating over it gives its events, and raises LogError in the place of a damaged one. `items` goes on behind such.
     The bytes have to stay as they are while the log is in use.
 
+    verify: whether an event is damaged, too, if its stored checksum isn't the CRC-32 of its bytes: its error is
+        ChecksumMismatch then. A format description whose checksum is wrong says nothing of the events behind it.
+
     Raises InvalidLog where the bytes don't begin with the file header.
     """
 
-    def __init__(self, content: Buffer) -> None:
+    def __init__(self, content: Buffer, *, verify: bool = False) -> None:
         if isinstance(content, memoryview) and content.readonly:
             content = bytes(content)
         self._bytes = memoryview(content)
@@ -152,6 +160,7 @@ class Log:
         if error:
             raise InvalidLog(error)
         self._first = Cursor(first.position, first.description, first.ended)
+        self._fill = LIBRARY.binlog_next_verified if verify else LIBRARY.binlog_next
 
     def __len__(self) -> int:
         """How many bytes the log has."""
@@ -168,7 +177,7 @@ class Log:
         error = ctypes.c_uint8()
         count = _BATCH
         while count == _BATCH:
-            count = LIBRARY.binlog_next(self._at, self._size, place, items, _BATCH, error)
+            count = self._fill(self._at, self._size, place, items, _BATCH, error)
             if error.value:
                 raise LogError(error.value, place.position)
             yield list(ITEM.iter_unpack(memoryview(items)[: count * ITEM.size]))
@@ -199,13 +208,15 @@ class Log:
         return self.events()
 
 
-def open(path: Union[str, "os.PathLike[str]"]) -> Log:
+def open(path: Union[str, "os.PathLike[str]"], *, verify: bool = False) -> Log:
     """The binary log in a file, which is mapped into memory and has to stay as long as it is.
+
+    verify: whether checksums are verified, as Log says.
 
     Raises InvalidLog where the file doesn't begin with the file header, and OSError where it can't be read.
     """
     with builtins.open(path, "rb") as file:
         if os.fstat(file.fileno()).st_size == 0:
-            return Log(b"")
+            return Log(b"", verify=verify)
         # A private mapping: ctypes takes the place of writable memory alone. Nothing is written.
-        return Log(mmap.mmap(file.fileno(), 0, access=mmap.ACCESS_COPY))
+        return Log(mmap.mmap(file.fileno(), 0, access=mmap.ACCESS_COPY), verify=verify)

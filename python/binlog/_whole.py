@@ -151,7 +151,7 @@ def stats(path: Path) -> Stats:
     found = Stats()
     events, sizes = [0] * 256, [0] * 256
     for batch in open(path).batches():
-        for _, _, _, _, timestamp, _, event_size, _, _, event_type, error, _, _ in batch:
+        for _, _, _, _, timestamp, _, event_size, _, _, event_type, error, _, _, _ in batch:
             if error:
                 found.damaged += 1
                 continue

@@ -133,6 +133,57 @@ class Damaged(unittest.TestCase):
         self.assertEqual(list(binlog.Log(SAMPLE).events(binlog.Cursor(4, 0, 1))), [])
 
 
+class Verified(unittest.TestCase):
+    """Logs whose checksums are verified."""
+
+    def setUp(self):
+        self.frames, _ = listing_model.split(CHECKSUMMED[START:])
+
+    def changed(self, index, place):
+        """The sample with checksums, of which one bit of an event is changed, and the event."""
+        frame = bytearray(self.frames[index])
+        frame[place] ^= 0x40
+        frames = [*self.frames[:index], bytes(frame), *self.frames[index + 1 :]]
+        return listing_model.FILE_HEADER + b"".join(frames), bytes(frame)
+
+    def test_right_checksums(self):
+        for content in (CHECKSUMMED, SAMPLE, CHECKSUMMED + UNDERSIZED):
+            items = [item._fields for item in binlog.Log(content).items()]
+            self.assertEqual([item._fields for item in binlog.Log(content, verify=True).items()], items)
+
+    def test_a_wrong_checksum(self):
+        content, frame = self.changed(1, 30)
+        first, damage, *others = binlog.Log(content, verify=True).items()
+        error = damage.error
+        self.assertEqual((error.name, error.number), ("ChecksumMismatch", 17))
+        self.assertEqual(error.position, START + len(self.frames[0]))
+        computed = checksummed_sample.crc32(frame[:-4])
+        self.assertEqual((damage.checksum, damage.computed_checksum), (frame[-4:], computed))
+        self.assertEqual([event.raw for event in (first, *others)], [self.frames[0], *self.frames[2:]])
+        self.assertEqual([item.checksum for item in others], [frame[-4:] for frame in self.frames[2:]])
+
+    def test_a_description_that_is_not_in_force(self):
+        content, frame = self.changed(0, 30)
+        log = binlog.Log(content, verify=True)
+        damage, *others = log.items()
+        self.assertEqual((damage.error.name, damage.checksum), ("ChecksumMismatch", frame[-4:]))
+        found = [(event.raw, event.checksum, event.cursor.description) for event in others]
+        self.assertEqual(found, [(frame, None, 0) for frame in self.frames[1:]])
+        self.assertEqual([item._fields for item in log.items(others[0].cursor)], [event._fields for event in others])
+
+    def test_an_event_is_not_given(self):
+        content, _ = self.changed(2, 20)
+        with tempfile.TemporaryDirectory() as folder:
+            path = Path(folder, "mysql-bin.000001")
+            path.write_bytes(content)
+            given = []
+            with self.assertRaises(binlog.LogError) as raised:
+                for event in binlog.open(path, verify=True):
+                    given.append(event.raw)
+            self.assertEqual((raised.exception.name, given), ("ChecksumMismatch", self.frames[:2]))
+            self.assertEqual(len(list(binlog.open(path))), len(self.frames))
+
+
 class Library(unittest.TestCase):
     def test_the_version(self):
         self.assertEqual(binlog.library_version(), (0, 1, 0))

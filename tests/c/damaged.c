@@ -8,6 +8,8 @@
 
 enum { ROOM = 8 };
 
+typedef size_t fill_call(const uint8_t *, size_t, binlog_cursor *, binlog_item *, size_t, uint8_t *);
+
 static uint64_t state = 0x9e3779b97f4a7c15u;
 
 /* xorshift64 */
@@ -67,11 +69,12 @@ static binlog_cursor some_cursor(const guarded_log *log) {
     return cursor;
 }
 
-static void check_items(const guarded_log *log, const binlog_item *items, size_t count) {
+static void check_items(const guarded_log *log, const binlog_item *items, size_t count, int is_verified) {
     for (size_t i = 0; i < count; i++) {
         const binlog_item *item = &items[i];
         require(item->position >= 4 && item->position + 19 <= log->size, "the header is in the log");
-        require(item->error == 0 || (item->error >= 3 && item->error <= 6), "the error is an item's");
+        int is_mismatch = is_verified && item->error == BINLOG_CHECKSUM_MISMATCH;
+        require(item->error == 0 || (item->error >= 3 && item->error <= 6) || is_mismatch, "the error is an item's");
         require(item->error != 0 || item->position + item->event_size <= log->size, "the event is in the log");
         require(item->data_position + item->data_size <= log->size, "the data is in the log");
     }
@@ -87,7 +90,8 @@ static int check_call(const guarded_log *log, const binlog_cursor *before) {
     binlog_cursor cursor = *before;
     size_t room = next_random() % (ROOM + 1);
     uint8_t error = 77;
-    size_t count = binlog_next(log->bytes, log->size, &cursor, items, room, &error);
+    fill_call *fill = next_random() % 2 ? binlog_next : binlog_next_verified;
+    size_t count = fill(log->bytes, log->size, &cursor, items, room, &error);
     require(error == BINLOG_OK || error == BINLOG_INVALID_CURSOR, "the error is one of two");
     require(count <= room, "no more items than room");
     for (size_t i = count; i < ROOM; i++) {
@@ -101,7 +105,7 @@ static int check_call(const guarded_log *log, const binlog_cursor *before) {
     require(before->description == 0 || before->description + 19 <= log->size, "the description is in the log");
     require(cursor.position >= before->position && cursor.position <= log->size, "the cursor moves on, in the log");
     require(before->ended == 0 || count == 0, "an iteration that has ended gives nothing");
-    check_items(log, items, count);
+    check_items(log, items, count, fill == binlog_next_verified);
     return 1;
 }
 
@@ -109,6 +113,7 @@ static void check_without_room(const guarded_log *log, const binlog_cursor *befo
     binlog_cursor cursor = *before;
     uint8_t error = 77;
     require(binlog_next(log->bytes, log->size, &cursor, NULL, 0, &error) == 0, "no room, no item");
+    require(binlog_next_verified(log->bytes, log->size, &cursor, NULL, 0, &error) == 0, "no room, no verified item");
     require(memcmp(before, &cursor, sizeof cursor) == 0, "no room moves nothing");
 }
 

@@ -1,18 +1,57 @@
 /* Lists the logs on standard input, which logs.h reads: for each event `index type size log_pos flags data_len
  * checksum`, for each error `index error E<number>`, and behind each log `status N`, where N is binlog_list's exit
- * status. The argument is how many items a call has room for. Checks that each item lies where it says, and that a
- * cursor made of it gives it again. */
+ * status. The first argument is how many items a call has room for. With a second one, `verified`, checksums are
+ * verified. Checks that each item lies where it says, that a cursor made of it gives it again, and that each checksum is
+ * as right or wrong as the library says. */
 #define _DEFAULT_SOURCE
 #include "binlog.h"
 #include "logs.h"
 #include <inttypes.h>
 #include <string.h>
 
-/* The bytes of an item without those to its end that are padding. */
-enum { ITEM_BYTES = 60 };
+typedef size_t fill_call(const uint8_t *, size_t, binlog_cursor *, binlog_item *, size_t, uint8_t *);
+
+static fill_call *fill = binlog_next;
 
 static uint32_t number(const uint8_t *bytes) {
     return bytes[0] | (uint32_t)bytes[1] << 8 | (uint32_t)bytes[2] << 16 | (uint32_t)bytes[3] << 24;
+}
+
+/* The CRC-32 of an event's bytes before its checksum, bit by bit, with the flag of a log that isn't closed cleared. */
+static uint32_t crc32_of(const uint8_t *event, size_t size) {
+    uint32_t crc = UINT32_MAX;
+    for (size_t i = 0; i + 4 < size; i++) {
+        crc ^= i == 17 ? event[i] & 0xfeu : event[i];
+        for (int bit = 0; bit < 8; bit++) {
+            crc = crc >> 1 ^ (crc & 1 ? 0xedb88320u : 0);
+        }
+    }
+    return ~crc;
+}
+
+/* The checksum is that at the end of the event. If it was verified, it is right, or wrong for a mismatch. */
+static void check_checksum(const uint8_t *event, const binlog_item *item) {
+    uint32_t stored = number(item->checksum);
+    require(memcmp(item->checksum, event + item->event_size - 4, 4) == 0, "the checksum is at the end");
+    if (fill != binlog_next_verified) {
+        return;
+    }
+    uint32_t right = crc32_of(event, item->event_size);
+    if (item->error == 0) {
+        require(stored == right, "the checksum of an event is right");
+    } else {
+        require(stored != right && item->computed_checksum == right, "a mismatch has the right checksum");
+    }
+}
+
+static void check_error(const uint8_t *event, const binlog_item *item) {
+    require(item->data_size == 0 && item->data_position == 0, "an error has no data");
+    require((item->has_checksum != 0) == (item->error == BINLOG_CHECKSUM_MISMATCH), "a mismatch alone has a checksum");
+    if (item->has_checksum) {
+        check_checksum(event, item);
+    } else {
+        require(item->computed_checksum == 0, "nothing else has a computed checksum");
+    }
 }
 
 static void check_place(const guarded_log *log, const binlog_item *item) {
@@ -22,14 +61,15 @@ static void check_place(const guarded_log *log, const binlog_item *item) {
     require(number(event + 9) == item->event_size && number(event + 13) == item->log_pos, "the sizes are the header's");
     require(event[4] == item->event_type && (event[17] | event[18] << 8) == item->flags, "the type is the header's");
     if (item->error != 0) {
-        require(item->data_size == 0 && item->data_position == 0 && item->has_checksum == 0, "an error has no data");
+        check_error(event, item);
         return;
     }
+    require(item->computed_checksum == 0, "an event has its checksum alone");
     require(item->position + item->event_size <= log->size, "the event is in the log");
     require(item->data_position == item->position + 19, "the data is behind the header");
     require(19 + item->data_size + (item->has_checksum ? 4 : 0) <= item->event_size, "the data is in the event");
     if (item->has_checksum) {
-        require(memcmp(item->checksum, event + item->event_size - 4, 4) == 0, "the checksum is at the end");
+        check_checksum(event, item);
     }
 }
 
@@ -38,9 +78,9 @@ static void check_again(const guarded_log *log, const binlog_item *item) {
     binlog_item same;
     memset(&same, 0, sizeof same);
     uint8_t error = 1;
-    size_t count = binlog_next(log->bytes, log->size, &cursor, &same, 1, &error);
+    size_t count = fill(log->bytes, log->size, &cursor, &same, 1, &error);
     require(count == 1 && error == 0, "the item is given again");
-    require(memcmp(&same, item, ITEM_BYTES) == 0, "it is the same item");
+    require(memcmp(&same, item, sizeof same) == 0, "it is the same item");
 }
 
 static void print_item(uint64_t index, const binlog_item *item) {
@@ -68,7 +108,7 @@ static int list(const guarded_log *log, binlog_item *items, size_t room) {
     }
     uint64_t index = 0;
     int status = 0;
-    for (size_t count; (count = binlog_next(log->bytes, log->size, &cursor, items, room, &error)) > 0;) {
+    for (size_t count; (count = fill(log->bytes, log->size, &cursor, items, room, &error)) > 0;) {
         require(count <= room, "no more items than room");
         for (size_t i = 0; i < count; i++, index++) {
             check_place(log, &items[i]);
@@ -85,6 +125,9 @@ static int list(const guarded_log *log, binlog_item *items, size_t room) {
 
 int main(int argc, char **argv) {
     size_t room = argc > 1 ? strtoul(argv[1], NULL, 10) : 64;
+    if (argc > 2 && strcmp(argv[2], "verified") == 0) {
+        fill = binlog_next_verified;
+    }
     binlog_item *items = (binlog_item *)calloc(room, sizeof *items);
     require(items != NULL, "no memory");
     for (guarded_log log; next_log(&log); free_log(&log)) {

@@ -1,4 +1,5 @@
 pub mod Descriptions
+pub mod Verified
 pub mod Steps
 pub mod Places
 pub mod Found

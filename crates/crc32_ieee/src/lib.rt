@@ -4,9 +4,9 @@
 //! ("slicing-by-8"), and four behind the last eight. It is proved to give the bit-by-bit CRC-32 of `specs/Crc32.antt`.
 #![tactic(auto)]
 
-ghost use Rattle.std.specs.Prelude.{◌≡◌, ◌+◌, ◌*◌, ◌<◌};
+ghost use Rattle.std.specs.Prelude.{◌≡◌, ◌+◌, ◌*◌, ◌<◌, flat_map};
 ghost use Rattle.std.specs.Int.RustNames.{bit_xor};
-ghost use Rattle.crc32_ieee.specs.Crc32.{after_bit, after_bits, crc32, AreEntries};
+ghost use Rattle.crc32_ieee.specs.Crc32.{after_bit, after_bits, register, crc32, AreEntries};
 
 /// The polynomial with its bits reversed.
 const POLYNOMIAL: u32 = 0xedb8_8320;
@@ -49,7 +49,26 @@ impl Crc32 {
     pub fn checksum(&self, bytes: &[u8]) -> u32
         ensures { result ≡ crc32 bytes.now }
     {
+        !self.after(u32::MAX, bytes)
+    }
+
+    /// The CRC-32 of these parts as if they were one after another in one slice, 0 for no bytes. They are read once, and
+    /// nothing is allocated or copied.
+    pub fn checksum_of_parts(&self, parts: &[&[u8]]) -> u32
+        ensures { result ≡ crc32 (flat_map (λ part. part.now) parts.now) }
+    {
         let mut crc = u32::MAX;
+        for part in parts {
+            crc = self.after(crc, part);
+        }
+        !crc
+    }
+
+    // The register after these bytes.
+    fn after(&self, before: u32, bytes: &[u8]) -> u32
+        ensures { result ≡ register before bytes.now }
+    {
+        let mut crc = before;
         let mut rest = bytes;
         'words: while let Some((word, behind)) = rest.split_first_chunk::<WORD>() {
             crc = self.after_word(u64::from_le_bytes(*word) ^ u64::from(crc));
@@ -63,7 +82,7 @@ impl Crc32 {
             crc = self.after_byte(crc, *byte);
             rest = behind;
         }
-        !crc
+        crc
     }
 
     // The register after a byte and `zeros_behind` zero bytes, from an empty register.

@@ -23,3 +23,11 @@ fn gives_known_checksums(rt: HostRuntime) {
         assert_eq!(rt; crc32.checksum(bytes), wanted, "of {bytes:?}");
     }
 }
+
+#[test]
+fn gives_the_checksum_of_parts(rt: HostRuntime) {
+    let crc32 = Crc32::new();
+    let parts: [&[u8]; 4] = [b"12345", b"", b"6", b"789"];
+    assert_eq!(rt; crc32.checksum_of_parts(&parts), 0xcbf4_3926);
+    assert_eq!(rt; crc32.checksum_of_parts(&[]), 0);
+}
