@@ -5,8 +5,9 @@ Usage: allocations.py
 
 The programs and tests are those that are built in crates/NAME/out. Each further event takes one buffer if it is owned
 (probe_owned_events), and nothing if it is borrowed (binlog_list, binlog_json, bench_write_back), even if statements and
-their status variables are read (bench_typed), or GTIDs that come in order are kept (binlog_gtids_list). Checksums take nothing. A format description that comes into force, and a
-table map, is copied once: one allocation for each of its texts that isn't empty, and one for the description.
+their status variables are read (bench_typed), or MariaDB's GTIDs (bench_maria_gtids), or GTIDs that come in order are kept
+(binlog_gtids_list). Checksums take nothing. A format description that comes into force, and a table map, is copied once: one
+allocation for each of its texts that isn't empty, and one for the description.
 
 No allocation of a program is larger than the bytes that came and 65,536 more; the vector of table maps may have 12 bytes
 for each byte that came. All memory is freed when a program or a test ends. Where a header states 4,294,967,295 bytes and
@@ -30,7 +31,10 @@ from damaged_copies import MAGIC
 
 FEW, MANY = 10, 1010
 
-TABLE_MAP = 19
+TABLE_MAP, MARIA_GTID = 19, 162
+
+# A log of a MariaDB server.
+MARIA_LOG = watched.CRATES / "probe_maria_events/stdin"
 
 
 def table_map(table_id):
@@ -44,6 +48,11 @@ def statement_of(count):
     variables = bytes([0x0C, count]) + count * b"a\0"
     head = struct.pack("<IIBHH", 1, 0, 0, 0, len(variables))
     return make_sample.frame(make_sample.QUERY, head + variables + b"\0q", 0)
+
+
+def maria_gtid(index):
+    """A GTID of MariaDB, of a transaction: the sequence number, the domain, the flags, and reserved bytes."""
+    return make_sample.frame(MARIA_GTID, struct.pack("<QIB", index + 1, 0, 0x0C) + bytes(6), 0)
 
 
 PLAIN_EVENT = make_sample.frame(make_sample.XID, make_sample.XID_BODY, 0)
@@ -81,6 +90,7 @@ LOGS = {
     "descriptions": Log(MAGIC, lambda _: DESCRIPTION, kept=3, owned=3),
     "statements that name databases": Log(MAGIC, lambda _: statement_of(100), is_counted=False),
     "GTIDs in order": Log(MAGIC, lambda index: gtids_sample.gtid(index + 1)),
+    "GTIDs of MariaDB": Log(MAGIC, maria_gtid),
 }
 
 # Logs that are read once.
@@ -91,6 +101,7 @@ WHOLE_LOGS = {
     "each body": json_sample.sample(),
     "each body, cut": json_sample.sample()[:-1],
     "GTIDs": gtids_sample.sample(),
+    "MariaDB's events": MARIA_LOG.read_bytes(),
 }
 
 # The number of allocations that each program makes for a further event.
@@ -100,13 +111,14 @@ PROGRAMS = {
     "binlog_gtids_list": 0,
     "bench_write_back": 0,
     "bench_typed": 0,
+    "bench_maria_gtids": 0,
     "bench_verifying": 0,
     "probe_owned_events": 1,
 }
 
 # The programs that hold a whole log, for which a buffer may have twice the bytes, and others.
 HOLDING = {"probe_slice_listing"}
-OTHERS = HOLDING | {"probe_typed_events", "bench_reading"}
+OTHERS = HOLDING | {"probe_typed_events", "probe_maria_events", "bench_reading"}
 
 # The bytes that the vector of table maps may take for each byte of a log: an entry of 216 bytes for an event of 37 bytes,
 # and twice as many entries as there are events.

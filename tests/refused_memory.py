@@ -37,6 +37,7 @@ LOGS = {
     "each body": json_sample.sample(),
     "GTIDs": gtids_sample.sample(),
     "long events": make_sample.sample() + 3 * LONG_EVENT,
+    "MariaDB's events": (watched.CRATES / "probe_maria_events/stdin").read_bytes(),
 }
 
 
@@ -107,6 +108,8 @@ PROGRAMS = {
     "bench_typed": failure_fault,
     "probe_owned_events": failure_fault,
     "probe_typed_events": failure_fault,
+    "probe_maria_events": failure_fault,
+    "bench_maria_gtids": failure_fault,
 }
 
 
