@@ -147,6 +147,7 @@ def some_cases(stated):
         damaged_copies.table_maps,
         damaged_copies.event_data,
         damaged_copies.gtids,
+        damaged_copies.maria_gtids,
     ):
         yield from islice(kind(), 0, None, STEP)
     yield from damaged_copies.not_binlogs(sample)

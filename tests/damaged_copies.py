@@ -30,6 +30,7 @@ import gtids_sample
 import json_model
 import listing_model
 import make_sample
+import maria_gtids_sample
 
 REPOSITORY = Path(__file__).resolve().parent.parent
 LISTING_PROGRAM = REPOSITORY / "crates/binlog_list/out/binlog_list"
@@ -376,6 +377,38 @@ def gtids():
             yield f"the same, then{later}", MAGIC + added + single
 
 
+# Server versions that are MariaDB's, and some that are not.
+MARIA_VERSIONS = [
+    b"-MariaDB",
+    b"5.5.5-10.11.6-MariaDB-log",
+    b"11.4.2-MariaDB",
+    b"10.11.6-mariadb-log",
+    b"10.11.6-MariaD",
+    b"10.11.6-MariaD-MariaDB",
+    b"10.11.6\0-MariaDB",
+    # The name in the last of the 50 bytes, and cut off by their end.
+    41 * b"1" + b"-MariaDB",
+    42 * b"1" + b"-MariaDB",
+    43 * b"1" + b"-MariaD",
+]
+
+
+def maria_gtids():
+    """Logs of MariaDB's GTIDs, damaged, and under other descriptions."""
+    yield "GTIDs under descriptions of MariaDB and MySQL", maria_gtids_sample.sample()
+    for kind in (no_change, truncations, changed_bytes, changed_sizes):
+        for name, content in kind(maria_gtids_sample.small_sample()):
+            yield f"MariaDB's GTIDs: {name}", content
+    events = b"".join(maria_gtids_sample.events())
+    yield "MariaDB's GTIDs without a description", MAGIC + events
+    for version in MARIA_VERSIONS:
+        yield f"MariaDB's GTIDs of {version}", MAGIC + maria_gtids_sample.start(version) + events
+    for extra in range(32):
+        for length in range(16):
+            event = maria_gtids_sample.gtid(1, 2, 3, behind=bytes([extra]) + bytes(length))
+            yield f"a GTID with {length} bytes behind its extra flags {extra}", MAGIC + maria_gtids_sample.start() + event
+
+
 def encoded(stated):
     """Logs of encoded events with the encoder's output for them, and logs of damaged copies."""
     for log in encoded_logs.logs():
@@ -407,6 +440,7 @@ def all_cases(sample, stated):
     yield from event_data()
     yield from texts()
     yield from gtids()
+    yield from maria_gtids()
     yield from encoded(stated)
 
 

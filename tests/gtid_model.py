@@ -1,11 +1,13 @@
 """A plain model of the listing of GTIDs: the output and the exit status of `binlog_gtids_list`.
 
-The items of a log, and which of them are errors, come from the model of the listing; the fields of GTID events come from the
-model of event data. A set is a list of the intervals that were added, which are merged at the end.
+The items of a log, and which of them are errors, come from the model of the listing; the fields of MySQL's GTID events come
+from the model of event data, those of MariaDB's from `maria_gtid_model`. A set is a list of the intervals that were added,
+which are merged at the end.
 """
 
 import event_data_model
 import listing_model
+import maria_gtid_model
 from event_data_model import Fault
 
 GTID, PREVIOUS_GTIDS, GTID_TAGGED = 33, 35, 42
@@ -43,7 +45,7 @@ def gtids_of(type_number, data, lengths):
 
 
 def frame_gtids(frame, in_force):
-    """What the event of a frame adds; a fault if the item is an error, or the event is."""
+    """What the event of a frame adds, MySQL's GTIDs and MariaDB's; a fault if the item is an error, or the event is."""
     parts = listing_model.cut(frame, in_force.algorithm)
     if parts is None:
         raise Fault(4)
@@ -51,7 +53,12 @@ def frame_gtids(frame, in_force):
     fault = listing_model.body_fault(frame, data, in_force)
     if fault is not None:
         raise Fault(fault)
-    return gtids_of(listing_model.type_number(frame), data, in_force.lengths)
+    type_number = listing_model.type_number(frame)
+    if maria_gtid_model.is_maria(in_force.server_version):
+        return gtids_of(type_number, data, in_force.lengths), maria_gtid_model.gtids_of(
+            type_number, data, listing_model.server_id(frame)
+        )
+    return gtids_of(type_number, data, in_force.lengths), []
 
 
 def merged(intervals):
@@ -85,23 +92,26 @@ def group_line(sid, tag, intervals):
 
 
 def tracked(content):
-    """The lines of the errors, and for each source and tag the intervals that were added."""
+    """The lines of the errors, for each source and tag the intervals that were added, and MariaDB's last GTIDs."""
     frames, tail = listing_model.split(content[4:])
-    lines, groups = [], {}
+    lines, groups, last = [], {}, {}
     for index, (frame, in_force) in enumerate(zip(frames, listing_model.in_force_at(frames))):
         try:
-            for sid, tag, start, end in frame_gtids(frame, in_force):
+            intervals, gtids = frame_gtids(frame, in_force)
+            for sid, tag, start, end in intervals:
                 groups.setdefault((sid, tag), []).append((start, end))
+            for domain, server_id, sequence in gtids:
+                last[domain, server_id] = sequence
         except Fault as fault:
             lines.append(f"{index} error E{fault.args[0]}\n")
     if listing_model.is_undersized(tail):
         lines.append(f"{len(frames)} error E3\n")
-    return lines, groups
+    return lines, groups, last
 
 
 def error_lines(content):
     """The lines of the errors alone: what is listed if the input fails behind this content."""
-    lines, _ = tracked(content)
+    lines, _, _ = tracked(content)
     return "".join(lines).encode("ascii")
 
 
@@ -109,6 +119,8 @@ def expected(content):
     """The standard output and the exit status for a file of this content."""
     if content[:4] != listing_model.FILE_HEADER:
         return b"", listing_model.STATUS_NOT_A_BINLOG
-    lines, groups = tracked(content)
-    listing = "".join(lines + [group_line(sid, tag, groups[sid, tag]) for sid, tag in sorted(groups)])
+    lines, groups, last = tracked(content)
+    group_lines = [group_line(sid, tag, groups[sid, tag]) for sid, tag in sorted(groups)]
+    maria_lines = [f"{domain}-{server_id}-{last[domain, server_id]}\n" for domain, server_id in sorted(last)]
+    listing = "".join(lines + group_lines + maria_lines)
     return listing.encode("ascii"), listing_model.STATUS_ERRORS if lines else listing_model.STATUS_FINE

@@ -25,6 +25,7 @@ import json_sample
 import listing_model
 import make_sample
 import maria_events
+import maria_gtids_sample
 import watched
 
 SUCCESS, FAILURE, OUTSIDE = 0, 1, 3
@@ -36,6 +37,7 @@ LOGS = {
     "the sample with checksums": checksummed_sample.sample(),
     "each body": json_sample.sample(),
     "GTIDs": gtids_sample.sample(),
+    "MariaDB's GTIDs": maria_gtids_sample.sample(),
     "long events": make_sample.sample() + 3 * LONG_EVENT,
     "MariaDB's events": (watched.CRATES / "probe_maria_events/stdin").read_bytes(),
 }

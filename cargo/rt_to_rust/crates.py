@@ -20,9 +20,17 @@ LIBRARY = [
     "binlog_ends",
     "binlog_events",
     "binlog_mariadb",
+    "binlog_maria_gtids",
     "binlog_file",
 ]
-TOOLS = ["json_line", "binlog_lines", "binlog_listing", "binlog_gtid_listing", "binlog_json_lines"]
+TOOLS = [
+    "json_line",
+    "binlog_lines",
+    "binlog_listing",
+    "binlog_gtid_listing",
+    "binlog_maria_gtid_listing",
+    "binlog_json_lines",
+]
 
 # The crates of programs, and the programs' names.
 PROGRAMS = {"binlog_list": "binlog-list", "binlog_json": "binlog-json", "binlog_gtids_list": "binlog-gtids"}
@@ -42,6 +50,7 @@ TESTS = [
     "test_gtid_sets",
     "test_gtid_text",
     "test_mariadb",
+    "test_maria_gtids",
     "test_files",
     "test_events",
     "test_failing_ends",

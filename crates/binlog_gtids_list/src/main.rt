@@ -1,9 +1,9 @@
-//! Lists the GTIDs of the binary log on standard input.
+//! Lists the GTIDs of the binary log on standard input, MySQL's and MariaDB's.
 #![tactic(auto)]
 
 use binlog_file::{Counted, Error, Retrying, WriteCounted};
-use binlog_gtid_listing::list_gtids;
 use binlog_lines::status;
+use binlog_maria_gtid_listing::list_all_gtids;
 use std::io;
 use std::io::BufWriter;
 use std::process::ExitCode;
@@ -18,7 +18,7 @@ fn run(rt: &(impl Input + Print + AllocGlobal)) -> Result<bool, Error> {
         return Err(Error::Memory);
     };
     let mut output = Counted::new(buffered);
-    let answer = list_gtids(rt.alloc(), &mut input, &mut output);
+    let answer = list_all_gtids(rt.alloc(), &mut input, &mut output);
     if output.flush_counted().is_err() {
         return Err(Error::Writer);
     }

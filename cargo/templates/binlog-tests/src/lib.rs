@@ -37,6 +37,7 @@ pub mod test_gtid_sets;
 pub mod test_gtid_text;
 pub mod test_gtids;
 pub mod test_images;
+pub mod test_maria_gtids;
 pub mod test_mariadb;
 pub mod test_optional_metadata;
 pub mod test_rows;

@@ -6,6 +6,7 @@ pub mod binlog_gtid_listing;
 pub mod binlog_json_lines;
 pub mod binlog_lines;
 pub mod binlog_listing;
+pub mod binlog_maria_gtid_listing;
 mod digits;
 mod json;
 #[doc(hidden)]

@@ -43,6 +43,7 @@ mod binlog_gtid_sets;
 mod binlog_gtid_text;
 mod binlog_gtids;
 mod binlog_images;
+mod binlog_maria_gtids;
 mod binlog_mariadb;
 mod binlog_numbers;
 // Of the counts of columns by their class two are of no use yet.
@@ -131,8 +132,9 @@ pub mod counted {
     pub use crate::binlog_ends::{Retrying, SliceReader, WriteCounted};
 }
 
-/// MariaDB's own events.
+/// MariaDB's own events, and the last of its GTIDs.
 pub mod mariadb {
+    pub use crate::binlog_maria_gtids::MariaGtidTracker;
     pub use crate::binlog_mariadb::{AnnotateRowsEvent, BinlogCheckpointEvent, GtidExtra, GtidHead};
     pub use crate::binlog_mariadb::{GtidListEvent, MariaEvent, MariaEventData, MariaEventType};
     pub use crate::binlog_mariadb::{MariaGtid, MariaGtidEvent, MariaGtidFlags, RowsCompressedEvent};

@@ -1,0 +1,5 @@
+pub mod Versions
+pub mod MariaAdded
+pub mod Lines
+pub mod Logged
+pub mod LogCounts

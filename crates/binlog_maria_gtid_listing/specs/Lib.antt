@@ -1,0 +1,4 @@
+pub mod MariaVersions
+pub mod MariaItems
+pub mod MariaLines
+pub mod AllGtids

@@ -1,0 +1,2 @@
+pub mod LastGtids
+pub mod LastEntries

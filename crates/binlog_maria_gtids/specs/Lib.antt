@@ -1,0 +1,3 @@
+pub mod LastGtids
+pub mod LastEntries
+pub mod AddedGtids
