@@ -4,7 +4,7 @@ use Rattle.binlog_values.specs.Values.{meaning_of, content_of}
 use Rattle.binlog_values.specs.declared.value.Value.{Value}
 use Rattle.binlog_values.specs.declared.value.Value.TheVariants as values
 use Rattle.binlog_values.specs.declared.times.Timestamp2.{Timestamp2}
-use Rattle.binlog_row_lines.specs.Facts.{Facts}
+use Rattle.binlog_column_facts.specs.Facts.{Facts}
 use Rattle.binlog_row_lines.specs.Parts.{exact}
 use Rattle.binlog_row_lines.specs.Values.{value_tokens, value_parts}
 

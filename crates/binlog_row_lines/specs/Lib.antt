@@ -1,4 +1,3 @@
-pub mod Facts
 pub mod Parts
 pub mod Numbers
 pub mod Decimals

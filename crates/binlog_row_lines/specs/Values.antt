@@ -6,7 +6,7 @@ use Rattle.binlog_values.specs.Contents.{Content, number_in, bytes_in, before_fr
 use Rattle.binlog_values.specs.Times.{microseconds_of, date_time_of, time_distance}
 use Rattle.binlog_values.specs.Values.{Meaning}
 use Rattle.binlog_values.specs.Values as meanings
-use Rattle.binlog_row_lines.specs.Facts.{Facts}
+use Rattle.binlog_column_facts.specs.Facts.{Facts}
 use Rattle.binlog_row_lines.specs.Parts.{Part, exactly, utc, exact}
 use Rattle.binlog_row_lines.specs.Numbers.{integer_value, single_parts, double_parts}
 use Rattle.binlog_row_lines.specs.Decimals.{decimal_text}

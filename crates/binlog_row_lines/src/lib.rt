@@ -5,7 +5,6 @@
 //! number.
 #![tactic(auto)]
 
-mod column_facts;
 mod decimals;
 mod digits;
 mod numbers;
@@ -14,5 +13,5 @@ mod times;
 mod timestamps;
 mod values;
 
-pub use column_facts::ColumnFacts;
+pub use binlog_column_facts::ColumnFacts;
 pub use values::ValueWriter;

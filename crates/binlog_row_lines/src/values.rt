@@ -6,16 +6,16 @@ ghost use Rattle.json.specs.Token.{string};
 ghost use Rattle.json_line.specs.Lines.{IsPlainText};
 ghost use Rattle.json_line.specs.Tokens.{Adds};
 ghost use Rattle.binlog_values.specs.Values.{meaning_of, content_of};
-ghost use Rattle.binlog_row_lines.specs.Facts.{facts_of};
+ghost use Rattle.binlog_column_facts.specs.Facts.{facts_of};
 ghost use Rattle.binlog_row_lines.specs.Parts.{Writes};
 ghost use Rattle.binlog_row_lines.specs.Decimals.{decimal_text};
 ghost use Rattle.binlog_row_lines.specs.Values.{year_of, date_of, time_of, datetime_of, datetime2_of, time2_of, string_value, encoded_value, value_tokens, value_parts};
 
-use crate::column_facts::ColumnFacts;
 use crate::decimals::push_decimal;
 use crate::numbers::{write_double, write_integer, write_single};
 use crate::times::{push_clock, push_date, push_fraction, push_sign};
 use crate::timestamps::write_timestamp;
+use binlog_column_facts::ColumnFacts;
 use binlog_values::{Date, DateTime, DateTime2, Decimal, Time, Time2, Value};
 use json_line::Line;
 use std::alloc::{AllocError, Global};

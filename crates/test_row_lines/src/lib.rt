@@ -6,6 +6,8 @@ mod rows;
 #[cfg(test)]
 mod shown;
 #[cfg(test)]
+mod stated;
+#[cfg(test)]
 mod temporal;
 #[cfg(test)]
 mod values;

@@ -26,6 +26,7 @@ impl AsStr for Cow<'_, str> {
 }
 
 pub mod test_bodies;
+pub mod test_column_facts;
 pub mod test_ends;
 pub mod test_events;
 pub mod test_failing_ends;

@@ -32,6 +32,7 @@
 #![forbid(unsafe_code)]
 
 mod binlog_bodies;
+mod binlog_column_facts;
 mod binlog_columns;
 mod binlog_consts;
 mod binlog_description;
@@ -147,6 +148,7 @@ pub mod mariadb {
 ///
 /// [`RowsEventExt::rows`](values::RowsEventExt::rows) gives the rows of an event beside its table map.
 pub mod values {
+    pub use crate::binlog_column_facts::{ColumnFacts, TableMapColumns};
     pub use crate::binlog_columns::{Column, ColumnError, ColumnErrorKind, ColumnType, Layout};
     pub use crate::binlog_columns::{TableColumns, UnknownColumnType};
     pub use crate::binlog_images::{ColumnValue, HasWholeRows, Image, ImageKind, Row, Rows};

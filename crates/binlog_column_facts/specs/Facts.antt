@@ -1,6 +1,6 @@
 -- What a table map states of a column, besides its type.
 use Rattle.std.specs.Prelude.{ℕ, Bool, List, Option, option_map}
-use Rattle.binlog_row_lines.specs.declared.column_facts.ColumnFacts.{ColumnFacts}
+use Rattle.binlog_column_facts.specs.declared.column_facts.ColumnFacts.{ColumnFacts}
 
 -- The name, if it is stated; that the column is UNSIGNED; and that its character set is `binary`.
 pub record Facts : Type 0 where

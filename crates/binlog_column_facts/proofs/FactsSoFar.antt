@@ -1,0 +1,173 @@
+-- The facts of columns, one at a time.
+use Rattle.std.proofs.Common.{◌≡◌, ℕ, zero, suc, ◌+◌, ◌^◌, ◌<◌, ◌≤◌, Bool, true, false, cond, List, [], ◌∷◌, ◌++◌, length, get_or, take, drop, Option, Some, None, refl, sym, ap, subst, ◌∙◌, ⊎_elim, arith}
+use Rattle.std.proofs.lemmas.Bool.{cases_lt}
+use Rattle.std.proofs.lemmas.List.{get_or_append_left, get_or_push, length_push, length-take-le, drop-drop}
+use Rattle.std.specs.Prelude.{◌&&◌, option_map, unwrap_or, slice_get}
+use Rattle.std.specs.Option.{option_and_then}
+use Rattle.binlog_columns.specs.Metadata.{Typed}
+use Rattle.binlog_columns.specs.RealTypes.{real_type}
+use Rattle.binlog_columns.specs.declared.column_type.ColumnType.TheVariants.{MYSQL_TYPE_NULL}
+use Rattle.binlog_optional_metadata.specs.Classes.{is_in_class, class_count}
+use Rattle.binlog_optional_metadata.specs.Counts.{counts_of}
+use Rattle.binlog_optional_metadata.specs.Fields.{Content}
+use Rattle.binlog_optional_metadata.specs.Fields as contents
+use Rattle.binlog_optional_metadata.specs.Names.{names_of}
+use Rattle.binlog_optional_metadata.specs.declared.column_class.ColumnClass.{ColumnClass}
+use Rattle.binlog_optional_metadata.specs.declared.column_class.ColumnClass.TheVariants.{Character}
+use Rattle.binlog_optional_metadata.specs.declared.field_type.OptionalMetadataFieldType.TheVariants.{COLUMN_NAME}
+use Rattle.binlog_optional_metadata.specs.declared.names.Names.{Names}
+use Rattle.binlog_column_facts.specs.Facts.{Facts, facts_of}
+use Rattle.binlog_column_facts.specs.Fields.{AreFields}
+use Rattle.binlog_column_facts.specs.Stated.{Stated, stated_in, is_set_in, is_binary_in, names_stated, text_of, numeric_class, facts_behind, facts_at, StatesFacts}
+use Rattle.binlog_column_facts.specs.StatedFields.{names_left}
+use Rattle.binlog_column_facts.specs.declared.class_index.ClassIndex.{ClassIndex}
+use Rattle.binlog_column_facts.specs.declared.column_facts.ColumnFacts.{ColumnFacts}
+use Rattle.binlog_column_facts.proofs.ClassCounts.{class_count_more, class_index_le}
+
+-- The column that stands for none.
+abbrev pub no_column : Typed
+no_column = (MYSQL_TYPE_NULL, 0)
+
+-- The columns of a class that were counted.
+abbrev pub counted : ColumnClass → List Typed → ClassIndex
+counted class before = record { class = class; next = class_count class before }
+
+-- The facts of the first columns, and what is left.
+pub record SoFar (is_maria_log : Bool) (stated : Stated) (columns : List Typed) (count : ℕ) (facts : List ColumnFacts) (numeric character : ClassIndex) (names : List (List ℕ)) : Type 0 where
+  pub count_is : length facts ≡ count
+  pub each : (index : ℕ) (none : ColumnFacts) → index < count → facts_of (get_or facts index none) ≡ facts_at is_maria_log stated columns index
+  pub numeric_is : numeric ≡ counted (numeric_class is_maria_log) (take count columns)
+  pub character_is : character ≡ counted Character (take count columns)
+  pub names_are : names ≡ drop count (names_stated stated.names)
+
+-- No column yet.
+pub none_so_far : (is_maria_log : Bool) (stated : Stated) (columns : List Typed) (facts : List ColumnFacts) (numeric character : ClassIndex) (names : List (List ℕ))
+    → facts ≡ [] → numeric ≡ record { class = numeric_class is_maria_log; next = 0 } → character ≡ record { class = Character; next = 0 } → names ≡ names_stated stated.names
+    → SoFar is_maria_log stated columns 0 facts numeric character names
+none_so_far is_maria_log stated columns facts numeric character names none numeric_is character_is names_are = record {
+  count_is = ap (λ (l : List ColumnFacts). length l) none;
+  each = λ index fact below. absurd (omega (arith, below));
+  numeric_is = numeric_is;
+  character_is = character_is;
+  names_are = names_are;
+}
+
+-- The names that are left are all that are stated.
+pub all_names : (columns : Option Names) → names_left columns ≡ names_stated (option_map (λ (c : Names). contents.names COLUMN_NAME (names_of c)) columns)
+all_names None = refl
+all_names (Some columns) = refl
+
+-- The next indexes in the classes fit.
+pub indexes_fit : {is_maria_log : Bool} {stated : Stated} {columns : List Typed} {count : ℕ} {facts : List ColumnFacts} {numeric character : ClassIndex} {left : List (List ℕ)}
+    → SoFar is_maria_log stated columns count facts numeric character left → count < length columns → length columns < 2 ^ 64
+    → (numeric.next + 1 < 2 ^ 64) × (character.next + 1 < 2 ^ 64)
+indexes_fit {is_maria_log} {stated} {columns} {count} {facts} {numeric} {character} so_far below small =
+    let a = class_index_le (numeric_class is_maria_log) columns count (omega arith) in
+    let b = class_index_le Character columns count (omega arith) in
+    let e : numeric.next ≡ class_count (numeric_class is_maria_log) (take count columns) = ap (λ (i : ClassIndex). i.next) so_far.numeric_is in
+    let f : character.next ≡ class_count Character (take count columns) = ap (λ (i : ClassIndex). i.next) so_far.character_is in
+    (omega (arith, a, e, below, small), omega (arith, b, f, below, small))
+
+-- All columns.
+pub all_facts : {is_maria_log : Bool} {stated : Stated} {columns : List Typed} {count : ℕ} {facts : List ColumnFacts} {numeric character : ClassIndex} {left : List (List ℕ)}
+    → (s : List ℕ) (fields : List Content) → SoFar is_maria_log stated columns count facts numeric character left → count ≡ length columns
+    → AreFields (counts_of is_maria_log columns) s fields → stated ≡ stated_in fields → StatesFacts is_maria_log columns s facts
+all_facts {is_maria_log} {stated} {columns} {count} {facts} s fields so_far all are last = record {
+  fields = fields;
+  are = are;
+  count = so_far.count_is ∙ all;
+  each = λ index none below. so_far.each index none (omega (arith, below, all)) ∙ ap (λ (fields : Stated). facts_at is_maria_log fields columns index) last;
+}
+
+-- ---- one more column
+
+-- The index in a class of the next column.
+abbrev pub next_index : ClassIndex → Typed → Option ℕ
+next_index class column = cond (is_in_class class.class (real_type column)) (Some class.next) None
+
+abbrev pub next_class : ClassIndex → Typed → ClassIndex
+next_class class column = record { class = class.class; next = class.next + cond (is_in_class class.class (real_type column)) 1 0 }
+
+-- What a column's facts are read from: a fact of a class, at its index there.
+abbrev pub fact_in : (ℕ → Bool) → Option ℕ → Bool
+fact_in f index = unwrap_or (option_map f index) false
+
+in_class : (f : ℕ → Bool) (is_in : Bool) (index : ℕ) → fact_in f (cond is_in (Some index) None) ≡ is_in && f index
+in_class f true index = refl
+in_class f false index = refl
+
+same_in_class : (f g : ℕ → Bool) (is_in : Bool) (index : ℕ) → f index ≡ g index → fact_in f (cond is_in (Some index) None) ≡ is_in && g index
+same_in_class f g true index same = same
+same_in_class f g false index same = refl
+
+first_left : (n : ℕ) (names : List (List ℕ)) → slice_get (drop n names) 0 ≡ slice_get names n
+first_left zero names = refl
+first_left (suc n) [] = refl
+first_left (suc n) (name ∷ names) = first_left n names
+
+counted_more : (class : ColumnClass) (columns : List Typed) (count : ℕ) (column : Typed) (old new : ClassIndex) → count < length columns → column ≡ get_or columns count no_column
+    → old ≡ counted class (take count columns) → new ≡ next_class old column → new ≡ counted class (take (count + 1) columns)
+counted_more class columns count column old new below here old_is new_is =
+    let more = class_count_more class columns count no_column below in
+    rw (new_is, old_is, more, here) refl
+
+-- What is stated of a column whose facts are read from the fields.
+pub record ReadsFacts (stated : Stated) (flags : List Bool) (numeric character : ClassIndex) (names : List (List ℕ)) (column : Typed) (fact : ColumnFacts) : Type 0 where
+  pub name : option_map (λ text. text.now) fact.name ≡ option_and_then text_of (slice_get names 0)
+  pub unsigned : fact.is_unsigned ≡ fact_in (is_set_in stated.signedness) (next_index numeric column)
+  pub binary : fact.is_binary ≡ fact_in (λ index. get_or flags index false) (next_index character column)
+
+same_facts : (fact : ColumnFacts) (facts : Facts) → option_map (λ text. text.now) fact.name ≡ facts.name → fact.is_unsigned ≡ facts.is_unsigned → fact.is_binary ≡ facts.is_binary
+    → facts_of fact ≡ facts
+same_facts fact facts name unsigned binary = rw (name, unsigned, binary) refl
+
+-- The facts of the next column are those that are stated of it.
+next_facts : (is_maria_log : Bool) (stated : Stated) (columns : List Typed) (flags : List Bool) (count : ℕ) (numeric character : ClassIndex) (names : List (List ℕ)) (column : Typed)
+    (fact : ColumnFacts) → count < length columns → column ≡ get_or columns count no_column
+    → numeric ≡ counted (numeric_class is_maria_log) (take count columns) → character ≡ counted Character (take count columns) → names ≡ drop count (names_stated stated.names)
+    → ((index : ℕ) → index < length columns → get_or flags index false ≡ is_binary_in stated.collations index)
+    → ReadsFacts stated flags numeric character names column fact → facts_of fact ≡ facts_at is_maria_log stated columns count
+next_facts is_maria_log stated columns flags count numeric character names column fact below here numeric_is character_is names_are are_flags reads =
+    let before : List Typed = take count columns in
+    let len : length before ≡ count = length-take-le count columns (omega arith) in
+    let class = numeric_class is_maria_log in
+    let name : option_map (λ text. text.now) fact.name ≡ option_and_then text_of (slice_get (names_stated stated.names) (length before)) =
+    reads.name ∙ ap (λ (left : List (List ℕ)). option_and_then text_of (slice_get left 0)) names_are
+    ∙ ap (λ (name : Option (List ℕ)). option_and_then text_of name) (first_left count (names_stated stated.names))
+    ∙ ap (λ (n : ℕ). option_and_then text_of (slice_get (names_stated stated.names) n)) (sym len) in
+    let unsigned : fact.is_unsigned ≡ is_in_class class (real_type column) && is_set_in stated.signedness (class_count class before) =
+    reads.unsigned ∙ ap (λ (index : ClassIndex). fact_in (is_set_in stated.signedness) (next_index index column)) numeric_is
+    ∙ in_class (is_set_in stated.signedness) (is_in_class class (real_type column)) (class_count class before) in
+    let small : class_count Character before ≤ count = class_index_le Character columns count (omega arith) in
+    let binary : fact.is_binary ≡ is_in_class Character (real_type column) && is_binary_in stated.collations (class_count Character before) =
+    reads.binary ∙ ap (λ (index : ClassIndex). fact_in (λ (i : ℕ). get_or flags i false) (next_index index column)) character_is
+    ∙ same_in_class (λ (i : ℕ). get_or flags i false) (is_binary_in stated.collations) (is_in_class Character (real_type column)) (class_count Character before)
+    (are_flags (class_count Character before) (omega (arith, small))) in
+    same_facts fact (facts_behind is_maria_log stated before column) name unsigned binary ∙ ap (λ (c : Typed). facts_behind is_maria_log stated before c) here
+
+-- One more column.
+pub one_more : (is_maria_log : Bool) (stated : Stated) (columns : List Typed) (flags : List Bool) (count : ℕ) (old new : List ColumnFacts)
+    (numeric numeric' character character' : ClassIndex) (names names' : List (List ℕ)) (column : Typed) (fact : ColumnFacts)
+    → SoFar is_maria_log stated columns count old numeric character names → count < length columns → column ≡ get_or columns count no_column
+    → ((index : ℕ) → index < length columns → get_or flags index false ≡ is_binary_in stated.collations index)
+    → ReadsFacts stated flags numeric character names column fact
+    → new ≡ old ++ fact ∷ [] → numeric' ≡ next_class numeric column → character' ≡ next_class character column → names' ≡ drop 1 names
+    → SoFar is_maria_log stated columns (count + 1) new numeric' character' names'
+one_more is_maria_log stated columns flags count old new numeric numeric' character character' names names' column fact so_far below here are_flags reads is numeric_is character_is names_are =
+    let next : facts_of fact ≡ facts_at is_maria_log stated columns count =
+    next_facts is_maria_log stated columns flags count numeric character names column fact below here so_far.numeric_is so_far.character_is so_far.names_are are_flags reads in
+    record {
+      count_is = ap (λ (l : List ColumnFacts). length l) is ∙ length_push old fact ∙ ap (λ (n : ℕ). n + 1) so_far.count_is;
+      each = λ index none less.
+          subst (λ (l : List ColumnFacts). facts_of (get_or l index none) ≡ facts_at is_maria_log stated columns index) (sym is)
+          (⊎_elim
+          (λ earlier. ap (λ (f : ColumnFacts). facts_of f) (get_or_append_left old (fact ∷ []) none index (omega (arith, so_far.count_is))) ∙ so_far.each index none earlier)
+          (λ last.
+          let same : count ≡ index = omega (arith, less, last) in
+          let length_is : length old ≡ index = so_far.count_is ∙ same in
+          ap (λ (f : ColumnFacts). facts_of f) (get_or_push old fact none index length_is) ∙ next ∙ ap (λ (n : ℕ). facts_at is_maria_log stated columns n) same)
+          (cases_lt index count));
+      numeric_is = counted_more (numeric_class is_maria_log) columns count column numeric numeric' below here so_far.numeric_is numeric_is;
+      character_is = counted_more Character columns count column character character' below here so_far.character_is character_is;
+      names_are = names_are ∙ ap (λ (l : List (List ℕ)). drop 1 l) so_far.names_are ∙ drop-drop 1 count (names_stated stated.names);
+    }

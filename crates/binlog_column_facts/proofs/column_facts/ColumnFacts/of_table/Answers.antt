@@ -1,0 +1,73 @@
+use Rattle.std.proofs.Common.{◌≡◌, ℕ, ◌+◌, ◌^◌, ◌<◌, Bool, false, cond, List, [], ◌∷◌, ◌++◌, length, get_or, Some, None, refl, ap, ◌∙◌, arith, rules}
+use Rattle.std.proofs.lemmas.Iterator.Consumers.{YieldsList-from_first, YieldsList-turn, YieldsList-end}
+use Rattle.std.proofs.lemmas.List.{get_or_read, length_push}
+use Rattle.binlog_columns.specs.Columns.{typed_of}
+use Rattle.binlog_columns.specs.TableColumns.{columns_of}
+use Rattle.binlog_columns.specs.declared.column_type.ColumnType.{ColumnType}
+use Rattle.binlog_optional_metadata.specs.Classes.{is_in_class}
+use Rattle.binlog_optional_metadata.specs.declared.column_class.ColumnClass.{ColumnClass}
+use Rattle.binlog_column_facts.specs.Stated.{is_set_in}
+use Rattle.binlog_column_facts.specs.StatedFields.{stated_of, names_left}
+use Rattle.binlog_column_facts.specs.declared.column_facts.ColumnFacts.{ColumnFacts}
+use Rattle.binlog_column_facts.proofs.FactsSoFar.{no_column, counted, none_so_far, all_names, indexes_fit, fact_in, next_class, ReadsFacts, one_more, all_facts}
+use Rattle.binlog_column_facts.proofs.column_facts.ColumnFacts.of_table.Goals as goal
+
+pub take-requires : goal.take-requires
+take-requires c =
+    let start : columns_of c.into_iter-column-iterator.result ≡ columns_of c.args.columns = ap columns_of c.into_iter-column-iterator.ensures.into_iter_gives in
+    let turn = YieldsList-turn (YieldsList-from_first typed_of columns_of (columns_of c.args.columns) start) c.columns.yielded c.columns.column-iterator c.columns.yielded_by
+    (Some c.in-Some.column) c.next.new.self c.in-Some.column refl c.in-Some.ensures.steps in
+    let small : length (columns_of c.args.columns) < 2 ^ 64 = omega (arith, c.num_columns-count.ensures) in
+    (indexes_fit c.columns.invariant turn.0 small).0
+
+pub take-requires-in-columns : goal.take-requires-in-columns
+take-requires-in-columns c =
+    let start : columns_of c.into_iter-column-iterator.result ≡ columns_of c.args.columns = ap columns_of c.into_iter-column-iterator.ensures.into_iter_gives in
+    let turn = YieldsList-turn (YieldsList-from_first typed_of columns_of (columns_of c.args.columns) start) c.columns.yielded c.columns.column-iterator c.columns.yielded_by
+    (Some c.in-Some.column) c.next.new.self c.in-Some.column refl c.in-Some.ensures.steps in
+    let small : length (columns_of c.args.columns) < 2 ^ 64 = omega (arith, c.num_columns-count.ensures) in
+    (indexes_fit c.columns.invariant turn.0 small).1
+
+pub columns-init : goal.columns-init
+columns-init c =
+    none_so_far c.args.is_maria_log (stated_of c.read-stated.result) (columns_of c.args.columns) c.in_ok-facts.facts.items c.new-numeric.result c.new-character.result
+    (names_left c.read-stated.result.names) c.in_ok-facts.ensures.items
+    (c.new-numeric.ensures ∙ ap (λ (class : ColumnClass). counted class []) c.numeric_class.ensures) c.new-character.ensures (all_names c.read-stated.result.names)
+
+pub columns-preserved : goal.columns-preserved
+columns-preserved c =
+    let start : columns_of c.into_iter-column-iterator.result ≡ columns_of c.args.columns = ap columns_of c.into_iter-column-iterator.ensures.into_iter_gives in
+    let turn = YieldsList-turn (YieldsList-from_first typed_of columns_of (columns_of c.args.columns) start) c.columns.yielded c.columns.column-iterator c.columns.yielded_by
+    (Some c.in-Some.column) c.next.new.self c.in-Some.column refl c.in-Some.ensures.steps in
+    let here = get_or_read (columns_of c.args.columns) (length c.columns.yielded) (typed_of c.in-Some.column) turn.0 turn.1 no_column in
+    let fact : ColumnFacts = record { name = c.next_name.result; is_unsigned = c.is_set.result; is_binary = c.flag_at.result } in
+    let pushed : c.push.new.self.items ≡ c.columns.facts.items ++ fact ∷ [] = search rules in
+    let reads : ReadsFacts (stated_of c.read-stated.result) c.in_ok-binary.binary.items c.columns.numeric c.columns.character (names_left c.columns.names) (typed_of c.in-Some.column) fact =
+    record {
+      name = c.next_name.ensures.name;
+      unsigned = c.is_set.ensures
+          ∙ ap (fact_in (is_set_in (stated_of c.read-stated.result).signedness))
+          (c.take.ensures.index ∙ ap (λ (t : ColumnType). cond (is_in_class c.columns.numeric.class t) (Some c.columns.numeric.next) None) c.real_type-real_type.ensures);
+      binary = c.flag_at.ensures
+          ∙ ap (λ (flags : List Bool). fact_in (λ (i : ℕ). get_or flags i false) c.take-in-columns.result) c.deref.ensures.value
+          ∙ ap (fact_in (λ (i : ℕ). get_or c.in_ok-binary.binary.items i false))
+          (c.take-in-columns.ensures.index ∙ ap (λ (t : ColumnType). cond (is_in_class c.columns.character.class t) (Some c.columns.character.next) None) c.real_type-real_type.ensures);
+    } in
+    let numeric : c.take.new.self ≡ next_class c.columns.numeric (typed_of c.in-Some.column) =
+    c.take.ensures.after
+    ∙ ap (λ (t : ColumnType). record { class = c.columns.numeric.class; next = c.columns.numeric.next + cond (is_in_class c.columns.numeric.class t) 1 0 }) c.real_type-real_type.ensures in
+    let character : c.take-in-columns.new.self ≡ next_class c.columns.character (typed_of c.in-Some.column) =
+    c.take-in-columns.ensures.after
+    ∙ ap (λ (t : ColumnType). record { class = c.columns.character.class; next = c.columns.character.next + cond (is_in_class c.columns.character.class t) 1 0 }) c.real_type-real_type.ensures in
+    rw (length_push c.columns.yielded c.in-Some.column)
+    (one_more c.args.is_maria_log (stated_of c.read-stated.result) (columns_of c.args.columns) c.in_ok-binary.binary.items (length c.columns.yielded) c.columns.facts.items c.push.new.self.items
+    c.columns.numeric c.take.new.self c.columns.character c.take-in-columns.new.self (names_left c.columns.names) (names_left c.next_name.new.names) (typed_of c.in-Some.column) fact
+    c.columns.invariant turn.0 here (λ index less. c.in_ok-binary.ensures index (omega (arith, c.num_columns-count.ensures, less))) reads pushed numeric character c.next_name.ensures.rest)
+
+pub returns : goal.returns
+returns c =
+    let start : columns_of c.into_iter-column-iterator.result ≡ columns_of c.args.columns = ap columns_of c.into_iter-column-iterator.ensures.into_iter_gives in
+    let ended = YieldsList-end (YieldsList-from_first typed_of columns_of (columns_of c.args.columns) start) c.columns.yielded c.columns.column-iterator c.columns.yielded_by
+    None c.next.new.self refl c.in-None.ensures.steps in
+    let are = rw (c.new-fields.ensures.counts, c.new-fields.ensures.bytes) at c.read-stated.ensures.are in
+    all_facts c.args.optional_metadata.now c.read-stated.ensures.fields c.columns.invariant ended.1 are c.read-stated.ensures.last

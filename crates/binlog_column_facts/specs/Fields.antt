@@ -1,0 +1,32 @@
+-- The fields of the optional metadata, as a list.
+use Rattle.std.specs.Prelude.{◌≡◌, ℕ, Bool, true, false, List, [], ◌∷◌, reverse, Option, Ok, is_ok}
+use Rattle.std.specs.List.{find}
+use Rattle.binlog_optional_metadata.specs.Fields.{Content, bits, numbers, names, charsets}
+use Rattle.binlog_optional_metadata.specs.FieldsLeft.{first_field}
+use Rattle.binlog_optional_metadata.specs.declared.class_counts.ClassCounts.{ClassCounts}
+use Rattle.binlog_optional_metadata.specs.declared.field_type.OptionalMetadataFieldType.TheVariants.{SIGNEDNESS, DEFAULT_CHARSET, COLUMN_CHARSET, COLUMN_NAME}
+
+-- These are the fields of the bytes, one after the other, up to the end or to one that is refused.
+abbrev pub AreFields : ClassCounts → List ℕ → List Content → Type 0
+AreFields counts s [] = is_ok (first_field counts s) ≡ false
+AreFields counts s (content ∷ fields) = (r : List ℕ) × (first_field counts s ≡ Ok (content, r)) × AreFields counts r fields
+
+-- The field states whether each numeric column is unsigned.
+abbrev pub states_signedness : Content → Bool
+states_signedness (bits SIGNEDNESS len s) = true
+states_signedness _ = false
+
+-- The field states the collation of each character column.
+abbrev pub states_collations : Content → Bool
+states_collations (charsets DEFAULT_CHARSET sets) = true
+states_collations (numbers COLUMN_CHARSET collations) = true
+states_collations _ = false
+
+-- The field states the name of each column.
+abbrev pub states_names : Content → Bool
+states_names (names COLUMN_NAME columns) = true
+states_names _ = false
+
+-- The last field of a kind, which is the one that counts.
+abbrev pub last_field : (Content → Bool) → List Content → Option Content
+last_field is_kind fields = find is_kind (reverse fields)

@@ -1,0 +1,4 @@
+pub mod Facts
+pub mod Fields
+pub mod Stated
+pub mod StatedFields

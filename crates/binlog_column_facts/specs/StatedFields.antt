@@ -1,0 +1,50 @@
+-- The fields that count, as contracts see them.
+use Rattle.std.specs.Prelude.{◌≡◌, ℕ, Bool, List, [], Option, Some, None, option_map, if◌then◌else◌}
+use Rattle.binlog_optional_metadata.specs.DefaultCharsets.{charsets_of}
+use Rattle.binlog_optional_metadata.specs.Fields.{Content, numbers, names, charsets}
+use Rattle.binlog_optional_metadata.specs.FieldValues.{bits_of}
+use Rattle.binlog_optional_metadata.specs.Names.{names_of}
+use Rattle.binlog_optional_metadata.specs.Numbers.{numbers_of}
+use Rattle.binlog_optional_metadata.specs.declared.class_counts.ClassCounts.{ClassCounts}
+use Rattle.binlog_optional_metadata.specs.declared.field_type.OptionalMetadataFieldType.TheVariants.{SIGNEDNESS, DEFAULT_CHARSET, COLUMN_CHARSET, COLUMN_NAME}
+use Rattle.binlog_optional_metadata.specs.declared.names.Names.{Names}
+use Rattle.binlog_column_facts.specs.Fields.{AreFields, states_signedness, states_collations, states_names}
+use Rattle.binlog_column_facts.specs.Stated.{Stated, stated_in}
+use Rattle.binlog_column_facts.specs.declared.character_sets.CharacterSets.{CharacterSets}
+use Rattle.binlog_column_facts.specs.declared.character_sets.CharacterSets.TheVariants as sets
+use Rattle.binlog_column_facts.specs.declared.stated_fields.StatedFields.{StatedFields}
+
+-- The field with these collations.
+abbrev pub sets_content : CharacterSets → Content
+sets_content (sets.Default view) = charsets DEFAULT_CHARSET (charsets_of view)
+sets_content (sets.Each collations) = numbers COLUMN_CHARSET (numbers_of collations)
+
+-- The fields that count.
+abbrev pub stated_of : StatedFields → Stated
+stated_of fields = record {
+  signedness = option_map (bits_of SIGNEDNESS) fields.signedness;
+  collations = option_map sets_content fields.character_sets;
+  names = option_map (λ columns. names COLUMN_NAME (names_of columns)) fields.names;
+}
+
+-- One more field, which counts in place of an earlier one of its kind.
+abbrev pub newer : (Content → Bool) → Content → Option Content → Option Content
+newer is_kind field old = if is_kind field then Some field else old
+
+abbrev pub with_field : Stated → Content → Stated
+with_field stated field = record {
+  signedness = newer states_signedness field stated.signedness;
+  collations = newer states_collations field stated.collations;
+  names = newer states_names field stated.names;
+}
+
+-- The fields of the bytes that count are these.
+pub record LeavesFields (counts : ClassCounts) (s : List ℕ) (stated : Stated) : Type 0 where
+  pub fields : List Content
+  pub are : AreFields counts s fields
+  pub last : stated ≡ stated_in fields
+
+-- The names that are left.
+abbrev pub names_left : Option Names → List (List ℕ)
+names_left None = []
+names_left (Some columns) = names_of columns

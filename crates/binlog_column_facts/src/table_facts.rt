@@ -1,0 +1,111 @@
+//! The facts of the columns of a table.
+ghost use Rattle.std.specs.Prelude.{◌≡◌, ◌&&◌, ◌==◌, ◌+◌, ◌<◌, ◌^◌, List, [], ◌∷◌, Some, None, drop, option_map, slice_get, slice_index_or, false, unwrap_or, IfOk, length, if◌then◌else◌};
+ghost use Rattle.std.specs.Option.{option_and_then};
+ghost use Rattle.binlog_columns.specs.TableColumns.{columns_of};
+ghost use Rattle.binlog_optional_metadata.specs.FieldValues.{bits_of};
+ghost use Rattle.binlog_optional_metadata.specs.declared.field_type.OptionalMetadataFieldType.TheVariants.{SIGNEDNESS};
+ghost use Rattle.binlog_column_facts.specs.Stated.{is_set_in, text_of, numeric_class, StatesFacts};
+ghost use Rattle.binlog_column_facts.specs.StatedFields.{names_left};
+
+use crate::binary_columns::binary_columns;
+use crate::class_index::ClassIndex;
+use crate::column_facts::ColumnFacts;
+use crate::stated_fields::StatedFields;
+use binlog_columns::TableColumns;
+use binlog_optional_metadata::{ColumnClass, MetadataBits, Names, OptionalMetadata};
+use std::alloc::{AllocError, Global};
+
+impl<'a> ColumnFacts<'a> {
+    /// What the optional metadata of a table map states of each of the columns of the table, in their order. In MariaDB's logs
+    /// a YEAR is a numeric column.
+    ///
+    /// The fields count up to the end of the metadata, or to the first that is refused; of two fields of one kind the last.
+    /// A column of which they state nothing has no name and is neither UNSIGNED nor `binary`. A name that isn't UTF-8 isn't
+    /// stated. The memory that is taken is bounded by the number of columns.
+    ///
+    /// # Errors
+    ///
+    /// [`AllocError`] if an allocation fails.
+    pub fn of_table(
+        alloc: Global,
+        columns: TableColumns<'_>,
+        optional_metadata: &'a [u8],
+        is_maria_log: bool,
+    ) -> Result<Vec<Self>, AllocError>
+        ensures { IfOk result (λ facts. StatesFacts is_maria_log (columns_of columns.entry) optional_metadata.now facts.items) }
+    {
+        let fields = OptionalMetadata::new(columns, optional_metadata, is_maria_log);
+        let stated = StatedFields::read(fields);
+        let count = columns.num_columns();
+        let binary = binary_columns(alloc, count, stated.character_sets)?;
+        let mut names = stated.names;
+        let mut numeric = ClassIndex::new(numeric_class(is_maria_log));
+        let mut character = ClassIndex::new(ColumnClass::Character);
+        let mut facts = Vec::with_capacity(alloc, count)?;
+        'columns: for column in columns {
+            let real_type = column.real_type();
+            facts
+                .push(ColumnFacts {
+                    name: next_name(&mut names),
+                    is_unsigned: is_set(&stated.signedness, numeric.take(real_type)),
+                    is_binary: flag_at(&binary, character.take(real_type)),
+                })
+                .map_err(AllocError::from)?;
+        }
+        Ok(facts)
+    }
+}
+
+/// The columns that have a bit in the field of signedness.
+fn numeric_class(is_maria_log: bool) -> ColumnClass
+    ensures { result ≡ numeric_class is_maria_log }
+{
+    if is_maria_log {
+        ColumnClass::NumericOrYear
+    } else {
+        ColumnClass::Numeric
+    }
+}
+
+/// The next name, if it is a text.
+#[tactic(auto, using(crate::proofs::Texts::first_text, crate::proofs::Texts::other_names))]
+fn next_name<'a>(names: &mut Option<Names<'a>>) -> Option<&'a str>
+    ensures name { option_map (λ name. name.now) result ≡ option_and_then text_of (slice_get (names_left names.old) 0) }
+    ensures rest { names_left names.new ≡ drop 1 (names_left names.old) }
+{
+    match names {
+        Some(names) => text_of(names.next()?),
+        None => None,
+    }
+}
+
+/// The bytes as a text, if they are one.
+#[tactic(auto, using(crate::proofs::Texts::is_text, crate::proofs::Texts::is_no_text))]
+fn text_of(name: &[u8]) -> Option<&str>
+    ensures { option_map (λ text. text.now) result ≡ text_of name.now }
+{
+    let Ok(text) = str::from_utf8(name) else {
+        return None;
+    };
+    Some(text)
+}
+
+/// Whether the bit with this index is stated and set.
+fn is_set(signedness: &Option<MetadataBits<'_>>, index: Option<u64>) -> bool
+    ensures { result ≡ unwrap_or (option_map (is_set_in (option_map (bits_of SIGNEDNESS) signedness.now)) index) false }
+{
+    match (signedness, index) {
+        (Some(bits), Some(index)) => bits.bit(index).unwrap_or(false),
+        _ => false,
+    }
+}
+
+/// The flag with this index; false if there is none.
+fn flag_at(flags: &[bool], index: Option<u64>) -> bool
+    ensures { result ≡ unwrap_or (option_map (λ place. slice_index_or flags.now place false) index) false }
+{
+    match index {
+        Some(index) => flags.get(index as usize).copied().unwrap_or(false),
+        None => false,
+    }
+}
