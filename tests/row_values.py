@@ -1,0 +1,330 @@
+#!/usr/bin/env python3
+"""Compares the rows that the library reads with an encoder of rows and with a model of them, over damaged row events.
+
+Usage: row_values.py [--count N] [PROGRAM]
+
+PROGRAM is the built probe_rows if not given; it prints the rows of each row event of a log. The encoder gives events of every
+type of column, with extremes, and the rows that they have; the model gives those of N damaged events (100,000 if not given).
+The last line is `N passed, M failed`; the exit status is 1 if something failed.
+"""
+
+import argparse
+import json
+import math
+import random
+import struct
+import subprocess
+import sys
+from pathlib import Path
+
+import encoded_events as encode
+import encoded_logs
+import event_data_model
+import listing_model
+import row_events
+import row_model
+from row_model import Facts, Fault, Float
+
+REPOSITORY = Path(__file__).resolve().parent.parent
+PROGRAM = REPOSITORY / "crates/probe_rows/out/probe_rows"
+EVENTS_OF_A_LOG = 2_000
+SHOWN_FAILURES = 20
+HEADER = (1, 2, 3, 0)
+SPELLING = encode.Spelling(id_width=6)
+
+# The types of row events, their names, and their images.
+ROW_TYPES = {kind[0]: kind[2:] for kind in encode.ROWS_KINDS}
+WHOLE = [kind for kind in encode.ROWS_KINDS if kind[0] != 39]
+
+
+# ---- logs
+
+
+def start(version):
+    described = encoded_logs.described("rows", encoded_logs.POST_HEADER_LENGTHS, server_version=version, algorithm=0)
+    content, _ = encoded_logs.frame(described.event, HEADER, None)
+    return listing_model.FILE_HEADER + content
+
+
+def framed(kind, body):
+    return encoded_logs.framed(kind, body, HEADER, has_checksum=False)[0]
+
+
+def table_map(table_id, types, metadata, optional=b""):
+    nulls = [True] * len(types)
+    event = encode.table_map(
+        SPELLING, table_id=table_id, flags=1, database="d", table="t", types=types, metadata=metadata, nulls=nulls, optional=optional
+    )
+    return 19, event.body
+
+
+def row_event(kind, table_id, before, after, content):
+    extra = (None, b"") if kind[0] in encode.OLDER_ROWS else (2, b"")
+    event = encode.rows(kind, SPELLING, table_id=table_id, flags=1, extra=extra, before=before, after=after, content=content)
+    return kind[0], event.body
+
+
+# ---- what is wanted of an event
+
+
+class Tables:
+    """The table maps in force."""
+
+    def __init__(self, is_maria):
+        self.is_maria, self.maps = is_maria, {}
+
+    def take(self, body):
+        try:
+            found, rest = event_data_model.table_map(body, 8)
+        except event_data_model.Fault:
+            return
+        if not rest:
+            self.maps[found["table_id"]] = found
+
+    def wanted(self, kind, body):
+        """The members behind the index; None if the event can't be read."""
+        lengths = encoded_logs.POST_HEADER_LENGTHS
+        try:
+            event = event_data_model.fields(kind, body, lengths)
+        except event_data_model.Fault:
+            return None
+        table = self.maps.get(event["table_id"])
+        if table is None:
+            return [("rows", None)]
+        if kind == 39:
+            return [("error", "PartialUpdate")]
+        try:
+            columns = row_model.columns(table["columns_type"].bytes, table["columns_metadata"].bytes)
+        except Fault:
+            return [("error", "Columns")]
+        if event["num_columns"] != len(columns):
+            return [("error", "ColumnCount")]
+        facts = row_model.facts(columns, table["optional_metadata"].bytes, self.is_maria)
+        present = [event["columns_before_image"], event["columns_after_image"]]
+        images = [(name, image) for name, image in zip(("before", "after"), present) if image is not None]
+        return [("rows", row_model.rows(columns, facts, images, event["rows_data"].bytes))]
+
+
+def is_same(found, wanted):
+    """Whether a value of the program's JSON is the wanted one."""
+    if isinstance(wanted, Float):
+        (value,) = struct.unpack(wanted.format, wanted.bytes)
+        if not math.isfinite(value):
+            return found is None
+        return isinstance(found, float) and struct.pack(wanted.format, found) == wanted.bytes
+    if isinstance(wanted, (list, tuple)):
+        return type(found) is type(wanted) and len(found) == len(wanted) and all(map(is_same, found, wanted))
+    return type(found) is type(wanted) and found == wanted
+
+
+# ---- encoded events
+
+
+def value_rows(kind):
+    """The rows of a table of one column of this kind, one for each value and a NULL: their contents and their JSON."""
+    for values, optional in ((kind.values, b""), (kind.unsigned, row_events.field(1, b"\x80"))):
+        if values is not None:
+            contents = b"".join(b"\0" + content for content, _ in values) + b"\1"
+            yield optional, contents, [value for _, value in values] + [None]
+
+
+def single_columns():
+    """Tables of one column."""
+    for kind in row_events.kinds():
+        for optional, contents, values in value_rows(kind):
+            table = table_map(7, bytes([kind.type]), kind.metadata, optional)
+            for event in (WHOLE[0], WHOLE[2], WHOLE[3], WHOLE[5]):
+                name = "after" if event[3] else "before"
+                rows = [[(name, [("@1", value)])] for value in values]
+                yield table, row_event(event, 7, [True], [True], contents), [("rows", rows)]
+
+
+def every_column():
+    """A table with a column of each kind, some absent and some NULL, in updates."""
+    kinds = list(row_events.kinds())
+    types, metadata = bytes(kind.type for kind in kinds), b"".join(kind.metadata for kind in kinds)
+    table = table_map(8, types, metadata)
+    for step in (1, 2, 3, 7):
+        before = [place % step == 0 for place in range(len(kinds))]
+        after = [place % (step + 1) == 0 for place in range(len(kinds))]
+        images = [encoded_image(kinds, present, step) for present in (before, after)]
+        row = [("before", images[0][1]), ("after", images[1][1])]
+        contents = images[0][0] + images[1][0]
+        yield table, row_event(WHOLE[4], 8, before, after, 3 * contents), [("rows", [row] * 3)]
+
+
+def encoded_image(kinds, present, step):
+    """An image in which each fifth column is NULL."""
+    there = [place for place, is_there in enumerate(present) if is_there]
+    nulls = [order % 5 == 4 for order in range(len(there))]
+    content, members = encode.bits(nulls), []
+    for place, is_null in zip(there, nulls):
+        bits, value = kinds[place].values[step % len(kinds[place].values)]
+        content += b"" if is_null else bits
+        members.append((f"@{place + 1}", None if is_null else value))
+    return content, members
+
+
+def many_columns():
+    count = 4096
+    table = table_map(9, b"\1" * count, b"")
+    nulls = [place % 3 == 0 for place in range(count)]
+    content = encode.bits(nulls) + b"".join(bytes([place % 128]) for place in range(count) if not nulls[place])
+    image = [(f"@{place + 1}", None if nulls[place] else place % 128) for place in range(count)]
+    yield table, row_event(WHOLE[3], 9, [True] * count, [True] * count, content), [("rows", [[("after", image)]])]
+
+
+def stated_facts():
+    """Names, UNSIGNED and the character set `binary`, of some columns."""
+    types, metadata = bytes([15, 1, 13, 1, 254, 252]), b"\x0a\0" + b"\xfe\x0a" + b"\1"
+    texts = [b"a", "\u00e4".encode(), b"\xff", b"id", b"a", b""]
+    for is_by_default in (False, True):
+        # The second of the three character columns is binary.
+        charset = row_events.field(2, b"\x2d\1\x3f") if is_by_default else row_events.field(3, b"\x2d\x3f\x2d")
+        optional = row_events.field(1, row_events.first_bits([False, True])) + charset + row_events.names(texts)
+        optional += row_events.field(200, b"unknown")
+        content = b"\0" + b"\2ab" + b"\xff" + b"\1" + b"\xff" + b"\2ab" + b"\1c"
+        image = [("a", "ab"), ("\u00e4", -1), ("@3", 1901), ("id", 255), ("a", "6162"), ("", "c")]
+        table = table_map(10, types, metadata, optional)
+        yield table, row_event(WHOLE[3], 10, [True] * 6, [True] * 6, content), [("rows", [[("after", image)]])]
+
+
+def encoded():
+    for part in (single_columns, every_column, many_columns, stated_facts):
+        for table, event, wanted in part():
+            yield part.__name__, [table, event], [wanted]
+
+
+# ---- damaged events
+
+
+def random_table(chance, kinds):
+    chosen = [chance.choice(kinds) for _ in range(chance.randint(1, 10))]
+    types, metadata = bytes(kind.type for kind in chosen), b"".join(kind.metadata for kind in chosen)
+    optional = b""
+    if chance.random() < 0.5:
+        optional = row_events.field(1, chance.randbytes(2)[: (len(chosen) + 7) // 8]) + row_events.field(3, b"\x3f" * len(chosen))
+    return chosen, table_map(chance.randrange(4), types, metadata, optional)
+
+
+def random_image(chance, chosen, present):
+    there = [kind for kind, is_there in zip(chosen, present) if is_there]
+    nulls = [chance.random() < 0.2 for _ in there]
+    contents = (b"" if is_null else chance.choice(kind.values)[0] for kind, is_null in zip(there, nulls))
+    return encode.bits(nulls) + b"".join(contents)
+
+
+def random_event(chance, chosen, table_id):
+    kind = chance.choice(encode.ROWS_KINDS)
+    before, after = ([chance.random() < 0.8 for _ in chosen] for _ in range(2))
+    images = [present for present, is_there in ((before, kind[2]), (after, kind[3])) if is_there]
+    rows = (random_image(chance, chosen, present) for _ in range(chance.randint(0, 3)) for present in images)
+    return row_event(kind, table_id, before, after, b"".join(rows))
+
+
+def damage(chance, body):
+    """A body with a byte changed, cut, or with bytes more."""
+    place = chance.randrange(len(body)) if chance.random() < 0.5 else max(0, len(body) - 1 - chance.randrange(12))
+    way = chance.random()
+    if way < 0.6:
+        return body[:place] + bytes([chance.randrange(256)]) + body[place + 1 :]
+    if way < 0.8:
+        return body[:place]
+    return body[:place] + chance.randbytes(chance.randint(1, 3)) + body[place:]
+
+
+def damaged_log(chance, kinds, count):
+    """Events of a log, and how many row events are among them."""
+    events, rows = [], 0
+    while rows < count:
+        chosen, table = random_table(chance, kinds)
+        if chance.random() < 0.2:
+            table = (table[0], damage(chance, table[1]))
+        events.append(table)
+        for _ in range(chance.randint(1, 6)):
+            kind, body = random_event(chance, chosen, int.from_bytes(table[1][:6], "little") if chance.random() < 0.95 else 9)
+            events.append((kind, damage(chance, body) if chance.random() < 0.9 else body))
+            rows += 1
+    return events, rows
+
+
+# ---- runs
+
+
+def lines_of(events, is_maria):
+    """What is wanted of the program: the objects of the events that are read."""
+    tables = Tables(is_maria)
+    for index, (kind, body) in enumerate(events):
+        if kind == 19:
+            tables.take(body)
+            continue
+        wanted = tables.wanted(kind, body)
+        if wanted is not None:
+            # The description is the first event.
+            yield [("index", index + 1), *wanted]
+
+
+def printed(program, version, events):
+    content = start(version) + b"".join(framed(kind, body) for kind, body in events)
+    finished = subprocess.run([program], input=content, stdout=subprocess.PIPE)
+    return finished.returncode, [json.loads(line, object_pairs_hook=list) for line in finished.stdout.splitlines()]
+
+
+def failure(name, program, version, events, wanted):
+    """None if the program prints what is wanted, else what is wrong."""
+    status, lines = printed(program, version, events)
+    if status != 0:
+        return f"{name}: status {status}"
+    if len(lines) != len(wanted):
+        return f"{name}: {len(lines)} lines, not {len(wanted)}"
+    for found, line in zip(lines, wanted):
+        if not is_same(found, line):
+            return f"{name}: {str(found)[:300]}, not {str(line)[:300]}"
+    return None
+
+
+def encoded_failures(program):
+    for version in ("8.0.36", "10.11.6-MariaDB"):
+        for name, events, wanted in encoded():
+            is_maria = version != "8.0.36"
+            if name == "stated_facts" and is_maria:
+                continue
+            lines = [[("index", 2), *line] for line in wanted]
+            model = list(lines_of(events, is_maria))
+            yield failure(f"{name}, the encoder", program, version, events, lines)
+            yield None if is_same_with_floats(model, lines) else f"{name}: the model has {str(model)[:300]}"
+
+
+def is_same_with_floats(found, wanted):
+    if isinstance(wanted, (list, tuple)):
+        return len(found) == len(wanted) and all(map(is_same_with_floats, found, wanted))
+    return found == wanted or isinstance(found, Float) and wanted is None
+
+
+def damaged_failures(program, count):
+    chance, kinds = random.Random(34), list(row_events.kinds())
+    while count > 0:
+        version = chance.choice(("8.0.36", "10.11.6-MariaDB"))
+        events, rows = damaged_log(chance, kinds, min(count, EVENTS_OF_A_LOG))
+        wanted = list(lines_of(events, version != "8.0.36"))
+        result = failure(f"damaged events, {count} left", program, version, events, wanted)
+        yield from [result] * (1 if result else rows)
+        count -= rows
+
+
+def main():
+    parser = argparse.ArgumentParser(description="Compares rows with a model.")
+    parser.add_argument("--count", type=int, default=100_000)
+    parser.add_argument("program", nargs="?", default=PROGRAM)
+    arguments = parser.parse_args()
+    program = str(Path(arguments.program).resolve())
+    results = [*encoded_failures(program), *damaged_failures(program, arguments.count)]
+    failures = [result for result in results if result is not None]
+    for message in failures[:SHOWN_FAILURES]:
+        print(message)
+    print(f"{len(results) - len(failures)} passed, {len(failures)} failed")
+    return 1 if failures else 0
+
+
+if __name__ == "__main__":
+    sys.exit(main())
