@@ -19,9 +19,9 @@ impl<'a> ColumnFacts<'a> {
     /// What the optional metadata of a table map states of each of the columns of the table, in their order. In MariaDB's logs
     /// a YEAR is a numeric column.
     ///
-    /// The fields count up to the end of the metadata, or to the first that is refused; of two fields of one kind the last.
-    /// A column of which they state nothing has no name and is neither UNSIGNED nor `binary`. A name that isn't UTF-8 isn't
-    /// stated. The memory that is taken is bounded by the number of columns.
+    /// The fields up to the end of the metadata count, or up to the first that is refused; of two fields of one kind the last.
+    /// What no field states is as in [`ColumnFacts`] without it: a column without a name, not UNSIGNED, not `binary`. A name
+    /// that isn't UTF-8 isn't stated. The number of columns bounds what is allocated.
     ///
     /// # Errors
     ///
