@@ -220,7 +220,9 @@ def logs():
     """Logs of each event, of MariaDB and of another server, each with its lines of JSON."""
     lengths = encoded_logs.POST_HEADER_LENGTHS
     for version in ("10.11.6-MariaDB-log", "5.5.5-10.0.1-MariaDB", "8.0.36", "10.11.6-mariadb"):
-        described = encoded_logs.described("maria", lengths, server_version=version, algorithm=1)
+        # A server before 5.6.1, which a MariaDB that states 5.5.5 claims to be, has no checksums.
+        algorithm = None if version.startswith("5.5.5") else 1
+        described = encoded_logs.described("maria", lengths, server_version=version, algorithm=algorithm)
         events = [described.event, *gtids(0), *gtid_lists(), *small_events(), *queries(), *row_events(described.lengths)]
         events = [with_own_server(event, index) for index, event in enumerate(events)]
         is_maria = "-MariaDB" in version
