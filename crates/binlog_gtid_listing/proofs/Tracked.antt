@@ -40,7 +40,7 @@ event_added index event before after out added = (added.1, no_line index (gtids_
 -- memory ran out for it
 pub event_memory : (index : ℕ) (event : EventView) (before after : List GtidGroup) (out : Option (List ℕ)) (e : Error) → AddsGtids event before (Err e) after
     → is_environment_error e ≡ true → TracksItem index (Some (Ok event)) (tracked before out) (tracked after out) (Err e)
-event_memory index event before after out e (same, inl memory) outside = inr (inl (memory.0, tt, refl, memory.1))
+event_memory index event before after out e (same, inl memory) outside = (same, inr (inl (memory.0, tt, refl, memory.1)))
 event_memory index event before after out e (same, inr why) outside = absurd (let inside : is_environment_error e ≡ false = why.1 in cc)
 
 why_of : (event : EventView) (before after : List GtidGroup) (e : Error) → AddsGtids event before (Err e) after → is_environment_error e ≡ false → gtids_of event ≡ Err e
@@ -63,7 +63,7 @@ pub event_stops : (index : ℕ) (event : EventView) (before after : List GtidGro
     → is_environment_error e ≡ false → (failure ≡ Writer) × AppendsFront old new (error_line index e) → TracksItem index (Some (Ok event)) (tracked before old) (tracked after new) (Err failure)
 event_stops index event before after old new e failure added inside wrote =
     let why = why_of event before after e added inside in
-    inl (wrote.0, tt, subst (λ (f : Result (Option EventData) Error). AppendsFront old new (line_for index f)) (sym why) wrote.1)
+    (added.0, inl (wrote.0, tt, subst (λ (f : Result (Option EventData) Error). AppendsFront old new (line_for index f)) (sym why) wrote.1))
 
 -- the line of an item that is an error
 pub error_listed : (index : ℕ) (error : Error) (groups : List GtidGroup) (old new : Option (List ℕ)) → is_environment_error error ≡ false → Appends old new (error_line index error)
@@ -72,7 +72,7 @@ error_listed index error groups old new inside wrote = (λ pair n. refl, wrote, 
 
 pub error_stops : (index : ℕ) (error failure : Error) (groups : List GtidGroup) (old new : Option (List ℕ)) → is_environment_error error ≡ false
     → (failure ≡ Writer) × AppendsFront old new (error_line index error) → TracksItem index (Some (Err error)) (tracked groups old) (tracked groups new) (Err failure)
-error_stops index error failure groups old new inside wrote = inl (wrote.0, inside, wrote.1)
+error_stops index error failure groups old new inside wrote = (refl, inl (wrote.0, inside, wrote.1))
 
 -- ---- the items so far
 
@@ -189,9 +189,9 @@ as_listed start place old new groups failed index so_far =
 stop_by : (start place behind : Place) (old mid new : Option (List ℕ)) (before after : List GtidGroup) (failed : Bool) (index : ℕ) (error : Error) (item : Option (Result EventView Error))
     → IsTracked start place old mid before failed index → GivesFrom Handles place item behind → TracksItem index item (tracked before mid) (tracked after new) (Err error)
     → ListsItems Handles (LeavesItems Handles) gtid_line MayGrow start old (Err error) behind new
-stop_by start place behind old mid new before after failed index error None so_far gives tracks = absurd tracks
+stop_by start place behind old mid new before after failed index error None so_far gives tracks = absurd tracks.1
 stop_by start place behind old mid new before after failed index error (Some item) so_far gives tracks =
-    listed.stop_by Handles gtid_line MayGrow start place behind old mid new (list_any is_err so_far.items) index error item (as_listed start place old mid before failed index so_far) gives tracks
+    listed.stop_by Handles gtid_line MayGrow start place behind old mid new (list_any is_err so_far.items) index error item (as_listed start place old mid before failed index so_far) gives tracks.1
 
 -- memory, the reader or the writer failed
 pub step_error : (start place behind : Place) (old mid new : Option (List ℕ)) (before after : List GtidGroup) (failed : Bool) (index : ℕ) (error : Error)

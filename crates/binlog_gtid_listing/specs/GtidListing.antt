@@ -103,7 +103,7 @@ abbrev pub TracksItem : (index : ℕ) (item : Option (Result EventView Error)) (
 TracksItem index None old new (Ok None) = (new.groups ≡ old.groups) × (new.written ≡ old.written)
 TracksItem index (Some item) old new (Ok (Some is_error)) =
     GrowsBy (gtids_in item) old.groups new.groups × Appends old.written new.written (gtid_line index item) × (is_error ≡ is_refused item) × HasLine item
-TracksItem index item old new (Err error) = ListsItem gtid_line MayGrow index item old.written new.written (Err error)
+TracksItem index item old new (Err error) = (new.groups ≡ old.groups) × ListsItem gtid_line MayGrow index item old.written new.written (Err error)
 TracksItem index item old new answer = ⊥
 
 -- The next item is given, and its line written or what it adds added.

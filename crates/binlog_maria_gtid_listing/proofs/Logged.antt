@@ -61,10 +61,10 @@ mysql_event index event before after last old new (Ok (Some e)) other tracks = (
   tracks.2 ∙ refused_of_mysql event other,
   tracks.3,
 )
-mysql_event index event before after last old new (Err error) other (inl writer) =
-    inl (writer.0, writer.1, subst (AppendsFront old new) (line_of_mysql index event other) writer.2)
-mysql_event index event before after last old new (Err error) other (inr (inl memory)) = inr (inl (memory.0, memory.1, memory.2, inl memory.3))
-mysql_event index event before after last old new (Err error) other (inr (inr outside)) =
+mysql_event index event before after last old new (Err error) other (kept, inl writer) =
+    (kept, refl, inl (writer.0, writer.1, subst (AppendsFront old new) (line_of_mysql index event other) writer.2))
+mysql_event index event before after last old new (Err error) other (kept, inr (inl memory)) = (kept, refl, inr (inl (memory.0, memory.1, memory.2, inl memory.3)))
+mysql_event index event before after last old new (Err error) other (kept, inr (inr outside)) =
     absurd (let is : ◌≡◌ {A = Result EventView Error} (Ok event) (Err error) = outside.0 in cc)
 
 -- ---- an event of MariaDB's
@@ -105,7 +105,7 @@ maria_added index event groups before after out has added = (
 -- Memory ran out for them.
 pub maria_memory : (index : ℕ) (event : EventView) (groups : List GtidGroup) (before after : List MariaGtid) (out : Option (List ℕ)) (e : Error) → has_maria_gtids event ≡ true
     → AddsMariaGtids event before (Err e) after → is_environment_error e ≡ true → TracksLogItem index (Some (Ok event)) (log_tracked groups before out) (log_tracked groups after out) (Err e)
-maria_memory index event groups before after out e has (same, inl memory) outside = inr (inl (memory, tt, refl, inr has))
+maria_memory index event groups before after out e has (same, inl memory) outside = (refl, same, inr (inl (memory, tt, refl, inr has)))
 maria_memory index event groups before after out e has (same, inr why) outside = absurd (let inside : is_environment_error e ≡ false = why.1 in cc)
 
 why_of : (event : EventView) (before after : List MariaGtid) (e : Error) → AddsMariaGtids event before (Err e) after → is_environment_error e ≡ false → maria_data_of event ≡ Err e
@@ -135,12 +135,12 @@ maria_refused index event groups before after old new e (Ok (Some is_error)) has
       tracks.2 ∙ sym (ap is_err why) ∙ refused_of_maria event has,
       tt,
     )
-maria_refused index event groups before after old new e (Err failure) has added inside (inl writer) =
+maria_refused index event groups before after old new e (Err failure) has added inside (kept, inl writer) =
     let why = why_of event before after e added inside in
     let line : error_line index e ≡ log_line index (Ok event) = sym (ap (maria_error_line index) why) ∙ line_of_maria index event has in
-    inl (writer.0, tt, subst (AppendsFront old new) line writer.2)
-maria_refused index event groups before after old new e (Err failure) has added inside (inr (inl memory)) = absurd memory.3
-maria_refused index event groups before after old new e (Err failure) has added inside (inr (inr outside)) =
+    (refl, added.0, inl (writer.0, tt, subst (AppendsFront old new) line writer.2))
+maria_refused index event groups before after old new e (Err failure) has added inside (kept, inr (inl memory)) = absurd memory.3
+maria_refused index event groups before after old new e (Err failure) has added inside (kept, inr (inr outside)) =
     absurd (
     let same : e ≡ failure = (let whole : ◌≡◌ {A = Result EventView Error} (Err e) (Err failure) = outside.0 in cc) in
     let env : is_environment_error e ≡ true = ap is_environment_error same ∙ outside.2 in cc)
@@ -152,9 +152,9 @@ pub error_item : (index : ℕ) (error : Error) (groups : List GtidGroup) (last :
     → TracksLogItem index (Some (Err error)) (log_tracked groups last old) (log_tracked groups last new) answer
 error_item index error groups last old new (Ok None) tracks = absurd tracks
 error_item index error groups last old new (Ok (Some e)) tracks = (tracks.0, keeps_none last, tracks.1, tracks.2, tracks.3)
-error_item index error groups last old new (Err failure) (inl writer) = inl writer
-error_item index error groups last old new (Err failure) (inr (inl memory)) = absurd memory.3
-error_item index error groups last old new (Err failure) (inr (inr outside)) = inr (inr outside)
+error_item index error groups last old new (Err failure) (kept, inl writer) = (kept, refl, inl writer)
+error_item index error groups last old new (Err failure) (kept, inr (inl memory)) = absurd memory.3
+error_item index error groups last old new (Err failure) (kept, inr (inr outside)) = (kept, refl, inr (inr outside))
 
 -- ---- the items so far
 
@@ -281,9 +281,9 @@ as_listed start place old new groups last failed index so_far =
 stop_by : (start place behind : Place) (old mid new : Option (List ℕ)) (before after : List GtidGroup) (earlier later : List MariaGtid) (failed : Bool) (index : ℕ) (error : Error) (item : Option (Result EventView Error))
     → IsLogged start place old mid before earlier failed index → GivesFrom Handles place item behind → TracksLogItem index item (log_tracked before earlier mid) (log_tracked after later new) (Err error)
     → ListsItems Handles (LeavesItems Handles) log_line MayTake start old (Err error) behind new
-stop_by start place behind old mid new before after earlier later failed index error None so_far gives tracks = absurd tracks
+stop_by start place behind old mid new before after earlier later failed index error None so_far gives tracks = absurd tracks.2
 stop_by start place behind old mid new before after earlier later failed index error (Some item) so_far gives tracks =
-    listed.stop_by Handles log_line MayTake start place behind old mid new (list_any is_err so_far.items) index error item (as_listed start place old mid before earlier failed index so_far) gives tracks
+    listed.stop_by Handles log_line MayTake start place behind old mid new (list_any is_err so_far.items) index error item (as_listed start place old mid before earlier failed index so_far) gives tracks.2
 
 -- memory, the reader or the writer failed
 pub step_error : (start place behind : Place) (old mid new : Option (List ℕ)) (before after : List GtidGroup) (earlier later : List MariaGtid) (failed : Bool) (index : ℕ) (error : Error)

@@ -151,7 +151,8 @@ TracksLogItem index None old new (Ok None) = (new.groups ≡ old.groups) × (new
 TracksLogItem index (Some item) old new (Ok (Some is_error)) =
     GrowsBy (gtids_in item) old.groups new.groups × KeepLast (old.last ++ item_gtids item) new.last × Appends old.written new.written (log_line index item)
     × (is_error ≡ is_log_refused item) × HasLine item
-TracksLogItem index item old new (Err error) = ListsItem log_line MayTake index item old.written new.written (Err error)
+TracksLogItem index item old new (Err error) =
+    (new.groups ≡ old.groups) × (new.last ≡ old.last) × ListsItem log_line MayTake index item old.written new.written (Err error)
 TracksLogItem index item old new answer = ⊥
 
 -- The next item is given, and its line written or what it adds added.
