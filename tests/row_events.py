@@ -179,5 +179,14 @@ def first_bits(flags):
     return sum(flag << place for place, flag in enumerate(reversed(padded))).to_bytes(len(padded) // 8, "big")
 
 
+def text(content):
+    return length_encoded(len(content)) + content
+
+
 def names(texts):
-    return field(4, b"".join(length_encoded(len(text)) + text for text in texts))
+    return field(4, b"".join(map(text, texts)))
+
+
+def members(kind, lists):
+    """The members of each SET column (5) or of each ENUM column (6)."""
+    return field(kind, b"".join(length_encoded(len(texts)) + b"".join(map(text, texts)) for texts in lists))

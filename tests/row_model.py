@@ -16,7 +16,7 @@ Float = namedtuple("Float", "format bytes")
 Column = namedtuple("Column", "read real", defaults=[None])
 
 # What the table map states of a column.
-Facts = namedtuple("Facts", "name is_unsigned is_binary", defaults=[None, False, False])
+Facts = namedtuple("Facts", "name is_unsigned is_binary members", defaults=[None, False, False, None])
 
 INTEGERS = {1: 1, 2: 2, 9: 3, 3: 4, 8: 8}
 BLOBS = (252, 249, 250, 251, 140, 245, 255, 242)
@@ -214,8 +214,28 @@ def bit(count):
     return read
 
 
-def number(width):
-    return lambda data, _facts: data.number(width)
+def enumeration(width):
+    """The text of a member, counted from 1; 0 is the empty text."""
+
+    def read(data, facts):
+        index = data.number(width)
+        if facts.members is None or index > len(facts.members):
+            return index
+        return shown(facts.members[index - 1] if index else b"")
+
+    return read
+
+
+def member_set(width):
+    """The texts of the members whose bits are set, with commas between them; bit 0 is the first member."""
+
+    def read(data, facts):
+        mask = data.number(width)
+        if facts.members is None or mask >> len(facts.members):
+            return mask
+        return shown(b",".join(text for place, text in enumerate(facts.members) if mask >> place & 1))
+
+    return read
 
 
 def counted(width, greatest, value_of, is_length=lambda length: True):
@@ -233,6 +253,11 @@ def string(content, facts):
     return content.hex() if facts.is_binary else shown(content)
 
 
+def fixed_string(length):
+    """The value of a CHAR, or of a BINARY of this length, whose zeros at the end aren't stored."""
+    return lambda content, facts: content.ljust(length, b"\0").hex() if facts.is_binary else shown(content)
+
+
 def digits_alone(content, _facts):
     return content.hex()
 
@@ -247,10 +272,12 @@ def named(name):
 def string_column(data):
     first, second = data.take(2)
     real, length = first | 0x30, second + 16 * ((first & 0x30) ^ 0x30)
-    if real == ENUM and length in ENUM_SIZES or real == SET and length in SET_SIZES:
-        return Column(number(length), real)
+    if real == ENUM and length in ENUM_SIZES:
+        return Column(enumeration(length), real)
+    if real == SET and length in SET_SIZES:
+        return Column(member_set(length), real)
     allowed(real == STRING, "BadMetadata")
-    return Column(counted(1 if length <= 255 else 2, length, string), real)
+    return Column(counted(1 if length <= 255 else 2, length, fixed_string(length)), real)
 
 
 def bit_column(data):
@@ -368,13 +395,11 @@ def skipped_pairs(content, count, width):
         allowed(place < count)
 
 
-def members(content, count):
-    for _ in range(count):
-        texts = content.lenenc()
-        if texts > content.left():
-            raise truncated()
-        for _ in range(texts):
-            content.take(content.lenenc())
+def members(content):
+    count = content.lenenc()
+    if count > content.left():
+        raise truncated()
+    return [content.take(content.lenenc()) for _ in range(count)]
 
 
 def read_field(kind, content, places, total):
@@ -389,8 +414,9 @@ def read_field(kind, content, places, total):
     if kind == 4:
         return "name", range(total), [name(content) for _ in range(total)]
     if kind in (5, 6):
-        members(content, len(sets if kind == 5 else enums))
-    elif kind in (7, 13):
+        listed = sets if kind == 5 else enums
+        return "members", listed, [members(content) for _ in listed]
+    if kind in (7, 13):
         for _ in geometries if kind == 7 else vectors:
             content.lenenc()
     elif kind in (8, 9):

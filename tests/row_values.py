@@ -184,13 +184,84 @@ def stated_facts():
         optional = row_events.field(1, row_events.first_bits([False, True])) + charset + row_events.names(texts)
         optional += row_events.field(200, b"unknown")
         content = b"\0" + b"\2ab" + b"\xff" + b"\1" + b"\xff" + b"\2ab" + b"\1c"
-        image = [("a", "ab"), ("\u00e4", -1), ("@3", 1901), ("id", 255), ("a", "6162"), ("", "c")]
+        image = [("a", "ab"), ("\u00e4", -1), ("@3", 1901), ("id", 255), ("a", "6162" + 16 * "0"), ("", "c")]
         table = table_map(10, types, metadata, optional)
         yield table, row_event(WHOLE[3], 10, [True] * 6, [True] * 6, content), [("rows", [[("after", image)]])]
 
 
+COLORS = [b"red", "gr\u00fcn".encode(), b"\xff", b""]
+
+
+def enum_cells():
+    """Contents of an ENUM of one byte with these colors, and their JSON; the last is beyond them."""
+    return [(b"\0", ""), (b"\1", "red"), (b"\2", "gr\u00fcn"), (b"\3", [("hex", "ff")]), (b"\4", ""), (b"\5", 5), (b"\xff", 255)]
+
+
+def set_cells():
+    """Contents of a SET of two bytes with these colors, and their JSON."""
+    masks = [(0, ""), (1, "red"), (2, "gr\u00fcn"), (3, "red,gr\u00fcn"), (8, ""), (9, "red,"), (11, "red,gr\u00fcn,")]
+    masks += [(4, [("hex", "ff")]), (5, [("hex", "7265642cff")]), (16, 16), (17, 17), (0xFFFF, 0xFFFF)]
+    return [(mask.to_bytes(2, "little"), value) for mask, value in masks]
+
+
+def wide_cells():
+    """Contents of a SET of eight bytes with 64 members, and of an ENUM of two bytes with 300."""
+    all_bits = ",".join(f"m{place}" for place in range(64))
+    masks = [(1 << 63, "m63"), (1 << 63 | 1 << 31 | 1, "m0,m31,m63"), ((1 << 64) - 1, all_bits)]
+    indexes = [(1, "e1"), (256, "e256"), (300, "e300"), (301, 301)]
+    return [((mask.to_bytes(8, "little"), text), (b"\1\0", "e1")) for mask, text in masks] + [
+        ((bytes(8), ""), (index.to_bytes(2, "little"), value)) for index, value in indexes
+    ]
+
+
+def row_of(cells, names):
+    return b"\0" + b"".join(content for content, _ in cells), [("after", [(name, value) for name, (_, value) in zip(names, cells)])]
+
+
+def table_rows(table_id, types, metadata, optional, rows):
+    """A table with these rows, of which each is a list of cells."""
+    contents, shown = zip(*(row_of(cells, [f"@{place + 1}" for place in range(len(types))]) for cells in rows))
+    present = [True] * len(types)
+    event = row_event(WHOLE[3], table_id, present, present, b"".join(contents))
+    return table_map(table_id, types, metadata, optional), event, [("rows", list(shown))]
+
+
+def stated_members():
+    """The members of ENUM and SET columns, between columns of other classes."""
+    types, metadata = bytes([254, 1, 254, 247, 248]), b"\xf8\2" + b"\xf7\1" + b"\xf7\1" + b"\xf8\1"
+    number, other, last = (b"\7", 7), (b"\1", "x"), (b"\2", "b")
+    lists = row_events.members(6, [COLORS, [b"x"]]) + row_events.members(5, [COLORS, [b"a", b"b"]])
+    rows = [[(b"\0\0", ""), number, cell, other, last] for cell in enum_cells()]
+    rows += [[cell, number, (b"\1", "red"), other, last] for cell in set_cells()]
+    yield table_rows(11, types, metadata, lists, rows)
+    # The later field counts.
+    yield table_rows(12, types, metadata, row_events.members(6, [[b"no"], [b"no"]]) + lists, rows)
+    # A refused field states nothing, but the one before it stands.
+    refused = row_events.members(6, [COLORS, [b"x"]]) + row_events.members(5, [COLORS])
+    yield table_rows(13, types, metadata, refused, [[(b"\1\0", 1), number, (b"\1", "red"), other, (b"\2", 2)]])
+    # No members at all.
+    empty = row_events.members(6, [[], [b"x"]]) + row_events.members(5, [[], [b"a", b"b"]])
+    yield table_rows(14, types, metadata, empty, [[(b"\0\0", ""), number, (b"\0", ""), other, last], [(b"\1\0", 1), number, (b"\1", 1), other, last]])
+    wide = row_events.members(5, [[b"m%d" % place for place in range(64)]]) + row_events.members(6, [[b"e%d" % place for place in range(1, 301)]])
+    yield table_rows(15, bytes([254, 254]), b"\xf8\x08\xf7\2", wide, wide_cells())
+
+
+def padded_strings():
+    """BINARY of 4, 1,020 and 0 bytes, CHAR of 4, VARBINARY and BLOB: only a BINARY is padded, behind its bytes."""
+    types = bytes([254, 254, 254, 254, 15, 252])
+    metadata = b"\xfe\4" + b"\xce\xfc" + b"\xfe\0" + b"\xfe\4" + b"\x0a\0" + b"\1"
+    charsets = row_events.field(2, b"\x3f\3\x2d")
+    long = 1020 * 2
+    rows = [
+        [(b"\2ab", "61620000"), (b"\1\0\7", "07".ljust(long, "0")), (b"\0", ""), (b"\2ab", "ab"), (b"\2ab", "6162"), (b"\1c", "63")],
+        [(b"\0", "00000000"), (b"\0\0", "0" * long), (b"\0", ""), (b"\0", ""), (b"\0", ""), (b"\0", "")],
+        [(b"\4a\0bc", "61006263"), (encode.number(1020, 2) + bytes(1020), "0" * long), (b"\0", ""), (b"\4a\0bc", "a\0bc"), (b"\3\0\0a", "000061"), (b"\1\0", "00")],
+    ]
+    yield table_rows(16, types, metadata, charsets, rows)
+
+
 def encoded():
-    for part in (single_columns, every_column, many_columns, stated_facts):
+    for part in (single_columns, every_column, many_columns, stated_facts, stated_members, padded_strings):
         for table, event, wanted in part():
             yield part.__name__, [table, event], [wanted]
 
@@ -203,8 +274,26 @@ def random_table(chance, kinds):
     types, metadata = bytes(kind.type for kind in chosen), b"".join(kind.metadata for kind in chosen)
     optional = b""
     if chance.random() < 0.5:
-        optional = row_events.field(1, chance.randbytes(2)[: (len(chosen) + 7) // 8]) + row_events.field(3, b"\x3f" * len(chosen))
+        optional = random_members(chance, chosen)
+        optional += row_events.field(1, chance.randbytes(2)[: (len(chosen) + 7) // 8])
+        characters = [column for column in chosen if column.type in row_model.CHARACTER and real_type(column) == column.type]
+        optional += row_events.field(3, bytes(chance.choice((0x2D, 0x3F)) for _ in characters))
     return chosen, table_map(chance.randrange(4), types, metadata, optional)
+
+
+def real_type(column):
+    """The type of a column; that of an ENUM or a SET is in its metadata."""
+    is_listed = column.type in (254, 247, 248) and column.metadata[0] in (247, 248)
+    return column.metadata[0] if is_listed else column.type
+
+
+def random_members(chance, chosen):
+    """The members of all ENUM and SET columns."""
+    fields = b""
+    for kind, real in ((5, 248), (6, 247)):
+        columns = [column for column in chosen if real_type(column) == real]
+        fields += row_events.members(kind, [[chance.randbytes(chance.randint(0, 3)) for _ in range(chance.randint(0, 9))] for _ in columns])
+    return damage(chance, fields) if chance.random() < 0.2 else fields
 
 
 def random_image(chance, chosen, present):

@@ -1,10 +1,10 @@
 -- The fields of the optional metadata, as a list.
 use Rattle.std.specs.Prelude.{◌≡◌, ℕ, Bool, true, false, List, [], ◌∷◌, reverse, Option, Ok, is_ok}
 use Rattle.std.specs.List.{find}
-use Rattle.binlog_optional_metadata.specs.Fields.{Content, bits, numbers, names, charsets}
+use Rattle.binlog_optional_metadata.specs.Fields.{Content, bits, numbers, names, charsets, lists}
 use Rattle.binlog_optional_metadata.specs.FieldsLeft.{first_field}
 use Rattle.binlog_optional_metadata.specs.declared.class_counts.ClassCounts.{ClassCounts}
-use Rattle.binlog_optional_metadata.specs.declared.field_type.OptionalMetadataFieldType.TheVariants.{SIGNEDNESS, DEFAULT_CHARSET, COLUMN_CHARSET, COLUMN_NAME}
+use Rattle.binlog_optional_metadata.specs.declared.field_type.OptionalMetadataFieldType.TheVariants.{SIGNEDNESS, DEFAULT_CHARSET, COLUMN_CHARSET, COLUMN_NAME, SET_STR_VALUE, ENUM_STR_VALUE}
 
 -- These are the fields of the bytes, one after the other, up to the end or to one that is refused.
 abbrev pub AreFields : ClassCounts → List ℕ → List Content → Type 0
@@ -26,6 +26,16 @@ states_collations _ = false
 abbrev pub states_names : Content → Bool
 states_names (names COLUMN_NAME columns) = true
 states_names _ = false
+
+-- The field states the members of each ENUM column.
+abbrev pub states_enums : Content → Bool
+states_enums (lists ENUM_STR_VALUE columns) = true
+states_enums _ = false
+
+-- The field states the members of each SET column.
+abbrev pub states_sets : Content → Bool
+states_sets (lists SET_STR_VALUE columns) = true
+states_sets _ = false
 
 -- The last field of a kind, which is the one that counts.
 abbrev pub last_field : (Content → Bool) → List Content → Option Content

@@ -1,4 +1,5 @@
 pub mod Facts
 pub mod Fields
+pub mod Lengths
 pub mod Stated
 pub mod StatedFields

@@ -4,17 +4,18 @@ use Rattle.std.specs.Prelude.{◌≡◌, ℕ, ◌<◌, ◌==◌, ◌&&◌, Bool,
 use Rattle.std.specs.List.{find}
 use Rattle.std.specs.Option.{option_and_then}
 use Rattle.std.specs.Str.{is_utf8}
-use Rattle.binlog_columns.specs.Metadata.{Typed}
+use Rattle.binlog_columns.specs.Metadata.{Typed, real_number, string_length}
 use Rattle.binlog_columns.specs.RealTypes.{real_type}
-use Rattle.binlog_columns.specs.declared.column_type.ColumnType.TheVariants.{MYSQL_TYPE_NULL}
+use Rattle.binlog_columns.specs.declared.column_type.ColumnType.{ColumnType}
+use Rattle.binlog_columns.specs.declared.column_type.ColumnType.TheVariants.{MYSQL_TYPE_NULL, MYSQL_TYPE_STRING}
 use Rattle.binlog_optional_metadata.specs.Bits.{first_bit_in}
 use Rattle.binlog_optional_metadata.specs.Classes.{is_in_class, class_count}
 use Rattle.binlog_optional_metadata.specs.Counts.{counts_of}
-use Rattle.binlog_optional_metadata.specs.Fields.{Content, bits, numbers, charsets, names_in}
+use Rattle.binlog_optional_metadata.specs.Fields.{Content, bits, numbers, charsets, names_in, lists_in}
 use Rattle.binlog_optional_metadata.specs.declared.column_class.ColumnClass.{ColumnClass}
-use Rattle.binlog_optional_metadata.specs.declared.column_class.ColumnClass.TheVariants.{Numeric, NumericOrYear, Character}
+use Rattle.binlog_optional_metadata.specs.declared.column_class.ColumnClass.TheVariants.{Numeric, NumericOrYear, Character, Enum, Set}
 use Rattle.binlog_column_facts.specs.Facts.{Facts, facts_of}
-use Rattle.binlog_column_facts.specs.Fields.{AreFields, states_signedness, states_collations, states_names, last_field}
+use Rattle.binlog_column_facts.specs.Fields.{AreFields, states_signedness, states_collations, states_names, states_enums, states_sets, last_field}
 use Rattle.binlog_column_facts.specs.declared.column_facts.ColumnFacts.{ColumnFacts}
 
 -- ---- the fields that count
@@ -24,6 +25,8 @@ pub record Stated : Type 0 where
   pub signedness : Option Content
   pub collations : Option Content
   pub names : Option Content
+  pub enums : Option Content
+  pub sets : Option Content
 
 -- The last fields of these.
 abbrev pub stated_in : List Content → Stated
@@ -31,6 +34,8 @@ stated_in fields = record {
   signedness = last_field states_signedness fields;
   collations = last_field states_collations fields;
   names = last_field states_names fields;
+  enums = last_field states_enums fields;
+  sets = last_field states_sets fields;
 }
 
 -- ---- what they state
@@ -68,18 +73,42 @@ names_stated (Some field) = names_in field
 abbrev pub text_of : List ℕ → Option (List ℕ)
 text_of s = if is_utf8 s then Some s else None
 
+-- The members of each column of a class.
+abbrev pub lists_stated : Option Content → List (List (List ℕ))
+lists_stated None = []
+lists_stated (Some field) = lists_in field
+
 -- ---- columns
 
 -- In MariaDB's logs a YEAR is a numeric column.
 abbrev pub numeric_class : Bool → ColumnClass
 numeric_class is_maria_log = if is_maria_log then NumericOrYear else Numeric
 
+-- The column has the character set `binary`.
+abbrev pub is_binary_behind : Stated → List Typed → Typed → Bool
+is_binary_behind stated before column = is_in_class Character (real_type column) && is_binary_in stated.collations (class_count Character before)
+
+-- The length of a STRING whose real type is STRING; 0 for any other column.
+abbrev pub string_length_as : ColumnType → ℕ → ℕ
+string_length_as MYSQL_TYPE_STRING metadata = if real_number metadata == 254 then string_length metadata else 0
+string_length_as _ metadata = 0
+
+-- The length to which the values of a column are padded with zeros: that of a BINARY.
+abbrev pub padded_length : Bool → Typed → ℕ
+padded_length is_binary column = if is_binary then string_length_as column.0 column.1 else 0
+
+-- The members of a column of this real type: those of the ENUM or the SET with its index in its class.
+abbrev pub members_in : ColumnType → Option (List (List ℕ)) → Option (List (List ℕ)) → Option (List (List ℕ))
+members_in real_type enumeration set = if is_in_class Enum real_type then enumeration else if is_in_class Set real_type then set else None
+
 -- What is stated of a column, behind these columns of its table: how many of these are in its class is its index there.
 abbrev pub facts_behind : Bool → Stated → List Typed → Typed → Facts
 facts_behind is_maria_log stated before column = record {
   name = option_and_then text_of (slice_get (names_stated stated.names) (length before));
   is_unsigned = is_in_class (numeric_class is_maria_log) (real_type column) && is_set_in stated.signedness (class_count (numeric_class is_maria_log) before);
-  is_binary = is_in_class Character (real_type column) && is_binary_in stated.collations (class_count Character before);
+  is_binary = is_binary_behind stated before column;
+  padded_length = padded_length (is_binary_behind stated before column) column;
+  members = members_in (real_type column) (slice_get (lists_stated stated.enums) (class_count Enum before)) (slice_get (lists_stated stated.sets) (class_count Set before));
 }
 
 -- What is stated of the column with this index.

@@ -1,14 +1,16 @@
 -- The fields that count, as contracts see them.
 use Rattle.std.specs.Prelude.{◌≡◌, ℕ, Bool, List, [], Option, Some, None, option_map, if◌then◌else◌}
 use Rattle.binlog_optional_metadata.specs.DefaultCharsets.{charsets_of}
-use Rattle.binlog_optional_metadata.specs.Fields.{Content, numbers, names, charsets}
+use Rattle.binlog_optional_metadata.specs.Fields.{Content, numbers, names, charsets, lists}
 use Rattle.binlog_optional_metadata.specs.FieldValues.{bits_of}
+use Rattle.binlog_optional_metadata.specs.MemberLists.{lists_of}
 use Rattle.binlog_optional_metadata.specs.Names.{names_of}
 use Rattle.binlog_optional_metadata.specs.Numbers.{numbers_of}
 use Rattle.binlog_optional_metadata.specs.declared.class_counts.ClassCounts.{ClassCounts}
-use Rattle.binlog_optional_metadata.specs.declared.field_type.OptionalMetadataFieldType.TheVariants.{SIGNEDNESS, DEFAULT_CHARSET, COLUMN_CHARSET, COLUMN_NAME}
+use Rattle.binlog_optional_metadata.specs.declared.field_type.OptionalMetadataFieldType.TheVariants.{SIGNEDNESS, DEFAULT_CHARSET, COLUMN_CHARSET, COLUMN_NAME, SET_STR_VALUE, ENUM_STR_VALUE}
+use Rattle.binlog_optional_metadata.specs.declared.member_lists.MemberLists.{MemberLists}
 use Rattle.binlog_optional_metadata.specs.declared.names.Names.{Names}
-use Rattle.binlog_column_facts.specs.Fields.{AreFields, states_signedness, states_collations, states_names}
+use Rattle.binlog_column_facts.specs.Fields.{AreFields, states_signedness, states_collations, states_names, states_enums, states_sets}
 use Rattle.binlog_column_facts.specs.Stated.{Stated, stated_in}
 use Rattle.binlog_column_facts.specs.declared.character_sets.CharacterSets.{CharacterSets}
 use Rattle.binlog_column_facts.specs.declared.character_sets.CharacterSets.TheVariants as sets
@@ -25,6 +27,8 @@ stated_of fields = record {
   signedness = option_map (bits_of SIGNEDNESS) fields.signedness;
   collations = option_map sets_content fields.character_sets;
   names = option_map (λ columns. names COLUMN_NAME (names_of columns)) fields.names;
+  enums = option_map (λ columns. lists ENUM_STR_VALUE (lists_of columns)) fields.enums;
+  sets = option_map (λ columns. lists SET_STR_VALUE (lists_of columns)) fields.sets;
 }
 
 -- One more field, which counts in place of an earlier one of its kind.
@@ -36,6 +40,8 @@ with_field stated field = record {
   signedness = newer states_signedness field stated.signedness;
   collations = newer states_collations field stated.collations;
   names = newer states_names field stated.names;
+  enums = newer states_enums field stated.enums;
+  sets = newer states_sets field stated.sets;
 }
 
 -- The fields of the bytes that count are these.
@@ -48,3 +54,8 @@ pub record LeavesFields (counts : ClassCounts) (s : List ℕ) (stated : Stated) 
 abbrev pub names_left : Option Names → List (List ℕ)
 names_left None = []
 names_left (Some columns) = names_of columns
+
+-- The lists of members that are left.
+abbrev pub lists_left : Option MemberLists → List (List (List ℕ))
+lists_left None = []
+lists_left (Some columns) = lists_of columns

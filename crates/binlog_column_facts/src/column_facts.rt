@@ -1,7 +1,7 @@
 //! What a table map states of a column.
 
 /// What the optional metadata of a table map states of a column, besides its type.
-#[derive(Clone, Copy, Debug, PartialEq, Eq, Hash)]
+#[derive(Debug, PartialEq, Eq, Hash, Drop)]
 pub struct ColumnFacts<'a> {
     /// The name, if it is stated.
     pub name: Option<&'a str>,
@@ -9,4 +9,9 @@ pub struct ColumnFacts<'a> {
     pub is_unsigned: bool,
     /// The column is stated to have the character set `binary`, so that its strings are bytes.
     pub is_binary: bool,
+    /// The number of bytes to which the strings of a `binary` column are padded with zeros, at most 1,023: the length of a
+    /// BINARY, whose trailing zeros aren't in its rows. 0 for any other column.
+    pub padded_length: u32,
+    /// The members of an ENUM or a SET, in order, if they are stated.
+    pub members: Option<Vec<&'a [u8]>>,
 }

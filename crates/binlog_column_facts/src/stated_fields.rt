@@ -4,7 +4,9 @@ ghost use Rattle.binlog_optional_metadata.specs.FieldValues.{content_of};
 ghost use Rattle.binlog_column_facts.specs.StatedFields.{with_field};
 
 use crate::character_sets::CharacterSets;
-use binlog_optional_metadata::{MetadataBits, Names, OptionalMetadata, OptionalMetadataField};
+use binlog_optional_metadata::{
+    MemberLists, MetadataBits, Names, OptionalMetadata, OptionalMetadataField,
+};
 
 /// Of each kind the last field.
 #[derive(Clone, Copy, Debug)]
@@ -15,13 +17,16 @@ pub(crate) struct StatedFields<'a> {
     pub(crate) character_sets: Option<CharacterSets<'a>>,
     /// The name of each column.
     pub(crate) names: Option<Names<'a>>,
+    /// The members of each ENUM column.
+    pub(crate) enums: Option<MemberLists<'a>>,
+    /// The members of each SET column.
+    pub(crate) sets: Option<MemberLists<'a>>,
 }
 
 impl<'a> StatedFields<'a> {
     ghost use Rattle.binlog_column_facts.specs.StatedFields.{stated_of, LeavesFields};
 
     /// Takes the fields that are left, up to the end or to one that is refused.
-    #[tactic(auto, using(crate::proofs::FieldItems::field_taken))]
     pub(crate) fn read(metadata: OptionalMetadata<'a>) -> Self
         ensures { LeavesFields metadata.entry.counts metadata.entry.rest.now (stated_of result) }
     {
@@ -29,6 +34,8 @@ impl<'a> StatedFields<'a> {
             signedness: None,
             character_sets: None,
             names: None,
+            enums: None,
+            sets: None,
         };
         'fields: for item in metadata {
             let Ok(field) = item else {
@@ -49,6 +56,8 @@ impl<'a> StatedFields<'a> {
             Field::DefaultCharset(sets) => self.character_sets = Some(CharacterSets::Default(sets)),
             Field::ColumnCharset(sets) => self.character_sets = Some(CharacterSets::Each(sets)),
             Field::ColumnName(names) => self.names = Some(names),
+            Field::EnumStrValue(lists) => self.enums = Some(lists),
+            Field::SetStrValue(lists) => self.sets = Some(lists),
             _ => (),
         }
     }

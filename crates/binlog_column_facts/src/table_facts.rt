@@ -10,6 +10,8 @@ ghost use Rattle.binlog_column_facts.specs.StatedFields.{names_left};
 use crate::binary_columns::binary_columns;
 use crate::class_index::ClassIndex;
 use crate::column_facts::ColumnFacts;
+use crate::column_members::next_members;
+use crate::padding::padded_length;
 use crate::stated_fields::StatedFields;
 use binlog_columns::TableColumns;
 use binlog_optional_metadata::{ColumnClass, MetadataBits, Names, OptionalMetadata};
@@ -20,8 +22,9 @@ impl<'a> ColumnFacts<'a> {
     /// a YEAR is a numeric column.
     ///
     /// The fields up to the end of the metadata count, or up to the first that is refused; of two fields of one kind the last.
-    /// What no field states is as in [`ColumnFacts`] without it: a column without a name, not UNSIGNED, not `binary`. A name
-    /// that isn't UTF-8 isn't stated. The number of columns bounds what is allocated.
+    /// What no field states is as in [`ColumnFacts`] without it: a column without a name, not UNSIGNED, not `binary`, without
+    /// members. A name that isn't UTF-8 isn't stated. The numbers of columns and of members bound what is allocated; each
+    /// member has its own bytes in the metadata.
     ///
     /// # Errors
     ///
@@ -38,17 +41,21 @@ impl<'a> ColumnFacts<'a> {
         let stated = StatedFields::read(fields);
         let count = columns.num_columns();
         let binary = binary_columns(alloc, count, stated.character_sets)?;
-        let mut names = stated.names;
+        let (mut names, mut enums, mut sets) = (stated.names, stated.enums, stated.sets);
         let mut numeric = ClassIndex::new(numeric_class(is_maria_log));
         let mut character = ClassIndex::new(ColumnClass::Character);
         let mut facts = Vec::with_capacity(alloc, count)?;
         'columns: for column in columns {
             let real_type = column.real_type();
+            let is_binary = flag_at(&binary, character.take(real_type));
+            let members = next_members(alloc, &mut enums, &mut sets, real_type)?;
             facts
                 .push(ColumnFacts {
                     name: next_name(&mut names),
                     is_unsigned: is_set(&stated.signedness, numeric.take(real_type)),
-                    is_binary: flag_at(&binary, character.take(real_type)),
+                    is_binary,
+                    padded_length: padded_length(&column, is_binary),
+                    members,
                 })
                 .map_err(AllocError::from)?;
         }

@@ -4,3 +4,6 @@ mod DecimalTexts
 mod FixedValues
 mod RowTexts
 mod Integers
+mod Padding
+mod SetTexts
+mod EnumTexts

@@ -1,6 +1,7 @@
 pub mod Parts
 pub mod Numbers
 pub mod Decimals
+pub mod Members
 pub mod Times
 pub mod Values
 pub mod Rows

@@ -1,5 +1,5 @@
 -- Values as tokens, by what they mean.
-use Rattle.std.specs.Prelude.{ℕ, ◌+◌, ◌/◌, ◌%◌, ◌^◌, ◌==◌, ◌&&◌, Bool, true, false, List, [], ◌∷◌, ◌++◌, codes, nat_le, nat_lt, if◌then◌else◌}
+use Rattle.std.specs.Prelude.{ℕ, ◌+◌, ◌-◌, ◌/◌, ◌%◌, ◌^◌, ◌==◌, ◌&&◌, Bool, List, [], ◌∷◌, ◌++◌, length, replicate, codes, nat_le, nat_lt, if◌then◌else◌}
 use Rattle.json.specs.Token.{Token, null, string}
 use Rattle.json_line.specs.Tokens.{number_value, bytes_value, text_value, member, object}
 use Rattle.binlog_values.specs.Contents.{Content, number_in, bytes_in, before_fraction, time2_zero, time2_distance}
@@ -10,6 +10,7 @@ use Rattle.binlog_column_facts.specs.Facts.{Facts}
 use Rattle.binlog_row_lines.specs.Parts.{Part, exactly, utc, exact}
 use Rattle.binlog_row_lines.specs.Numbers.{integer_value, single_parts, double_parts}
 use Rattle.binlog_row_lines.specs.Decimals.{decimal_text}
+use Rattle.binlog_row_lines.specs.Members.{enum_value, set_value}
 use Rattle.binlog_row_lines.specs.Times.{date_text, clock_text, fraction_text, sign_text}
 
 -- The year of a YEAR: 0, or years since 1900.
@@ -62,10 +63,14 @@ abbrev pub timestamp_parts : ℕ → ℕ → ℕ → List Part
 timestamp_parts digits seconds microseconds =
     if is_zero seconds microseconds then exactly (string (zero_text digits)) ∷ [] else utc (seconds % 2 ^ 32) digits microseconds ∷ []
 
--- The bytes of a string: hexadecimal digits if the character set is `binary`, else text.
-abbrev pub string_value : Bool → List ℕ → List Token
-string_value true s = bytes_value s
-string_value false s = text_value s
+-- Bytes that are padded with zeros to this length, unless they are longer.
+abbrev pub padded : ℕ → List ℕ → List ℕ
+padded len s = s ++ replicate (len - length s) 0
+
+-- The bytes of a string: if the character set is `binary` the hexadecimal digits of all bytes, with the zeros at the end of a BINARY;
+-- else text.
+abbrev pub string_value : Facts → List ℕ → List Token
+string_value facts s = if facts.is_binary then bytes_value (padded facts.padded_length s) else text_value s
 
 -- An object with one member, the hexadecimal digits of bytes that aren't decoded.
 abbrev pub encoded_value : List ℕ → List ℕ → List Token
@@ -87,9 +92,9 @@ value_tokens facts (meanings.timestamp2 digits) content = []
 value_tokens facts (meanings.datetime2 digits) content = string (datetime2_of digits (number_in content)) ∷ []
 value_tokens facts (meanings.time2 digits) content = string (time2_of digits (number_in content)) ∷ []
 value_tokens facts (meanings.bit count) content = number_value (number_in content)
-value_tokens facts meanings.enumeration content = number_value (number_in content)
-value_tokens facts meanings.members content = number_value (number_in content)
-value_tokens facts meanings.string content = string_value facts.is_binary (bytes_in content)
+value_tokens facts meanings.enumeration content = enum_value facts.members (number_in content)
+value_tokens facts meanings.members content = set_value facts.members (number_in content)
+value_tokens facts meanings.string content = string_value facts (bytes_in content)
 value_tokens facts meanings.json content = encoded_value (codes "jsonb") (bytes_in content)
 value_tokens facts meanings.geometry content = bytes_value (bytes_in content)
 value_tokens facts meanings.vector content = bytes_value (bytes_in content)

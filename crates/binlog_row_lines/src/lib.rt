@@ -7,8 +7,10 @@
 
 mod decimals;
 mod digits;
+mod members;
 mod numbers;
 mod rows;
+mod strings;
 mod times;
 mod timestamps;
 mod values;

@@ -9,10 +9,12 @@ ghost use Rattle.binlog_values.specs.Values.{meaning_of, content_of};
 ghost use Rattle.binlog_column_facts.specs.Facts.{facts_of};
 ghost use Rattle.binlog_row_lines.specs.Parts.{Writes};
 ghost use Rattle.binlog_row_lines.specs.Decimals.{decimal_text};
-ghost use Rattle.binlog_row_lines.specs.Values.{year_of, date_of, time_of, datetime_of, datetime2_of, time2_of, string_value, encoded_value, value_tokens, value_parts};
+ghost use Rattle.binlog_row_lines.specs.Values.{year_of, date_of, time_of, datetime_of, datetime2_of, time2_of, encoded_value, value_tokens, value_parts};
 
 use crate::decimals::push_decimal;
+use crate::members::{write_enum, write_set};
 use crate::numbers::{write_double, write_integer, write_single};
+use crate::strings::write_string;
 use crate::times::{push_clock, push_date, push_fraction, push_sign};
 use crate::timestamps::write_timestamp;
 use binlog_column_facts::ColumnFacts;
@@ -24,6 +26,7 @@ use std::alloc::{AllocError, Global};
 #[derive(Drop)]
 pub struct ValueWriter {
     pub(crate) text: String,
+    bytes: Vec<u8>,
 }
 
 impl ValueWriter {
@@ -31,6 +34,7 @@ impl ValueWriter {
     pub fn new(alloc: Global) -> Self {
         ValueWriter {
             text: String::new(alloc),
+            bytes: Vec::new(alloc),
         }
     }
 
@@ -58,42 +62,47 @@ impl ValueWriter {
                 time.seconds(),
                 time.microseconds(),
             ),
-            _ => write_fixed(line, &mut self.text, facts, value),
+            _ => self.write_fixed(line, facts, value),
         }
     }
-}
 
-/// Writes a value whose text is fixed; nothing for any other.
-fn write_fixed(
-    line: &mut Line,
-    text: &mut String,
-    facts: &ColumnFacts<'_>,
-    value: &Value<'_>,
-) -> Result<(), AllocError>
-    ensures { Adds result line.old line.new (value_tokens (facts_of facts.now) (meaning_of value.now) (content_of value.now)) }
-{
-    match value {
-        Value::Float(_) | Value::Double(_) | Value::Timestamp(_) | Value::Timestamp2(_) => Ok(()),
-        Value::Null => line.null(),
-        Value::Integer(integer) => write_integer(
-            line,
-            facts.is_unsigned,
-            integer.size(),
-            integer.unsigned(),
-        ),
-        Value::Decimal(decimal) => write_decimal(line, text, decimal),
-        Value::Date(date) => write_date(line, text, date),
-        Value::Year(year) => line.number(year_of(*year)),
-        Value::Time(time) => write_time(line, text, time),
-        Value::DateTime(time) => write_datetime(line, text, time),
-        Value::DateTime2(time) => write_datetime2(line, text, time),
-        Value::Time2(time) => write_time2(line, text, time),
-        Value::Bit(bits) => line.number(bits.bits()),
-        Value::Enum(number) | Value::Set(number) => line.number(*number),
-        Value::Bytes(bytes) => write_string(line, facts.is_binary, bytes),
-        Value::Geometry(bytes) | Value::Vector(bytes) => line.bytes(bytes),
-        Value::Json(bytes) => write_encoded(line, "jsonb", bytes),
-        Value::Compressed(bytes) => write_encoded(line, "stored", bytes),
+    /// Writes a value whose text is fixed; nothing for any other.
+    fn write_fixed(
+        &mut self,
+        line: &mut Line,
+        facts: &ColumnFacts<'_>,
+        value: &Value<'_>,
+    ) -> Result<(), AllocError>
+        ensures { Adds result line.old line.new (value_tokens (facts_of facts.now) (meaning_of value.now) (content_of value.now)) }
+    {
+        let text = &mut self.text;
+        let bytes = &mut self.bytes;
+        match value {
+            Value::Float(_) | Value::Double(_) | Value::Timestamp(_) | Value::Timestamp2(_) => {
+                Ok(())
+            }
+            Value::Null => line.null(),
+            Value::Integer(integer) => write_integer(
+                line,
+                facts.is_unsigned,
+                integer.size(),
+                integer.unsigned(),
+            ),
+            Value::Decimal(decimal) => write_decimal(line, text, decimal),
+            Value::Date(date) => write_date(line, text, date),
+            Value::Year(year) => line.number(year_of(*year)),
+            Value::Time(time) => write_time(line, text, time),
+            Value::DateTime(time) => write_datetime(line, text, time),
+            Value::DateTime2(time) => write_datetime2(line, text, time),
+            Value::Time2(time) => write_time2(line, text, time),
+            Value::Bit(bits) => line.number(bits.bits()),
+            Value::Enum(index) => write_enum(line, &facts.members, *index),
+            Value::Set(mask) => write_set(line, bytes, &facts.members, *mask),
+            Value::Bytes(string) => write_string(line, bytes, facts, string),
+            Value::Geometry(bytes) | Value::Vector(bytes) => line.bytes(bytes),
+            Value::Json(bytes) => write_encoded(line, "jsonb", bytes),
+            Value::Compressed(bytes) => write_encoded(line, "stored", bytes),
+        }
     }
 }
 
@@ -203,17 +212,6 @@ fn write_time2(line: &mut Line, text: &mut String, time: &Time2) -> Result<(), A
     )?;
     push_fraction(text, time.digits(), time.microseconds())?;
     line.string(text.as_str())
-}
-
-/// Writes the bytes of a string.
-fn write_string(line: &mut Line, is_binary: bool, bytes: &[u8]) -> Result<(), AllocError>
-    ensures { Adds result line.old line.new (string_value is_binary bytes.now) }
-{
-    if is_binary {
-        line.bytes(bytes)
-    } else {
-        line.text(bytes)
-    }
 }
 
 /// Writes an object with one member: bytes that aren't decoded.

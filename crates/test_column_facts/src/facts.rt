@@ -14,6 +14,8 @@ const UNSTATED: ColumnFacts<'static> = ColumnFacts {
     name: None,
     is_unsigned: false,
     is_binary: false,
+    padded_length: 0,
+    members: None,
 };
 
 /// What this optional metadata states of the column with this index, in a log of MariaDB or of MySQL.
@@ -26,10 +28,12 @@ fn facts_in(
     let Ok(columns) = TableColumns::new(TYPES, METADATA) else {
         return Ok(UNSTATED);
     };
-    let all = ColumnFacts::of_table(alloc, columns, bytes, is_maria_log)?;
-    let facts = all.get(index).copied().unwrap_or(UNSTATED);
-    drop(all);
-    Ok(facts)
+    let mut all = ColumnFacts::of_table(alloc, columns, bytes, is_maria_log)?;
+    if index < all.len() {
+        Ok(all.swap_remove(index))
+    } else {
+        Ok(UNSTATED)
+    }
 }
 
 /// The same, in a log of MySQL.

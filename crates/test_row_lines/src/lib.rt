@@ -2,6 +2,8 @@
 #![tactic(auto)]
 
 #[cfg(test)]
+mod members;
+#[cfg(test)]
 mod rows;
 #[cfg(test)]
 mod shown;

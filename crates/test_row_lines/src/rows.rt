@@ -17,11 +17,15 @@ const COLUMNS: [ColumnFacts<'static>; 3] = [
         name: Some("id"),
         is_unsigned: true,
         is_binary: false,
+        padded_length: 0,
+        members: None,
     },
     ColumnFacts {
         name: Some("a\"b"),
         is_unsigned: false,
         is_binary: false,
+        padded_length: 0,
+        members: None,
     },
     UNSTATED,
 ];

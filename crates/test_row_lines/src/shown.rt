@@ -11,6 +11,8 @@ pub const UNSTATED: ColumnFacts<'static> = ColumnFacts {
     name: None,
     is_unsigned: false,
     is_binary: false,
+    padded_length: 0,
+    members: None,
 };
 
 /// The column is UNSIGNED.
@@ -18,6 +20,8 @@ pub const UNSIGNED: ColumnFacts<'static> = ColumnFacts {
     name: None,
     is_unsigned: true,
     is_binary: false,
+    padded_length: 0,
+    members: None,
 };
 
 /// The column's character set is `binary`.
@@ -25,6 +29,8 @@ pub const BINARY: ColumnFacts<'static> = ColumnFacts {
     name: None,
     is_unsigned: false,
     is_binary: true,
+    padded_length: 0,
+    members: None,
 };
 
 /// Whether the value at the start of these bytes, in a column of this type and metadata, is this JSON.

@@ -109,7 +109,7 @@ fn decimals_are_strings(rt: HostRuntime) -> Result<(), Error> {
 }
 
 #[test]
-fn bits_and_members_are_numbers(rt: HostRuntime) -> Result<(), Error> {
+fn bits_and_unstated_members_are_numbers(rt: HostRuntime) -> Result<(), Error> {
     let alloc = rt.alloc();
     assert!(rt; is_shown(alloc, (16, b"\x02\x01", b"\x02\x01"), b"513")?);
     assert!(rt; is_shown(alloc, (254, b"\xf7\x01", b"\x02"), b"2")?);
