@@ -5,8 +5,8 @@ Usage: allocations.py
 
 The programs and tests are those that are built in crates/NAME/out. Each further event takes one buffer if it is owned
 (probe_owned_events), and nothing if it is borrowed (binlog_list, binlog_json, bench_write_back), even if statements and
-their status variables are read (bench_typed), or MariaDB's GTIDs (bench_maria_gtids), or GTIDs that come in order are kept
-(binlog_gtids_list). Checksums take nothing. A format description that comes into force, and a table map, is copied once: one
+their status variables are read (bench_typed), or MariaDB's GTIDs (bench_maria_gtids), or rows (bench_rows), or GTIDs that
+come in order are kept (binlog_gtids_list). Checksums take nothing. A format description that comes into force, and a table map, is copied once: one
 allocation for each of its texts that isn't empty, and one for the description.
 
 No allocation of a program is larger than the bytes that came and 65,536 more; the vector of table maps may have 12 bytes
@@ -112,6 +112,7 @@ PROGRAMS = {
     "bench_write_back": 0,
     "bench_typed": 0,
     "bench_maria_gtids": 0,
+    "bench_rows": 0,
     "bench_verifying": 0,
     "probe_owned_events": 1,
 }
@@ -186,7 +187,7 @@ def run_over_pieces(watch, command, content):
 
 def growth_failure(name, run):
     """None if no allocation grew by too much at a time, else what is wrong."""
-    largest = max(new - old for old, new in run.allocations)
+    largest = max((new - old for old, new in run.allocations), default=0)
     if largest <= LARGEST_GROWTH:
         return None
     return f"{name}: an allocation grows by {largest} bytes"

@@ -121,6 +121,7 @@ PROGRAMS = {
     "probe_typed_events": failure_fault,
     "probe_maria_events": failure_fault,
     "bench_maria_gtids": failure_fault,
+    "bench_rows": failure_fault,
 }
 
 

@@ -484,17 +484,42 @@ def refusal(kind, row, *where):
     return [("error", kind), ("row", row), *[(name, value) for name, value in where if value is not None]]
 
 
-def rows(found, stated, images, data):
+def diff_columns(found, data):
+    """The columns that are lists of diffs, by the options and the diff bits of a partial update."""
+    options = data.lenenc()
+    allowed(options in (0, 1))
+    if options == 0:
+        return set()
+    documents = [place for place, column in enumerate(found) if column.real == JSON]
+    diff_bits = data.take((len(documents) + 7) // 8)
+    return {place for order, place in enumerate(documents) if diff_bits[order // 8] >> order % 8 & 1 == 1}
+
+
+def shown_as_diffs(read):
+    return lambda data, facts: [("diffs", digits) for _, digits in read(data, facts)]
+
+
+def with_diffs(found, data):
+    """The columns of the image after of a partial update, behind its options and diff bits."""
+    try:
+        diffs = diff_columns(found, data)
+    except Fault as fault:
+        raise Fault(fault.args[0], None)
+    return [column._replace(read=shown_as_diffs(column.read)) if place in diffs else column for place, column in enumerate(found)]
+
+
+def rows(found, stated, images, data, is_partial=False):
     """The rows of an event, whose images are pairs of a name and the columns that are present."""
     data = Bytes(data)
-    if not any(any(present) for _, present in images):
+    if not is_partial and not any(any(present) for _, present in images):
         return [refusal("LeftOver", 0)] if data.left() else []
     items = []
     while data.left():
         row = []
         for image_name, present in images:
             try:
-                row.append((image_name, image(found, stated, present, data)))
+                columns_of_image = with_diffs(found, data) if is_partial and image_name == "after" else found
+                row.append((image_name, image(columns_of_image, stated, present, data)))
             except Fault as fault:
                 return items + [refusal(fault.args[0], len(items), ("image", image_name), ("column", fault.args[1]))]
         items.append(row)

@@ -35,6 +35,8 @@ SPELLING = encode.Spelling(id_width=6)
 # The types of row events, their names, and their images.
 ROW_TYPES = {kind[0]: kind[2:] for kind in encode.ROWS_KINDS}
 WHOLE = [kind for kind in encode.ROWS_KINDS if kind[0] != 39]
+(PARTIAL,) = [kind for kind in encode.ROWS_KINDS if kind[0] == 39]
+JSON = 245
 
 
 # ---- logs
@@ -91,8 +93,6 @@ class Tables:
         table = self.maps.get(event["table_id"])
         if table is None:
             return [("rows", None)]
-        if kind == 39:
-            return [("error", "PartialUpdate")]
         try:
             columns = row_model.columns(table["columns_type"].bytes, table["columns_metadata"].bytes)
         except Fault:
@@ -102,7 +102,7 @@ class Tables:
         facts = row_model.facts(columns, table["optional_metadata"].bytes, self.is_maria)
         present = [event["columns_before_image"], event["columns_after_image"]]
         images = [(name, image) for name, image in zip(("before", "after"), present) if image is not None]
-        return [("rows", row_model.rows(columns, facts, images, event["rows_data"].bytes))]
+        return [("rows", row_model.rows(columns, facts, images, event["rows_data"].bytes, is_partial=kind == PARTIAL[0]))]
 
 
 def is_same(found, wanted):
@@ -260,8 +260,47 @@ def padded_strings():
     yield table_rows(16, types, metadata, charsets, rows)
 
 
+def partial_image(present, nulls, diffs, size):
+    """An image after of a table of INT and JSON columns in turn: its contents without options, and its members."""
+    content, members = encode.bits(nulls), []
+    places = [place for place, is_there in enumerate(present) if is_there]
+    for place, is_null in zip(places, nulls):
+        document = bytes([place]) * size
+        name = "diffs" if place % 2 and diffs[place // 2] else "jsonb"
+        value = [(name, document.hex())] if place % 2 else place
+        content += b"" if is_null else encode.number(size, 1) + document if place % 2 else bytes([place])
+        members.append((f"@{place + 1}", None if is_null else value))
+    return content, members
+
+
+def partial_updates():
+    """Partial updates of tables with some JSON columns, with and without diffs; options are spelled in one byte and in more."""
+    for documents in (0, 1, 3, 8, 9, 20):
+        count = 2 * documents + 1
+        types = bytes(JSON if place % 2 else 1 for place in range(count))
+        table = table_map(11, types, b"\1" * documents)
+        before = [place == 0 for place in range(count)]
+        for step in (1, 2, 3):
+            after = [place % step == 0 for place in range(count)]
+            nulls = [order % 4 == 3 for order in range(sum(after))]
+            contents, rows = b"", []
+            for options, diffs in (
+                (b"\0", [False] * documents),
+                (b"\1", [True] * documents),
+                (b"\xfc\1\0", [place % 3 == 1 for place in range(documents)]),
+                (b"\xfd\0\0\0", [False] * documents),
+                (b"\xfe\1" + bytes(7), [place >= 8 for place in range(documents)]),
+            ):
+                image, members = partial_image(after, nulls, diffs, step)
+                # Bits beyond the last column mean nothing.
+                bits = encode.bits(diffs, step == 2) if b"\1" in options else b""
+                contents += b"\0\x07" + options + bits + image
+                rows.append([("before", [("@1", 7)]), ("after", members)])
+            yield table, row_event(PARTIAL, 11, before, after, contents), [("rows", rows)]
+
+
 def encoded():
-    for part in (single_columns, every_column, many_columns, stated_facts, stated_members, padded_strings):
+    for part in (single_columns, every_column, many_columns, stated_facts, stated_members, padded_strings, partial_updates):
         for table, event, wanted in part():
             yield part.__name__, [table, event], [wanted]
 
@@ -271,6 +310,9 @@ def encoded():
 
 def random_table(chance, kinds):
     chosen = [chance.choice(kinds) for _ in range(chance.randint(1, 10))]
+    if chance.random() < 0.2:
+        document = next(kind for kind in kinds if kind.type == JSON)
+        chosen = [document if chance.random() < 0.7 else kind for kind in chosen + chosen]
     types, metadata = bytes(kind.type for kind in chosen), b"".join(kind.metadata for kind in chosen)
     optional = b""
     if chance.random() < 0.5:
@@ -303,11 +345,26 @@ def random_image(chance, chosen, present):
     return encode.bits(nulls) + b"".join(contents)
 
 
+def random_options(chance, chosen):
+    """Options and diff bits of a partial update."""
+    if chance.random() < 0.3:
+        return b"\0"
+    documents = sum(kind.type == JSON for kind in chosen)
+    return b"\1" + chance.randbytes((documents + 7) // 8)
+
+
+def random_row(chance, kind, chosen, images):
+    contents = [random_image(chance, chosen, present) for present in images]
+    if kind == PARTIAL:
+        contents.insert(1, random_options(chance, chosen))
+    return b"".join(contents)
+
+
 def random_event(chance, chosen, table_id):
     kind = chance.choice(encode.ROWS_KINDS)
     before, after = ([chance.random() < 0.8 for _ in chosen] for _ in range(2))
     images = [present for present, is_there in ((before, kind[2]), (after, kind[3])) if is_there]
-    rows = (random_image(chance, chosen, present) for _ in range(chance.randint(0, 3)) for present in images)
+    rows = (random_row(chance, kind, chosen, images) for _ in range(chance.randint(0, 3)))
     return row_event(kind, table_id, before, after, b"".join(rows))
 
 

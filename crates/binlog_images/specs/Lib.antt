@@ -5,6 +5,8 @@ pub mod Bits
 pub mod BitsOf
 pub mod Cells
 pub mod ColumnValues
+pub mod Diffs
+pub mod DiffsOf
 pub mod EventRows
 pub mod Events
 pub mod ImageCells

@@ -1,6 +1,6 @@
 -- The state of an iteration over rows, and what one call of `next` does to it.
-use Rattle.std.specs.Prelude.{◌≡◌, ◌+◌, [], option_map, Option, None, Some, Result, Ok, Err}
-use Rattle.binlog_images.specs.Cells.{RowShape}
+use Rattle.std.specs.Prelude.{◌≡◌, ◌+◌, [], option_map, is_some, Option, None, Some, Result, Ok, Err}
+use Rattle.binlog_images.specs.Cells.{RowsShape, shape_as}
 use Rattle.binlog_images.specs.ImageShapes.{shape_of}
 use Rattle.binlog_images.specs.RowCells.{row_cells}
 use Rattle.binlog_images.specs.Splits.{first_row}
@@ -9,8 +9,8 @@ use Rattle.binlog_images.specs.declared.rows.Rows.{Rows}
 use Rattle.binlog_images.specs.declared.rows_error.RowsError.{RowsError}
 
 -- The images that each row has.
-abbrev pub row_shape : Rows → RowShape
-row_shape rows = (option_map shape_of rows.before, option_map shape_of rows.after)
+abbrev pub row_shape : Rows → RowsShape
+row_shape rows = shape_as (is_some rows.json_columns) (option_map shape_of rows.before, option_map shape_of rows.after)
 
 -- One call gives the first row that is left, and leaves the bytes after it; or its refusal, after which nothing is left;
 -- or None where nothing is left.

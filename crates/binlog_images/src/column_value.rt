@@ -1,9 +1,15 @@
 //! A column in a row image.
+ghost use Rattle.std.specs.Prelude.{◌≡◌};
 ghost use Rattle.binlog_wire.specs.Reading.{Gives};
 ghost use Rattle.binlog_columns.specs.Columns.{typed_of};
-ghost use Rattle.binlog_images.specs.Cells.{cell_in};
-ghost use Rattle.binlog_images.specs.ColumnValues.{answer_cell};
+ghost use Rattle.binlog_values.specs.Values.{json, meaning_of, content_of};
+ghost use Rattle.binlog_images.specs.BitsOf.{bits_of};
+ghost use Rattle.binlog_images.specs.DiffsOf.{diffs_of};
+ghost use Rattle.binlog_images.specs.Cells.{cell_at, diff_list};
+ghost use Rattle.binlog_images.specs.ColumnValues.{answer_cell, cell_of};
 
+use crate::diff_bits::{DiffBits, is_diffs};
+use crate::image_bits::ImageBits;
 use binlog_columns::Column;
 use binlog_values::Value;
 use binlog_wire::{Error, ParseBuf};
@@ -17,6 +23,9 @@ pub enum ColumnValue<'a> {
     Null,
     /// A value.
     Value(Value<'a>),
+    /// Changes of the document that a JSON column has in the image before: a list of diffs, not checked. Only the image
+    /// after of a partial update has it.
+    Diffs(&'a [u8]),
 }
 
 impl<'a> ColumnValue<'a> {
@@ -25,22 +34,37 @@ impl<'a> ColumnValue<'a> {
     /// # Errors
     ///
     /// Those of [`Value::read`].
-    #[tactic(auto, using(crate::proofs::Reading::absent_read, crate::proofs::Reading::null_read, crate::proofs::Reading::value_read))]
+    #[tactic(auto, using(crate::proofs::Reading::absent_read, crate::proofs::Reading::null_read, crate::proofs::Reading::value_read, crate::proofs::Reading::diffs_read, crate::proofs::Reading::refused_read))]
     pub(crate) fn read(
         column: &Column,
-        is_present: bool,
-        is_null: bool,
+        bits: &ImageBits<'_>,
+        diffs: &Option<DiffBits<'_>>,
         buf: &mut ParseBuf<'a>,
     ) -> Result<Self, Error>
-        ensures { Gives ⊥ buf.new (answer_cell result) ((cell_in (typed_of column.now) is_present is_null).reads buf.old) }
+        ensures { Gives ⊥ buf.new (answer_cell result) ((cell_at (diffs_of diffs.now) (typed_of column.now) (bits_of bits.now)).reads buf.old) }
     {
-        if !is_present {
+        if !bits.is_present() {
             return Ok(ColumnValue::Absent);
         }
-        if is_null {
+        if bits.is_null() {
             return Ok(ColumnValue::Null);
         }
         let value = Value::read(column, buf)?;
-        Ok(ColumnValue::Value(value))
+        if is_diffs(column, diffs) {
+            Ok(diffs_in(value))
+        } else {
+            Ok(ColumnValue::Value(value))
+        }
+    }
+}
+
+/// The diffs in a value of a JSON column.
+fn diffs_in(value: Value<'_>) -> ColumnValue<'_>
+    requires { meaning_of value ≡ json }
+    ensures { cell_of result ≡ diff_list (content_of value.entry) }
+{
+    match value {
+        Value::Json(bytes) => ColumnValue::Diffs(bytes),
+        _ => unreachable!(),
     }
 }

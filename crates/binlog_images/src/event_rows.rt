@@ -1,21 +1,20 @@
 //! The rows of row events.
-ghost use Rattle.std.specs.Prelude.{◌≡◌, Bool, false};
+ghost use Rattle.std.specs.Prelude.{◌≡◌, Bool, true, false};
 ghost use Rattle.binlog_rows.specs.Rows.{IsOfForm};
 ghost use Rattle.binlog_rows.specs.declared.rows_form.RowsForm.{RowsForm};
 ghost use Rattle.binlog_rows.specs.declared.rows_event.RowsEvent.{RowsEvent};
 ghost use Rattle.binlog_rows.specs.RowsData.{event_in};
-ghost use Rattle.binlog_images.specs.EventRows.{GivesRows, GivesRowsUnless, is_partial};
+ghost use Rattle.binlog_images.specs.EventRows.{GivesRows, is_partial};
 
 use crate::rows::Rows;
 use crate::rows_error::RowsEventError;
 use binlog_columns::TableColumns;
 use binlog_rows::{
-    DeleteRows, DeleteRowsV1, RowsEvent, RowsEventData, RowsEventOf, RowsKind, TableMapEvent,
-    UpdateRows, UpdateRowsV1, WriteRows, WriteRowsV1,
+    DeleteRows, DeleteRowsV1, PartialUpdateRows, RowsEvent, RowsEventData, RowsEventOf, RowsKind,
+    TableMapEvent, UpdateRows, UpdateRowsV1, WriteRows, WriteRowsV1,
 };
 
-/// The kinds of row events whose bytes are whole rows: all but PARTIAL_UPDATE_ROWS, whose rows may hold parts of JSON
-/// documents.
+/// The kinds of row events whose rows are whole: all but PARTIAL_UPDATE_ROWS, whose rows may hold diffs of JSON documents.
 pub trait HasWholeRows: RowsKind {}
 
 impl HasWholeRows for WriteRows {}
@@ -30,13 +29,14 @@ impl HasWholeRows for UpdateRowsV1 {}
 
 impl HasWholeRows for DeleteRowsV1 {}
 
-/// The rows of this event, whose type says which images they have.
+/// The rows of this event, whose type says which images they have, and that they are partial updates or aren't.
 fn rows_of<'a>(
     event: &'a RowsEvent<'_>,
+    is_partial: bool,
     table_map: &'a TableMapEvent<'_>,
 ) -> Result<Rows<'a>, RowsEventError>
     requires { (form : RowsForm) × IsOfForm form event.now }
-    ensures { GivesRows table_map.now event.now result }
+    ensures { GivesRows is_partial table_map.now event.now result }
 {
     if event.table_id() != table_map.table_id() {
         return Err(RowsEventError::NoTableMap(event.table_id()));
@@ -53,7 +53,14 @@ fn rows_of<'a>(
             table,
         });
     }
-    Ok(Rows::new(columns, event))
+    Ok(Rows::new(columns, event, is_partial))
+}
+
+/// Whether the event holds partial updates.
+fn is_partial(event: &RowsEventData<'_>) -> bool
+    ensures { result ≡ is_partial event.now }
+{
+    matches!(event, RowsEventData::PartialUpdateRowsEvent(_))
 }
 
 /// Row events, whose bytes are rows.
@@ -68,12 +75,11 @@ pub trait RowsEventExt {
     ///
     /// The first of these:
     ///
-    /// - [`RowsEventError::PartialUpdate`] for an event of type PARTIAL_UPDATE_ROWS.
     /// - [`RowsEventError::NoTableMap`] if the table map is of another table id than the event.
     /// - [`RowsEventError::Columns`] with the error of [`TableColumns::new`] if the table map's columns are refused.
     /// - [`RowsEventError::ColumnCount`] if the event has another number of columns than the table map.
     fn rows<'a>(&'a self, table_map: &'a TableMapEvent<'_>) -> Result<Rows<'a>, RowsEventError>
-        ensures { GivesRowsUnless (is_partial self.now) table_map.now (event self.now) result };
+        ensures { GivesRows (is_partial self.now) table_map.now (event self.now) result };
 }
 
 impl RowsEventExt for RowsEventData<'_> {
@@ -82,20 +88,28 @@ impl RowsEventExt for RowsEventData<'_> {
     ghost is_partial = { is_partial };
 
     fn rows<'a>(&'a self, table_map: &'a TableMapEvent<'_>) -> Result<Rows<'a>, RowsEventError> {
-        if let RowsEventData::PartialUpdateRowsEvent(_) = self {
-            return Err(RowsEventError::PartialUpdate);
-        }
-        rows_of(self.event(), table_map)
+        rows_of(self.event(), is_partial(self), table_map)
     }
 }
 
-/// Never [`RowsEventError::PartialUpdate`].
+/// Whole rows.
 impl<K: HasWholeRows> RowsEventExt for RowsEventOf<'_, K> {
     ghost event = { λ event. event };
 
     ghost is_partial = { λ _. false };
 
     fn rows<'a>(&'a self, table_map: &'a TableMapEvent<'_>) -> Result<Rows<'a>, RowsEventError> {
-        rows_of(self.event(), table_map)
+        rows_of(self.event(), false, table_map)
+    }
+}
+
+/// Partial updates.
+impl RowsEventExt for RowsEventOf<'_, PartialUpdateRows> {
+    ghost event = { λ event. event };
+
+    ghost is_partial = { λ _. true };
+
+    fn rows<'a>(&'a self, table_map: &'a TableMapEvent<'_>) -> Result<Rows<'a>, RowsEventError> {
+        rows_of(self.event(), true, table_map)
     }
 }

@@ -1,16 +1,20 @@
 //! Row images.
-ghost use Rattle.std.specs.Prelude.{◌≡◌, ◌+◌, ◌≤◌, length, is_ok, true};
+ghost use Rattle.std.specs.Prelude.{◌≡◌, ◌+◌, ◌≤◌, length, is_ok, true, option_map};
 ghost use Rattle.binlog_columns.specs.TableColumns.{columns_of};
+ghost use Rattle.binlog_rows.specs.Images.{bitmap_of};
 ghost use Rattle.binlog_images.specs.BitsOf.{bits_of};
-ghost use Rattle.binlog_images.specs.Images.{left, image_at};
+ghost use Rattle.binlog_images.specs.Diffs.{json_count};
+ghost use Rattle.binlog_images.specs.DiffsOf.{diffs_of};
+ghost use Rattle.binlog_images.specs.Images.{left, image_at, image_with_at, partial_image_at};
 ghost use Rattle.binlog_images.specs.Answers.{Leaves, Takes};
 
 use crate::column_value::ColumnValue;
+use crate::diff_bits::{DiffBits, first_diffs, next_diffs, read_diff_bits};
 use crate::image_bits::{ImageBits, read_bitmap};
 use crate::image_columns::ImageColumns;
 use crate::rows_error::{ImageError, kind_of};
 use binlog_columns::TableColumns;
-use binlog_wire::ParseBuf;
+use binlog_wire::{BitView, ParseBuf};
 
 /// A row image: an iterator over all columns of the table, in order. It borrows the bytes of the event, and takes no
 /// memory; a copy of it starts where it stands.
@@ -18,10 +22,11 @@ use binlog_wire::ParseBuf;
 pub struct Image<'a> {
     columns: TableColumns<'a>,
     bits: ImageBits<'a>,
+    diffs: Option<DiffBits<'a>>,
     rest: &'a [u8],
     ghost in_range: { bits.index + length (columns_of columns) ≤ bits.present.len },
     ghost in_place: { bits.place ≤ bits.index },
-    ghost is_whole: { is_ok (left (columns_of columns) (bits_of bits) rest.now) ≡ true },
+    ghost is_whole: { is_ok (left (diffs_of diffs) (columns_of columns) (bits_of bits) rest.now) ≡ true },
 }
 
 impl<'a> Image<'a> {
@@ -33,9 +38,44 @@ impl<'a> Image<'a> {
     /// # Errors
     ///
     /// The first fault, in the order of the bytes, with its column.
-    #[tactic(auto, using(crate::proofs::Steps::nulls_refused, crate::proofs::Steps::image_taken, crate::proofs::Steps::image_refused, crate::proofs::Steps::whole))]
     pub(crate) fn read(of: &ImageColumns<'a>, buf: &mut ParseBuf<'a>) -> Result<Self, ImageError>
         ensures { Takes buf.new (answer_cells result) (image_at (shape_of of.now) buf.old) }
+    {
+        Image::read_with(None, of, buf)
+    }
+
+    /// Takes the image after of a partial update from the start of `buf`: the value options, the diff bits if they
+    /// follow, and an image with these columns, of which so many are of type JSON.
+    ///
+    /// # Errors
+    ///
+    /// The first fault, in the order of the bytes, with its column; None for the options and the diff bits.
+    #[tactic(auto, using(crate::proofs::Steps::diffs_refused, crate::proofs::Steps::partial_read))]
+    pub(crate) fn read_partial(
+        of: &ImageColumns<'a>,
+        json_columns: u64,
+        buf: &mut ParseBuf<'a>,
+    ) -> Result<Self, ImageError>
+        requires { json_columns ≡ json_count (columns_of of.now.columns) }
+        ensures { Takes buf.new (answer_cells result) (partial_image_at (shape_of of.now) buf.old) }
+    {
+        match read_diff_bits(json_columns, buf) {
+            Ok(diffs) => Image::read_with(diffs, of, buf),
+            Err(error) => Err(ImageError {
+                kind: kind_of(error),
+                column: None,
+            }),
+        }
+    }
+
+    /// Takes an image with these columns and diff bits from the start of `buf`.
+    #[tactic(auto, using(crate::proofs::Steps::nulls_refused, crate::proofs::Steps::image_taken, crate::proofs::Steps::image_refused, crate::proofs::Steps::whole))]
+    fn read_with(
+        diffs: Option<BitView<'a>>,
+        of: &ImageColumns<'a>,
+        buf: &mut ParseBuf<'a>,
+    ) -> Result<Self, ImageError>
+        ensures { Takes buf.new (answer_cells result) (image_with_at (option_map bitmap_of diffs.entry) (shape_of of.now) buf.old) }
     {
         let nulls = match read_bitmap(of.count, buf) {
             Ok(nulls) => nulls,
@@ -52,11 +92,13 @@ impl<'a> Image<'a> {
             index: 0,
             place: 0,
         };
+        let diffs = first_diffs(diffs);
         let rest = buf.0;
-        match skip_columns(of.columns, bits, buf) {
+        match skip_columns(of.columns, bits, diffs, buf) {
             Ok(()) => Ok(Image {
                 columns: of.columns,
                 bits,
+                diffs,
                 rest,
             }),
             Err(error) => Err(error),
@@ -69,21 +111,24 @@ impl<'a> Image<'a> {
 fn skip_columns(
     columns: TableColumns<'_>,
     start: ImageBits<'_>,
+    start_diffs: Option<DiffBits<'_>>,
     buf: &mut ParseBuf<'_>,
 ) -> Result<(), ImageError>
     requires in_range { start.index + length (columns_of columns) ≤ start.present.len }
     requires in_place { start.place ≤ start.index }
-    ensures { Leaves buf.new result (left (columns_of columns.entry) (bits_of start.entry) buf.old) }
+    ensures { Leaves buf.new result (left (diffs_of start_diffs.entry) (columns_of columns.entry) (bits_of start.entry) buf.old) }
 {
     let mut bits = start;
+    let mut diffs = start_diffs;
     for column in columns {
-        if let Err(error) = ColumnValue::read(&column, bits.is_present(), bits.is_null(), buf) {
+        if let Err(error) = ColumnValue::read(&column, &bits, &diffs, buf) {
             return Err(ImageError {
                 kind: kind_of(error),
                 column: Some(bits.index),
             });
         }
         bits.advance();
+        diffs = next_diffs(&column, diffs);
     }
     Ok(())
 }
@@ -106,14 +151,14 @@ impl<'a> Iterator for Image<'a> {
         let column = columns.next()?;
         let mut bits = self.bits;
         let mut rest = ParseBuf(self.rest);
-        let Ok(value) = ColumnValue::read(&column, bits.is_present(), bits.is_null(), &mut rest)
-        else {
+        let Ok(value) = ColumnValue::read(&column, &bits, &self.diffs, &mut rest) else {
             unreachable!()
         };
         bits.advance();
         *self = Image {
             columns,
             bits,
+            diffs: next_diffs(&column, self.diffs),
             rest: rest.0,
         };
         Some(value)

@@ -67,7 +67,7 @@ impl ImageBits<'_> {
 }
 
 /// Whether the bit at this index is set; none is beyond the last one.
-fn is_set(bits: BitView<'_>, index: u64) -> bool
+pub(crate) fn is_set(bits: BitView<'_>, index: u64) -> bool
     ensures { result ≡ is_set (bitmap_of bits.entry) index }
 {
     bits.bit(index).unwrap_or(false)

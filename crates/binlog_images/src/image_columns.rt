@@ -3,7 +3,9 @@ ghost use Rattle.std.specs.Prelude.{◌≡◌, length};
 ghost use Rattle.binlog_columns.specs.TableColumns.{columns_of};
 ghost use Rattle.binlog_rows.specs.Images.{bitmap_of};
 ghost use Rattle.binlog_images.specs.Bits.{set_count};
+ghost use Rattle.binlog_images.specs.Diffs.{json_count};
 
+use crate::diff_bits::is_json;
 use crate::image_bits::set_count;
 use binlog_columns::TableColumns;
 use binlog_wire::BitView;
@@ -32,5 +34,21 @@ impl<'a> ImageColumns<'a> {
             present,
             count: set_count(present),
         }
+    }
+
+    /// How many of the table's columns are of type JSON.
+    #[tactic(auto, using(crate::proofs::Counts::json_step))]
+    pub(crate) fn json_count(&self) -> u64
+        ensures { result ≡ json_count (columns_of self.now.columns) }
+    {
+        // The number of columns, which bounds the count.
+        let _columns = self.present.len();
+        let mut count = 0;
+        for column in self.columns {
+            if is_json(&column) {
+                count += 1;
+            }
+        }
+        count
     }
 }

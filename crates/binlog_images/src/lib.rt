@@ -5,6 +5,7 @@
 #![tactic(auto)]
 
 mod column_value;
+mod diff_bits;
 mod event_rows;
 mod image;
 mod image_bits;

@@ -1,13 +1,15 @@
 //! The rows of a row event.
-ghost use Rattle.std.specs.Prelude.{◌≡◌, ◌+◌, ◌<◌, ◌^◌, length, option_map, IfOk};
+ghost use Rattle.std.specs.Prelude.{◌≡◌, ◌+◌, ◌<◌, ◌^◌, length, option_map, is_some, Some, IfOk};
+ghost use Rattle.std.proofs.Props.{props};
 ghost use Rattle.binlog_columns.specs.TableColumns.{columns_of};
 ghost use Rattle.binlog_rows.specs.Images.{bitmap_of};
 ghost use Rattle.binlog_images.specs.Answers.{Takes};
 ghost use Rattle.binlog_images.specs.Events.{HasBitEach};
-ghost use Rattle.binlog_images.specs.ImageShapes.{shape_of};
-ghost use Rattle.binlog_images.specs.Images.{image_if_at};
+ghost use Rattle.binlog_images.specs.ImageShapes.{shape_of, IsJsonCount};
+ghost use Rattle.binlog_images.specs.declared.rows_error.ImageKind.TheVariants.{After};
+ghost use Rattle.binlog_images.specs.Images.{image_if_at, partial_if_at};
 ghost use Rattle.binlog_images.specs.ImageCells.{answer_image};
-ghost use Rattle.binlog_images.specs.Splits.{row_at, first_row};
+ghost use Rattle.binlog_images.specs.Splits.{row_at, first_row, after_at};
 ghost use Rattle.binlog_images.specs.RowCells.{answer_row, answer_first};
 
 use crate::image::Image;
@@ -24,8 +26,11 @@ use binlog_wire::{BitView, ParseBuf};
 pub struct Rows<'a> {
     before: Option<ImageColumns<'a>>,
     after: Option<ImageColumns<'a>>,
+    /// How many of the table's columns are of type JSON, if the rows are partial updates.
+    json_columns: Option<u64>,
     rest: &'a [u8],
     row: u64,
+    ghost json_counted: { IsJsonCount json_columns after } by { Prim.hlevel props },
     ghost counted: { row + length rest.now < 2 ^ 64 },
 }
 
@@ -43,6 +48,20 @@ fn image_columns<'a>(
     }
 }
 
+/// How many of the table's columns are of type JSON, if the rows are partial updates.
+fn json_columns(is_partial: bool, after: &Option<ImageColumns<'_>>) -> Option<u64>
+    ensures partial { is_some result ≡ is_partial }
+    ensures count { IsJsonCount result after.now }
+{
+    if !is_partial {
+        return None;
+    }
+    match after {
+        Some(of) => Some(of.json_count()),
+        None => Some(0),
+    }
+}
+
 /// Takes an image from the start of `buf`, if the event has it.
 fn read_image<'a>(
     row: u64,
@@ -57,30 +76,47 @@ fn read_image<'a>(
     };
     match Image::read(of, buf) {
         Ok(image) => Ok(Some(image)),
-        Err(error) => Err(RowsError {
-            kind: error.kind,
-            row,
-            image: Some(kind),
-            column: error.column,
-        }),
+        Err(error) => Err(error.in_row(row, kind)),
+    }
+}
+
+/// Takes the image after of a partial update from the start of `buf`, if the event has it.
+fn read_partial_image<'a>(
+    row: u64,
+    of: &Option<ImageColumns<'a>>,
+    json_columns: u64,
+    buf: &mut ParseBuf<'a>,
+) -> Result<Option<Image<'a>>, RowsError>
+    requires { IsJsonCount (Some json_columns) of.now }
+    ensures { Takes buf.new (answer_image result) (partial_if_at row After (option_map shape_of of.now) buf.old) }
+{
+    let Some(of) = of else {
+        return Ok(None);
+    };
+    match Image::read_partial(of, json_columns, buf) {
+        Ok(image) => Ok(Some(image)),
+        Err(error) => Err(error.in_row(row, ImageKind::After)),
     }
 }
 
 impl<'a> Rows<'a> {
     ghost use Rattle.binlog_images.specs.RowsLeft.{row_shape};
     ghost use Rattle.binlog_images.specs.Events.{event_shape};
+    ghost use Rattle.binlog_images.specs.Cells.{shape_as};
 
-    /// The rows of this event, whose table has these columns.
-    pub(crate) fn new(columns: TableColumns<'a>, event: &'a RowsEvent<'_>) -> Self
+    /// The rows of this event, whose table has these columns, and which holds partial updates or doesn't.
+    pub(crate) fn new(columns: TableColumns<'a>, event: &'a RowsEvent<'_>, is_partial: bool) -> Self
         requires before { HasBitEach (columns_of columns) event.now.columns.before }
         requires after { HasBitEach (columns_of columns) event.now.columns.after }
-        ensures shape { row_shape result ≡ event_shape (columns_of columns.entry) event.now }
+        ensures shape { row_shape result ≡ shape_as is_partial (event_shape (columns_of columns.entry) event.now) }
         ensures bytes { result.rest.now ≡ event.now.rows }
         ensures first { result.row ≡ 0 }
     {
+        let after = image_columns(columns, event.columns_after_image());
         Rows {
             before: image_columns(columns, event.columns_before_image()),
-            after: image_columns(columns, event.columns_after_image()),
+            after,
+            json_columns: json_columns(is_partial, &after),
             rest: event.rows_data(),
             row: 0,
         }
@@ -91,8 +127,19 @@ impl<'a> Rows<'a> {
         ensures { Takes buf.new (answer_row result) (row_at self.now.row (row_shape self.now) buf.old) }
     {
         let before = read_image(self.row, ImageKind::Before, &self.before, buf)?;
-        let after = read_image(self.row, ImageKind::After, &self.after, buf)?;
+        let after = self.read_after(buf)?;
         Ok(Row { before, after })
+    }
+
+    /// Takes the image after from the start of `buf`, if the event has it.
+    #[tactic(auto, using(crate::proofs::Taking::whole_after, crate::proofs::Taking::partial_after))]
+    fn read_after(&self, buf: &mut ParseBuf<'a>) -> Result<Option<Image<'a>>, RowsError>
+        ensures { Takes buf.new (answer_image result) (after_at self.now.row (row_shape self.now) buf.old) }
+    {
+        match self.json_columns {
+            None => read_image(self.row, ImageKind::After, &self.after, buf),
+            Some(count) => read_partial_image(self.row, &self.after, count, buf),
+        }
     }
 
     /// The first row that is left, and the bytes after it.

@@ -1,5 +1,6 @@
 //! Why rows are refused.
 ghost use Rattle.std.specs.Prelude.{◌≡◌};
+ghost use Rattle.binlog_images.specs.Images.{error_in};
 ghost use Rattle.binlog_images.specs.Kinds.{kind_of};
 
 use binlog_columns::ColumnError;
@@ -9,9 +10,9 @@ use thiserror::Error as ErrorMessage;
 /// What is wrong with a row.
 #[derive(Clone, Copy, Debug, PartialEq, Eq, Hash)]
 pub enum RowsErrorKind {
-    /// The bytes end within the image's null bitmap or a value.
+    /// The bytes end within the value options, the diff bits or the null bitmap of an image, or within a value.
     Truncated,
-    /// A value is complete and out of its column's range.
+    /// A value is complete and out of its column's range, or the value options are complete and neither 0 nor 1.
     BadValue,
     /// Bytes are left, and no column is present in any image, so that a row has no bytes.
     LeftOver,
@@ -36,17 +37,14 @@ pub struct RowsError {
     pub row: u64,
     /// The image in which it is; None for [`RowsErrorKind::LeftOver`].
     pub image: Option<ImageKind>,
-    /// The index of the column, counted from 0; None where it is in no column: in a null bitmap, or
-    /// [`RowsErrorKind::LeftOver`].
+    /// The index of the column, counted from 0; None where it is in no column: in the value options, the diff bits or a
+    /// null bitmap, or [`RowsErrorKind::LeftOver`].
     pub column: Option<u64>,
 }
 
 /// Why the rows of an event can't be read at all.
 #[derive(Clone, Copy, Debug, PartialEq, Eq, Hash, ErrorMessage)]
 pub enum RowsEventError {
-    /// The event's type is PARTIAL_UPDATE_ROWS (39), whose rows aren't decoded.
-    #[error("the rows of a PARTIAL_UPDATE_ROWS event aren't decoded")]
-    PartialUpdate,
     /// The table map is of another table id than the event's, which is this one.
     #[error("the table map isn't of the row event's table id {0}")]
     NoTableMap(u64),
@@ -68,11 +66,25 @@ pub enum RowsEventError {
 pub(crate) struct ImageError {
     /// What is wrong.
     pub(crate) kind: RowsErrorKind,
-    /// The index of the column; None for the null bitmap.
+    /// The index of the column; None for the value options, the diff bits and the null bitmap.
     pub(crate) column: Option<u64>,
 }
 
-/// The kind of an error of reading a value or a null bitmap.
+impl ImageError {
+    /// The same, of an image of a row.
+    pub(crate) fn in_row(self, row: u64, image: ImageKind) -> RowsError
+        ensures { result ≡ error_in row image self }
+    {
+        RowsError {
+            kind: self.kind,
+            row,
+            image: Some(image),
+            column: self.column,
+        }
+    }
+}
+
+/// The kind of an error of reading a value, or of what is in front of the values.
 pub(crate) fn kind_of(error: Error) -> RowsErrorKind
     ensures { result ≡ kind_of error }
 {

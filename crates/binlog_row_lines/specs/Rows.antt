@@ -2,7 +2,8 @@
 use Rattle.std.specs.Prelude.{ℕ, ◌+◌, List, [], ◌∷◌, ◌++◌, codes, decimal, drop, flat_map, Option, None, Some, unwrap_or, Result, Ok, Err}
 use Rattle.json.specs.Token.{Token, begin_object, end_object, begin_array, end_array, key, string, null}
 use Rattle.json_line.specs.Tokens.{number_value, member, object}
-use Rattle.binlog_images.specs.Cells.{Cell, absent, value, RowCells}
+use Rattle.binlog_values.specs.Contents.{bytes_in}
+use Rattle.binlog_images.specs.Cells.{Cell, absent, value, diff_list, RowCells}
 use Rattle.binlog_images.specs.Cells as cells
 use Rattle.binlog_images.specs.declared.rows_error.ImageKind.{ImageKind}
 use Rattle.binlog_images.specs.declared.rows_error.ImageKind.TheVariants.{Before, After}
@@ -12,7 +13,7 @@ use Rattle.binlog_images.specs.declared.rows_error.RowsErrorKind.TheVariants.{Tr
 use Rattle.binlog_column_facts.specs.declared.column_facts.ColumnFacts.{ColumnFacts}
 use Rattle.binlog_column_facts.specs.Facts.{Facts, facts_of}
 use Rattle.binlog_row_lines.specs.Parts.{Part, exactly, exact}
-use Rattle.binlog_row_lines.specs.Values.{value_parts}
+use Rattle.binlog_row_lines.specs.Values.{encoded_value, value_parts}
 
 -- The name of the column with this index: the stated one, else `@` and the number from 1.
 abbrev pub column_name : Facts → ℕ → List ℕ
@@ -23,6 +24,7 @@ abbrev pub cell_parts : Facts → ℕ → Cell → List Part
 cell_parts facts index absent = []
 cell_parts facts index cells.null = exactly (key (column_name facts index)) ∷ exactly null ∷ []
 cell_parts facts index (value meaning content) = exactly (key (column_name facts index)) ∷ value_parts facts meaning content
+cell_parts facts index (diff_list content) = exactly (key (column_name facts index)) ∷ exact (encoded_value (codes "diffs") (bytes_in content))
 
 -- The member of the first of these columns.
 abbrev pub first_parts : Facts → ℕ → List Cell → List Part

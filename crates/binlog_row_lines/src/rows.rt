@@ -16,7 +16,7 @@ ghost use Rattle.binlog_row_lines.specs.Rows.{column_name, cell_parts, first_par
 ghost use Rattle.binlog_row_lines.specs.Written.{ShowsRows};
 
 use crate::digits::push_number;
-use crate::values::ValueWriter;
+use crate::values::{ValueWriter, write_encoded};
 use binlog_column_facts::ColumnFacts;
 use binlog_images::{ColumnValue, Image, ImageKind, Row, Rows, RowsError, RowsErrorKind};
 use json_line::Line;
@@ -123,6 +123,10 @@ impl ValueWriter {
             ColumnValue::Value(value) => {
                 self.write_name(line, facts, index)?;
                 self.write(line, facts, value)
+            }
+            ColumnValue::Diffs(bytes) => {
+                self.write_name(line, facts, index)?;
+                write_encoded(line, "diffs", bytes)
             }
         }
     }

@@ -215,7 +215,7 @@ fn write_time2(line: &mut Line, text: &mut String, time: &Time2) -> Result<(), A
 }
 
 /// Writes an object with one member: bytes that aren't decoded.
-fn write_encoded(line: &mut Line, name: &str, bytes: &[u8]) -> Result<(), AllocError>
+pub(crate) fn write_encoded(line: &mut Line, name: &str, bytes: &[u8]) -> Result<(), AllocError>
     requires { IsPlainText name.now }
     ensures { Adds result line.old line.new (encoded_value name.now bytes.now) }
 {

@@ -117,7 +117,6 @@ fn name_of(error: &RowsEventError) -> &'static str
     ensures { IsPlainText result.now }
 {
     match error {
-        RowsEventError::PartialUpdate => "PartialUpdate",
         RowsEventError::NoTableMap(_) => "NoTableMap",
         RowsEventError::Columns(_) => "Columns",
         RowsEventError::ColumnCount { .. } => "ColumnCount",

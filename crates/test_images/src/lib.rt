@@ -2,6 +2,8 @@
 #![tactic(auto)]
 
 #[cfg(test)]
+mod partial_updates;
+#[cfg(test)]
 mod rows;
 #[cfg(test)]
 mod told;

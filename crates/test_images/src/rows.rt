@@ -155,16 +155,3 @@ fn the_table_map_is_the_events(rt: HostRuntime) {
             == Ok(Told::NoRows(RowsEventError::NoTableMap(6)))
     );
 }
-
-/// What a column of a partial update is.
-fn patched(alloc: Global, body: &[u8], place: Place) -> Result<Told, Error> {
-    let event = RowsEventData::PartialUpdateRowsEvent(read(alloc, body)?);
-    told_of(alloc, event, place)
-}
-
-#[test]
-fn partial_updates_are_refused(rt: HostRuntime) {
-    assert!(rt;
-        patched(rt.alloc(), MOVED, (0, AFTER, 0)) == Ok(Told::NoRows(RowsEventError::PartialUpdate))
-    );
-}

@@ -1,0 +1,120 @@
+//! Sums over the rows of a log.
+use crate::values::ValueSums;
+use binlog_file::{
+    BinlogFileOf, BinlogVersion, Error, EventRef, EventStreamReader, EventType, ReadCounted,
+    RowsEventOf,
+};
+use binlog_images::{HasWholeRows, Image, Row, Rows, RowsEventExt};
+use binlog_rows::{DeleteRows, DeleteRowsV1, UpdateRows, UpdateRowsV1, WriteRows, WriteRowsV1};
+use std::alloc::Global;
+use std::fmt;
+
+/// Sums over the rows of a log, modulo 2^64. They are displayed in order, separated by spaces.
+#[derive(Debug, Default, Drop)]
+pub(crate) struct Sums {
+    /// The number of rows.
+    rows: u64,
+    /// The number of events whose rows can't be read, and of rows that are refused.
+    refused: u64,
+    /// The sums over their values.
+    values: ValueSums,
+}
+
+impl fmt::Display for Sums {
+    fn fmt<W: fmt::Write>(&self, f: &mut fmt::Formatter<W>) -> fmt::Result {
+        write!(f, "{} {} {}", self.rows, self.refused, self.values)
+    }
+}
+
+impl Sums {
+    // Counts the rows of an event if it is a row event. The reader has the table maps before it.
+    fn count_event(
+        &mut self,
+        alloc: Global,
+        event: EventRef<'_>,
+        reader: &EventStreamReader,
+    ) -> Result<(), Error> {
+        match event.header().event_type() {
+            Ok(EventType::WRITE_ROWS_EVENT) => {
+                self.count_rows::<WriteRows>(&event.read_event(alloc)?, reader);
+            }
+            Ok(EventType::UPDATE_ROWS_EVENT) => {
+                self.count_rows::<UpdateRows>(&event.read_event(alloc)?, reader);
+            }
+            Ok(EventType::DELETE_ROWS_EVENT) => {
+                self.count_rows::<DeleteRows>(&event.read_event(alloc)?, reader);
+            }
+            Ok(EventType::WRITE_ROWS_EVENT_V1) => {
+                self.count_rows::<WriteRowsV1>(&event.read_event(alloc)?, reader);
+            }
+            Ok(EventType::UPDATE_ROWS_EVENT_V1) => {
+                self.count_rows::<UpdateRowsV1>(&event.read_event(alloc)?, reader);
+            }
+            Ok(EventType::DELETE_ROWS_EVENT_V1) => {
+                self.count_rows::<DeleteRowsV1>(&event.read_event(alloc)?, reader);
+            }
+            _ => {}
+        }
+        Ok(())
+    }
+
+    // Counts the rows of an event.
+    fn count_rows<K: HasWholeRows>(
+        &mut self,
+        event: &RowsEventOf<'_, K>,
+        reader: &EventStreamReader,
+    ) {
+        let Some(table_map) = reader.get_tme(event.table_id()) else {
+            self.refused = self.refused.wrapping_add(1);
+            return;
+        };
+        match event.rows(table_map) {
+            Ok(rows) => self.count_each(rows),
+            Err(_) => self.refused = self.refused.wrapping_add(1),
+        }
+    }
+
+    fn count_each(&mut self, rows: Rows<'_>) {
+        for item in rows {
+            match item {
+                Ok(row) => self.count_row(&row),
+                Err(_) => self.refused = self.refused.wrapping_add(1),
+            }
+        }
+    }
+
+    fn count_row(&mut self, row: &Row<'_>) {
+        self.rows = self.rows.wrapping_add(1);
+        self.count_image(row.before());
+        self.count_image(row.after());
+    }
+
+    fn count_image(&mut self, image: Option<Image<'_>>) {
+        if let Some(image) = image {
+            for cell in image {
+                self.values.count(&cell);
+            }
+        }
+    }
+}
+
+/// The sums over a binlog file with a file header, up to the first item that is an error.
+///
+/// # Errors
+///
+/// Those of [`BinlogFile`](binlog_file::BinlogFile), and of reading a row event.
+pub(crate) fn sums_of<R: ReadCounted + Drop>(alloc: Global, input: R) -> Result<Sums, Error> {
+    let mut file = BinlogFileOf::new_counted(alloc, BinlogVersion::Version4, input)?;
+    let mut sums = Sums::default();
+    // Bounded, so that the loop is proved to end.
+    'items: for _ in 0..u64::MAX {
+        let Some(item) = file.advance() else {
+            return Ok(sums);
+        };
+        item?;
+        if let Some(event) = file.event() {
+            sums.count_event(alloc, event, file.reader())?;
+        }
+    }
+    Ok(sums)
+}

@@ -1,0 +1,35 @@
+//! Laws of the definitions. Each is a function that does nothing and whose contract states the law.
+ghost use Rattle.std.specs.Prelude.{◌≡◌, ℕ, Bool, true, List, Ok};
+ghost use Rattle.binlog_columns.specs.Metadata.{Typed};
+ghost use Rattle.binlog_columns.specs.Layouts.{layout_of};
+ghost use Rattle.binlog_values.specs.Contents.{Content, content_in};
+ghost use Rattle.binlog_images.specs.Cells.{RowShape, whole};
+ghost use Rattle.binlog_images.specs.Splits.{AreRows};
+ghost use Rattle.binlog_row_writing.specs.NewContents.{content_for};
+ghost use Rattle.binlog_row_writing.specs.NewRows.{NewRow};
+ghost use Rattle.binlog_row_writing.specs.PartLaws.{ReadsDate, ReadsTimestamp2, ReadsDateTime2, ReadsTime2};
+ghost use Rattle.binlog_row_writing.specs.Times.{is_date, date_bits, timestamp2_number, datetime2_number, time2_number};
+ghost use Rattle.binlog_row_writing.specs.RowLaws.{AreAccepted, rows_bytes, rows_cells};
+ghost use Rattle.binlog_row_writing.specs.declared.new_value.NewDate.{NewDate};
+ghost use Rattle.binlog_row_writing.specs.declared.new_value.NewTime.{NewTime};
+ghost use Rattle.binlog_row_writing.specs.declared.new_value.NewValue.{NewValue};
+ghost use Rattle.binlog_row_writing.specs.declared.new_value.NewValue.TheVariants.{Timestamp, Time, DateTime};
+
+/// What is stored for a value fits its column.
+pub fn contents_fit()
+    ensures { (column : Typed) (value : NewValue) (c : Content) → content_for column value ≡ Ok c → (content_in (layout_of column)).Fits c }
+{}
+
+/// The bytes of rows that aren't refused, one after the other, split into exactly these rows, so that an iteration gives
+/// them, in order, and nothing else.
+pub fn written_rows_read_back()
+    ensures { (shape : RowShape) (rows : List NewRow) (index : ℕ) → AreAccepted shape rows → AreRows (whole shape) index (rows_bytes shape rows) (rows_cells shape rows) }
+{}
+
+/// The parts of a date or a time are those that are read of its number.
+pub fn parts_read_back()
+    ensures date { (date : NewDate) → is_date date ≡ true → ReadsDate date (date_bits date) }
+    ensures timestamp2 { (digits seconds us n : ℕ) → timestamp2_number digits (Timestamp seconds us) ≡ Ok n → ReadsTimestamp2 digits seconds us n }
+    ensures datetime2 { (digits n : ℕ) (date : NewDate) (time : NewTime) → datetime2_number digits (DateTime date time) ≡ Ok n → ReadsDateTime2 digits date time n }
+    ensures time2 { (digits n : ℕ) (is_negative : Bool) (time : NewTime) → time2_number digits (Time is_negative time) ≡ Ok n → ReadsTime2 digits is_negative time n }
+{}
