@@ -8,6 +8,8 @@ use Rattle.binlog_wire.specs.declared.error.Error.{Error}
 use Rattle.binlog_events.specs.Events.{EventView}
 use Rattle.binlog_filters.specs.Filtering.{Filters, RefusesTaken}
 use Rattle.binlog_filters.specs.declared.filtered.Filtered.{Filtered}
+use Rattle.binlog_status.specs.Outputs.{written}
+use Rattle.binlog_status.specs.declared.status.Outcome.{Outcome}
 use Rattle.binlog_status.specs.declared.status.Status.{Status}
 use Rattle.binlog_messages.specs.Reports.{ReportedView, Reports}
 use Rattle.binlog.specs.Reading.{VisitsInput, status_behind, is_last_followed, GoesOn, InOrder, ReadsInput}
@@ -42,14 +44,14 @@ last_is_followed is_followed names count within =
 
 module _ {V N : Type 0} (step : (behind : List N) (name : N) (old : V) (answer : Result Status Error) (new : V) → Type 0) where
   -- The file at a place is taken, and then those behind it.
-  taken_next : (names : List N) (place : ℕ) (d : N) → place < length names → (status : Status) (old : V) (answer : Result Status Error) (mid : V) (result : Status) (new : V)
+  taken_next : (names : List N) (place : ℕ) (d : N) → place < length names → (status : Status) (old : V) (answer : Result Status Error) (mid : V) (result : Outcome) (new : V)
       → step (drop (suc place) names) (get_or names place d) old answer mid
       → GoesOn (λ worst next. InOrder step (drop (suc place) names) worst next result new) status answer result mid new → InOrder step (drop place names) status old result new
   taken_next [] place d within status old answer mid result new one goes = absurd (omega arith)
   taken_next (name ∷ names) zero d within status old answer mid result new one goes = (answer, mid, one, goes)
   taken_next (name ∷ names) (suc place) d within status old answer mid result new one goes = taken_next names place d (omega arith) status old answer mid result new one goes
 
-  pub taken_at : (names : List N) (place : ℕ) (d : N) → place < length names → (status : Status) (old : V) (answer : Result Status Error) (mid : V) (result : Status) (new : V)
+  pub taken_at : (names : List N) (place : ℕ) (d : N) → place < length names → (status : Status) (old : V) (answer : Result Status Error) (mid : V) (result : Outcome) (new : V)
       → step (drop (place + 1) names) (get_or names place d) old answer mid
       → GoesOn (λ worst next. InOrder step (drop (place + 1) names) worst next result new) status answer result mid new → InOrder step (drop place names) status old result new
   taken_at names place d within status old answer mid result new one goes =
@@ -59,8 +61,8 @@ module _ {V N : Type 0} (step : (behind : List N) (name : N) (old : V) (answer :
       (subst (λ (count : ℕ). GoesOn (λ worst others. InOrder step (drop count names) worst others result new) status answer result mid new) next goes)
 
   -- No file is left.
-  pub none_left : (names : List N) (place : ℕ) → length names ≤ place → (status : Status) (new : V) → InOrder step (drop place names) status new status new
-  none_left names place all status new = subst (λ (left : List N). InOrder step left status new status new) (sym (drop_all place names all)) (refl, refl)
+  pub none_left : (names : List N) (place : ℕ) → length names ≤ place → (status : Status) (new : V) → InOrder step (drop place names) status new (written status) new
+  none_left names place all status new = subst (λ (left : List N). InOrder step left status new (written status) new) (sym (drop_all place names all)) (refl, refl)
 
 -- What is shown of an input whose bytes may be known.
 pub reads_input : {T : Type 0} (visits : T → ℕ → Result EventView Error → T → Type 0) (refuses : T → ℕ → Result EventView Error → Error → T → Type 0) (refused : T → ℕ)

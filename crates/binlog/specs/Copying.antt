@@ -5,7 +5,7 @@ use Rattle.binlog_wire.specs.declared.error.Error.{Error}
 use Rattle.binlog_events.specs.Events.{EventView}
 use Rattle.binlog_events.specs.FileHeader.{file_header}
 use Rattle.binlog_filters.specs.declared.filter.Filter.{Filter}
-use Rattle.binlog_status.specs.declared.status.Status.{Status}
+use Rattle.binlog_status.specs.declared.status.Outcome.{Outcome}
 use Rattle.binlog_commands.specs.Copying.{CopiesItem, CopiesNoItem}
 use Rattle.binlog_commands.specs.declared.copying.Copier.{Copier}
 use Rattle.binlog.specs.Reading.{ShowsTaken}
@@ -20,9 +20,9 @@ module _ {B N : Type 0} (contents : B → Option (List ℕ)) (is_verified is_fol
   CopiesNot old index item error new = CopiesNoItem item (contents old.output) error (contents new.output)
 
   -- The file header is written, and behind it the events that a filter takes of the files, and all descriptions.
-  pub record CopiesFiles (filter : Filter) (old : B) (status : Status) (new : B) : Type 0 where
+  pub record CopiesFiles (filter : Filter) (old : B) (outcome : Outcome) (new : B) : Type 0 where
     pub begun : Copier B
     pub header : Appends (contents old) (contents begun.output) file_header
     pub copied : Copier B
-    pub shown : ShowsTaken Copies CopiesNot (λ copier. 0) (record filter { takes_descriptions = true }) is_verified is_followed bytes names begun status copied
+    pub shown : ShowsTaken Copies CopiesNot (λ copier. 0) (record filter { takes_descriptions = true }) is_verified is_followed bytes names begun outcome copied
     pub ends : new ≡ copied.output

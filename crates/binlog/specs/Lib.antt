@@ -2,3 +2,4 @@ pub mod Reading
 pub mod Copying
 pub mod Gtids
 pub mod Verifying
+pub mod Commands

@@ -9,6 +9,8 @@ use Rattle.binlog_filters.specs.Filtering.{Filters, RefusesTaken}
 use Rattle.binlog_filters.specs.declared.filter.Filter.{Filter}
 use Rattle.binlog_filters.specs.declared.filtered.Filtered.{Filtered}
 use Rattle.binlog_status.specs.Statuses.{worse}
+use Rattle.binlog_status.specs.Outputs.{written, unwritten}
+use Rattle.binlog_status.specs.declared.status.Outcome.{Outcome}
 use Rattle.binlog_status.specs.declared.status.Status.{Status}
 use Rattle.binlog_status.specs.declared.status.Status.TheVariants.{Fine, NotOpened, Damaged, Failed}
 use Rattle.binlog_messages.specs.Reports.{ReportedView, begun_file, Reports}
@@ -38,15 +40,15 @@ is_last_followed is_followed [] = is_followed
 is_last_followed is_followed (x ∷ behind) = false
 
 -- The other files follow after one, unless the output failed. The worst status counts.
-abbrev pub GoesOn : {V : Type 0} (others : Status → V → Type 0) (status : Status) (answer : Result Status Error) (result : Status) (mid new : V) → Type 0
+abbrev pub GoesOn : {V : Type 0} (others : Status → V → Type 0) (status : Status) (answer : Result Status Error) (result : Outcome) (mid new : V) → Type 0
 GoesOn others status (Ok found) result mid new = others (worse status found) mid
-GoesOn others status (Err error) result mid new = (result ≡ status) × (new ≡ mid)
+GoesOn others status (Err error) result mid new = (result ≡ unwritten status) × (new ≡ mid)
 
 -- `step behind name old answer new` says what a file with this name makes of something, where the names in `behind` follow.
 module _ {V N : Type 0} (step : (behind : List N) (name : N) (old : V) (answer : Result Status Error) (new : V) → Type 0) where
   -- Files with these names are taken in order, where `status` is that of the files before them.
-  abbrev pub InOrder : (names : List N) (status : Status) (old : V) (result : Status) (new : V) → Type 0
-  InOrder [] status old result new = (result ≡ status) × (new ≡ old)
+  abbrev pub InOrder : (names : List N) (status : Status) (old : V) (result : Outcome) (new : V) → Type 0
+  InOrder [] status old result new = (result ≡ written status) × (new ≡ old)
   InOrder (name ∷ names) status old result new =
       (answer : Result Status Error) × (mid : V) × step names name old answer mid × GoesOn (λ worst next. InOrder names worst next result new) status answer result mid new
 
@@ -67,15 +69,15 @@ module _ {T : Type 0} (visits : T → ℕ → Result EventView Error → T → T
       ⊎ IfSome known (λ bytes. length bytes < 2 ^ 64 → ReadsInput is_verified bytes (begun_file old) answer new)
 
   -- Files with these names are read in order. `bytes` are those of a file with a name, and only the last one is followed.
-  abbrev pub ReadsFiles : {N : Type 0} (is_verified is_followed : Bool) (bytes : N → Option (List ℕ)) (names : List N) (status : Status) (old : ReportedView (Filtered T)) (result : Status) (new : ReportedView (Filtered T)) → Type 0
+  abbrev pub ReadsFiles : {N : Type 0} (is_verified is_followed : Bool) (bytes : N → Option (List ℕ)) (names : List N) (status : Status) (old : ReportedView (Filtered T)) (result : Outcome) (new : ReportedView (Filtered T)) → Type 0
   ReadsFiles is_verified is_followed bytes =
       InOrder (λ behind name old answer new. ReadsFile is_verified (unless_followed (is_last_followed is_followed behind) (bytes name)) old answer new)
 
   -- The visitor is shown what the filter takes of files with these names, in order.
-  pub record ShowsTaken {N : Type 0} (filter : Filter) (is_verified is_followed : Bool) (bytes : N → Option (List ℕ)) (names : List N) (old : T) (status : Status) (new : T) : Type 0 where
+  pub record ShowsTaken {N : Type 0} (filter : Filter) (is_verified is_followed : Bool) (bytes : N → Option (List ℕ)) (names : List N) (old : T) (outcome : Outcome) (new : T) : Type 0 where
     pub start : Filtered T
     pub filtered : start.filter ≡ filter
     pub shown : start.visitor ≡ old
     pub behind : ReportedView (Filtered T)
-    pub reads : ReadsFiles is_verified is_followed bytes names Fine (record { visitor = start; has_errors = false }) status behind
+    pub reads : ReadsFiles is_verified is_followed bytes names Fine (record { visitor = start; has_errors = false }) outcome behind
     pub ends : new ≡ behind.visitor.visitor

@@ -1,61 +1,62 @@
-//! The commands that list and count events, and what all commands read. Each is generic over its writer, and the function
-//! before it takes standard output. A status in place of a result is that of a command that can't begin.
+//! The commands that list and count events, and what all commands read. Each is generic over the files that it reads and its
+//! writer, which it gives back with its status. A status in place of a result is that of a command that can't begin.
 ghost use Rattle.std.specs.Prelude.{◌≡◌, ◌⊎◌, IfErr, IfOk};
 ghost use Rattle.binlog_filters.specs.declared.filter.Filter.{Filter};
 ghost use Rattle.binlog_status.specs.declared.status.Status.TheVariants.{Failed, Usage};
+ghost use Rattle.binlog.specs.Commands.{outcome_of_text, WritesShown, WritesCounts};
 ghost use Rattle.binlog.specs.Reading.{ShowsTaken};
 
 use crate::files::read_files;
-use crate::inputs::{HostInputs, Inputs};
+use crate::inputs::Inputs;
 use crate::request::{Reading, Request};
 use binlog_commands::Stats;
+use binlog_file::Retrying;
 use binlog_filter_arguments::filter;
 use binlog_filters::{Filter, Filtered};
 use binlog_lines::ItemLines;
 use binlog_listing::TextLines;
 use binlog_maria_json::MariaJsonWriter;
 use binlog_messages::{Refusing, Reported};
-use binlog_status::{BUFFER_SIZE, Output, Status};
+use binlog_status::{BUFFER_SIZE, Outcome, Output, Status};
 use binlog_summaries::write_stats;
 use binlog_visits::{LineWriter, Visitor};
 use std::io;
-use std::io::Write;
-use std::rt::Files;
+use std::io::{BufWriter, Write};
 use std::time::Clock;
 
-/// `binlog list`.
-pub(crate) fn list<'a, R: Files + Clock + Input + Print + Eprint + AllocGlobal>(
-    rt: &'a R,
-    request: &Request<'_, 'a>,
-) -> Result<Status, Status> {
-    write_lines(
-        rt,
-        &HostInputs::new(rt),
-        request,
-        TextLines::new(),
-        io::writer(rt),
-    )
-}
-
-/// `binlog json`.
-pub(crate) fn json<'a, R: Files + Clock + Input + Print + Eprint + AllocGlobal>(
-    rt: &'a R,
-    request: &Request<'_, 'a>,
-) -> Result<Status, Status> {
-    write_json(rt, &HostInputs::new(rt), request, io::writer(rt))
-}
-
-// Writes the line of JSON of each item that the filter takes.
-fn write_json<'a, S: Inputs, R: Clock + Eprint + AllocGlobal, W: Write + Drop>(
+/// `binlog list`: writes the line of the listing of each item that the filter takes.
+pub(crate) fn list<'a, S: Inputs, R: Clock + Eprint + AllocGlobal, W: Write + Drop>(
     rt: &'a R,
     inputs: &S,
     request: &Request<'_, 'a>,
     writer: W,
-) -> Result<Status, Status> {
+) -> Result<(Status, W), Status>
+    ensures ok { IfOk result (λ ended. WritesShown ⟦<BufWriter<Retrying<W>> as Write>⟧.contents request.now.reading.is_verified request.now.reading.is_followed
+        (λ name. S.bytes inputs.now name.now) request.now.files.now
+        ⟦<LineWriter<TextLines, Output<BufWriter<Retrying<W>>>> as Visitor>⟧.visits ⟦<LineWriter<TextLines, Output<BufWriter<Retrying<W>>>> as Visitor>⟧.refuses (λ lines. lines.output)
+        (W.contents writer) ended.0 (W.contents ended.1)) }
+    ensures err { IfErr result (λ status. (status ≡ Usage) ⊎ (status ≡ Failed)) }
+{
+    write_lines(rt, inputs, request, TextLines::new(), writer)
+}
+
+/// `binlog json`: writes the line of JSON of each item that the filter takes.
+pub(crate) fn json<'a, S: Inputs, R: Clock + Eprint + AllocGlobal, W: Write + Drop>(
+    rt: &'a R,
+    inputs: &S,
+    request: &Request<'_, 'a>,
+    writer: W,
+) -> Result<(Status, W), Status>
+    ensures ok { IfOk result (λ ended. WritesShown ⟦<BufWriter<Retrying<W>> as Write>⟧.contents request.now.reading.is_verified request.now.reading.is_followed
+        (λ name. S.bytes inputs.now name.now) request.now.files.now
+        ⟦<MariaJsonWriter<Output<BufWriter<Retrying<W>>>> as Visitor>⟧.visits ⟦<MariaJsonWriter<Output<BufWriter<Retrying<W>>>> as Visitor>⟧.refuses (λ lines. lines.output)
+        (W.contents writer) ended.0 (W.contents ended.1)) }
+    ensures err { IfErr result (λ status. (status ≡ Usage) ⊎ (status ≡ Failed)) }
+{
     let output = Output::new(rt, request.reading.output_capacity(), writer)?;
     let lines = MariaJsonWriter::new(rt.alloc(), output);
-    let (status, lines) = read_all(rt, inputs, request, lines)?;
-    Ok(lines.into_output().finish(rt, status))
+    let (outcome, lines) = read_all(rt, inputs, request, lines)?;
+    Ok(lines.into_output().finish(rt, outcome))
 }
 
 // Writes the line of each item that the filter takes.
@@ -65,11 +66,23 @@ fn write_lines<
     R: Clock + Eprint + AllocGlobal,
     L: ItemLines + Drop,
     W: Write + Drop,
->(rt: &'a R, inputs: &S, request: &Request<'_, 'a>, lines: L, writer: W) -> Result<Status, Status> {
+>(
+    rt: &'a R,
+    inputs: &S,
+    request: &Request<'_, 'a>,
+    lines: L,
+    writer: W,
+) -> Result<(Status, W), Status>
+    ensures ok { IfOk result (λ ended. WritesShown ⟦<BufWriter<Retrying<W>> as Write>⟧.contents request.now.reading.is_verified request.now.reading.is_followed
+        (λ name. S.bytes inputs.now name.now) request.now.files.now
+        ⟦<LineWriter<L, Output<BufWriter<Retrying<W>>>> as Visitor>⟧.visits ⟦<LineWriter<L, Output<BufWriter<Retrying<W>>>> as Visitor>⟧.refuses (λ lines. lines.output)
+        (W.contents writer) ended.0 (W.contents ended.1)) }
+    ensures err { IfErr result (λ status. (status ≡ Usage) ⊎ (status ≡ Failed)) }
+{
     let output = Output::new(rt, request.reading.output_capacity(), writer)?;
     let lines = LineWriter::new(rt.alloc(), lines, output);
-    let (status, lines) = read_all(rt, inputs, request, lines)?;
-    Ok(lines.into_output().finish(rt, status))
+    let (outcome, lines) = read_all(rt, inputs, request, lines)?;
+    Ok(lines.into_output().finish(rt, outcome))
 }
 
 /// Shows a visitor what the filter of the words takes of all files.
@@ -78,7 +91,7 @@ pub(crate) fn read_all<
     S: Inputs,
     R: Clock + Eprint + AllocGlobal,
     T: Visitor + Refusing + Drop,
->(rt: &'a R, inputs: &S, request: &Request<'_, 'a>, visitor: T) -> Result<(Status, T), Status>
+>(rt: &'a R, inputs: &S, request: &Request<'_, 'a>, visitor: T) -> Result<(Outcome, T), Status>
     ensures ok { IfOk result (λ shown. (filter : Filter) × ShowsTaken T.visits T.refuses T.refusals filter request.now.reading.is_verified request.now.reading.is_followed
         (λ name. S.bytes inputs.now name.now) request.now.files.now visitor shown.0 shown.1) }
     ensures err { IfErr result (λ status. (status ≡ Usage) ⊎ (status ≡ Failed)) }
@@ -100,32 +113,38 @@ pub(crate) fn read_taken<
     reading: Reading,
     filter: Filter,
     visitor: T,
-) -> (Status, T)
+) -> (Outcome, T)
     ensures { ShowsTaken T.visits T.refuses T.refusals filter reading.is_verified reading.is_followed (λ name. S.bytes inputs.now name.now) files.now visitor result.0 result.1 }
 {
     let mut reported = Reported::new(rt, Filtered::new(rt.alloc(), filter, visitor));
-    let status = read_files(rt, inputs, files, reading, &mut reported);
-    (status, reported.into_visitor().visitor)
+    let outcome = read_files(rt, inputs, files, reading, &mut reported);
+    (outcome, reported.into_visitor().visitor)
 }
 
-/// `binlog stats`.
-pub(crate) fn stats<'a, R: Files + Clock + Input + Print + Eprint + AllocGlobal>(
-    rt: &'a R,
-    request: &Request<'_, 'a>,
-) -> Result<Status, Status> {
-    write_counts(rt, &HostInputs::new(rt), request, io::writer(rt))
-}
-
-// Counts what the filter takes of all files, and writes the counts.
-fn write_counts<'a, S: Inputs, R: Clock + Eprint + AllocGlobal, W: Write + Drop>(
+/// `binlog stats`: counts what the filter takes of all files, and writes the counts.
+pub(crate) fn stats<'a, S: Inputs, R: Clock + Eprint + AllocGlobal, W: Write + Drop>(
     rt: &'a R,
     inputs: &S,
     request: &Request<'_, 'a>,
     writer: W,
-) -> Result<Status, Status> {
+) -> Result<(Status, W), Status>
+    ensures ok { IfOk result (λ ended. WritesCounts ⟦<BufWriter<Retrying<W>> as Write>⟧.contents request.now.reading.is_verified request.now.reading.is_followed
+        (λ name. S.bytes inputs.now name.now) request.now.files.now (W.contents writer) ended.0 (W.contents ended.1)) }
+    ensures err { IfErr result (λ status. (status ≡ Usage) ⊎ (status ≡ Failed)) }
+{
     let mut output = Output::new(rt, BUFFER_SIZE, writer)?;
-    let (status, stats) = read_all(rt, inputs, request, Stats::new())?;
+    let (read, stats) = read_all(rt, inputs, request, Stats::new())?;
     // Why the output fails is kept by the output.
-    let _ = write_stats(&stats, &mut output);
-    Ok(output.finish(rt, status))
+    let written = outcome_of_text(write_stats(&stats, &mut output));
+    Ok(output.finish(rt, read.worse(written)))
+}
+
+// The outcome of writing a text.
+fn outcome_of_text(answer: io::Result<()>) -> Outcome
+    ensures { result ≡ outcome_of_text answer }
+{
+    match answer {
+        Ok(()) => Outcome::written(Status::Fine),
+        Err(_) => Outcome::unwritten(Status::Fine),
+    }
 }

@@ -1,33 +1,37 @@
 //! The command that copies logs.
-ghost use Rattle.std.specs.Prelude.{IfOk};
+ghost use Rattle.std.specs.Prelude.{◌≡◌, ◌⊎◌, IfErr, IfOk};
+ghost use Rattle.binlog_status.specs.declared.status.Status.TheVariants.{Failed, Usage};
+ghost use Rattle.binlog.specs.Commands.{CopiesOr};
 ghost use Rattle.binlog.specs.Copying.{CopiesFiles};
 
 use crate::commands::read_taken;
-use crate::inputs::{HostInputs, Inputs};
+use crate::inputs::Inputs;
 use crate::request::Request;
 use binlog_commands::Copier;
-use binlog_file::{BinlogFileHeader, BinlogVersion};
+use binlog_file::{BinlogFileHeader, BinlogVersion, Retrying};
 use binlog_filter_arguments::filter;
 use binlog_filters::Filter;
-use binlog_status::{BUFFER_SIZE, Output, Status};
-use std::io::Write;
+use binlog_status::{BUFFER_SIZE, Outcome, Output, Status};
+use std::fs;
+use std::io::{BufWriter, Write};
 use std::rt::Files;
 use std::time::Clock;
-use std::{fs, io};
 
-/// `binlog copy`.
-pub(crate) fn copy<'a, R: Files + Clock + Input + Print + Eprint + AllocGlobal>(
+/// `binlog copy`, to the file that is named or to standard output.
+pub(crate) fn copy<'a, S: Inputs, R: Files + Clock + Eprint + AllocGlobal, W: Write + Drop>(
     rt: &'a R,
+    inputs: &S,
     request: &Request<'_, 'a>,
+    writer: W,
 ) -> Result<Status, Status> {
     let name = request.options.get_str("output").unwrap_or("-");
     if name == "-" {
-        return copy_to(rt, &HostInputs::new(rt), request, io::writer(rt));
+        return Ok(copy_to(rt, inputs, request, writer)?.0);
     }
     // Wrong usage leaves the output as it is.
     filter(rt, request.options)?;
     match fs::create(rt, name) {
-        Ok(file) => copy_to(rt, &HostInputs::new(rt), request, file),
+        Ok(file) => Ok(copy_to(rt, inputs, request, file)?.0),
         Err(error) => {
             let _ = eprintln!(rt; "binlog: {name}: {error}");
             Err(Status::Failed)
@@ -41,13 +45,17 @@ fn copy_to<'a, S: Inputs, R: Clock + Eprint + AllocGlobal, W: Write + Drop>(
     inputs: &S,
     request: &Request<'_, 'a>,
     writer: W,
-) -> Result<Status, Status> {
+) -> Result<(Status, W), Status>
+    ensures ok { IfOk result (λ ended. CopiesOr ⟦<BufWriter<Retrying<W>> as Write>⟧.contents request.now.reading.is_verified request.now.reading.is_followed
+        (λ name. S.bytes inputs.now name.now) request.now.files.now (W.contents writer) ended.0 (W.contents ended.1)) }
+    ensures err { IfErr result (λ status. (status ≡ Usage) ⊎ (status ≡ Failed)) }
+{
     let filter = filter(rt, request.options)?;
     let output = Output::new(rt, BUFFER_SIZE, writer)?;
     // Why the output fails is kept by the output.
     match copy_taken(rt, inputs, request, filter, output) {
-        Ok((status, output)) => Ok(output.finish(rt, status)),
-        Err(output) => Ok(output.finish(rt, Status::Fine)),
+        Ok((outcome, output)) => Ok(output.finish(rt, outcome)),
+        Err(output) => Ok(output.finish(rt, Outcome::unwritten(Status::Fine))),
     }
 }
 
@@ -59,7 +67,7 @@ fn copy_taken<'a, S: Inputs, R: Clock + Eprint + AllocGlobal, B: Write + Drop>(
     request: &Request<'_, 'a>,
     filter: Filter,
     mut output: B,
-) -> Result<(Status, B), B>
+) -> Result<(Outcome, B), B>
     ensures { IfOk result (λ copied. CopiesFiles B.contents request.now.reading.is_verified request.now.reading.is_followed (λ name. S.bytes inputs.now name.now) request.now.files.now
         filter output copied.0 copied.1) }
 {
@@ -70,6 +78,6 @@ fn copy_taken<'a, S: Inputs, R: Clock + Eprint + AllocGlobal, B: Write + Drop>(
         return Err(output);
     }
     let copier = Copier { output };
-    let (status, copier) = read_taken(rt, inputs, request.files, request.reading, filter, copier);
-    Ok((status, copier.output))
+    let (outcome, copier) = read_taken(rt, inputs, request.files, request.reading, filter, copier);
+    Ok((outcome, copier.output))
 }

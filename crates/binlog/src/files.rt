@@ -13,7 +13,7 @@ use crate::request::Reading;
 use binlog_file::{Counted, Error, ReadCounted, Retrying};
 use binlog_filters::Filtered;
 use binlog_messages::{Progress, Refusing, Reported, shown_name};
-use binlog_status::Status;
+use binlog_status::{Outcome, Status};
 use binlog_visits::{Visitor, visit_counted, visit_verified_counted};
 use crc32_ieee::Crc32;
 use std::alloc::Global;
@@ -21,14 +21,14 @@ use std::io::Read;
 use std::time::Clock;
 
 /// Reads files in order. Only the last one is followed. The worst status counts. If the output fails, no further file is
-/// read.
+/// read, and the outcome says so.
 pub(crate) fn read_files<'a, S: Inputs, R: Clock + Eprint + AllocGlobal, T: Visitor + Refusing>(
     rt: &R,
     inputs: &S,
     names: &[&'a str],
     reading: Reading,
     visitor: &mut Reported<'a, R, Filtered<T>>,
-) -> Status
+) -> Outcome
     ensures { ReadsFiles T.visits T.refuses T.refusals reading.is_verified reading.is_followed (λ name. S.bytes inputs.now name.now) names.now Fine visitor.old result visitor.new }
 {
     let mut status = Status::Fine;
@@ -36,10 +36,10 @@ pub(crate) fn read_files<'a, S: Inputs, R: Clock + Eprint + AllocGlobal, T: Visi
         let is_last = place + 1 == names.len();
         match read_file(rt, inputs, name, reading.of_file(is_last), visitor) {
             Ok(found) => status = status.worse(found),
-            Err(_) => return status,
+            Err(_) => return Outcome::unwritten(status),
         }
     }
-    status
+    Outcome::written(status)
 }
 
 /// Reads a file. The only error is that the output failed.

@@ -1,61 +1,123 @@
 //! The command that prints the GTIDs of logs.
-ghost use Rattle.binlog.specs.Gtids.{WritesSet, WritesDifference};
+ghost use Rattle.std.specs.Prelude.{◌≡◌, ◌⊎◌, IfErr, IfOk};
+ghost use Rattle.binlog_status.specs.declared.status.Status.TheVariants.{Failed, Usage};
+ghost use Rattle.binlog.specs.Commands.{WritesGtids};
+ghost use Rattle.binlog.specs.Gtids.{outcome_of_lines, is_unread, status_read, WritesSet, WritesDifference, WritesUnless, WritesMissing, WritesWanted};
 
 use crate::commands::{read_all, read_taken};
-use crate::inputs::{HostInputs, Inputs};
+use crate::inputs::Inputs;
 use crate::request::{Reading, Request};
 use binlog_commands::GtidCollector;
-use binlog_file::{Counted, CountedRef, Error, GtidTracker};
+use binlog_file::{Counted, CountedRef, Error, GtidTracker, Retrying};
 use binlog_filters::Filter;
 use binlog_gtid_listing::write_groups;
-use binlog_status::{BUFFER_SIZE, Output, Status, out_of_memory};
+use binlog_status::{BUFFER_SIZE, Outcome, Output, Status, out_of_memory};
 use std::io;
-use std::io::Write;
-use std::rt::Files;
+use std::io::{BufWriter, Write};
 use std::time::Clock;
 
-/// `binlog gtids`.
-pub(crate) fn gtids<'a, R: Files + Clock + Input + Print + Eprint + AllocGlobal>(
-    rt: &'a R,
-    request: &Request<'_, 'a>,
-) -> Result<Status, Status> {
-    write_gtids(rt, &HostInputs::new(rt), request, io::writer(rt))
-}
-
-// Writes the lines of the GTIDs that the filter takes, or of those that another log lacks if one is named.
-fn write_gtids<'a, S: Inputs, R: Clock + Eprint + AllocGlobal, W: Write + Drop>(
+/// `binlog gtids`: writes the lines of the GTIDs that the filter takes, or of those that another log lacks if one is named.
+pub(crate) fn gtids<'a, S: Inputs, R: Clock + Eprint + AllocGlobal, W: Write + Drop>(
     rt: &'a R,
     inputs: &S,
     request: &Request<'_, 'a>,
     writer: W,
-) -> Result<Status, Status> {
-    let output = Counted::new(Output::new(rt, BUFFER_SIZE, writer)?);
-    let collector = GtidCollector::new(rt.alloc(), output);
-    let (read, collector) = read_all(rt, inputs, request, collector)?;
-    let gtids = collector.gtids;
-    let mut output = collector.output.into_inner();
-    let written = match request.options.get_str("missing-in") {
-        None => write_set(rt, &gtids, &mut output),
-        Some(other) => write_missing(rt, inputs, &gtids, other, &mut output),
-    };
-    Ok(output.finish(rt, read.worse(written)))
+) -> Result<(Status, W), Status> {
+    write_gtids(
+        rt,
+        inputs,
+        request,
+        request.options.get_str("missing-in"),
+        writer,
+    )
 }
 
-// Writes the lines of the GTIDs of a set that a log lacks.
+// Writes the lines of the GTIDs that the filter takes, or of those that the log `missing_in` lacks.
+fn write_gtids<'a, S: Inputs, R: Clock + Eprint + AllocGlobal, W: Write + Drop>(
+    rt: &'a R,
+    inputs: &S,
+    request: &Request<'_, 'a>,
+    missing_in: Option<&'a str>,
+    writer: W,
+) -> Result<(Status, W), Status>
+    ensures ok { IfOk result (λ ended. WritesGtids ⟦<BufWriter<Retrying<W>> as Write>⟧.contents request.now.reading.is_verified request.now.reading.is_followed
+        (λ name. S.bytes inputs.now name.now) request.now.files.now missing_in.entry (W.contents writer) ended.0 (W.contents ended.1)) }
+    ensures err { IfErr result (λ status. (status ≡ Usage) ⊎ (status ≡ Failed)) }
+{
+    let output = Output::new(rt, BUFFER_SIZE, writer)?;
+    let collector = GtidCollector::new(rt.alloc(), Counted::new(output));
+    let (read, collector) = read_all(rt, inputs, request, collector)?;
+    let mut output = collector.output.into_inner();
+    let lines = write_wanted(rt, inputs, &collector.gtids, missing_in, &mut output);
+    Ok(output.finish(rt, read.worse(lines)))
+}
+
+// Writes the lines of the GTIDs of a set, or of those that the log `missing_in` lacks.
+fn write_wanted<'a, S: Inputs, R: Clock + Eprint + AllocGlobal, W: Write>(
+    rt: &'a R,
+    inputs: &S,
+    gtids: &GtidTracker,
+    missing_in: Option<&'a str>,
+    output: &mut W,
+) -> Outcome
+    ensures { WritesWanted (λ name. S.bytes inputs.now name.now) missing_in.entry gtids.now (W.contents output.old) result (W.contents output.new) }
+{
+    match missing_in {
+        None => write_set(rt, gtids, output),
+        Some(other) => write_missing(rt, inputs, gtids, other, output),
+    }
+}
+
+// Writes the lines of the GTIDs of a set that a log lacks. Nothing is written if the log can't be read.
 fn write_missing<'a, S: Inputs, R: Clock + Eprint + AllocGlobal, W: Write>(
     rt: &'a R,
     inputs: &S,
     gtids: &GtidTracker,
     other: &'a str,
     output: &mut W,
-) -> Status {
+) -> Outcome
+    ensures { WritesMissing (λ name. S.bytes inputs.now name.now) other.entry gtids.now (W.contents output.old) result (W.contents output.new) }
+{
     let collector = GtidCollector::new(rt.alloc(), Counted::new(io::sink()));
     let all = Filter::new(rt.alloc());
-    let (status, found) = read_taken(rt, inputs, &[other], Reading::default(), all, collector);
-    if status == Status::NotOpened || status == Status::Failed {
-        return status;
+    let (read, found) = read_taken(rt, inputs, &[other], Reading::to_end(), all, collector);
+    let status = status_read(read);
+    write_unless(rt, is_unread(status), status, gtids, &found.gtids, output)
+}
+
+// The status of a log that was read to this outcome.
+fn status_read(outcome: Outcome) -> Status
+    ensures { result ≡ status_read outcome }
+{
+    if outcome.is_written {
+        outcome.status
+    } else {
+        outcome.status.worse(Status::Failed)
     }
-    status.worse(write_difference(rt, gtids, &found.gtids, output))
+}
+
+// Whether a log with this status couldn't be read as far as it goes.
+fn is_unread(status: Status) -> bool
+    ensures { result ≡ is_unread status }
+{
+    matches!(status, Status::NotOpened | Status::Failed)
+}
+
+// Writes the lines of the GTIDs of a set that another one doesn't have, unless that one couldn't be read.
+fn write_unless<E: Eprint, W: Write>(
+    rt: &E,
+    is_unread: bool,
+    status: Status,
+    gtids: &GtidTracker,
+    others: &GtidTracker,
+    output: &mut W,
+) -> Outcome
+    ensures { WritesUnless is_unread status gtids.now others.now (W.contents output.old) result (W.contents output.new) }
+{
+    if is_unread {
+        return Outcome::written(status);
+    }
+    Outcome::written(status).worse(write_difference(rt, gtids, others, output))
 }
 
 // Writes the lines of the GTIDs of a set that another one doesn't have.
@@ -64,22 +126,30 @@ fn write_difference<E: Eprint, W: Write>(
     gtids: &GtidTracker,
     others: &GtidTracker,
     output: &mut W,
-) -> Status
+) -> Outcome
     ensures { WritesDifference gtids.now others.now (W.contents output.old) result (W.contents output.new) }
 {
     match gtids.subtract(others) {
         Ok(difference) => write_set(rt, &difference, output),
-        Err(_) => out_of_memory(rt),
+        Err(_) => Outcome::written(out_of_memory(rt)),
     }
 }
 
 // Writes the lines of a set of GTIDs. Why the output fails is kept by the output.
-fn write_set<E: Eprint, W: Write>(rt: &E, gtids: &GtidTracker, output: &mut W) -> Status
+fn write_set<E: Eprint, W: Write>(rt: &E, gtids: &GtidTracker, output: &mut W) -> Outcome
     ensures { WritesSet gtids.now (W.contents output.old) result (W.contents output.new) }
 {
     let mut output = CountedRef::new(&mut *output);
-    match write_groups(gtids, &mut output) {
-        Ok(()) | Err(Error::Writer) => Status::Fine,
-        Err(_) => out_of_memory(rt),
+    outcome_of_lines(rt, write_groups(gtids, &mut output))
+}
+
+// The outcome of writing the lines.
+fn outcome_of_lines<E: Eprint>(rt: &E, answer: Result<(), Error>) -> Outcome
+    ensures { result ≡ outcome_of_lines answer }
+{
+    match answer {
+        Ok(()) => Outcome::written(Status::Fine),
+        Err(Error::Writer) => Outcome::unwritten(Status::Fine),
+        Err(_) => Outcome::written(out_of_memory(rt)),
     }
 }

@@ -14,6 +14,7 @@ use binlog_arguments::command;
 use binlog_status::{Status, out_of_memory};
 use clap::ArgMatches;
 use clap::error::ErrorKind;
+use inputs::HostInputs;
 use request::{Request, Terminals};
 use std::env::Env;
 use std::io::IsTerminal;
@@ -85,17 +86,24 @@ fn run_command<'a, R: Files + Clock + Input + Print + Eprint + AllocGlobal>(
     terminals: Terminals,
 ) -> Status {
     let request = Request::new(name, matches, terminals);
-    let answer = match name {
-        "list" => commands::list(rt, &request),
-        "json" => commands::json(rt, &request),
-        "gtids" => gtids::gtids(rt, &request),
-        "verify" => verifying::verify(rt, &request),
-        "stats" => commands::stats(rt, &request),
-        "copy" => copying::copy(rt, &request),
-        _ => Err(Status::Usage),
-    };
-    match answer {
-        Ok(status) | Err(status) => status,
+    let (inputs, output) = (HostInputs::new(rt), io::writer(rt));
+    match name {
+        "list" => status_of(commands::list(rt, &inputs, &request, output)),
+        "json" => status_of(commands::json(rt, &inputs, &request, output)),
+        "gtids" => status_of(gtids::gtids(rt, &inputs, &request, output)),
+        "verify" => status_of(verifying::verify(rt, &inputs, &request, output)),
+        "stats" => status_of(commands::stats(rt, &inputs, &request, output)),
+        "copy" => match copying::copy(rt, &inputs, &request, output) {
+            Ok(status) | Err(status) => status,
+        },
+        _ => Status::Usage,
+    }
+}
+
+// The status of a command that ended, or of one that can't begin.
+fn status_of<W: Drop>(ended: Result<(Status, W), Status>) -> Status {
+    match ended {
+        Ok((status, _)) | Err(status) => status,
     }
 }
 

@@ -1,5 +1,5 @@
 //! What a command is asked for.
-ghost use Rattle.std.specs.Prelude.{◌≡◌, ◌&&◌};
+ghost use Rattle.std.specs.Prelude.{◌≡◌, ◌&&◌, false};
 
 use binlog_status::BUFFER_SIZE;
 use clap::ArgMatches;
@@ -21,7 +21,7 @@ impl Terminals {
 }
 
 /// How files are read.
-#[derive(Clone, Copy, Default)]
+#[derive(Clone, Copy)]
 pub(crate) struct Reading {
     /// Whether their checksums are verified.
     pub(crate) is_verified: bool,
@@ -32,6 +32,17 @@ pub(crate) struct Reading {
 }
 
 impl Reading {
+    /// To the end and no further, with no checksums and no progress.
+    pub(crate) fn to_end() -> Self
+        ensures { result ≡ record { is_verified = false; shows_progress = false; is_followed = false } }
+    {
+        Reading {
+            is_verified: false,
+            shows_progress: false,
+            is_followed: false,
+        }
+    }
+
     /// How one of several files is read: only the last one is followed.
     pub(crate) fn of_file(self, is_last: bool) -> Self
         ensures { result ≡ record self { is_followed = self.is_followed && is_last } }

@@ -1,45 +1,56 @@
 //! The command that verifies checksums.
-ghost use Rattle.std.specs.Prelude.{◌≡◌};
-ghost use Rattle.binlog_status.specs.declared.status.Status.TheVariants.{Fine};
+ghost use Rattle.std.specs.Prelude.{◌≡◌, ◌⊎◌, IfErr, IfOk};
+ghost use Rattle.binlog_status.specs.declared.status.Status.TheVariants.{Fine, Failed, Usage};
+ghost use Rattle.binlog.specs.Commands.{WritesTallies};
 ghost use Rattle.binlog.specs.Reading.{unless_followed};
 ghost use Rattle.binlog.specs.Verifying.{verifying, has_line, WritesLine, VerifiesFile, VerifiesFiles};
 
 use crate::files::read_file;
-use crate::inputs::{HostInputs, Inputs};
+use crate::inputs::Inputs;
 use crate::request::{Reading, Request};
 use binlog_commands::Tally;
-use binlog_file::Error;
+use binlog_file::{Error, Retrying};
 use binlog_filter_arguments::filter;
 use binlog_filters::Filtered;
 use binlog_messages::{Reported, shown_name};
-use binlog_status::{BUFFER_SIZE, Output, Status};
+use binlog_status::{BUFFER_SIZE, Outcome, Output, Status};
 use binlog_summaries::write_tally;
-use std::io;
-use std::io::Write;
-use std::rt::Files;
+use std::io::{BufWriter, Write};
 use std::time::Clock;
 
-/// `binlog verify`.
-pub(crate) fn verify<'a, R: Files + Clock + Input + Print + Eprint + AllocGlobal>(
-    rt: &'a R,
-    request: &Request<'_, 'a>,
-) -> Result<Status, Status> {
-    write_tallies(rt, &HostInputs::new(rt), request, io::writer(rt))
-}
-
-// Verifies each file, and writes its line.
-fn write_tallies<'a, S: Inputs, R: Clock + Eprint + AllocGlobal, W: Write + Drop>(
+/// `binlog verify`: verifies each file, and writes its line.
+pub(crate) fn verify<'a, S: Inputs, R: Clock + Eprint + AllocGlobal, W: Write + Drop>(
     rt: &'a R,
     inputs: &S,
     request: &Request<'_, 'a>,
     writer: W,
-) -> Result<Status, Status> {
+) -> Result<(Status, W), Status> {
+    write_tallies(
+        rt,
+        inputs,
+        request,
+        request.options.get_flag("quiet"),
+        writer,
+    )
+}
+
+// Verifies each file, and writes its line unless the command is quiet.
+fn write_tallies<'a, S: Inputs, R: Clock + Eprint + AllocGlobal, W: Write + Drop>(
+    rt: &'a R,
+    inputs: &S,
+    request: &Request<'_, 'a>,
+    is_quiet: bool,
+    writer: W,
+) -> Result<(Status, W), Status>
+    ensures ok { IfOk result (λ ended. WritesTallies ⟦<BufWriter<Retrying<W>> as Write>⟧.contents request.now.reading.is_verified request.now.reading.is_followed
+        (λ name. S.bytes inputs.now name.now) request.now.files.now is_quiet (λ name. name.now) (W.contents writer) ended.0 (W.contents ended.1)) }
+    ensures err { IfErr result (λ status. (status ≡ Usage) ⊎ (status ≡ Failed)) }
+{
     let filter = filter(rt, request.options)?;
-    let is_quiet = request.options.get_flag("quiet");
     let mut output = Output::new(rt, BUFFER_SIZE, writer)?;
     let mut reported = Reported::new(rt, Filtered::new(rt.alloc(), filter, Tally::new()));
     let (files, reading) = (request.files, request.reading);
-    let status = verify_files(
+    let outcome = verify_files(
         rt,
         inputs,
         files,
@@ -48,10 +59,10 @@ fn write_tallies<'a, S: Inputs, R: Clock + Eprint + AllocGlobal, W: Write + Drop
         &mut reported,
         &mut output,
     );
-    Ok(output.finish(rt, status))
+    Ok(output.finish(rt, outcome))
 }
 
-// Verifies files in order. If the output fails, no further file is read.
+// Verifies files in order. If the output fails, no further file is read, and the outcome says so.
 fn verify_files<'a, S: Inputs, R: Clock + Eprint + AllocGlobal, W: Write>(
     rt: &R,
     inputs: &S,
@@ -60,7 +71,7 @@ fn verify_files<'a, S: Inputs, R: Clock + Eprint + AllocGlobal, W: Write>(
     is_quiet: bool,
     reported: &mut Reported<'a, R, Filtered<Tally>>,
     output: &mut W,
-) -> Status
+) -> Outcome
     ensures { VerifiesFiles reading.is_verified reading.is_followed is_quiet (λ name. name.now) (λ name. S.bytes inputs.now name.now) files.now Fine
         (verifying reported.old (W.contents output.old)) result (verifying reported.new (W.contents output.new)) }
 {
@@ -68,10 +79,10 @@ fn verify_files<'a, S: Inputs, R: Clock + Eprint + AllocGlobal, W: Write>(
     for file in files {
         match verify_file(rt, inputs, file, reading, is_quiet, reported, output) {
             Ok(found) => status = status.worse(found),
-            Err(_) => return status,
+            Err(_) => return Outcome::unwritten(status),
         }
     }
-    status
+    Outcome::written(status)
 }
 
 // Verifies a file, and writes its line if it could be opened. The only error is that the output failed.

@@ -1,5 +1,5 @@
 -- Counting the events of a log by type.
-use Rattle.std.specs.Prelude.{◌≡◌, ℕ, ◌==◌, Bool, ◌||◌, length, slice_set, slice_index_or, Option, Some, None, unwrap_or, Result, Ok, Err, nat_lt, if◌then◌else◌}
+use Rattle.std.specs.Prelude.{◌≡◌, ℕ, ◌==◌, Bool, ◌||◌, length, slice_set, slice_index_or, replicate, Option, Some, None, unwrap_or, Result, Ok, Err, nat_lt, if◌then◌else◌}
 use Rattle.binlog_wire.specs.declared.error.Error.{Error}
 use Rattle.binlog_description.specs.Headers.{header_of}
 use Rattle.binlog_events.specs.Events.{EventView}
@@ -7,6 +7,10 @@ use Rattle.binlog_filters.specs.Taking.{begins_transaction}
 use Rattle.binlog_commands.specs.Counting.{counted, counted_if}
 use Rattle.binlog_commands.specs.declared.stats.Stats.{Stats}
 use Rattle.binlog_commands.specs.declared.stats.Largest.{Largest}
+
+-- Nothing is counted yet.
+abbrev pub no_items : Stats
+no_items = record { events = replicate 256 0; bytes = replicate 256 0; errors = 0; transactions = 0; first_time = None; last_time = None; largest = None }
 
 -- The larger event of the two, the first one if they have the same size.
 abbrev pub larger : Option Largest → Largest → Option Largest

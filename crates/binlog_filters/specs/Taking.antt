@@ -59,6 +59,17 @@ meets_conditions filter start event is_wanted =
 abbrev pub is_taken : Filter → Option ℕ → EventView → Bool → Bool
 is_taken filter start event is_wanted = (filter.takes_descriptions && is_description event.frame) || meets_conditions filter start event is_wanted
 
+-- The filter has no condition, so that it takes each event.
+pub record HasNoCondition (filter : Filter) : Type 0 where
+  pub from_start : filter.start_position ≡ 0
+  pub to_end : filter.stop_position ≡ None
+  pub from_first : filter.start_time ≡ 0
+  pub to_last : filter.stop_time ≡ None
+  pub any_server : filter.server_id ≡ None
+  pub any_type : filter.types.items ≡ []
+  pub includes_all : filter.include_gtids ≡ None
+  pub excludes_none : filter.exclude_gtids ≡ None
+
 -- ---- transactions
 
 -- The types of events with which a transaction begins: GTID, ANONYMOUS_GTID, GTID_TAGGED_LOG.

@@ -5,4 +5,4 @@ mod output;
 mod status;
 
 pub use output::{BUFFER_SIZE, Output};
-pub use status::{Status, out_of_memory};
+pub use status::{Outcome, Status, out_of_memory};

@@ -1,10 +1,11 @@
 //! The output of a command.
-ghost use Rattle.std.specs.Prelude.{◌≡◌, ◌⊎◌, Some, None, IfErr, IfOk, IfSome, IsSome};
+ghost use Rattle.std.specs.Prelude.{◌≡◌, Some, None, IfErr, IfOk, IfSome, IsSome};
 ghost use Rattle.std.specs.Io.KnownBytes.{Keeps};
 ghost use Rattle.binlog_status.specs.declared.status.Status.TheVariants.{Failed};
-ghost use Rattle.binlog_status.specs.Statuses.{EndsBehind, failed_or};
+ghost use Rattle.binlog_status.specs.Statuses.{EndsBehind};
+ghost use Rattle.binlog_status.specs.Outputs.{EndsWith, Finishes, HasBytes};
 
-use crate::status::{Status, out_of_memory};
+use crate::status::{Outcome, Status, out_of_memory};
 use binlog_ends::Retrying;
 use std::io;
 use std::io::{BufWriter, ErrorKind, Write};
@@ -22,7 +23,8 @@ pub struct Output<B> {
 impl<W: Write + Drop> Output<BufWriter<Retrying<W>>> {
     /// Writes to this writer by a buffer of its own, of this capacity in bytes. An interrupted call is retried.
     pub fn new<R: Eprint + AllocGlobal>(rt: &R, capacity: usize, inner: W) -> Result<Self, Status>
-        ensures ok { IfOk result (λ output. output.failure ≡ None) }
+        ensures bytes { IfOk result (λ output. ⟦<BufWriter<Retrying<W>> as Write>⟧.contents output.inner ≡ W.contents inner) }
+        ensures fine { IfOk result (λ output. output.failure ≡ None) }
         ensures err { IfErr result (λ status. status ≡ Failed) }
     {
         match BufWriter::with_capacity(rt.alloc(), capacity, Retrying::new(inner)) {
@@ -33,37 +35,32 @@ impl<W: Write + Drop> Output<BufWriter<Retrying<W>>> {
             Err(_) => Err(out_of_memory(rt)),
         }
     }
-}
 
-impl<B: Write + Drop> Output<B> {
-    /// Flushes the output, and answers the status of the run, which was `status` up to here: the first failure of the output
-    /// makes it at least [`Status::Failed`]. A pipe that nobody reads any more ends a run quietly.
-    pub fn finish<E: Eprint>(mut self, rt: &E, status: Status) -> Status
-        // The output failed before.
-        ensures failed { IfSome self.failure (λ failure. EndsBehind failure status result) }
-        // If at all, it fails now.
-        ensures fine { self.failure ≡ None → (result ≡ status) ⊎ (result ≡ failed_or status) }
+    /// Flushes the output, and gives back its writer with the status of the run: that of its outcome, and at least
+    /// [`Status::Failed`] if the output failed. A pipe that nobody reads any more ends a run quietly.
+    ///
+    /// The writer has all bytes of the output, or a front of them if the output failed.
+    pub fn finish<E: Eprint>(self, rt: &E, outcome: Outcome) -> (Status, W)
+        ensures { Finishes self.failure (⟦<BufWriter<Retrying<W>> as Write>⟧.contents self.inner) outcome result.0 (W.contents result.1) }
     {
-        let _ = self.flush_first();
-        match self.failure {
-            Some(failure) => end_behind(rt, &failure, status),
-            None => status,
-        }
+        let (failure, writer) = self.close();
+        (end(rt, failure, outcome), writer)
+    }
+
+    // Flushes the output. Why it failed, if it did, and its writer.
+    fn close(mut self) -> (Option<io::Error>, W)
+        ensures first { IfSome self.failure (λ failure. result.0 ≡ Some failure) }
+        ensures written { HasBytes result.0 (⟦<BufWriter<Retrying<W>> as Write>⟧.contents self.inner) (W.contents result.1) }
+    {
+        let flushed = self.inner.flush();
+        self.note(&flushed);
+        let Output { inner, failure } = self;
+        let (inner, _unwritten) = inner.into_parts();
+        (failure, inner.into_inner())
     }
 }
 
 impl<B: Write> Output<B> {
-    // Flushes the output, and keeps why that fails if it is the first failure.
-    fn flush_first(&mut self) -> io::Result<()>
-        ensures bytes { Keeps (B.contents self.old.inner) (B.contents self.new.inner) }
-        ensures err { IfErr result (λ error. IsSome self.new.failure) }
-        ensures first { IfSome self.old.failure (λ failure. self.new.failure ≡ Some failure) }
-    {
-        let flushed = self.inner.flush();
-        self.note(&flushed);
-        flushed
-    }
-
     // Keeps why a call failed if it is the first failure.
     fn note<T>(&mut self, answer: &io::Result<T>)
         ensures inner { self.new.inner ≡ self.old.inner }
@@ -75,6 +72,17 @@ impl<B: Write> Output<B> {
         {
             self.failure = Some(*error);
         }
+    }
+}
+
+// The status of a run, whose output may have failed.
+fn end<E: Eprint>(rt: &E, failure: Option<io::Error>, outcome: Outcome) -> Status
+    ensures { EndsWith failure outcome result }
+{
+    match failure {
+        Some(failure) => end_behind(rt, &failure, outcome.status),
+        None if outcome.is_written => outcome.status,
+        None => outcome.status.max(Status::Failed),
     }
 }
 
@@ -100,6 +108,8 @@ impl<B: Write> Write for Output<B> {
     }
 
     fn flush(&mut self) -> io::Result<()> {
-        self.flush_first()
+        let flushed = self.inner.flush();
+        self.note(&flushed);
+        flushed
     }
 }

@@ -1,6 +1,7 @@
 //! The exit status.
 ghost use Rattle.std.specs.Prelude.{◌≡◌};
 ghost use Rattle.binlog_status.specs.declared.status.Status.TheVariants.{Failed};
+ghost use Rattle.binlog_status.specs.Outputs.{written, unwritten, worse_outcome};
 ghost use Rattle.binlog_status.specs.Statuses.{worse};
 
 use binlog_wire::Error;
@@ -26,6 +27,47 @@ impl Status {
         ensures { result ≡ worse self other }
     {
         self.max(other)
+    }
+}
+
+/// What a run has come to before its output is finished.
+#[derive(Clone, Copy, Debug, PartialEq, Eq)]
+pub struct Outcome {
+    /// The status of what was read.
+    pub status: Status,
+    /// Whether the output took all that was to be written.
+    pub is_written: bool,
+}
+
+impl Outcome {
+    /// All was written.
+    pub fn written(status: Status) -> Self
+        ensures { result ≡ written status }
+    {
+        Outcome {
+            status,
+            is_written: true,
+        }
+    }
+
+    /// The output failed.
+    pub fn unwritten(status: Status) -> Self
+        ensures { result ≡ unwritten status }
+    {
+        Outcome {
+            status,
+            is_written: false,
+        }
+    }
+
+    /// The worse one of this outcome and another: the worse status, and whether both are written.
+    pub fn worse(self, other: Outcome) -> Self
+        ensures { result ≡ worse_outcome self other }
+    {
+        Outcome {
+            status: self.status.worse(other.status),
+            is_written: self.is_written && other.is_written,
+        }
     }
 }
 

@@ -5,7 +5,7 @@ pub returns : goal.returns
 returns g c = record {
   begun = record { output = c.write-header.new.output };
   header = search rules;
-  copied = c.read_taken-status.result.1;
-  shown = c.read_taken-status.ensures;
+  copied = c.read_taken-copier.result.1;
+  shown = c.read_taken-copier.ensures;
   ends = refl;
 }

@@ -1,0 +1,125 @@
+-- What each command makes of its output: the bytes of its writer, and the status.
+use Rattle.std.specs.Prelude.{◌≡◌, ◌⊎◌, ℕ, Bool, List, [], Option, None, Result, Ok, Err}
+use Rattle.std.specs.declared.io.Error.{Error as IoError}
+use Rattle.binlog_wire.specs.declared.error.Error.{Error}
+use Rattle.binlog_events.specs.Events.{EventView}
+use Rattle.binlog_ends.specs.Views.{CountedView}
+use Rattle.binlog_gtid_listing.specs.GtidListing.{tracked}
+use Rattle.binlog_filters.specs.declared.filter.Filter.{Filter}
+use Rattle.binlog_filters.specs.declared.filtered.Filtered.{Filtered}
+use Rattle.binlog_commands.specs.Collecting.{Collects, RefusesCollected}
+use Rattle.binlog_commands.specs.Counting.{IsNever}
+use Rattle.binlog_commands.specs.Statistics.{no_items, CountsItem}
+use Rattle.binlog_commands.specs.declared.gtids.GtidCollector.{GtidCollector}
+use Rattle.binlog_commands.specs.declared.stats.Stats.{Stats}
+use Rattle.binlog_commands.specs.declared.tally.Tally.{Tally}
+use Rattle.binlog_messages.specs.Reports.{ReportedView}
+use Rattle.binlog_status.specs.Outputs.{worse_outcome, written, unwritten, Finishes}
+use Rattle.binlog_status.specs.declared.output.Output.{Output}
+use Rattle.binlog_status.specs.declared.status.Outcome.{Outcome}
+use Rattle.binlog_status.specs.declared.status.Status.{Status}
+use Rattle.binlog_status.specs.declared.status.Status.TheVariants.{Fine}
+use Rattle.binlog.specs.Reading.{ShowsTaken}
+use Rattle.binlog.specs.Copying.{CopiesFiles}
+use Rattle.binlog.specs.Gtids.{WritesWanted}
+use Rattle.binlog.specs.Verifying.{verifying, VerifiesFiles}
+
+-- The outcome of writing a text.
+abbrev pub outcome_of_text : Result (Unit {0}) IoError → Outcome
+outcome_of_text (Ok done) = written Fine
+outcome_of_text (Err error) = unwritten Fine
+
+-- `contents` are the bytes of the buffer of an output, with those of its writer.
+module _ {B : Type 0} (contents : B → Option (List ℕ)) where
+  abbrev pub bytes_of : Output B → Option (List ℕ)
+  bytes_of output = contents output.inner
+
+  -- An output begins with the bytes of its writer.
+  pub record Begins (old : Option (List ℕ)) (output : Output B) : Type 0 where
+    pub has : bytes_of output ≡ old
+    pub fine : output.failure ≡ None
+
+  -- An output is finished behind this outcome, and gives back its writer.
+  abbrev pub Ends : (output : Output B) (outcome : Outcome) (status : Status) (new : Option (List ℕ)) → Type 0
+  Ends output outcome status new = Finishes output.failure (bytes_of output) outcome status new
+
+-- The files have these names and bytes; `old` and `new` are the bytes of the output's writer.
+module _ {B N : Type 0} (contents : B → Option (List ℕ)) (is_verified is_followed : Bool) (bytes : N → Option (List ℕ)) (names : List N) where
+  -- A visitor with an output is shown what a filter takes of the files, and its output is finished.
+  pub record WritesShown {T : Type 0} (visits : T → ℕ → Result EventView Error → T → Type 0) (refuses : T → ℕ → Result EventView Error → Error → T → Type 0) (output_of : T → Output B)
+      (old : Option (List ℕ)) (status : Status) (new : Option (List ℕ)) : Type 0 where
+    pub filter : Filter
+    pub start : T
+    pub begins : Begins contents old (output_of start)
+    pub outcome : Outcome
+    pub behind : T
+    pub shown : ShowsTaken visits refuses (λ visitor. 0) filter is_verified is_followed bytes names start outcome behind
+    pub ends : Ends contents (output_of behind) outcome status new
+
+  -- ---- `copy`
+
+  -- The file header is written, and behind it what a filter takes of the files, and all descriptions.
+  pub record WritesCopy (old : Option (List ℕ)) (status : Status) (new : Option (List ℕ)) : Type 0 where
+    pub filter : Filter
+    pub output : Output B
+    pub begins : Begins contents old output
+    pub outcome : Outcome
+    pub behind : Output B
+    pub copies : CopiesFiles (bytes_of contents) is_verified is_followed bytes names filter output outcome behind
+    pub ends : Ends contents behind outcome status new
+
+  -- The output failed in the file header, and the status says so.
+  pub record WritesNoHeader (status : Status) (new : Option (List ℕ)) : Type 0 where
+    pub output : Output B
+    pub ends : Ends contents output (unwritten Fine) status new
+
+  -- The log is written of what a filter takes of the files, or the file header can't be.
+  abbrev pub CopiesOr : (old : Option (List ℕ)) (status : Status) (new : Option (List ℕ)) → Type 0
+  CopiesOr old status new = WritesCopy old status new ⊎ WritesNoHeader status new
+
+  -- ---- `gtids`
+
+  -- The GTIDs of what a filter takes of the files are collected, and the lines of the errors are written on the way; behind them
+  -- the lines of the set.
+  pub record WritesGtids (missing_in : Option N) (old : Option (List ℕ)) (status : Status) (new : Option (List ℕ)) : Type 0 where
+    pub filter : Filter
+    pub start : GtidCollector (CountedView (Output B))
+    pub begins : Begins contents old start.output.inner
+    pub empty : start.gtids ≡ []
+    pub read : Outcome
+    pub found : GtidCollector (CountedView (Output B))
+    pub shown : ShowsTaken (λ (before : GtidCollector (CountedView (Output B))) index item after. Collects index item (tracked before.gtids (bytes_of contents before.output.inner)) (tracked after.gtids (bytes_of contents after.output.inner)))
+        (λ (before : GtidCollector (CountedView (Output B))) index item error after. RefusesCollected index item (tracked before.gtids (bytes_of contents before.output.inner)) error (tracked after.gtids (bytes_of contents after.output.inner)))
+        (λ collector. collector.refused) filter is_verified is_followed bytes names start read found
+    pub lines : Outcome
+    pub output : Output B
+    pub listed : WritesWanted bytes missing_in found.gtids (bytes_of contents found.output.inner) lines (bytes_of contents output)
+    pub ends : Ends contents output (worse_outcome read lines) status new
+
+  -- ---- `stats`
+
+  -- What a filter takes of the files is counted, and the text of the counts is written.
+  pub record WritesCounts (old : Option (List ℕ)) (status : Status) (new : Option (List ℕ)) : Type 0 where
+    pub filter : Filter
+    pub read : Outcome
+    pub counts : Stats
+    pub shown : ShowsTaken (λ before index item after. CountsItem before index item after) (λ before index item error after. IsNever) (λ counts. 0)
+        filter is_verified is_followed bytes names no_items read counts
+    pub output : Output B
+    pub begins : Begins contents old output
+    pub answer : Result (Unit {0}) IoError
+    pub behind : Output B
+    pub ends : Ends contents behind (worse_outcome read (outcome_of_text answer)) status new
+
+  -- ---- `verify`
+
+  -- The files are verified with what a filter takes of them, and the line of each is written.
+  pub record WritesTallies (is_quiet : Bool) (name_of : N → List ℕ) (old : Option (List ℕ)) (status : Status) (new : Option (List ℕ)) : Type 0 where
+    pub start : ReportedView (Filtered Tally)
+    pub output : Output B
+    pub begins : Begins contents old output
+    pub outcome : Outcome
+    pub behind : ReportedView (Filtered Tally)
+    pub listed : Output B
+    pub verifies : VerifiesFiles is_verified is_followed is_quiet name_of bytes names Fine (verifying start (bytes_of contents output)) outcome (verifying behind (bytes_of contents listed))
+    pub ends : Ends contents listed outcome status new
