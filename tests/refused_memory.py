@@ -26,6 +26,7 @@ import listing_model
 import make_sample
 import maria_events
 import maria_gtids_sample
+import row_lines
 import watched
 
 SUCCESS, FAILURE, OUTSIDE = 0, 1, 3
@@ -154,6 +155,8 @@ def all_failures(watch):
     maria = maria_events.sample()
     command = [watched.program("binlog"), "json"]
     yield from failures(watch, "binlog json over MariaDB's events", command, maria.content, command_fault(maria.lines))
+    content, lines = row_lines.sample()
+    yield from failures(watch, "binlog json over rows", command, content, command_fault(lines))
     for program, name in watched.tests():
         stated = stated_allocations(name)
         if stated is not None:

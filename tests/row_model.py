@@ -346,14 +346,17 @@ COLUMNS |= {kind: blob_column(kind) for kind in BLOBS} | {kind: varchar_column(k
 
 
 def columns(types, metadata):
-    """The columns of a table map; a fault if they are refused."""
+    """The columns of a table map; a fault, with the index of the column besides, if they are refused."""
     data = Bytes(metadata)
     found = []
-    for kind in types:
-        allowed(kind in COLUMNS, "BadType")
-        column = COLUMNS[kind](data)
-        found.append(column._replace(real=column.real or kind))
-    allowed(not data.left(), "LeftOver")
+    try:
+        for kind in types:
+            allowed(kind in COLUMNS, "BadType")
+            column = COLUMNS[kind](data)
+            found.append(column._replace(real=column.real or kind))
+        allowed(not data.left(), "LeftOver")
+    except Fault as fault:
+        raise Fault(fault.args[0], len(found))
     return found
 
 

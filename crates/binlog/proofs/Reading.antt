@@ -5,6 +5,7 @@ use Rattle.std.proofs.lemmas.Bool.{cases_lt}
 use Rattle.std.proofs.lemmas.Bool.Decides.{nat_tests}
 use Rattle.std.proofs.lemmas.List.{drop_all}
 use Rattle.binlog_wire.specs.declared.error.Error.{Error}
+use Rattle.binlog_visits.specs.Visits.{VisitRelation, RefusalRelation}
 use Rattle.binlog_events.specs.Events.{EventView}
 use Rattle.binlog_filters.specs.Filtering.{Filters, RefusesTaken}
 use Rattle.binlog_filters.specs.declared.filtered.Filtered.{Filtered}
@@ -65,16 +66,16 @@ module _ {V N : Type 0} (step : (behind : List N) (name : N) (old : V) (answer :
   none_left names place all status new = subst (λ (left : List N). InOrder step left status new (written status) new) (sym (drop_all place names all)) (refl, refl)
 
 -- What is shown of an input whose bytes may be known.
-pub reads_input : {T : Type 0} (visits : T → ℕ → Result EventView Error → T → Type 0) (refuses : T → ℕ → Result EventView Error → Error → T → Type 0) (refused : T → ℕ)
+pub reads_input : {T : Type 0} (visits : VisitRelation T) (refuses : RefusalRelation T) (refused : T → ℕ)
     (is_verified : Bool) (known : Option (List ℕ)) (old mid new : ReportedView (Filtered T)) (visited : Result (Unit {0}) Error) (answer : Result Status Error)
     → IfSome known (λ bytes. length bytes < 2 ^ 64 → VisitsInput (Reports (Filters visits) (λ filtered. refused filtered.visitor))
-    (λ (before : ReportedView (Filtered T)) index item error after. RefusesTaken refuses before.visitor index item error after.visitor) is_verified bytes old visited mid)
+    (λ (before : ReportedView (Filtered T)) maps index item error after. RefusesTaken refuses before.visitor maps index item error after.visitor) is_verified bytes old visited mid)
     → new ≡ mid → answer ≡ status_behind new.has_errors visited
     → IfSome known (λ bytes. length bytes < 2 ^ 64 → ReadsInput visits refuses refused is_verified bytes old answer new)
 reads_input visits refuses refused is_verified None old mid new visited answer shown same status = tt
 reads_input {T} visits refuses refused is_verified (Some bytes) old mid new visited answer shown same status = λ small. record {
   visited = visited;
   does = subst (λ (t : ReportedView (Filtered T)). VisitsInput (Reports (Filters visits) (λ filtered. refused filtered.visitor))
-      (λ (before : ReportedView (Filtered T)) index item error after. RefusesTaken refuses before.visitor index item error after.visitor) is_verified bytes old visited t) (sym same) (shown small);
+      (λ (before : ReportedView (Filtered T)) maps index item error after. RefusesTaken refuses before.visitor maps index item error after.visitor) is_verified bytes old visited t) (sym same) (shown small);
   status = status;
 }

@@ -2,6 +2,7 @@
 use Rattle.std.specs.Prelude.{◌≡◌, ◌⊎◌, ℕ, Bool, List, [], Option, None, Result, Ok, Err}
 use Rattle.std.specs.declared.io.Error.{Error as IoError}
 use Rattle.binlog_wire.specs.declared.error.Error.{Error}
+use Rattle.binlog_visits.specs.Visits.{VisitRelation, RefusalRelation}
 use Rattle.binlog_events.specs.Events.{EventView}
 use Rattle.binlog_ends.specs.Views.{CountedView}
 use Rattle.binlog_gtid_listing.specs.GtidListing.{tracked}
@@ -46,7 +47,7 @@ module _ {B : Type 0} (contents : B → Option (List ℕ)) where
 -- The files have these names and bytes; `old` and `new` are the bytes of the output's writer.
 module _ {B N : Type 0} (contents : B → Option (List ℕ)) (is_verified is_followed : Bool) (bytes : N → Option (List ℕ)) (names : List N) where
   -- A visitor with an output is shown what a filter takes of the files, and its output is finished.
-  pub record WritesShown {T : Type 0} (visits : T → ℕ → Result EventView Error → T → Type 0) (refuses : T → ℕ → Result EventView Error → Error → T → Type 0) (output_of : T → Output B)
+  pub record WritesShown {T : Type 0} (visits : VisitRelation T) (refuses : RefusalRelation T) (output_of : T → Output B)
       (old : Option (List ℕ)) (status : Status) (new : Option (List ℕ)) : Type 0 where
     pub filter : Filter
     pub start : T
@@ -88,8 +89,8 @@ module _ {B N : Type 0} (contents : B → Option (List ℕ)) (is_verified is_fol
     pub empty : start.gtids ≡ []
     pub read : Outcome
     pub found : GtidCollector (CountedView (Output B))
-    pub shown : ShowsTaken (λ (before : GtidCollector (CountedView (Output B))) index item after. Collects index item (tracked before.gtids (bytes_of contents before.output.inner)) (tracked after.gtids (bytes_of contents after.output.inner)))
-        (λ (before : GtidCollector (CountedView (Output B))) index item error after. RefusesCollected index item (tracked before.gtids (bytes_of contents before.output.inner)) error (tracked after.gtids (bytes_of contents after.output.inner)))
+    pub shown : ShowsTaken (λ (before : GtidCollector (CountedView (Output B))) maps index item after. Collects index item (tracked before.gtids (bytes_of contents before.output.inner)) (tracked after.gtids (bytes_of contents after.output.inner)))
+        (λ (before : GtidCollector (CountedView (Output B))) maps index item error after. RefusesCollected index item (tracked before.gtids (bytes_of contents before.output.inner)) error (tracked after.gtids (bytes_of contents after.output.inner)))
         (λ collector. collector.refused) filter is_verified is_followed bytes names start read found
     pub lines : Outcome
     pub output : Output B
@@ -103,7 +104,7 @@ module _ {B N : Type 0} (contents : B → Option (List ℕ)) (is_verified is_fol
     pub filter : Filter
     pub read : Outcome
     pub counts : Stats
-    pub shown : ShowsTaken (λ before index item after. CountsItem before index item after) (λ before index item error after. IsNever) (λ counts. 0)
+    pub shown : ShowsTaken (λ before maps index item after. CountsItem before index item after) (λ before maps index item error after. IsNever) (λ counts. 0)
         filter is_verified is_followed bytes names no_items read counts
     pub output : Output B
     pub begins : Begins contents old output

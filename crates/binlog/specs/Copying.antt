@@ -2,6 +2,7 @@
 use Rattle.std.specs.Prelude.{◌≡◌, ℕ, Bool, true, List, Option, Result}
 use Rattle.std.specs.Io.KnownBytes.{Appends}
 use Rattle.binlog_wire.specs.declared.error.Error.{Error}
+use Rattle.binlog_visits.specs.Visits.{VisitRelation, RefusalRelation}
 use Rattle.binlog_events.specs.Events.{EventView}
 use Rattle.binlog_events.specs.FileHeader.{file_header}
 use Rattle.binlog_filters.specs.declared.filter.Filter.{Filter}
@@ -12,12 +13,12 @@ use Rattle.binlog.specs.Reading.{ShowsTaken}
 
 module _ {B N : Type 0} (contents : B → Option (List ℕ)) (is_verified is_followed : Bool) (bytes : N → Option (List ℕ)) (names : List N) where
   -- The bytes of the events are written.
-  abbrev pub Copies : Copier B → ℕ → Result EventView Error → Copier B → Type 0
-  Copies old index item new = CopiesItem item (contents old.output) (contents new.output)
+  abbrev pub Copies : VisitRelation (Copier B)
+  Copies old maps index item new = CopiesItem item (contents old.output) (contents new.output)
 
   -- The writer failed.
-  abbrev pub CopiesNot : Copier B → ℕ → Result EventView Error → Error → Copier B → Type 0
-  CopiesNot old index item error new = CopiesNoItem item (contents old.output) error (contents new.output)
+  abbrev pub CopiesNot : RefusalRelation (Copier B)
+  CopiesNot old maps index item error new = CopiesNoItem item (contents old.output) error (contents new.output)
 
   -- The file header is written, and behind it the events that a filter takes of the files, and all descriptions.
   pub record CopiesFiles (filter : Filter) (old : B) (outcome : Outcome) (new : B) : Type 0 where

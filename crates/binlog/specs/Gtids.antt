@@ -66,8 +66,8 @@ pub record WritesMissing {N : Type 0} (bytes : N → Option (List ℕ)) (other :
   pub empty : start.gtids ≡ []
   pub read : Outcome
   pub found : GtidCollector (CountedView Sink)
-  pub shown : ShowsTaken (λ (before : GtidCollector (CountedView Sink)) index item after. Collects index item (tracked before.gtids None) (tracked after.gtids None))
-      (λ (before : GtidCollector (CountedView Sink)) index item error after. RefusesCollected index item (tracked before.gtids None) error (tracked after.gtids None))
+  pub shown : ShowsTaken (λ (before : GtidCollector (CountedView Sink)) maps index item after. Collects index item (tracked before.gtids None) (tracked after.gtids None))
+      (λ (before : GtidCollector (CountedView Sink)) maps index item error after. RefusesCollected index item (tracked before.gtids None) error (tracked after.gtids None))
       (λ collector. collector.refused) filter false false bytes (other ∷ []) start read found
   pub writes : WritesUnless (is_unread (status_read read)) (status_read read) groups found.gtids old outcome new
 

@@ -4,7 +4,7 @@ use Rattle.binlog_wire.specs.declared.error.Error.{Error}
 use Rattle.binlog_wire.specs.declared.error.Error.TheVariants.{EndOfInput, InvalidFileHeader, Writer}
 use Rattle.crc32_ieee.specs.Checksums.{IsCrc32}
 use Rattle.binlog_events.specs.Events.{EventView}
-use Rattle.binlog_visits.specs.Visits.{VisitsLog, VisitsVerifiedLog}
+use Rattle.binlog_visits.specs.Visits.{VisitRelation, RefusalRelation, VisitsLog, VisitsVerifiedLog}
 use Rattle.binlog_filters.specs.Filtering.{Filters, RefusesTaken}
 use Rattle.binlog_filters.specs.declared.filter.Filter.{Filter}
 use Rattle.binlog_filters.specs.declared.filtered.Filtered.{Filtered}
@@ -16,7 +16,7 @@ use Rattle.binlog_status.specs.declared.status.Status.TheVariants.{Fine, NotOpen
 use Rattle.binlog_messages.specs.Reports.{ReportedView, begun_file, Reports}
 
 -- The results of visiting a file of these bytes, whose checksums are verified by their CRC-32 or not.
-abbrev pub VisitsInput : {T : Type 0} → (T → ℕ → Result EventView Error → T → Type 0) → (T → ℕ → Result EventView Error → Error → T → Type 0) → (is_verified : Bool) → List ℕ → T → Result (Unit {0}) Error → T → Type 0
+abbrev pub VisitsInput : {T : Type 0} → VisitRelation T → RefusalRelation T → (is_verified : Bool) → List ℕ → T → Result (Unit {0}) Error → T → Type 0
 VisitsInput visits refuses true = VisitsVerifiedLog IsCrc32 visits refuses
 VisitsInput visits refuses false = VisitsLog visits refuses
 
@@ -54,12 +54,12 @@ module _ {V N : Type 0} (step : (behind : List N) (name : N) (old : V) (answer :
 
 -- A visitor that is shown what a filter takes, of which `visits` says what a visit makes of it, `refuses` when it refuses one,
 -- and `refused` how many events it has counted as errors.
-module _ {T : Type 0} (visits : T → ℕ → Result EventView Error → T → Type 0) (refuses : T → ℕ → Result EventView Error → Error → T → Type 0) (refused : T → ℕ) where
+module _ {T : Type 0} (visits : VisitRelation T) (refuses : RefusalRelation T) (refused : T → ℕ) where
   -- It is shown what the filter takes of a file of these bytes.
   pub record ReadsInput (is_verified : Bool) (bytes : List ℕ) (old : ReportedView (Filtered T)) (answer : Result Status Error) (new : ReportedView (Filtered T)) : Type 0 where
     pub visited : Result (Unit {0}) Error
     pub does : VisitsInput (Reports (Filters visits) (λ filtered. refused filtered.visitor))
-        (λ (before : ReportedView (Filtered T)) index item error after. RefusesTaken refuses before.visitor index item error after.visitor) is_verified bytes old visited new
+        (λ (before : ReportedView (Filtered T)) maps index item error after. RefusesTaken refuses before.visitor maps index item error after.visitor) is_verified bytes old visited new
     pub status : answer ≡ status_behind new.has_errors visited
 
   -- A file can't be opened, or it is shown what the filter takes of it, if its bytes are known.

@@ -22,7 +22,9 @@ use Rattle.binlog_file.specs.StreamItems.{AreItems, items_behind}
 use Rattle.binlog_file.proofs.OwnFrames.{event_is}
 use Rattle.binlog_file.proofs.AcceptedDescriptions.{error_is_none}
 use Rattle.binlog_file.proofs.StreamItems.{items_looked}
-use Rattle.binlog_visits.specs.Visits.{Visits}
+use Rattle.binlog_file.specs.TableMapsInForce.{TableMaps}
+use Rattle.binlog_visits.specs.TableMaps.{maps_behind}
+use Rattle.binlog_visits.specs.Visits.{VisitRelation, Visits}
 use Rattle.binlog_filters.specs.Places.{behind}
 use Rattle.binlog_filters.specs.Taking.{Takes, TakesEvents, with_taken, is_taken, meets_conditions}
 use Rattle.binlog_filters.specs.Filtering.{Filters, VisitsIf}
@@ -77,37 +79,37 @@ without_error false error others = refl
 
 module _ {T : Type 0} (contents : T → Option (List ℕ)) where
   -- A visit writes the bytes of the item's event.
-  abbrev Copies : T → ℕ → Result EventView Error → T → Type 0
-  Copies old index item new = CopiesItem item (contents old) (contents new)
+  abbrev Copies : VisitRelation T
+  Copies old maps index item new = CopiesItem item (contents old) (contents new)
 
   -- The same filter goes on behind an item.
-  goes_on : (index : ℕ) (item : Result EventView Error) (items : List (Result EventView Error)) (old mid : Filtered T) (events : List EventView) → Filters Copies old index item mid
+  goes_on : (maps : TableMaps) (index : ℕ) (item : Result EventView Error) (items : List (Result EventView Error)) (old mid : Filtered T) (events : List EventView) → Filters Copies old maps index item mid
       → TakesEvents mid.filter mid.place.position mid.is_wanted items events → TakesEvents old.filter (behind old.place.position item) mid.is_wanted items events
-  goes_on index item items old mid events one rest =
+  goes_on maps index item items old mid events one rest =
       subst (λ (f : Filter). TakesEvents f (behind old.place.position item) mid.is_wanted items events) one.same
       (subst (λ (p : Option ℕ). TakesEvents mid.filter p mid.is_wanted items events) one.place rest)
 
-  error_by : (taken : Bool) (index : ℕ) (error : Error) (old new : T) → taken ≡ true → VisitsIf Copies taken old index (Err error) new → contents new ≡ contents old
-  error_by true index error old new is does = does
-  error_by false index error old new is does = absurd cc
+  error_by : (taken : Bool) (maps : TableMaps) (index : ℕ) (error : Error) (old new : T) → taken ≡ true → VisitsIf Copies taken old maps index (Err error) new → contents new ≡ contents old
+  error_by true maps index error old new is does = does
+  error_by false maps index error old new is does = absurd cc
 
   -- Nothing is written for an error.
-  error_visited : (index : ℕ) (error : Error) (old mid : Filtered T) → Filters Copies old index (Err error) mid → contents mid.visitor ≡ contents old.visitor
-  error_visited index error old mid one = error_by one.taken index error old.visitor mid.visitor one.takes.1 one.does
+  error_visited : (maps : TableMaps) (index : ℕ) (error : Error) (old mid : Filtered T) → Filters Copies old maps index (Err error) mid → contents mid.visitor ≡ contents old.visitor
+  error_visited maps index error old mid one = error_by one.taken maps index error old.visitor mid.visitor one.takes.1 one.does
 
-  taken_event : (taken : Bool) (d : FormatDescriptionEvent) (frame : List ℕ) (frames : List (List ℕ)) (event : EventView) (items : List (Result EventView Error)) (index : ℕ) (old mid new : Filtered T)
+  taken_event : (taken : Bool) (d : FormatDescriptionEvent) (frame : List ℕ) (frames : List (List ℕ)) (event : EventView) (items : List (Result EventView Error)) (maps : TableMaps) (index : ℕ) (old mid new : Filtered T)
       → old.filter.takes_descriptions ≡ true → Ok event ≡ item_of d frame
-      → Takes old.filter old.place.position old.is_wanted (Ok event) mid.is_wanted taken → VisitsIf Copies taken old.visitor index (Ok event) mid.visitor
+      → Takes old.filter old.place.position old.is_wanted (Ok event) mid.is_wanted taken → VisitsIf Copies taken old.visitor maps index (Ok event) mid.visitor
       → (rest : IsCopied (unwrap_or (accepted frame) d) frames mid.filter mid.place.position mid.is_wanted items (contents mid.visitor) (contents new.visitor))
       → TakesEvents old.filter (behind old.place.position (Ok event)) mid.is_wanted items rest.events
       → IsCopied d (frame ∷ frames) old.filter old.place.position old.is_wanted (Ok event ∷ items) (contents old.visitor) (contents new.visitor)
-  taken_event true d frame frames event items index old mid new all item takes does rest taken = record {
+  taken_event true d frame frames event items maps index old mid new all item takes does rest taken = record {
     events = event ∷ rest.events;
     part = inr (event, rest.events, refl, sym item, rest.part);
     taken = (mid.is_wanted, true, takes, rest.events, taken, refl);
     written = Appends-trans (contents old.visitor) (contents mid.visitor) (contents new.visitor) event.frame (event_bytes rest.events) does rest.written;
   }
-  taken_event false d frame frames event items index old mid new all item takes does rest taken =
+  taken_event false d frame frames event items maps index old mid new all item takes does rest taken =
       let stays = left_out d frame event old.filter _ mid.is_wanted (sym item) all takes.1 in
       record {
         events = rest.events;
@@ -117,61 +119,61 @@ module _ {T : Type 0} (contents : T → Option (List ℕ)) where
       }
 
   -- One more frame.
-  one_frame : (d : FormatDescriptionEvent) (frame : List ℕ) (frames : List (List ℕ)) (item : Result EventView Error) (items : List (Result EventView Error)) (index : ℕ) (old mid new : Filtered T)
-      → old.filter.takes_descriptions ≡ true → item ≡ item_of d frame → Filters Copies old index item mid
+  one_frame : (d : FormatDescriptionEvent) (frame : List ℕ) (frames : List (List ℕ)) (item : Result EventView Error) (items : List (Result EventView Error)) (maps : TableMaps) (index : ℕ) (old mid new : Filtered T)
+      → old.filter.takes_descriptions ≡ true → item ≡ item_of d frame → Filters Copies old maps index item mid
       → IsCopied (unwrap_or (accepted frame) d) frames mid.filter mid.place.position mid.is_wanted items (contents mid.visitor) (contents new.visitor)
       → IsCopied d (frame ∷ frames) old.filter old.place.position old.is_wanted (item ∷ items) (contents old.visitor) (contents new.visitor)
-  one_frame d frame frames (Ok event) items index old mid new all item one rest =
-      taken_event one.taken d frame frames event items index old mid new all item one.takes one.does rest (goes_on index (Ok event) items old mid rest.events one rest.taken)
-  one_frame d frame frames (Err error) items index old mid new all item one rest =
+  one_frame d frame frames (Ok event) items maps index old mid new all item one rest =
+      taken_event one.taken d frame frames event items maps index old mid new all item one.takes one.does rest (goes_on maps index (Ok event) items old mid rest.events one rest.taken)
+  one_frame d frame frames (Err error) items maps index old mid new all item one rest =
       let stays = ap (λ (found : Option FormatDescriptionEvent). unwrap_or found d) (error_is_none d frame error item) in
       record {
         events = rest.events;
         part = inl (stays, subst (λ (x : FormatDescriptionEvent). ArePart x frames rest.events) stays rest.part);
-        taken = (mid.is_wanted, one.taken, one.takes, rest.events, goes_on index (Err error) items old mid rest.events one rest.taken, without_error one.taken error rest.events);
-        written = subst (λ (w : Option (List ℕ)). Appends w (contents new.visitor) (event_bytes rest.events)) (error_visited index error old mid one) rest.written;
+        taken = (mid.is_wanted, one.taken, one.takes, rest.events, goes_on maps index (Err error) items old mid rest.events one rest.taken, without_error one.taken error rest.events);
+        written = subst (λ (w : Option (List ℕ)). Appends w (contents new.visitor) (event_bytes rest.events)) (error_visited maps index error old mid one) rest.written;
       }
 
   -- ---- all items
 
-  copied_tail : (d : FormatDescriptionEvent) (items : List (Result EventView Error)) (index : ℕ) (old new : Filtered T) → AreErrors items → Visits (Filters Copies) index items old new
+  copied_tail : (d : FormatDescriptionEvent) (items : List (Result EventView Error)) (maps : TableMaps) (index : ℕ) (old new : Filtered T) → AreErrors items → Visits (Filters Copies) maps index items old new
       → IsCopied d [] old.filter old.place.position old.is_wanted items (contents old.visitor) (contents new.visitor)
-  copied_tail d [] index old new errors visited = record {
+  copied_tail d [] maps index old new errors visited = record {
     events = [];
     part = refl;
     taken = refl;
     written = subst (λ (t : Filtered T). Appends (contents old.visitor) (contents t.visitor) []) (sym visited) (Appends-nil (contents old.visitor));
   }
-  copied_tail d (Ok event ∷ items) index old new errors visited = absurd errors
-  copied_tail d (Err error ∷ items) index old new errors visited =
-      let rest = copied_tail d items (index + 1) visited.0 new errors visited.2 in
+  copied_tail d (Ok event ∷ items) maps index old new errors visited = absurd errors
+  copied_tail d (Err error ∷ items) maps index old new errors visited =
+      let rest = copied_tail d items maps (index + 1) visited.0 new errors visited.2 in
       record {
         events = rest.events;
         part = rest.part;
-        taken = (visited.0.is_wanted, visited.1.taken, visited.1.takes, rest.events, goes_on index (Err error) items old visited.0 rest.events visited.1 rest.taken, without_error visited.1.taken error rest.events);
-        written = subst (λ (w : Option (List ℕ)). Appends w (contents new.visitor) (event_bytes rest.events)) (error_visited index error old visited.0 visited.1) rest.written;
+        taken = (visited.0.is_wanted, visited.1.taken, visited.1.takes, rest.events, goes_on maps index (Err error) items old visited.0 rest.events visited.1 rest.taken, without_error visited.1.taken error rest.events);
+        written = subst (λ (w : Option (List ℕ)). Appends w (contents new.visitor) (event_bytes rest.events)) (error_visited maps index error old visited.0 visited.1) rest.written;
       }
 
-  copied_frames : (d e : FormatDescriptionEvent) (frames : List (List ℕ)) (items tail : List (Result EventView Error)) (index : ℕ) (old new : Filtered T) → AreErrors tail
-      → old.filter.takes_descriptions ≡ true → AreHandled Looks d e frames items → Visits (Filters Copies) index (items ++ tail) old new
+  copied_frames : (d e : FormatDescriptionEvent) (frames : List (List ℕ)) (items tail : List (Result EventView Error)) (maps : TableMaps) (index : ℕ) (old new : Filtered T) → AreErrors tail
+      → old.filter.takes_descriptions ≡ true → AreHandled Looks d e frames items → Visits (Filters Copies) maps index (items ++ tail) old new
       → IsCopied d frames old.filter old.place.position old.is_wanted (items ++ tail) (contents old.visitor) (contents new.visitor)
-  copied_frames d e [] [] tail index old new errors all handled visited = copied_tail d tail index old new errors visited
-  copied_frames d e [] (item ∷ items) tail index old new errors all handled visited = absurd handled
-  copied_frames d e (frame ∷ frames) [] tail index old new errors all handled visited = absurd handled
-  copied_frames d e (frame ∷ frames) (item ∷ items) tail index old new errors all handled visited =
+  copied_frames d e [] [] tail maps index old new errors all handled visited = copied_tail d tail maps index old new errors visited
+  copied_frames d e [] (item ∷ items) tail maps index old new errors all handled visited = absurd handled
+  copied_frames d e (frame ∷ frames) [] tail maps index old new errors all handled visited = absurd handled
+  copied_frames d e (frame ∷ frames) (item ∷ items) tail maps index old new errors all handled visited =
       let mid = visited.0 in
       let one = visited.1 in
       let behind_it = subst (λ (x : FormatDescriptionEvent). AreHandled Looks x e frames items) handled.1.1 handled.2 in
-      let rest = copied_frames (unwrap_or (accepted frame) d) e frames items tail (index + 1) mid new errors (ap (λ (f : Filter). f.takes_descriptions) one.same ∙ all) behind_it visited.2 in
-      one_frame d frame frames item (items ++ tail) index old mid new all handled.1.0 one rest
+      let rest = copied_frames (unwrap_or (accepted frame) d) e frames items tail (maps_behind maps item) (index + 1) mid new errors (ap (λ (f : Filter). f.takes_descriptions) one.same ∙ all) behind_it visited.2 in
+      one_frame d frame frames item (items ++ tail) (maps_behind maps item) index old mid new all handled.1.0 one rest
 
-  pub filtered_copy : (bytes stream : List ℕ) (items : List (Result EventView Error)) (old new : Filtered T) → old.filter.takes_descriptions ≡ true → bytes ≡ file_header ++ stream
-      → AreItems (default_description Version4) stream items → Visits (Filters Copies) 0 items old new
+  pub filtered_copy : (maps : TableMaps) (bytes stream : List ℕ) (items : List (Result EventView Error)) (old new : Filtered T) → old.filter.takes_descriptions ≡ true → bytes ≡ file_header ++ stream
+      → AreItems (default_description Version4) stream items → Visits (Filters Copies) maps 0 items old new
       → IsFilteredCopy old.filter old.place.position old.is_wanted bytes (contents old.visitor) (contents new.visitor)
-  filtered_copy bytes stream items old new all file are visited =
+  filtered_copy maps bytes stream items old new all file are visited =
       let d : FormatDescriptionEvent = default_description Version4 in
-      let copied = copied_frames d (in_force d are.frames) are.frames (items_behind d [] are.frames) (tail_items are.tail) 0 old new (tail_by (is_undersized are.tail) (stated_size are.tail)) all
-      (items_looked d are.frames) (subst (λ (l : List (Result EventView Error)). Visits (Filters Copies) 0 l old new) are.all visited) in
+      let copied = copied_frames d (in_force d are.frames) are.frames (items_behind d [] are.frames) (tail_items are.tail) maps 0 old new (tail_by (is_undersized are.tail) (stated_size are.tail)) all
+      (items_looked d are.frames) (subst (λ (l : List (Result EventView Error)). Visits (Filters Copies) maps 0 l old new) are.all visited) in
       record {
         stream = stream;
         file = file;

@@ -1,7 +1,7 @@
 //! A visitor that collects the GTIDs of a log.
 ghost use Rattle.std.specs.Prelude.{◌≡◌, []};
 
-use binlog_file::{Error, EventRef, GtidTracker, WriteCounted};
+use binlog_file::{Error, EventRef, EventStreamReader, GtidTracker, WriteCounted};
 use binlog_gtid_listing::{list_refused, track_event};
 use binlog_visits::Visitor;
 use std::alloc::Global;
@@ -39,11 +39,16 @@ impl<W: WriteCounted> Visitor for GtidCollector<W> {
     ghost use Rattle.binlog_commands.specs.Collecting.{Collects, RefusesCollected};
     ghost use Rattle.binlog_gtid_listing.specs.GtidListing.{tracked};
 
-    ghost visits = { λ old index item new. Collects index item (tracked old.gtids (W.contents old.output)) (tracked new.gtids (W.contents new.output)) };
+    ghost visits = { λ old maps index item new. Collects index item (tracked old.gtids (W.contents old.output)) (tracked new.gtids (W.contents new.output)) };
 
-    ghost refuses = { λ old index item error new. RefusesCollected index item (tracked old.gtids (W.contents old.output)) error (tracked new.gtids (W.contents new.output)) };
+    ghost refuses = { λ old maps index item error new. RefusesCollected index item (tracked old.gtids (W.contents old.output)) error (tracked new.gtids (W.contents new.output)) };
 
-    fn visit_event(&mut self, index: u64, event: &EventRef<'_>) -> Result<(), Error> {
+    fn visit_event(
+        &mut self,
+        index: u64,
+        event: &EventRef<'_>,
+        _reader: &EventStreamReader,
+    ) -> Result<(), Error> {
         match track_event(self.alloc, index, event, &mut self.gtids, &mut self.output) {
             Ok(Some(true)) => {
                 self.refused = self.refused.saturating_add(1);
@@ -54,7 +59,12 @@ impl<W: WriteCounted> Visitor for GtidCollector<W> {
         }
     }
 
-    fn visit_error(&mut self, index: u64, error: &Error) -> Result<(), Error> {
+    fn visit_error(
+        &mut self,
+        index: u64,
+        error: &Error,
+        _reader: &EventStreamReader,
+    ) -> Result<(), Error> {
         match list_refused(self.alloc, index, error, &mut self.output) {
             Ok(_) => Ok(()),
             Err(error) => Err(error),

@@ -2,7 +2,7 @@
 ghost use Rattle.std.specs.Prelude.{◌≡◌};
 ghost use Rattle.binlog_commands.specs.Counting.{none_counted};
 
-use binlog_file::{Error, EventRef};
+use binlog_file::{Error, EventRef, EventStreamReader};
 use binlog_visits::Visitor;
 
 /// Counts the events of a log, their bytes, their checksums, and the errors in the places of events. A count stays at
@@ -37,11 +37,16 @@ impl Tally {
 impl Visitor for Tally {
     ghost use Rattle.binlog_commands.specs.Counting.{Counts, IsNever};
 
-    ghost visits = { λ old index item new. Counts old item new };
+    ghost visits = { λ old maps index item new. Counts old item new };
 
-    ghost refuses = { λ old index item error new. IsNever };
+    ghost refuses = { λ old maps index item error new. IsNever };
 
-    fn visit_event(&mut self, _index: u64, event: &EventRef<'_>) -> Result<(), Error> {
+    fn visit_event(
+        &mut self,
+        _index: u64,
+        event: &EventRef<'_>,
+        _reader: &EventStreamReader,
+    ) -> Result<(), Error> {
         self.events = self.events.saturating_add(1);
         self.bytes = self.bytes.saturating_add(event.frame().len() as u64);
         if event.checksum().is_some() {
@@ -50,7 +55,12 @@ impl Visitor for Tally {
         Ok(())
     }
 
-    fn visit_error(&mut self, _index: u64, _error: &Error) -> Result<(), Error> {
+    fn visit_error(
+        &mut self,
+        _index: u64,
+        _error: &Error,
+        _reader: &EventStreamReader,
+    ) -> Result<(), Error> {
         self.errors = self.errors.saturating_add(1);
         Ok(())
     }

@@ -1,1 +1,2 @@
+pub mod PassedOn
 pub mod TakenLines

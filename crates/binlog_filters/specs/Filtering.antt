@@ -3,6 +3,8 @@ use Rattle.std.specs.Prelude.{◌≡◌, ◌⊎◌, ℕ, Bool, true, false, Some
 use Rattle.binlog_wire.specs.declared.error.Error.{Error}
 use Rattle.binlog_wire.specs.declared.error.Error.TheVariants.{Memory}
 use Rattle.binlog_events.specs.Events.{EventView}
+use Rattle.binlog_file.specs.TableMapsInForce.{TableMaps}
+use Rattle.binlog_visits.specs.Visits.{VisitRelation, RefusalRelation}
 use Rattle.binlog_filters.specs.Places.{behind}
 use Rattle.binlog_filters.specs.Taking.{Takes}
 use Rattle.binlog_filters.specs.declared.filtered.Filtered.{Filtered}
@@ -13,18 +15,18 @@ module _ {T : Type 0} where
   begun filtered = record filtered { place = record { position = Some 4 }; is_wanted = is_none filtered.filter.include_gtids }
 
   -- A visit of the visitor if the item is taken; else it is as it was.
-  abbrev pub VisitsIf : (T → ℕ → Result EventView Error → T → Type 0) → Bool → T → ℕ → Result EventView Error → T → Type 0
-  VisitsIf visits true old index item new = visits old index item new
-  VisitsIf visits false old index item new = new ≡ old
+  abbrev pub VisitsIf : VisitRelation T → Bool → VisitRelation T
+  VisitsIf visits true old maps index item new = visits old maps index item new
+  VisitsIf visits false old maps index item new = new ≡ old
 
   -- The item is passed by the filter to the visitor, or passed over.
-  pub record Filters (visits : T → ℕ → Result EventView Error → T → Type 0) (old : Filtered T) (index : ℕ) (item : Result EventView Error) (new : Filtered T) : Type 0 where
+  pub record Filters (visits : VisitRelation T) (old : Filtered T) (maps : TableMaps) (index : ℕ) (item : Result EventView Error) (new : Filtered T) : Type 0 where
     pub taken : Bool
     pub takes : Takes old.filter old.place.position old.is_wanted item new.is_wanted taken
-    pub does : VisitsIf visits taken old.visitor index item new.visitor
+    pub does : VisitsIf visits taken old.visitor maps index item new.visitor
     pub same : new.filter ≡ old.filter
     pub place : new.place.position ≡ behind old.place.position item
 
   -- Memory ran out for the item's GTID, or the visitor refused the item.
-  abbrev pub RefusesTaken : (T → ℕ → Result EventView Error → Error → T → Type 0) → Filtered T → ℕ → Result EventView Error → Error → Filtered T → Type 0
-  RefusesTaken refuses old index item error new = ((error ≡ Memory) × (new ≡ old)) ⊎ refuses old.visitor index item error new.visitor
+  abbrev pub RefusesTaken : RefusalRelation T → RefusalRelation (Filtered T)
+  RefusesTaken refuses old maps index item error new = ((error ≡ Memory) × (new ≡ old)) ⊎ refuses old.visitor maps index item error new.visitor

@@ -2,6 +2,7 @@
 ghost use Rattle.std.specs.Prelude.{◌≡◌, ℕ, List, Result};
 ghost use Rattle.binlog_wire.specs.declared.error.Error.{Error};
 ghost use Rattle.binlog_events.specs.Events.{EventView};
+ghost use Rattle.binlog_file.specs.TableMapsInForce.{TableMaps};
 ghost use Rattle.binlog_visits.specs.Visits.{Visits};
 ghost use Rattle.binlog_visits.specs.declared.lines.LineWriter.{LineWriter};
 ghost use Rattle.binlog_filters.specs.TakenLines.{WritesTaken};
@@ -15,7 +16,7 @@ use std::io::Write;
 /// The lines of what a filter takes. If the visits of items, one after another, are Ok, the output has grown by the lines of
 /// the items that the filter takes, in order, each with its index in the log.
 pub fn taken_lines<L: ItemLines, W: Write>()
-    ensures { (index : ℕ) (items : List (Result EventView Error)) (old new : Filtered (LineWriter L W))
-        → Visits ⟦<Filtered<LineWriter<L, W>> as Visitor>⟧.visits index items old new
-        → WritesTaken (λ index item line. line ≡ L.line index item) old.filter old.place.position old.is_wanted index items (W.contents old.visitor.output) (W.contents new.visitor.output) }
+    ensures { (maps : TableMaps) (index : ℕ) (items : List (Result EventView Error)) (old new : Filtered (LineWriter L W))
+        → Visits ⟦<Filtered<LineWriter<L, W>> as Visitor>⟧.visits maps index items old new
+        → WritesTaken (λ maps index item line. line ≡ L.line index item) old.filter old.place.position old.is_wanted maps index items (W.contents old.visitor.output) (W.contents new.visitor.output) }
 {}

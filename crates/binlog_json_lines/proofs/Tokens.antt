@@ -1,6 +1,6 @@
 -- Values that are written token by token.
 use Rattle.std.proofs.Common.{◌≡◌, flat_map, List, [], ◌∷◌, ◌++◌, ap, sym, ◌∙◌, append_assoc, append-nil}
-use Rattle.json.specs.Token.{Token, begin_object, end_object}
+use Rattle.json.specs.Token.{Token}
 
 -- ---- arrays: the written values and those that are left
 
@@ -13,8 +13,3 @@ value_added {X = X} f line new all left after x so_far is e =
 -- No value is left.
 pub all_added : {X : Type 0} (f : X → List Token) (line all : List Token) (left : List X) → line ++ flat_map f left ≡ all → left ≡ [] → line ≡ all
 all_added {X = X} f line all left so_far none = sym (append-nil line) ∙ ap (λ (l : List X). line ++ flat_map f l) (sym none) ∙ so_far
-
--- An object of four groups of members.
-pub event_parts : (old a b c d : List Token)
-    → (((((old ++ begin_object ∷ []) ++ a) ++ b) ++ c) ++ d) ++ end_object ∷ [] ≡ old ++ begin_object ∷ ((((a ++ b) ++ c) ++ d) ++ end_object ∷ [])
-event_parts old a b c d = simp append_assoc

@@ -33,10 +33,14 @@ body_members event =
     member (codes "checksum") (or_null bytes_value (checksum_of event.fde.footer event.frame))
     ++ member (codes "data") (data_value event.fde (data_of event.fde.footer event.frame) (event_type_of (header_of event.frame).event_type))
 
+-- The members of the object of an event.
+unfoldable pub event_members : ℕ → EventView → List Token
+event_members index event =
+    member (codes "index") (number_value index) ++ type_members (header_of event.frame).event_type ++ header_members (header_of event.frame) ++ body_members event
+
 -- The object of an event.
 unfoldable pub event_object : ℕ → EventView → List Token
-event_object index event = object
-    (member (codes "index") (number_value index) ++ type_members (header_of event.frame).event_type ++ header_members (header_of event.frame) ++ body_members event)
+event_object index event = object (event_members index event)
 
 -- The two checksums of a mismatch: the four stored bytes, and those that should be there.
 abbrev pub mismatch_members : Error → List Token

@@ -14,7 +14,7 @@ mod status_vars;
 
 pub use bits::write_bits;
 pub use data_value::write_refusal;
-pub use json_lines::{JsonLines, write_header};
+pub use json_lines::{JsonLines, write_event_members, write_header};
 pub use names::name_of;
 pub use printing::print_events;
 pub use statements::{write_query_head, write_query_texts};

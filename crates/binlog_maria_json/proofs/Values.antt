@@ -11,7 +11,8 @@ use Rattle.binlog_mariadb.specs.declared.event_data.MariaEventData.{MariaEventDa
 use Rattle.binlog_mariadb_compression.specs.Compressed.{IsCompressed, Denies}
 use Rattle.binlog_mariadb_compression.specs.declared.error.CompressionError.{CompressionError}
 use Rattle.binlog_mariadb_compression.specs.declared.error.CompressionError.TheVariants as compression
-use Rattle.binlog_maria_json.specs.Data.{IsObject, IsValue, Appended, Shows}
+use Rattle.binlog_row_json.specs.Shown.{Appended, Shows}
+use Rattle.binlog_maria_json.specs.Data.{IsObject, IsValue}
 
 -- The object of data is the value of what was read.
 pub value_of_data : (server_id : ℕ) (read : Read MariaEventData) (content : MariaEventData) (tokens : List Token) → read ≡ Ok (content, []) → IsObject server_id content tokens → IsValue server_id read tokens

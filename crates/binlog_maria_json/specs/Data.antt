@@ -1,5 +1,5 @@
 -- The `data` member of one of MariaDB's own events.
-use Rattle.std.specs.Prelude.{◌≡◌, ℕ, List, [], ◌∷◌, ◌++◌, Result, Ok, Err, OnOk}
+use Rattle.std.specs.Prelude.{◌≡◌, ℕ, List, [], ◌∷◌, Result, Ok, Err}
 use Rattle.json.specs.Token.{Token}
 use Rattle.binlog_wire.specs.Reading.{Read}
 use Rattle.binlog_rows.specs.RowsData.{event_in}
@@ -25,13 +25,3 @@ abbrev pub IsValue : (server_id : ℕ) → Read MariaEventData → List Token �
 IsValue server_id (Ok (content, [])) tokens = IsObject server_id content tokens
 IsValue server_id (Ok (content, b ∷ rest)) tokens = tokens ≡ error_object 7
 IsValue server_id (Err why) tokens = tokens ≡ error_object (refusal_number why)
-
--- Such tokens are appended.
-pub record Appended (Is : List Token → Type 0) (old new : List Token) : Type 0 where
-  pub tokens : List Token
-  pub are : Is tokens
-  pub is : new ≡ old ++ tokens
-
--- The same, unless an allocation fails.
-abbrev pub Shows : {A E : Type 0} → Result A E → List Token → List Token → (List Token → Type 0) → Type 0
-Shows result old new Is = OnOk result (Appended Is old new)

@@ -1,6 +1,7 @@
 -- The lines of JSON of a log, with MariaDB's own events.
-use Rattle.std.specs.Prelude.{◌≡◌, ◌⊎◌, ℕ, List, [], ◌∷◌, ◌++◌, codes, take, Option, Some, None, Result, Ok, Err}
+use Rattle.std.specs.Prelude.{◌≡◌, ◌⊎◌, ℕ, Bool, true, false, List, [], ◌∷◌, ◌++◌, codes, take, Option, Some, None, Result, Ok, Err}
 use Rattle.std.specs.Io.KnownBytes.{Appends}
+use Rattle.std.specs.Option.{option_and_then}
 use Rattle.json.specs.Print.{print}
 use Rattle.json.specs.Token.{Token, string}
 use Rattle.json_line.specs.Tokens.{number_value, bytes_value, or_null, member, object}
@@ -10,7 +11,12 @@ use Rattle.binlog_ends.specs.Counts.{AppendsFront}
 use Rattle.binlog_description.specs.Headers.{header_of}
 use Rattle.binlog_events.specs.Events.{EventView}
 use Rattle.binlog_events.specs.Parts.{data_of, checksum_of}
-use Rattle.binlog_json_lines.specs.ItemLines.{header_members, item_line}
+use Rattle.binlog_json_lines.specs.ItemLines.{header_members, event_members, item_line}
+use Rattle.binlog_consts.specs.EventTypes.{event_type_of}
+use Rattle.binlog_rows.specs.declared.table_map_event.TableMapEvent.{TableMapEvent}
+use Rattle.binlog_row_json.specs.Members.{AreMembers}
+use Rattle.binlog_row_json.specs.RowEvents.{is_of_rows, table_id_of}
+use Rattle.binlog_file.specs.TableMapsInForce.{TableMaps}
 use Rattle.binlog_mariadb.specs.EventBodies.{data_read}
 use Rattle.binlog_mariadb.specs.EventTypes.{maria_event_number, maria_event_type_of}
 use Rattle.binlog_mariadb.specs.Flavour.{IsMariaVersion}
@@ -65,18 +71,47 @@ abbrev pub IsLine : ℕ → Result EventView Error → List ℕ → Type 0
 IsLine index (Ok event) text = IsEventLine index event (maria_event_type_of (header_of event.frame).event_type) text
 IsLine index (Err error) text = text ≡ item_line index (Err error)
 
+-- The tokens are the object of a row event with its rows, by this table map: the members `table` and `rows` are behind its data.
+pub record IsRowsObject (map : Option TableMapEvent) (index : ℕ) (event : EventView) (tokens : List Token) : Type 0 where
+  pub rows : List Token
+  pub read : AreMembers event map rows
+  pub is : tokens ≡ object (event_members index event ++ rows)
+
+-- The text is the line of a row event with its rows.
+pub record IsRowsLine (map : Option TableMapEvent) (index : ℕ) (event : EventView) (text : List ℕ) : Type 0 where
+  pub tokens : List Token
+  pub are : IsRowsObject map index event tokens
+  pub is : text ≡ print tokens ++ codes "\n"
+
+-- The text is the line of an event, where a row event has its rows.
+abbrev pub IsLineOf : (is_row_event : Bool) → Option TableMapEvent → ℕ → EventView → List ℕ → Type 0
+IsLineOf true map index event text = IsRowsLine map index event text
+IsLineOf false map index event text = IsLine index (Ok event) text
+
+abbrev pub IsLineWith : Option TableMapEvent → ℕ → EventView → List ℕ → Type 0
+IsLineWith map index event text = IsLineOf (is_of_rows (event_type_of (header_of event.frame).event_type)) map index event text
+
+-- The table map in force for the table id of a row event.
+abbrev pub map_of_event : TableMaps → EventView → Option TableMapEvent
+map_of_event maps event = option_and_then maps (table_id_of event)
+
+-- The text is the line of an item, where a row event has its rows and these table maps are in force behind the item.
+abbrev pub IsLineIn : TableMaps → ℕ → Result EventView Error → List ℕ → Type 0
+IsLineIn maps index (Ok event) text = IsLineWith (map_of_event maps event) index event text
+IsLineIn maps index (Err error) text = IsLine index (Err error) text
+
 -- The line of the item is written.
-pub record WritesLine (index : ℕ) (item : Result EventView Error) (old new : Option (List ℕ)) : Type 0 where
+pub record WritesLine (maps : TableMaps) (index : ℕ) (item : Result EventView Error) (old new : Option (List ℕ)) : Type 0 where
   pub text : List ℕ
-  pub line : IsLine index item text
+  pub line : IsLineIn maps index item text
   pub written : Appends old new text
 
 -- A prefix of the line of the item is written.
-pub record WritesFront (index : ℕ) (item : Result EventView Error) (old new : Option (List ℕ)) : Type 0 where
+pub record WritesFront (maps : TableMaps) (index : ℕ) (item : Result EventView Error) (old new : Option (List ℕ)) : Type 0 where
   pub text : List ℕ
-  pub line : IsLine index item text
+  pub line : IsLineIn maps index item text
   pub written : AppendsFront old new text
 
 -- The line isn't written whole: the writer failed, or an allocation for the line.
-abbrev pub WritesNoLine : ℕ → Result EventView Error → Option (List ℕ) → Error → Option (List ℕ) → Type 0
-WritesNoLine index item old error new = ((error ≡ Writer) × WritesFront index item old new) ⊎ ((error ≡ Memory) × (new ≡ old))
+abbrev pub WritesNoLine : TableMaps → ℕ → Result EventView Error → Option (List ℕ) → Error → Option (List ℕ) → Type 0
+WritesNoLine maps index item old error new = ((error ≡ Writer) × WritesFront maps index item old new) ⊎ ((error ≡ Memory) × (new ≡ old))

@@ -3,7 +3,8 @@ ghost use Rattle.std.specs.Prelude.{◌≡◌, Ok};
 ghost use Rattle.binlog_description.specs.Headers.{header_of};
 ghost use Rattle.binlog_events.specs.EventRefs.{view_of};
 ghost use Rattle.binlog_mariadb.specs.EventTypes.{maria_event_type_of};
-ghost use Rattle.binlog_maria_json.specs.Data.{IsObject, Shows};
+ghost use Rattle.binlog_row_json.specs.Shown.{Shows};
+ghost use Rattle.binlog_maria_json.specs.Data.{IsObject};
 ghost use Rattle.binlog_maria_json.specs.Lines.{IsEventData};
 
 use crate::bodies::{write_annotate_rows, write_binlog_checkpoint, write_start_encryption};

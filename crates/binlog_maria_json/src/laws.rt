@@ -2,10 +2,11 @@
 ghost use Rattle.std.specs.Prelude.{ℕ, List, Result};
 ghost use Rattle.binlog_wire.specs.declared.error.Error.{Error};
 ghost use Rattle.binlog_events.specs.Events.{EventView};
+ghost use Rattle.binlog_file.specs.TableMapsInForce.{TableMaps};
 ghost use Rattle.binlog_visits.specs.Visits.{Visits};
 ghost use Rattle.binlog_filters.specs.TakenLines.{WritesTaken};
 ghost use Rattle.binlog_filters.specs.declared.filtered.Filtered.{Filtered};
-ghost use Rattle.binlog_maria_json.specs.Lines.{IsLine};
+ghost use Rattle.binlog_maria_json.specs.Lines.{IsLineIn};
 ghost use Rattle.binlog_maria_json.specs.declared.writer.MariaJsonWriter.{MariaJsonWriter};
 
 use crate::writer::MariaJsonWriter;
@@ -14,9 +15,10 @@ use binlog_visits::Visitor;
 use std::io::Write;
 
 /// The lines of what a filter takes. If the visits of items, one after another, are Ok, the output has grown by the lines of
-/// the items that the filter takes, in order, each with its index in the log.
+/// the items that the filter takes, in order, each with its index in the log. The rows of a row event are those of the table
+/// map that is in force for it in the log, whether the filter takes that table map or not.
 pub fn taken_json_lines<W: Write>()
-    ensures { (index : ℕ) (items : List (Result EventView Error)) (old new : Filtered (MariaJsonWriter W))
-        → Visits ⟦<Filtered<MariaJsonWriter<W>> as Visitor>⟧.visits index items old new
-        → WritesTaken IsLine old.filter old.place.position old.is_wanted index items (W.contents old.visitor.output) (W.contents new.visitor.output) }
+    ensures { (maps : TableMaps) (index : ℕ) (items : List (Result EventView Error)) (old new : Filtered (MariaJsonWriter W))
+        → Visits ⟦<Filtered<MariaJsonWriter<W>> as Visitor>⟧.visits maps index items old new
+        → WritesTaken IsLineIn old.filter old.place.position old.is_wanted maps index items (W.contents old.visitor.output) (W.contents new.visitor.output) }
 {}

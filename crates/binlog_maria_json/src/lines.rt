@@ -1,22 +1,23 @@
 //! The line of an item.
 #![tactic(auto, using(std::proofs::Common::append_assoc))]
 
-ghost use Rattle.std.specs.Prelude.{◌≡◌, ℕ, IfErr, IfOk, MatchOption, Ok, Err};
+ghost use Rattle.std.specs.Prelude.{◌≡◌, ℕ, IfErr, IfOk, MatchOption, Ok, Err, option_copied, true};
 ghost use Rattle.json_line.specs.Tokens.{Adds};
 ghost use Rattle.binlog_wire.specs.declared.error.Error.TheVariants.{Memory};
 ghost use Rattle.binlog_description.specs.Headers.{header_of};
 ghost use Rattle.binlog_events.specs.EventRefs.{view_of};
 ghost use Rattle.binlog_mariadb.specs.EventTypes.{maria_event_type_of};
-ghost use Rattle.binlog_maria_json.specs.Data.{Shows};
 ghost use Rattle.binlog_json_lines.specs.ItemLines.{item_line};
-ghost use Rattle.binlog_maria_json.specs.Lines.{IsOfMaria, IsOther, type_members, head_members, IsEventObject, IsOwnLine, IsLine};
+ghost use Rattle.binlog_row_json.specs.Shown.{Shows};
+ghost use Rattle.binlog_maria_json.specs.Lines.{IsOfMaria, IsOther, type_members, head_members, IsEventObject, IsOwnLine, IsLine, IsRowsObject, IsRowsLine, IsLineWith};
 
 use crate::data::write_data;
 use crate::names::maria_name_of;
-use binlog_file::{Error, EventRef};
-use binlog_json_lines::{JsonLines, write_header};
+use binlog_file::{Error, EventRef, TableMapEvent};
+use binlog_json_lines::{JsonLines, write_event_members, write_header};
 use binlog_lines::ItemLines;
 use binlog_mariadb::{MariaEventType, is_maria_log};
+use binlog_row_json::{RowsWriter, is_row_event};
 use json_line::Line;
 use std::alloc::{AllocError, Global};
 
@@ -26,6 +27,7 @@ pub struct MariaJsonLines {
     lines: JsonLines,
     line: Line,
     text: String,
+    rows: RowsWriter,
 }
 
 impl MariaJsonLines {
@@ -35,6 +37,7 @@ impl MariaJsonLines {
             lines: JsonLines::new(alloc),
             line: Line::new(alloc),
             text: String::new(alloc),
+            rows: RowsWriter::new(alloc),
         }
     }
 
@@ -57,6 +60,53 @@ impl MariaJsonLines {
             Some(event_type) => self.own_line(alloc, index, event_type, event),
             None => self.other_line(alloc, index, event),
         }
+    }
+
+    /// The line of an event, with the rows of a row event: behind the members of [`JsonLines`] its object has the members
+    /// `table` and `rows`. The table map is the one in force for the event's table id; one of another table id counts as
+    /// none. Any other event has the line that [`MariaJsonLines::event_line`] makes.
+    ///
+    /// # Errors
+    ///
+    /// [`Error::Memory`] if an allocation fails.
+    pub fn event_line_with_rows(
+        &mut self,
+        alloc: Global,
+        index: u64,
+        event: &EventRef<'_>,
+        table_map: Option<&TableMapEvent<'_>>,
+    ) -> Result<&[u8], Error>
+        ensures line { IfOk result (λ text. IsLineWith (option_copied table_map.entry) index (view_of event.now) text.now) }
+        ensures memory { IfErr result (λ e. e ≡ Memory) }
+    {
+        if is_row_event(event) {
+            self.rows_line(alloc, index, event, table_map)
+        } else {
+            self.event_line(alloc, index, event)
+        }
+    }
+
+    // The line of a row event with its rows.
+    fn rows_line(
+        &mut self,
+        alloc: Global,
+        index: u64,
+        event: &EventRef<'_>,
+        table_map: Option<&TableMapEvent<'_>>,
+    ) -> Result<&[u8], Error>
+        ensures line { IfOk result (λ text. IsRowsLine (option_copied table_map.entry) index (view_of event.now) text.now) }
+        ensures memory { IfErr result (λ e. e ≡ Memory) }
+    {
+        self.line.clear();
+        write_rows_event(
+            &mut self.line,
+            &mut self.rows,
+            alloc,
+            index,
+            event,
+            table_map,
+        )?;
+        Ok(self.line.end()?)
     }
 
     /// The line of an error that is in the place of an event.
@@ -146,6 +196,24 @@ fn write_event(
     write_head(line, index, event_type, event)?;
     line.key("data")?;
     write_data(line, text, alloc, event_type, event)?;
+    line.end_object()?;
+    Ok(())
+}
+
+// Writes the object of a row event with its rows.
+fn write_rows_event(
+    line: &mut Line,
+    rows: &mut RowsWriter,
+    alloc: Global,
+    index: u64,
+    event: &EventRef<'_>,
+    table_map: Option<&TableMapEvent<'_>>,
+) -> Result<(), AllocError>
+    ensures { Shows result line.old line.new (IsRowsObject (option_copied table_map.entry) index (view_of event.now)) }
+{
+    line.begin_object()?;
+    write_event_members(line, alloc, index, event)?;
+    rows.write_members(line, alloc, event, table_map)?;
     line.end_object()?;
     Ok(())
 }

@@ -1,10 +1,14 @@
 //! A visitor that writes the line of each item.
-ghost use Rattle.std.specs.Prelude.{◌≡◌};
+ghost use Rattle.std.specs.Prelude.{◌≡◌, option_copied};
+ghost use Rattle.binlog_events.specs.EventRefs.{view_of};
+ghost use Rattle.binlog_file.specs.State.{state_of};
+ghost use Rattle.binlog_maria_json.specs.Lines.{map_of_event};
 
 use crate::lines::MariaJsonLines;
-use binlog_file::{CountedRef, Error, EventRef};
+use binlog_file::{CountedRef, Error, EventRef, EventStreamReader, TableMapEvent};
 use binlog_lines::write_line;
 use binlog_messages::Refusing;
+use binlog_row_json::table_id;
 use binlog_visits::Visitor;
 use std::alloc::Global;
 use std::io::Write;
@@ -37,23 +41,50 @@ impl<W> MariaJsonWriter<W> {
     }
 }
 
+// The table map in force for the table id of a row event.
+fn table_map<'a>(
+    alloc: Global,
+    event: &EventRef<'_>,
+    reader: &'a EventStreamReader,
+) -> Option<&'a TableMapEvent<'static>>
+    ensures { option_copied result ≡ map_of_event (state_of reader.now).table_maps (view_of event.now) }
+{
+    match table_id(alloc, event) {
+        Some(table_id) => reader.get_tme(table_id),
+        None => None,
+    }
+}
+
 /// A visit writes the line of the item. It is refused with [`Error::Writer`] if the writer failed, which then has a prefix
 /// of the line, or with [`Error::Memory`] if an allocation failed for the line; nothing is written then.
 impl<W: Write> Visitor for MariaJsonWriter<W> {
     ghost use Rattle.binlog_maria_json.specs.Lines.{WritesLine, WritesNoLine};
 
-    ghost visits = { λ old index item new. WritesLine index item (W.contents old.output) (W.contents new.output) };
+    ghost visits = { λ old maps index item new. WritesLine maps index item (W.contents old.output) (W.contents new.output) };
 
-    ghost refuses = { λ old index item error new. WritesNoLine index item (W.contents old.output) error (W.contents new.output) };
+    ghost refuses = { λ old maps index item error new. WritesNoLine maps index item (W.contents old.output) error (W.contents new.output) };
 
     #[inline(always)]
-    fn visit_event(&mut self, index: u64, event: &EventRef<'_>) -> Result<(), Error> {
-        let line = self.lines.event_line(self.alloc, index, event)?;
+    fn visit_event(
+        &mut self,
+        index: u64,
+        event: &EventRef<'_>,
+        reader: &EventStreamReader,
+    ) -> Result<(), Error> {
+        let table_map = table_map(self.alloc, event, reader);
+        let line = self
+            .lines
+            .event_line_with_rows(self.alloc, index, event, table_map)?;
         let mut output = CountedRef::new(&mut self.output);
         write_line(&mut output, line)
     }
 
-    fn visit_error(&mut self, index: u64, error: &Error) -> Result<(), Error> {
+    fn visit_error(
+        &mut self,
+        index: u64,
+        error: &Error,
+        _reader: &EventStreamReader,
+    ) -> Result<(), Error> {
         let line = self.lines.error_line(self.alloc, index, error)?;
         let mut output = CountedRef::new(&mut self.output);
         write_line(&mut output, line)

@@ -2,6 +2,8 @@
 use Rattle.std.specs.Prelude.{◌≡◌, ℕ, ◌==◌, Bool, true, false, ◌||◌, not, Result, Ok, Err}
 use Rattle.binlog_wire.specs.declared.error.Error.{Error}
 use Rattle.binlog_events.specs.Events.{EventView}
+use Rattle.binlog_file.specs.TableMapsInForce.{TableMaps}
+use Rattle.binlog_visits.specs.Visits.{VisitRelation}
 use Rattle.binlog_filters.specs.Filtering.{begun}
 use Rattle.binlog_filters.specs.declared.filtered.Filtered.{Filtered}
 
@@ -20,10 +22,9 @@ abbrev pub has_error : (was : Bool) (item : Result EventView Error) (before afte
 has_error was (Ok event) before after = was || not (after == before)
 has_error was (Err error) before after = true
 
--- `visits old index item new` says what a visit of an item makes of the visitor, and `refused` is the number of events that it
--- has refused.
-module _ {T : Type 0} (visits : T → ℕ → Result EventView Error → T → Type 0) (refused : T → ℕ) where
+-- `visits` says what a visit of an item makes of the visitor, and `refused` is the number of events that it has refused.
+module _ {T : Type 0} (visits : VisitRelation T) (refused : T → ℕ) where
   -- The item is shown to the visitor, and noted if it is an error.
-  pub record Reports (old : ReportedView T) (index : ℕ) (item : Result EventView Error) (new : ReportedView T) : Type 0 where
-    pub does : visits old.visitor index item new.visitor
+  pub record Reports (old : ReportedView T) (maps : TableMaps) (index : ℕ) (item : Result EventView Error) (new : ReportedView T) : Type 0 where
+    pub does : visits old.visitor maps index item new.visitor
     pub notes : new.has_errors ≡ has_error old.has_errors item (refused old.visitor) (refused new.visitor)

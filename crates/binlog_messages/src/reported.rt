@@ -4,7 +4,7 @@ ghost use Rattle.binlog_messages.specs.Reports.{begun_file};
 
 use crate::progress::Progress;
 use crate::refusing::Refusing;
-use binlog_file::{Error, EventData, EventRef, GtidTracker};
+use binlog_file::{Error, EventData, EventRef, EventStreamReader, GtidTracker};
 use binlog_filters::{Filtered, Place};
 use binlog_visits::Visitor;
 use std::alloc::Global;
@@ -166,17 +166,22 @@ fn add_data(alloc: Global, data: &EventData<'_>) -> Result<(), Error> {
 impl<'a, E: Eprint + AllocGlobal, T: Visitor + Refusing> Visitor for Reported<'a, E, T> {
     ghost use Rattle.binlog_messages.specs.Reports.{Reports};
 
-    ghost visits = { λ old index item new. Reports T.visits T.refusals old index item new };
+    ghost visits = { λ old maps index item new. Reports T.visits T.refusals old maps index item new };
 
-    ghost refuses = { λ old index item error new. T.refuses old.visitor index item error new.visitor };
+    ghost refuses = { λ old maps index item error new. T.refuses old.visitor maps index item error new.visitor };
 
     #[inline(always)]
-    fn visit_event(&mut self, index: u64, event: &EventRef<'_>) -> Result<(), Error> {
+    fn visit_event(
+        &mut self,
+        index: u64,
+        event: &EventRef<'_>,
+        reader: &EventStreamReader,
+    ) -> Result<(), Error> {
         let place = self.place;
         let refused = self.visitor.refused();
         self.index = index.saturating_add(1);
         self.place = place.behind_event(event);
-        let answer = self.visitor.visit_event(index, event);
+        let answer = self.visitor.visit_event(index, event, reader);
         self.progress.note(self.rt, self.place.position, self.index);
         if self.visitor.refused() != refused {
             self.progress.wipe(self.rt);
@@ -186,12 +191,17 @@ impl<'a, E: Eprint + AllocGlobal, T: Visitor + Refusing> Visitor for Reported<'a
         answer
     }
 
-    fn visit_error(&mut self, index: u64, error: &Error) -> Result<(), Error> {
+    fn visit_error(
+        &mut self,
+        index: u64,
+        error: &Error,
+        reader: &EventStreamReader,
+    ) -> Result<(), Error> {
         self.progress.wipe(self.rt);
         report(self.rt, self.file, index, self.place, error);
         self.has_errors = true;
         self.index = index.saturating_add(1);
         self.place = Place::behind_error();
-        self.visitor.visit_error(index, error)
+        self.visitor.visit_error(index, error, reader)
     }
 }

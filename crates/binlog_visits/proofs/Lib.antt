@@ -1,2 +1,3 @@
+pub mod FollowedMaps
 pub mod Visited
 pub mod OtherChecksums

@@ -8,9 +8,9 @@ use Rattle.binlog_file.proofs.OtherChecksums.{handles_other, gives_other}
 use Rattle.binlog_lines.specs.Places.{Place, first_place, LeavesVerified, AreFirst}
 use Rattle.binlog_lines.proofs.Places.{first_along}
 use Rattle.binlog_lines.proofs.OtherChecksums.{left_other}
-use Rattle.binlog_visits.specs.Visits.{VisitsAll, VisitsBefore, VisitsUntil, VisitsItems, VisitsFile, VisitsVerifiedLog}
+use Rattle.binlog_visits.specs.Visits.{VisitRelation, RefusalRelation, VisitsAll, VisitsBefore, VisitsUntil, VisitsItems, VisitsFile, VisitsVerifiedLog}
 
-module _ {T : Type 0} (visits : T → ℕ → Result EventView Error → T → Type 0) (refuses : T → ℕ → Result EventView Error → Error → T → Type 0)
+module _ {T : Type 0} (visits : VisitRelation T) (refuses : RefusalRelation T)
     (gives other : List ℕ → ℕ → Type 0) (to : (bytes : List ℕ) (checksum : ℕ) → gives bytes checksum → other bytes checksum)
     (from : (bytes : List ℕ) (checksum : ℕ) → other bytes checksum → gives bytes checksum) where
   first_other : (start place : Place) (items : List (Result EventView Error)) → AreFirst (LeavesVerified gives) start items place → AreFirst (LeavesVerified other) start items place
@@ -64,7 +64,7 @@ module _ {T : Type 0} (visits : T → ℕ → Result EventView Error → T → T
   visited_other bytes old (Err error) new (inr none) = inr none
 
 -- The same, where the reader tells its bytes.
-pub known_visited_other : {T : Type 0} (visits : T → ℕ → Result EventView Error → T → Type 0) (refuses : T → ℕ → Result EventView Error → Error → T → Type 0)
+pub known_visited_other : {T : Type 0} (visits : VisitRelation T) (refuses : RefusalRelation T)
     {gives : List ℕ → ℕ → Type 0} (other : List ℕ → ℕ → Type 0) (remaining : Option (List ℕ)) (old : T) (answer : Result (Unit {0}) Error) (new : T)
     → IfSome remaining (λ bytes. length bytes < 2 ^ 64 → VisitsVerifiedLog gives visits refuses bytes old answer new)
     → ((bytes : List ℕ) (checksum : ℕ) → gives bytes checksum → other bytes checksum) → ((bytes : List ℕ) (checksum : ℕ) → other bytes checksum → gives bytes checksum)

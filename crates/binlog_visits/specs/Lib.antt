@@ -1,2 +1,3 @@
+pub mod TableMaps
 pub mod Visits
 pub mod LineVisits

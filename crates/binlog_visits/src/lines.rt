@@ -2,7 +2,7 @@
 ghost use Rattle.std.specs.Prelude.{◌≡◌};
 
 use crate::visitor::Visitor;
-use binlog_file::{CountedRef, Error, EventRef};
+use binlog_file::{CountedRef, Error, EventRef, EventStreamReader};
 use binlog_lines::{ItemLines, write_line};
 use std::alloc::Global;
 use std::io::Write;
@@ -41,18 +41,28 @@ impl<L: Drop, W> LineWriter<L, W> {
 impl<L: ItemLines, W: Write> Visitor for LineWriter<L, W> {
     ghost use Rattle.binlog_visits.specs.LineVisits.{WritesItem, WritesNoItem};
 
-    ghost visits = { λ old index item new. WritesItem L.line index item (W.contents old.output) (W.contents new.output) };
+    ghost visits = { λ old maps index item new. WritesItem L.line index item (W.contents old.output) (W.contents new.output) };
 
-    ghost refuses = { λ old index item error new. WritesNoItem L.line L.takes index item (W.contents old.output) error (W.contents new.output) };
+    ghost refuses = { λ old maps index item error new. WritesNoItem L.line L.takes index item (W.contents old.output) error (W.contents new.output) };
 
     #[inline(always)]
-    fn visit_event(&mut self, index: u64, event: &EventRef<'_>) -> Result<(), Error> {
+    fn visit_event(
+        &mut self,
+        index: u64,
+        event: &EventRef<'_>,
+        _reader: &EventStreamReader,
+    ) -> Result<(), Error> {
         let line = self.lines.event_line(self.alloc, index, event)?;
         let mut output = CountedRef::new(&mut self.output);
         write_line(&mut output, line)
     }
 
-    fn visit_error(&mut self, index: u64, error: &Error) -> Result<(), Error> {
+    fn visit_error(
+        &mut self,
+        index: u64,
+        error: &Error,
+        _reader: &EventStreamReader,
+    ) -> Result<(), Error> {
         let line = self.lines.error_line(self.alloc, index, error)?;
         let mut output = CountedRef::new(&mut self.output);
         write_line(&mut output, line)

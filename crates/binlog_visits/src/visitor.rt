@@ -1,28 +1,40 @@
 //! What is done with each item of a log.
-ghost use Rattle.std.specs.Prelude.{◌≡◌, ℕ, Result, Ok, Err, false, OnOk, IfErr};
-ghost use Rattle.binlog_wire.specs.declared.error.Error.{Error};
+ghost use Rattle.std.specs.Prelude.{◌≡◌, Ok, Err, false, OnOk, IfErr};
 ghost use Rattle.binlog_wire.specs.Errors.{is_environment_error};
-ghost use Rattle.binlog_events.specs.Events.{EventView};
 ghost use Rattle.binlog_events.specs.EventRefs.{view_of};
+ghost use Rattle.binlog_file.specs.State.{state_of};
+ghost use Rattle.binlog_visits.specs.Visits.{VisitRelation, RefusalRelation};
 
-use binlog_file::{Error, EventRef};
+use binlog_file::{Error, EventRef, EventStreamReader};
 
 /// Is shown the items of a log, in order, with their indexes from 0.
 pub trait Visitor {
-    /// What a visit of the item with this index makes of the visitor.
-    ghost visits: { Self → ℕ → Result EventView Error → Self → Type 0 };
+    /// What a visit of the item with this index makes of the visitor, with these table maps in force behind it.
+    ghost visits: { VisitRelation Self };
 
     /// When a visit of the item with this index is refused with this error, and what it leaves.
-    ghost refuses: { Self → ℕ → Result EventView Error → Error → Self → Type 0 };
+    ghost refuses: { RefusalRelation Self };
 
-    /// Visits an event. An error ends the visits.
-    fn visit_event(&mut self, index: u64, event: &EventRef<'_>) -> Result<(), Error>
-        ensures ok { OnOk result (visits self.old index (Ok (view_of event.now)) self.new) }
-        ensures err { IfErr result (λ e. refuses self.old index (Ok (view_of event.now)) e self.new) };
+    /// Visits an event. The reader has what is in force behind it: for a row event the table map of its table id. An error
+    /// ends the visits.
+    fn visit_event(
+        &mut self,
+        index: u64,
+        event: &EventRef<'_>,
+        reader: &EventStreamReader,
+    ) -> Result<(), Error>
+        ensures ok { OnOk result (visits self.old (state_of reader.now).table_maps index (Ok (view_of event.now)) self.new) }
+        ensures err { IfErr result (λ e. refuses self.old (state_of reader.now).table_maps index (Ok (view_of event.now)) e self.new) };
 
-    /// Visits an error that is in the place of an event: no failure of memory or of the reader. An error ends the visits.
-    fn visit_error(&mut self, index: u64, error: &Error) -> Result<(), Error>
+    /// Visits an error that is in the place of an event: no failure of memory or of the reader. The reader has what is in
+    /// force, which the error left as it was. An error ends the visits.
+    fn visit_error(
+        &mut self,
+        index: u64,
+        error: &Error,
+        reader: &EventStreamReader,
+    ) -> Result<(), Error>
         requires { is_environment_error error.now ≡ false }
-        ensures ok { OnOk result (visits self.old index (Err error.now) self.new) }
-        ensures err { IfErr result (λ e. refuses self.old index (Err error.now) e self.new) };
+        ensures ok { OnOk result (visits self.old (state_of reader.now).table_maps index (Err error.now) self.new) }
+        ensures err { IfErr result (λ e. refuses self.old (state_of reader.now).table_maps index (Err error.now) e self.new) };
 }

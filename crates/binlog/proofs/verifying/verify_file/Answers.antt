@@ -12,7 +12,7 @@ returns g c =
     let replaced : c.replace_visitor.new.self ≡ counting c.args.reported.now = rw c.new.ensures at c.replace_visitor.ensures in
     record {
       read = c.read_file-read.result;
-      reads = subst (λ (v : ReportedView (Filtered Tally)). ReadsFile (λ before index item after. Counts before item after) (λ before index item error after. IsNever) (λ tally. 0) c.args.reading.is_verified
+      reads = subst (λ (v : ReportedView (Filtered Tally)). ReadsFile (λ before maps index item after. Counts before item after) (λ before maps index item error after. IsNever) (λ tally. 0) c.args.reading.is_verified
           (unless_followed c.args.reading.is_followed (g.S.Inputs.bytes c.args.inputs.now c.args.file.now)) v c.read_file-read.result c.read_file-read.new.visitor) replaced c.read_file-read.ensures.reads;
       shown = c.shown_name-name.result.now;
       input = c.shown_name-name.ensures.input;

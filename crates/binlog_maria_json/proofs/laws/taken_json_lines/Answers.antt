@@ -1,8 +1,8 @@
 use Rattle.binlog_filters.proofs.TakenLines.{taken_lines}
-use Rattle.binlog_maria_json.specs.Lines.{IsLine}
+use Rattle.binlog_maria_json.specs.Lines.{IsLineIn}
 use Rattle.binlog_maria_json.proofs.laws.taken_json_lines.Goals as goal
 
 pub returns : goal.returns
-returns g c index items old new visited =
-    taken_lines (λ writer. g.W.Write.contents writer.output) IsLine _
-    (λ before at item after wrote. record { line = wrote.text; is = wrote.line; written = wrote.written }) index items old new visited
+returns g c maps index items old new visited =
+    taken_lines (λ writer. g.W.Write.contents writer.output) IsLineIn _
+    (λ before maps at item after wrote. record { line = wrote.text; is = wrote.line; written = wrote.written }) maps index items old new visited

@@ -1,0 +1,90 @@
+-- The rows of an event as the value of a member.
+use Rattle.std.proofs.Common.{◌≡◌, ℕ, Bool, true, false, cond, List, [], ◌∷◌, ◌++◌, codes, Option, None, Some, Result, Ok, Err, OnOk, refl, sym, append_assoc, append-nil}
+use Rattle.json.specs.Token.{Token, key}
+use Rattle.json_line.specs.Tokens.{text_value, member}
+use Rattle.binlog_events.specs.Events.{EventView}
+use Rattle.binlog_event_data.specs.declared.event_data.EventData.{EventData}
+use Rattle.binlog_event_data.specs.declared.event_data.EventData.TheVariants.{RowsEvent}
+use Rattle.binlog_rows.specs.declared.rows_event_data.RowsEventData.{RowsEventData}
+use Rattle.binlog_column_facts.specs.Stated.{StatesFacts}
+use Rattle.binlog_column_facts.specs.declared.column_facts.ColumnFacts.{ColumnFacts}
+use Rattle.binlog_row_lines.specs.Written.{ShowsRows}
+use Rattle.binlog_rows.specs.declared.rows_event.RowsEvent as rows_events
+use Rattle.binlog_rows.specs.declared.table_map_event.TableMapEvent.{TableMapEvent}
+use Rattle.binlog_columns.specs.declared.column_error.ColumnError.{ColumnError}
+use Rattle.binlog_images.specs.EventRows.{AreRowsOf}
+use Rattle.binlog_images.specs.Events.{mapped_columns, event_error, columns_error}
+use Rattle.binlog_images.specs.declared.rows.Rows.{Rows}
+use Rattle.binlog_images.specs.declared.rows_error.RowsEventError.{RowsEventError}
+use Rattle.binlog_images.specs.declared.rows_error.RowsEventError.TheVariants.{NoTableMap}
+use Rattle.binlog_row_json.specs.Members.{name_of, rows_error, AreRowsValue, ShowsStatedRows, IsRowsValue, AreMappedMembers, IsFlavour, AreBodyMembers, AreMembersOf}
+use Rattle.binlog_row_json.specs.RowEvents.{rows_in}
+use Rattle.binlog_row_json.specs.Shown.{Appended, Shows}
+
+none_of_columns : (event table : ℕ) (refused : Option ColumnError) → columns_error event table refused ≡ None → refused ≡ None
+none_of_columns event table None none = refl
+none_of_columns event table (Some error) none = absurd cc
+
+-- The columns of a table map by which the rows are read aren't refused.
+pub none_refused : (is_same : Bool) (id event table : ℕ) (refused : Option ColumnError) → cond is_same (columns_error event table refused) (Some (NoTableMap id)) ≡ None → refused ≡ None
+none_refused true id event table refused none = none_of_columns event table refused none
+none_refused false id event table refused none = absurd cc
+
+-- The rows that are written are those of the event.
+pub rows_value : {A E : Type 0} (result : Result A E) (is_maria_log is_partial : Bool) (map : TableMapEvent) (event : rows_events.RowsEvent) (rows : Rows) (old new : List Token) → AreRowsOf is_partial map event rows
+    → OnOk result (ShowsStatedRows is_maria_log map rows old new) → Shows result old new (AreRowsValue is_maria_log is_partial map event)
+rows_value (Ok x) is_maria_log is_partial map event rows old new all shows =
+    let split = rw (all.shape, all.first, all.bytes) at shows.shown.are in
+    record {
+      tokens = shows.shown.shown.tokens;
+      are = record { facts = shows.facts; stated = shows.stated; items = shows.shown.items; split = split; are = shows.shown.shown.are };
+      is = shows.shown.shown.is;
+    }
+rows_value (Err e) is_maria_log is_partial map event rows old new all shows = shows
+
+-- The rows with what is stated of their columns.
+pub stated_rows : {A E : Type 0} (result : Result A E) (is_maria_log : Bool) (map : TableMapEvent) (facts : List ColumnFacts) (rows : Rows) (old new : List Token)
+    → StatesFacts is_maria_log (mapped_columns map) map.columns.optional_metadata facts → OnOk result (ShowsRows facts rows old new) → OnOk result (ShowsStatedRows is_maria_log map rows old new)
+stated_rows (Ok x) is_maria_log map facts rows old new stated shown = record { facts = facts; stated = stated; shown = shown }
+stated_rows (Err e) is_maria_log map facts rows old new stated shown = shown
+
+-- The name of the table, and then the rows.
+pub mapped_members : {A E : Type 0} (result : Result A E) (is_maria_log : Bool) (body : RowsEventData) (map : TableMapEvent) (old named first second new : List Token)
+    → named ≡ old ++ key (codes "table") ∷ [] → first ≡ named ++ text_value (name_of map) → second ≡ first ++ key (codes "rows") ∷ []
+    → Shows result second new (IsRowsValue is_maria_log body map (rows_error map body)) → Shows result old new (AreMappedMembers is_maria_log body map)
+mapped_members (Ok x) is_maria_log body map old named first second new name table value shown = record {
+  tokens = member (codes "table") (text_value (name_of map)) ++ member (codes "rows") shown.tokens;
+  are = record { rows = shown.tokens; read = shown.are; are = refl };
+  is = rw (shown.is, value, table, name) (simp append_assoc);
+}
+mapped_members (Err e) is_maria_log body map old named first second new name table value shown = shown
+
+-- What isn't a row event has no members.
+pub none_in : (body : EventData) → ((event : RowsEventData) → body ≡ RowsEvent event → ⊥) → rows_in body ≡ None
+none_in (RowsEvent event) other = absurd (other event refl)
+none_in body other = refl
+
+pub no_members : (event : EventView) (map : Option TableMapEvent) (found : Option RowsEventData) (old : List Token) → found ≡ None → Appended (AreMembersOf event map found) old old
+no_members event map None old none = record { tokens = []; are = refl; is = sym (append-nil old) }
+no_members event map (Some body) old none = absurd cc
+
+pub no_body_members : (is_maria_log : Bool) (map : Option TableMapEvent) (found : Option RowsEventData) (old : List Token) → found ≡ None → Appended (AreBodyMembers is_maria_log map found) old old
+no_body_members is_maria_log map None old none = record { tokens = []; are = refl; is = sym (append-nil old) }
+no_body_members is_maria_log map (Some body) old none = absurd cc
+
+members_by : (event : EventView) (is_maria_log : Bool) (map : Option TableMapEvent) (found : Option RowsEventData) (tokens : List Token) → IsFlavour event is_maria_log
+    → AreBodyMembers is_maria_log map found tokens → AreMembersOf event map found tokens
+members_by event is_maria_log map None tokens flavour are = are
+members_by event is_maria_log map (Some body) tokens flavour are = (is_maria_log, flavour, are)
+
+-- The members of what was read of an event.
+pub members_of : {A E : Type 0} (result : Result A E) (event : EventView) (is_maria_log : Bool) (map : Option TableMapEvent) (found : Option RowsEventData) (old new : List Token)
+    → IsFlavour event is_maria_log → Shows result old new (AreBodyMembers is_maria_log map found) → Shows result old new (AreMembersOf event map found)
+members_of (Ok x) event is_maria_log map found old new flavour shown =
+    record { tokens = shown.tokens; are = members_by event is_maria_log map found shown.tokens flavour shown.are; is = shown.is }
+members_of (Err e) event is_maria_log map found old new flavour shown = shown
+
+-- Tokens that are fixed are what they should be.
+pub shows_exactly : {A E : Type 0} (result : Result A E) (old new : List Token) (Is : List Token → Type 0) (tokens : List Token) → Is tokens → OnOk result (new ≡ old ++ tokens) → Shows result old new Is
+shows_exactly (Ok x) old new Is tokens are is = record { tokens = tokens; are = are; is = is }
+shows_exactly (Err e) old new Is tokens are is = is

@@ -1,0 +1,4 @@
+pub mod Shown
+pub mod RowEvents
+pub mod Refusals
+pub mod Members

@@ -1,0 +1,292 @@
+#!/usr/bin/env python3
+"""Compares the rows in the lines of `binlog json` with an encoder of rows and with a model of them.
+
+Usage: row_lines.py [--count N] [PROGRAM]
+
+PROGRAM is the built binlog if not given. Each line has the members that the model of JSON lines gives, and a row event that can be
+read has `table` and `rows` behind them: those that the encoder states for events of every type of column, and those of the model
+for N damaged events (20,000 if not given). Which table map is in force follows from all events of the log, also where a filter
+takes only some. The last line is `N passed, M failed`; the exit status is 1 if something failed.
+"""
+
+import argparse
+import json
+import random
+import subprocess
+import sys
+from pathlib import Path
+
+import encoded_events as encode
+import encoded_logs
+import event_data_model
+import json_model
+import row_events
+import row_model
+import row_values
+from json_model import as_json
+from row_model import Fault
+from row_values import WHOLE, framed, is_same, row_event, start, table_map
+
+PROGRAM = row_values.REPOSITORY / "crates/binlog/out/binlog"
+STATUSES = (0, 2)
+VERSIONS = ("8.0.36", "10.11.6-MariaDB")
+LENGTHS = encoded_logs.POST_HEADER_LENGTHS
+ROTATE, TABLE_MAP, PARTIAL_UPDATE = 4, 19, 39
+ROW_TYPES = {kind[0] for kind in encode.ROWS_KINDS}
+WRITE, UPDATE, DELETE = WHOLE[3], WHOLE[4], WHOLE[5]
+INT, TEXT = 3, 15
+
+
+# ---- what is wanted of a log
+
+
+def pairs(value):
+    """A JSON value with its objects as lists of pairs."""
+    return json.loads(json.dumps(value), object_pairs_hook=list)
+
+
+class InForce:
+    """The table maps in force, and the members that are wanted of an event."""
+
+    def __init__(self, is_maria):
+        self.is_maria, self.maps = is_maria, {}
+
+    def take(self, kind, body):
+        if kind == ROTATE and len(body) >= 8 and any(body[:8]):
+            self.maps = {}
+        if kind == TABLE_MAP:
+            try:
+                found, _ = event_data_model.table_map(body, LENGTHS[TABLE_MAP - 1])
+                self.maps[found["table_id"]] = found
+            except event_data_model.Fault:
+                pass
+
+    def members(self, kind, body):
+        if kind not in ROW_TYPES:
+            return []
+        try:
+            event = event_data_model.fields(kind, body, LENGTHS)
+        except event_data_model.Fault:
+            return []
+        table = self.maps.get(event["table_id"])
+        if table is None:
+            return [("table", None), ("rows", None)]
+        name = table["database_name"].bytes + b"." + table["table_name"].bytes
+        return [("table", pairs(as_json(event_data_model.Text(name)))), ("rows", self.rows(kind, event, table))]
+
+    def rows(self, kind, event, table):
+        try:
+            columns = row_model.columns(table["columns_type"].bytes, table["columns_metadata"].bytes)
+        except Fault as fault:
+            return [[("error", fault.args[0]), ("column", fault.args[1])]]
+        if event["num_columns"] != len(columns):
+            return [[("error", "ColumnCount"), ("event", event["num_columns"]), ("table", len(columns))]]
+        facts = row_model.facts(columns, table["optional_metadata"].bytes, self.is_maria)
+        images = [(name, event[f"columns_{name}_image"]) for name in ("before", "after")]
+        present = [(name, image) for name, image in images if image is not None]
+        return row_model.rows(columns, facts, present, event["rows_data"].bytes, is_partial=kind == PARTIAL_UPDATE)
+
+
+def content_of(version, events):
+    return start(version) + b"".join(framed(kind, body) for kind, body in events)
+
+
+def wanted_lines(version, events):
+    """The members of each line, those of the description first."""
+    in_force = InForce(version != VERSIONS[0])
+    added = [[]]
+    for kind, body in events:
+        in_force.take(kind, body)
+        added.append(in_force.members(kind, body))
+    plain = json_model.expected(content_of(version, events))[0].splitlines()
+    return [[*json.loads(line, object_pairs_hook=list), *members] for line, members in zip(plain, added, strict=True)]
+
+
+def plain(value):
+    """A JSON value that has no empty object, with its objects as lists of pairs, in Python's own form."""
+    if isinstance(value, list) and value and all(isinstance(item, tuple) for item in value):
+        return {name: plain(member) for name, member in value}
+    return [plain(item) for item in value] if isinstance(value, list) else value
+
+
+def sample():
+    """A log with rows, of which one is refused, and its lines."""
+    events = [FIRST, written(1, 7, b"a"), OTHER, written(2, 8, b"b"), written(2, 9, b"c" * 11), written(3, 1, b"")]
+    lines = [plain(line) for line in wanted_lines(VERSIONS[0], events)]
+    texts = [json.dumps(line, ensure_ascii=False, separators=(",", ":")) + "\n" for line in lines]
+    return content_of(VERSIONS[0], events), "".join(texts).encode()
+
+
+# ---- runs
+
+
+def lines_of(program, version, events, words=()):
+    finished = subprocess.run([program, "json", *words], input=content_of(version, events), capture_output=True)
+    if finished.returncode not in STATUSES:
+        return f"status {finished.returncode}"
+    return [json.loads(line, object_pairs_hook=list) for line in finished.stdout.splitlines()]
+
+
+def failure(name, program, version, events, wanted, words=()):
+    """None if the lines are the wanted ones, else what is wrong."""
+    found = lines_of(program, version, events, words)
+    if isinstance(found, str) or len(found) != len(wanted):
+        return f"{name}: {found if isinstance(found, str) else len(found)}, not {len(wanted)} lines"
+    for line, wanted_line in zip(found, wanted):
+        if not is_same(line, wanted_line):
+            return f"{name}: {str(line[9:])[:400]}, not {str(wanted_line[9:])[:400]}"
+    return None
+
+
+def agrees(name, program, version, events):
+    """Compares with the model alone."""
+    return failure(f"{name}, {version}", program, version, events, wanted_lines(version, events))
+
+
+# ---- encoded events
+
+
+def encoded(program):
+    """Events of every type of column, with the rows that the encoder states."""
+    for version in VERSIONS:
+        events, stated = [], []
+        for name, added, rows in row_values.encoded():
+            if name == "stated_facts" and version != VERSIONS[0]:
+                continue
+            events += added
+            stated += [None] * (len(added) - len(rows)) + [("rows", row[0][1]) for row in rows]
+        wanted = wanted_lines(version, events)
+        for line, rows in zip(wanted[1:], stated, strict=True):
+            line[-1:] = line[-1:] if rows is None else [rows]
+        yield failure(f"encoded, {version}", program, version, events, wanted)
+
+
+def damaged(program, count):
+    """Damaged events, by the model."""
+    chance, kinds = random.Random(35), list(row_events.kinds())
+    while count > 0:
+        version = chance.choice(VERSIONS)
+        events, rows = row_values.damaged_log(chance, kinds, min(count, row_values.EVENTS_OF_A_LOG))
+        result = agrees(f"damaged events, {count} left", program, version, events)
+        yield from [result] * (1 if result else rows)
+        count -= rows
+
+
+# ---- which table map is in force
+
+
+def named_map(table_id, database, table, names, types=bytes([INT, TEXT]), metadata=b"\x0a\0"):
+    optional = row_events.names(names)
+    nulls = [True] * len(types)
+    event = encode.table_map(
+        row_values.SPELLING, table_id=table_id, flags=1, database=database, table=table, types=types, metadata=metadata, nulls=nulls, optional=optional
+    )
+    return TABLE_MAP, event.body
+
+
+def rotate(position):
+    return ROTATE, position.to_bytes(8, "little") + b"binlog.000002"
+
+
+def written(table_id, number, text, present=(True, True), kind=WRITE):
+    content = (b"\0" + number.to_bytes(4, "little") if present[0] else b"\0") + (bytes([len(text)]) + text if present[1] else b"")
+    return row_event(kind, table_id, list(present), list(present), content)
+
+
+def shown(table, *rows):
+    return [("table", table), ("rows", [[(name, list(image))] for name, image in rows])]
+
+
+FIRST = named_map(1, "shop", "orders", [b"id", b"note"])
+OTHER = named_map(2, "shop", "users", [b"user", b"mail"])
+NEWER = named_map(1, "shop", "old_orders", [b"number", b"text"])
+ABSENT = [("table", None), ("rows", None)]
+
+
+def cases():
+    """Logs, and the members that are wanted of their last events."""
+    row = written(1, 7, b"a")
+    of = lambda table, first, second: shown(table, ("after", [(first, 7), (second, "a")]))
+    orders = of("shop.orders", "id", "note")
+    yield "a table map", [FIRST, row], [orders]
+    yield "two tables", [FIRST, OTHER, row, written(2, 7, b"a")], [orders, of("shop.users", "user", "mail")]
+    yield "a newer table map", [FIRST, row, NEWER, row], [orders, [], of("shop.old_orders", "number", "text")]
+    yield "no table map", [row, OTHER, row, FIRST], [ABSENT, [], ABSENT, []]
+    yield "another table's map", [OTHER, row], [ABSENT]
+    yield "a ROTATE", [FIRST, row, rotate(4), row, FIRST, row], [orders, [], ABSENT, [], orders]
+    yield "a ROTATE to position 0", [FIRST, rotate(0), row], [orders]
+    yield "a ROTATE that can't be read", [FIRST, (ROTATE, b"\4\0\0"), row], [orders]
+    yield "a table map that can't be read", [FIRST, (TABLE_MAP, NEWER[1][:12]), row], [orders]
+    yield "deleted rows", [FIRST, written(1, 7, b"a", kind=DELETE)], [shown("shop.orders", ("before", [("id", 7), ("note", "a")]))]
+    yield "an absent column", [FIRST, written(1, 7, b"a", (False, True))], [shown("shop.orders", ("after", [("note", "a")]))]
+    yield "no column", [FIRST, row_event(WRITE, 1, [False] * 2, [False] * 2, b"")], [shown("shop.orders")]
+    yield "NULL", [FIRST, row_event(WRITE, 1, [True] * 2, [True] * 2, b"\3")], [shown("shop.orders", ("after", [("id", None), ("note", None)]))]
+    yield from refused()
+
+
+def refused():
+    """Rows and columns that are refused."""
+    number, row = (7).to_bytes(4, "little"), b"\0\7\0\0\0\1a"
+    event = lambda content, kind=WRITE, count=2: row_event(kind, 1, [True] * count, [True] * count, content)
+    good = [("after", [("id", 7), ("note", "a")])]
+    error = lambda kind, *where: [("error", kind), *where]
+    rows = lambda *items: [("table", "shop.orders"), ("rows", list(items))]
+    cut = error("Truncated", ("row", 1), ("image", "after"), ("column", 1))
+    yield "a row that is cut", [FIRST, event(row + b"\0" + number + b"\5ab")], [rows(good, cut)]
+    yield "a row that is bad", [FIRST, event(row + b"\0" + number + b"\x0bab" + row)], [rows(good, error("BadValue", ("row", 1), ("image", "after"), ("column", 1)))]
+    yield "an image before that is cut", [FIRST, event(b"", UPDATE), event(b"\0\7", UPDATE)], [rows(), rows(error("Truncated", ("row", 0), ("image", "before"), ("column", 0)))]
+    yield "a null bitmap that isn't there", [FIRST, event(row, UPDATE)], [rows(error("Truncated", ("row", 0), ("image", "after")))]
+    yield "bytes left over", [FIRST, row_event(WRITE, 1, [False] * 2, [False] * 2, b"\0")], [rows(error("LeftOver", ("row", 0)))]
+    yield "more columns", [FIRST, event(row, count=3)], [rows(error("ColumnCount", ("event", 3), ("table", 2)))]
+    bad_type = named_map(1, "shop", "orders", [b"id", b"note"], bytes([INT, 20]), b"")
+    yield "a column of no type", [bad_type, event(row)], [rows(error("BadType", ("column", 1)))]
+    left_over = named_map(1, "shop", "orders", [b"id", b"note"], metadata=b"\x0a\0\0")
+    yield "metadata left over", [left_over, event(row)], [rows(error("LeftOver", ("column", 2)))]
+    partial = next(kind for kind in encode.ROWS_KINDS if kind[0] == PARTIAL_UPDATE)
+    values = [("id", 7), ("note", "a")]
+    both, bad_options = [("before", values), ("after", values)], error("BadValue", ("row", 0), ("image", "after"))
+    yield "partial updates", [FIRST, event(row + b"\0" + row, partial), event(row + b"\2" + row, partial)], [rows(both), rows(bad_options)]
+    yield "an event that can't be read", [FIRST, (WRITE[0], b"\1\0\0")], [[]]
+    names = [table_map(1, bytes([INT]), b"", row_events.names([b'a"\n'])), row_event(WRITE, 1, [True], [True], b"\0" + number)]
+    yield "a name with escapes", names, [shown("d.t", ("after", [('a"\n', 7)]))]
+
+
+def in_force(program):
+    """The table map that is in force, with all events and with those of one type."""
+    for name, events, wanted in cases():
+        lines = wanted_lines(VERSIONS[0], events)
+        for line, members in zip(lines[-len(wanted) :], wanted):
+            line[10:] = members
+        yield failure(name, program, VERSIONS[0], events, lines)
+        taken = [line for line in lines if dict(line)["type"] in ROW_TYPES] if all("type" in dict(line) for line in lines) else None
+        for type_name in {dict(line)["name"] for line in taken or []}:
+            of_type = [line for line in taken if dict(line)["name"] == type_name]
+            yield failure(f"{name}, {type_name} alone", program, VERSIONS[0], events, of_type, ["--type", type_name])
+
+
+def not_texts(program):
+    """Names that aren't UTF-8."""
+    head = b"\1\0\0\0\0\0" + b"\1\0"
+    body = head + b"\2d\xff\0" + b"\1t\0" + b"\1\3" + b"\0" + b"\1"
+    events = [(TABLE_MAP, body), row_event(WRITE, 1, [True], [True], b"\0\7\0\0\0")]
+    lines = wanted_lines(VERSIONS[0], events)
+    lines[-1][10:] = [("table", [("hex", b"d\xff.t".hex())]), ("rows", [[("after", [("@1", 7)])]])]
+    yield failure("a name that isn't UTF-8", program, VERSIONS[0], events, lines)
+
+
+def main():
+    parser = argparse.ArgumentParser(description="Compares the rows in lines of JSON with a model.")
+    parser.add_argument("--count", type=int, default=20_000)
+    parser.add_argument("program", nargs="?", default=PROGRAM)
+    arguments = parser.parse_args()
+    program = str(Path(arguments.program).resolve())
+    results = [*encoded(program), *in_force(program), *not_texts(program), *damaged(program, arguments.count)]
+    failures = [result for result in results if result is not None]
+    for message in failures[: row_values.SHOWN_FAILURES]:
+        print(message)
+    print(f"{len(results) - len(failures)} passed, {len(failures)} failed")
+    return 1 if failures else 0
+
+
+if __name__ == "__main__":
+    sys.exit(main())
