@@ -9,7 +9,7 @@ python3-distributed, and the package binlog, as docs/PYTHON.md says.
 
 --scheduler ADDRESS  the scheduler of a cluster, as 10.0.0.1:8786, whose workers have the logs at the same paths
 --workers N          as many processes of this machine, 4 if not given; 0: this process alone
---gtids              also the set of the GTIDs of each log, which the proved program `binlog` collects
+--gtids              also the set of the GTIDs of each log
 --lose-worker        ends one of the processes by SIGKILL in the middle, to show that its logs are read again
 """
 

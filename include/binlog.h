@@ -9,13 +9,14 @@
  *             printf("%" PRIu64 " type %u, %" PRIu64 " bytes of data\n",
  *                    items[i].position, items[i].event_type, items[i].data_size);
  *
- * C11 and C++. No function allocates memory, keeps anything between calls, or reads anything but what it is passed,
- * so calls in different threads are independent of each other.
+ * C11 and C++. No function keeps anything between calls, or reads anything but what it is passed, so calls in different
+ * threads are independent of each other. binlog_json alone allocates memory, by malloc and realloc, and frees it before it
+ * returns.
  *
- * The library is proved to be defined for all contents of the log, the cursor and the buffers. The caller has to
- * ensure: each pointer and its length are memory of that length; it doesn't change during the call; the log, the
- * cursor, the items and the error of one call don't overlap; pointers are aligned as their types require; items,
- * cursors and errors were written before, with zeros for instance. A pointer may be NULL if its length is 0.
+ * The library is proved to be defined for all contents of the log, the cursor, the items and the buffers. The caller has
+ * to ensure: each pointer and its length are memory of that length; it doesn't change during the call; the log, the
+ * cursor, the items, the text and the error of one call don't overlap; pointers are aligned as their types require; items,
+ * cursors, texts and errors were written before, with zeros for instance. A pointer may be NULL if its length is 0.
  *
  * docs/C.md has more examples. */
 #ifndef BINLOG_H
@@ -37,8 +38,11 @@ enum {
     BINLOG_TOO_SHORT_FOR_CHECKSUM = 4, /* an item: its event has fewer bytes after its header than the checksum has */
     BINLOG_END_OF_BODY = 5,            /* an item: a description, a rotate or a table map that ends within a field */
     BINLOG_INVALID_DATA = 6,           /* an item: one of these with a value that isn't allowed */
+    BINLOG_MEMORY = 12,                /* binlog_json: there is no memory for the line */
     BINLOG_CHECKSUM_MISMATCH = 17,     /* an item of binlog_next_verified: its checksum isn't that of its bytes */
-    BINLOG_INVALID_CURSOR = 100        /* binlog_next, binlog_next_verified: the cursor isn't a place of this log */
+    BINLOG_INVALID_CURSOR = 100,       /* binlog_next, binlog_next_verified: the cursor isn't a place of this log */
+    BINLOG_INVALID_ITEM = 101,         /* binlog_json: the item isn't one of this log */
+    BINLOG_INVALID_TABLE_MAP = 102     /* binlog_json: one of the table maps isn't a table map of this log */
 };
 
 /* A place in a log: three numbers, without padding. It can be copied, stored and sent, and used with the same log, or
@@ -114,6 +118,34 @@ size_t binlog_next(const uint8_t *log, size_t size, binlog_cursor *cursor, binlo
  *     count = binlog_next_verified(log, size, &cursor, items, 64, &error); */
 size_t binlog_next_verified(const uint8_t *log, size_t size, binlog_cursor *cursor, binlog_item *items, size_t room,
                             uint8_t *error);
+
+/* Writes the line of JSON of an item of a log, as the program `binlog json` prints it: one object, which begins with this
+ * index, and a line feed behind it; no zero. docs/JSON.md has the members. Returns the length of the line, and writes it
+ * if the room isn't less; otherwise nothing is written, and a call with as much room writes it.
+ *
+ * The item is one that binlog_next or binlog_next_verified gave for this log, or for this log before it grew at its end.
+ * An item with an error has the line of that error.
+ *
+ * A row event's values are written by help of its table map: the last one among the table maps, of which there are
+ * `count`, that has the table id of the event. Without one, the members `table` and `rows` are null. Any other item
+ * doesn't need table maps, and they aren't looked at. Usually these are the items of type 19 between the row event and the
+ * event before it that is neither a row event nor a table map.
+ *
+ * The error is 0, or one of these; nothing is written then, and 0 is returned:
+ *
+ * BINLOG_INVALID_ITEM: binlog_next doesn't give this item, with these members, from the place before it, {item->position,
+ *     item->description, 0}; of an item with BINLOG_CHECKSUM_MISMATCH, binlog_next_verified doesn't.
+ * BINLOG_INVALID_TABLE_MAP: one of the table maps isn't such an item, or has an error, or another type than 19.
+ * BINLOG_MEMORY: an allocation failed.
+ *
+ * The time is that of the line, and of the table maps that are passed. A line of a compressed event of MariaDB has the
+ * uncompressed text, up to 1 GiB.
+ *
+ *     size_t length = binlog_json(log, size, &items[i], NULL, 0, index, text, room, &error);
+ *     if (error == BINLOG_OK && length <= room)
+ *         fwrite(text, 1, length, stdout); */
+size_t binlog_json(const uint8_t *log, size_t size, const binlog_item *item, const binlog_item *table_maps,
+                   size_t count, uint64_t index, char *text, size_t room, uint8_t *error);
 
 /* Writes the name of an error, "EndOfInput" for 1, with a zero after it, and returns its length without the zero.
  * Nothing is written if the room isn't more than that length. The length is 0 for a number that no error has; a name

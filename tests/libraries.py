@@ -7,10 +7,11 @@ A C program and a C++ one over include/binlog.h list the samples, the encoder's 
 listing has to be that of the built binlog_list without its last word. The C program also lists with room for one item,
 built with the sanitizers of the C compiler, and with checksums verified, as the built bench_verifying does; it computes
 the checksums by itself, bit by bit. A third program calls the library with 10,000 cursors that it did not
-make over each of some logs. Then the tests of the Python package run over the shared library, which is made of the
-static one. At last what bin/install and bin/package make of the library: a C program is built against each by pkg-config
-and lists the sample, and Python lists it by the package that is installed. Without pkg-config the flags are written out;
-without dpkg-deb there is no package; a line says so.
+make over each of some logs. A C program and a C++ one print the lines of JSON of all these logs: they have to be those of the
+built `binlog json`; another C program asks for those of 10,000 items that it changed over each of some logs, and one refuses
+each of their allocations in turn. Then the tests of the Python package run over the shared library, which is made of the static one. At last what bin/install and bin/package
+make of the library: a C program is built against each by pkg-config and lists the sample, and Python lists it by the package
+that is installed. Without pkg-config the flags are written out; without dpkg-deb there is no package; a line says so.
 
 With --build the static library is first proved and built by bin/build if a source is newer. With --over-ci it is built by
 static_library.py over what `rt ci` left, which proves the crate binlog_c alone once more. Where there is no library then, a
@@ -44,6 +45,7 @@ SOURCES = REPOSITORY / "tests/c"
 WARNINGS = ["-Wall", "-Wextra", "-Wpedantic", "-Wconversion", "-Werror", "-O1", "-g"]
 SANITIZERS = ["-fsanitize=address,undefined", "-fno-sanitize-recover=all"]
 DAMAGED_CURSORS = 10_000
+DAMAGED_ITEMS = 10_000
 
 
 def build(folder, name, source, flags=(), library=(f"-I{REPOSITORY / 'include'}", LIBRARY)):
@@ -121,14 +123,12 @@ def program_failures(folder, cases):
     plain = build(folder, "list", "list.c")
     yield from listing_failures("C", listings(plain, contents), names, wanted)
     yield from listing_failures("C, one item a call", listings(plain, contents, "1"), names, wanted)
-    if has_sanitizers(folder):
-        checked = build(folder, "list_sanitized", "list.c", SANITIZERS)
-        yield from listing_failures("C with sanitizers", listings(checked, contents), names, wanted)
-        cursors = build(folder, "damaged", "damaged.c", SANITIZERS)
-    else:
+    flags = SANITIZERS if has_sanitizers(folder) else []
+    if not flags:
         print("no sanitizers: the programs run without them")
-        checked = plain
-        cursors = build(folder, "damaged", "damaged.c")
+    checked = build(folder, "list_sanitized", "list.c", flags)
+    yield from listing_failures("C with sanitizers", listings(checked, contents), names, wanted)
+    cursors = build(folder, "damaged", "damaged.c", flags)
     if VERIFYING_PROGRAM.exists():
         yield from verified_failures(plain, checked, names, contents)
     else:
@@ -137,7 +137,8 @@ def program_failures(folder, cases):
         yield from listing_failures("C++", listings(build(folder, "list_cpp", "list.cpp"), contents), names, wanted)
     else:
         print("no c++: the C++ program isn't run")
-    yield from cursor_failures(cursors)
+    yield from damaged_failures("damaged cursors", cursors, DAMAGED_CURSORS)
+    yield from json_failures(folder, names, contents, flags)
 
 
 def verified_failures(plain, checked, names, contents):
@@ -148,8 +149,43 @@ def verified_failures(plain, checked, names, contents):
     yield from listing_failures("C, verified", listings(checked, contents, "64", "verified"), names, wanted)
 
 
-def cursor_failures(program):
-    """Over each of some logs, None or what is wrong with an answer for a cursor that isn't the library's."""
+def printed(content):
+    """The lines of JSON that `binlog json` prints of a log, and its status."""
+    finished = subprocess.run([PROGRAM, "json", "-"], input=content, stdout=subprocess.PIPE, stderr=subprocess.DEVNULL)
+    return finished.stdout, finished.returncode
+
+
+def json_failures(folder, names, contents, flags):
+    """For each log, None or what is wrong with the programs' lines of JSON of it."""
+    plain = build(folder, "json", "json.c")
+    checked = build(folder, "json_checked", "json.c", flags)
+    if PROGRAM.exists():
+        with ThreadPoolExecutor(PROCESSES_AT_A_TIME) as pool:
+            wanted = list(pool.map(printed, contents))
+        yield from listing_failures("C, JSON", listings(plain, contents), names, wanted)
+        yield from listing_failures("C with sanitizers, JSON", listings(checked, contents), names, wanted)
+        if shutil.which("c++"):
+            found = listings(build(folder, "json_cpp", "json.cpp"), contents)
+            yield from listing_failures("C++, JSON", found, names, wanted)
+    else:
+        print("no program binlog: no line of JSON is compared")
+    found = listings(checked, contents, "verified")
+    yield None if found is not None and len(found) == len(contents) else "C, JSON, verified: not all logs are printed"
+    yield from damaged_failures("damaged items", build(folder, "damaged_items", "damaged_items.c", flags), DAMAGED_ITEMS)
+    yield from refused_memory_failures(folder)
+
+
+def refused_memory_failures(folder):
+    """None or what is wrong with a line of JSON for which each allocation in turn is refused."""
+    refusing = build(folder, "refused_memory", "refused_memory.c", ["-Wl,--wrap=malloc,--wrap=realloc"])
+    logs = packed([make_sample.sample(), checksummed_sample.sample()])
+    finished = subprocess.run([refusing], input=logs, stdout=subprocess.PIPE, stderr=subprocess.PIPE)
+    wrong = finished.stderr.decode() or f"status {finished.returncode}"
+    yield None if finished.returncode == 0 else f"refused memory: {wrong}"
+
+
+def damaged_failures(name, program, count):
+    """Over each of some logs, None or what is wrong with an answer for a cursor, or an item, that isn't the library's."""
     logs = {
         "the sample": make_sample.sample(),
         "the sample with checksums": checksummed_sample.sample(),
@@ -157,12 +193,12 @@ def cursor_failures(program):
         "all descriptions": encoded_logs.log("", encoded_logs.descriptions()).content,
         "no byte": b"",
     }
-    for name, content in logs.items():
+    for log, content in logs.items():
         finished = subprocess.run(
-            [program, str(DAMAGED_CURSORS)], input=packed([content]), stdout=subprocess.PIPE, stderr=subprocess.PIPE
+            [program, str(count)], input=packed([content]), stdout=subprocess.PIPE, stderr=subprocess.PIPE
         )
         wrong = finished.stderr.decode() or f"status {finished.returncode}"
-        yield None if finished.returncode == 0 else f"damaged cursors, {name}: {wrong}"
+        yield None if finished.returncode == 0 else f"{name}, {log}: {wrong}"
 
 
 def interpreter():
@@ -179,7 +215,6 @@ def python_failures(folder):
     shared = folder / "libbinlog.so"
     subprocess.run([REPOSITORY / "bin/shared-library", shared, LIBRARY], check=True)
     environment = os.environ | {"BINLOG_LIBRARY": str(shared), "PYTHONPATH": str(REPOSITORY / "python")}
-    environment |= {"BINLOG_PROGRAM": str(PROGRAM)} if PROGRAM.exists() else {}
     command = [interpreter(), "-m", "unittest", "discover", "--verbose", "--start-directory", REPOSITORY / "python/tests"]
     said = subprocess.run(command, env=environment, stderr=subprocess.PIPE, text=True).stderr
     skipped = re.findall(r" skipped ['\"](.*)['\"]$", said, re.MULTILINE)

@@ -74,14 +74,17 @@ def command(repository, name, archive):
 
 
 def build(name, repository=REPOSITORY):
-    """Builds the static library, and returns the prover's exit status.
+    """Builds the static library, and returns the prover's exit status, or else that of bin/add-heap.
 
     Raises NotBuilt where a library below is missing, or isn't that of `rt ci`.
     """
     folder = repository / f"crates/{name}"
     words = command(repository, name, f"out/lib{name}.a")
     (folder / "out").mkdir(exist_ok=True)
-    return subprocess.run(words, cwd=folder, stdin=subprocess.DEVNULL).returncode
+    status = subprocess.run(words, cwd=folder, stdin=subprocess.DEVNULL).returncode
+    if status == 0:
+        status = subprocess.run([repository / "bin/add-heap", folder / f"out/lib{name}.a"]).returncode
+    return status
 
 
 def main():

@@ -6,7 +6,8 @@
         print(event.position, event.event_type, len(event.data))
 """
 
-from ._errors import BinlogError, InvalidLog, LogError, ProgramFailed, ProgramNotFound
+from ._bodies import Body
+from ._errors import BinlogError, InvalidLog, LogError, RowsError
 from ._library import library_version
 from ._log import Cursor, Damage, Event, Log, open
 from ._types import EventType
@@ -14,6 +15,7 @@ from ._whole import DamagedEvent, Stats, TypeStats, Verification, gtid_set, stat
 
 __all__ = [
     "BinlogError",
+    "Body",
     "Cursor",
     "Damage",
     "DamagedEvent",
@@ -22,8 +24,7 @@ __all__ = [
     "InvalidLog",
     "Log",
     "LogError",
-    "ProgramFailed",
-    "ProgramNotFound",
+    "RowsError",
     "Stats",
     "TypeStats",
     "Verification",

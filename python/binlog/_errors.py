@@ -1,5 +1,7 @@
 """The exceptions. Those of logs have the error's number and name."""
 
+from typing import Any
+
 from . import _library
 
 
@@ -43,42 +45,24 @@ class LogError(BinlogError):
         return type(self), (self.number, self.position)
 
 
-class ProgramNotFound(Exception):
-    """The program `binlog` isn't there, which verifies checksums, collects GTIDs and prints contents.
+class RowsError(Exception):
+    """A row of a row event can't be read, or all of them, since their table map can't.
 
-    program: what was looked for.
-    variable: the name of the environment variable that can have its path.
+    name: what is wrong, as docs/ROW_VALUES.md has it: "Truncated" for instance.
+    position: where the event begins.
+    details: the numbers that say where in the event it is, by their names: `row`, `image`, `column` for instance.
     """
 
-    program: str
-    variable: str
+    name: str
+    position: int
+    details: dict[str, Any]
 
-    def __init__(self, program: str, variable: str) -> None:
-        self.program = program
-        self.variable = variable
-        super().__init__(program, variable)
-
-    def __str__(self) -> str:
-        return f"there is no program {self.program}: install it by bin/install, or set {self.variable} to its path"
-
-
-class ProgramFailed(Exception):
-    """The program `binlog` didn't read a log to its end: memory or a device failed, for instance.
-
-    command: which of its commands was run.
-    status: its exit status, as docs/COMMANDS.md has them; negative if a signal ended it.
-    messages: what it wrote to standard error.
-    """
-
-    command: str
-    status: int
-    messages: str
-
-    def __init__(self, command: str, status: int, messages: str) -> None:
-        self.command = command
-        self.status = status
-        self.messages = messages
-        super().__init__(command, status, messages)
+    def __init__(self, found: dict[str, Any], position: int) -> None:
+        self.name = found["error"]
+        self.position = position
+        self.details = {name: of for name, of in found.items() if name != "error"}
+        super().__init__(found, position)
 
     def __str__(self) -> str:
-        return f"binlog {self.command} ended with status {self.status}: {self.messages.strip()}"
+        where = "".join(f", {name} {of}" for name, of in self.details.items())
+        return f"{self.name}{where}, in the event at {self.position}"

@@ -57,6 +57,18 @@ def _load() -> ctypes.CDLL:
             size,
             ctypes.POINTER(byte),
         ]
+    library.binlog_json.restype = size
+    library.binlog_json.argtypes = [
+        ctypes.c_void_p,
+        size,
+        ctypes.c_char_p,
+        ctypes.c_char_p,
+        size,
+        ctypes.c_uint64,
+        ctypes.c_void_p,
+        size,
+        ctypes.POINTER(byte),
+    ]
     for write in (library.binlog_error_name, library.binlog_error_text):
         write.restype = size
         write.argtypes = [byte, ctypes.c_char_p, size]

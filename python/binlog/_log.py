@@ -2,17 +2,25 @@
 
 import builtins
 import ctypes
+import json
 import mmap
 import os
 from collections.abc import Iterator
-from typing import NamedTuple, Optional, Union
+from typing import Any, NamedTuple, Optional, Union
 
-from ._errors import InvalidLog, LogError
+from ._bodies import Body, row_of, value_of
+from ._errors import InvalidLog, LogError, RowsError
 from ._library import ITEM, LIBRARY, CursorStruct
 from ._types import EventType
 
 # How many items a call has room for.
 _BATCH = 512
+
+# How many bytes a line has room for at first.
+_LINE = 4096
+
+# The types whose events name a table map by its id.
+_ROWS = frozenset((23, 24, 25, 30, 31, 32, 39))
 
 Buffer = Union[bytes, bytearray, memoryview, mmap.mmap]
 
@@ -30,14 +38,48 @@ class Cursor(NamedTuple):
     ended: int = 0
 
 
-class _Item:
-    """What stands at a place of a log. It keeps the log's bytes."""
+class _TableMaps:
+    """The table maps that are in force at a place of an iteration.
 
-    __slots__ = ("_bytes", "_fields")
+    Tables are found by the first four bytes of the data, which are those of the id: where ids have four bytes, flags are behind
+    them. The few table maps that have these in common are given to the library, which looks at the whole id.
+    """
 
-    def __init__(self, log_bytes: memoryview, fields: tuple) -> None:
+    def __init__(self, log_bytes: memoryview) -> None:
         self._bytes = log_bytes
+        self._maps: dict[bytes, dict[bytes, tuple]] = {}
+
+    def after(self, fields: tuple) -> tuple[tuple, ...]:
+        """The table maps for a row event; none for another event, which may bring one into force, or clear all."""
+        event_type, start = fields[9], fields[2]
+        if event_type in _ROWS:
+            return tuple(self._maps.get(bytes(self._bytes[start : start + 4]), {}).values())
+        if event_type == EventType.TABLE_MAP_EVENT:
+            table_id = bytes(self._bytes[start : start + 6])
+            maps = self._maps.setdefault(table_id[:4], {})
+            maps.pop(table_id, None)
+            maps[table_id] = fields
+        elif event_type == EventType.ROTATE_EVENT and any(self._bytes[start : start + 8]):
+            self._maps.clear()
+        return ()
+
+
+class _Item:
+    """What stands at a place of a log. It keeps the log."""
+
+    __slots__ = ("_log", "_fields")
+
+    def __init__(self, log: "Log", fields: tuple) -> None:
+        self._log = log
         self._fields = fields
+
+    def line(self, index: int = 0) -> bytes:
+        """The line of JSON of the item, as the program `binlog json` prints it (docs/JSON.md): an object that begins with this
+        index, and a line feed.
+
+        Raises LogError, Memory, where memory runs out.
+        """
+        return self._log._line(self._fields, (), index)
 
     @property
     def position(self) -> int:
@@ -96,19 +138,67 @@ class _Item:
 class Event(_Item):
     """An event of a log: its header, its data and its checksum."""
 
-    __slots__ = ()
+    __slots__ = ("_maps", "_members")
+
+    def __init__(self, log: "Log", fields: tuple, table_maps: tuple[tuple, ...] = ()) -> None:
+        super().__init__(log, fields)
+        self._maps = table_maps
+        self._members: Optional[dict[str, Any]] = None
 
     @property
     def data(self) -> bytes:
         """The event's data: its bytes without header, algorithm byte and checksum."""
         start = self._fields[2]
-        return bytes(self._bytes[start : start + self._fields[3]])
+        return bytes(self._log._bytes[start : start + self._fields[3]])
 
     @property
     def raw(self) -> bytes:
         """All bytes of the event, as they stand in the log."""
         start = self._fields[0]
-        return bytes(self._bytes[start : start + self._fields[6]])
+        return bytes(self._log._bytes[start : start + self._fields[6]])
+
+    def line(self, index: int = 0) -> bytes:
+        return self._log._line(self._fields, self._maps, index)
+
+    def _member(self, name: str) -> Any:
+        """A member of the line's object. The line is made once."""
+        if self._members is None:
+            self._members = json.loads(self.line())
+        return self._members.get(name)
+
+    @property
+    def body(self) -> Optional[Body]:
+        """What the data says, by the names of docs/JSON.md; None for a type that isn't known.
+
+        Raises LogError where the data isn't a body of the event's type.
+        """
+        found = value_of(self._member("data"))
+        if found is not None and found.keys() == {"error"}:
+            raise LogError(found["error"], self._fields[0])
+        return found
+
+    @property
+    def table(self) -> Union[str, bytes, None]:
+        """The name of the table whose rows these are, its schema and a dot in front; bytes if it isn't UTF-8; None if this is no row event, or no table
+        map is in force for it."""
+        return value_of(self._member("table"))
+
+    @property
+    def rows(self) -> Optional[list[dict[str, dict[str, Any]]]]:
+        """The rows of a row event: for each a dict of its images, `before` and `after`, in which columns are found by their
+        names, or by `@1`, `@2` and so on where the table map has no names. None if this is no row event, no table map is in
+        force for it, or its rows aren't decoded.
+
+        A value is None, an int, a float, a str or bytes, as docs/ROW_VALUES.md has it.
+
+        Raises RowsError where a row, or the table map, isn't right.
+        """
+        found = self._member("rows")
+        if found is None:
+            return None
+        if found and "error" in found[-1]:
+            raise RowsError(found[-1], self._fields[0])
+        return [row_of(row) for row in found]
 
     def __repr__(self) -> str:
         return f"<Event type {self.event_type} at {self.position}, {self.event_size} bytes>"
@@ -166,6 +256,20 @@ class Log:
         """How many bytes the log has."""
         return self._size
 
+    def _line(self, fields: tuple, table_maps: tuple[tuple, ...], index: int) -> bytes:
+        """The line of JSON of an item, with these table maps."""
+        item = ITEM.pack(*fields)
+        maps = b"".join(ITEM.pack(*table_map) for table_map in table_maps)
+        error = ctypes.c_uint8()
+        room, size = 0, _LINE
+        while room < size:
+            room = size
+            text = ctypes.create_string_buffer(room)
+            size = LIBRARY.binlog_json(self._at, self._size, item, maps, len(table_maps), index, text, room, error)
+            if error.value:
+                raise LogError(error.value, fields[0])
+        return ctypes.string_at(text, size)
+
     def batches(self, start: Optional[Cursor] = None) -> Iterator[list[tuple]]:
         """The items from a place on, as they stand in the library's structures, batch after batch: for each a tuple of the
         members of `binlog_item` in their order, which are in include/binlog.h. It is the fastest way to the fields of headers.
@@ -187,22 +291,25 @@ class Log:
 
         Raises LogError, InvalidCursor, where the place isn't one of this log.
         """
-        log_bytes = self._bytes
+        table_maps = _TableMaps(self._bytes)
         for batch in self.batches(start):
             for fields in batch:
-                yield Damage(log_bytes, fields) if fields[10] else Event(log_bytes, fields)
+                yield Damage(self, fields) if fields[10] else Event(self, fields, table_maps.after(fields))
 
     def events(self, start: Optional[Cursor] = None) -> Iterator[Event]:
         """The events from a place on; from the first if not given.
 
         Raises LogError in the place of a damaged event, and where the place isn't one of this log.
         """
-        log_bytes = self._bytes
-        for batch in self.batches(start):
-            for fields in batch:
-                if fields[10]:
-                    raise LogError(fields[10], fields[0])
-                yield Event(log_bytes, fields)
+        for item in self.items(start):
+            if isinstance(item, Damage):
+                raise item.error
+            yield item
+
+    def lines(self) -> Iterator[bytes]:
+        """The lines of JSON of all items, each with its index, as the program `binlog json` prints them."""
+        for index, item in enumerate(self.items()):
+            yield item.line(index)
 
     def __iter__(self) -> Iterator[Event]:
         return self.events()

@@ -1,30 +1,30 @@
 """What is said of a whole log: whether its checksums are right, its GTIDs, and how many events it has of each type."""
 
-import itertools
-import re
+import os
+from collections.abc import Iterable, Iterator
 from dataclasses import dataclass, field
-from typing import NamedTuple, Optional
+from typing import NamedTuple, Optional, Union
 
-from ._errors import LogError, ProgramFailed
-from ._log import open
-from ._program import Path, output_of
-from ._types import name_of
+from ._errors import LogError
+from ._library import error_name, error_text
+from ._log import Event, open
+from ._types import EventType, name_of
 
-_TALLY = re.compile(r"standard input: (\d+) events, (\d+) bytes, (\d+) checksums right, \d+ events damaged\n")
-_DAMAGED = re.compile(r"binlog: standard input: event (\d+)(?: at byte (\d+))?: (.*)")
-_ERROR = re.compile(r"(\d+) error E(\d+)")
+Path = Union[str, "os.PathLike[str]"]
 
 
 class DamagedEvent(NamedTuple):
-    """A damaged event, as `binlog verify` reports it.
+    """A damaged event.
 
     index: the number of the event in the log, from 0.
-    position: where it begins, in bytes from the start of the log; None if that isn't known.
+    position: where it begins, in bytes from the start of the log.
+    name: the name of its error.
     text: what is wrong with it.
     """
 
     index: int
-    position: Optional[int]
+    position: int
+    name: str
     text: str
 
 
@@ -48,58 +48,128 @@ class Verification(NamedTuple):
         return not self.damaged
 
 
-def _damaged_event(message: str) -> DamagedEvent:
-    found = _DAMAGED.fullmatch(message)
-    if found is None:
-        raise ProgramFailed("verify", 0, message)
-    index, position, text = found.groups()
-    return DamagedEvent(int(index), None if position is None else int(position), text)
+def _damaged_event(index: int, fields: tuple) -> DamagedEvent:
+    text = error_text(fields[10])
+    if fields[12]:
+        text += f": stored {fields[11].hex()}, computed {fields[13].to_bytes(4, 'little').hex()}"
+    return DamagedEvent(index, fields[0], error_name(fields[10]), text)
 
 
 def verify(path: Path) -> Verification:
-    """Verifies all checksums of a log by the proved program `binlog`.
+    """Verifies all checksums of a log.
 
-    Raises InvalidLog where the file doesn't begin with the file header, OSError where it can't be read, ProgramNotFound
-    and ProgramFailed.
+    Raises InvalidLog where the file doesn't begin with the file header, and OSError where it can't be read.
     """
-    open(path)
-    output = output_of("verify", path)
-    found = _TALLY.fullmatch(output.text)
-    if found is None:
-        raise ProgramFailed("verify", 0, output.text)
-    return Verification(*map(int, found.groups()), tuple(map(_damaged_event, output.messages)))
+    count = size = checksums = 0
+    damaged: list[DamagedEvent] = []
+    for batch in open(path, verify=True).batches():
+        for fields in batch:
+            if fields[10]:
+                damaged.append(_damaged_event(count + len(damaged), fields))
+                continue
+            count += 1
+            size += fields[6]
+            checksums += fields[12]
+    return Verification(count, size, checksums, tuple(damaged))
 
 
-def _position_of(path: Path, index: int) -> int:
-    return next(itertools.islice(open(path).items(), index, None)).position
+# MariaDB's types of events with GTIDs. In another server's log they have no data.
+_MARIA_GTID, _MARIA_GTID_LIST = 162, 163
+
+_WITH_GTIDS = frozenset(
+    (
+        EventType.GTID_EVENT,
+        EventType.GTID_TAGGED_LOG_EVENT,
+        EventType.PREVIOUS_GTIDS_EVENT,
+        _MARIA_GTID,
+        _MARIA_GTID_LIST,
+    )
+)
+
+# The greatest number of a transaction, and the error of one that is no number of a transaction.
+_LAST_GNO = 2**63 - 1
+_BAD_GNO = 18
+
+# The numbers from the first to before the second.
+_Interval = tuple[int, int]
 
 
-def _source_of(line: str) -> tuple[str, str, str]:
-    """A line of GTIDs: the source as a UUID with hyphens, the tag or "", and the intervals between colons."""
-    name, intervals, *_ = line.split(" ")
-    source, _, tag = name.partition(":")
-    uuid = "-".join((source[:8], source[8:12], source[12:16], source[16:20], source[20:]))
-    return uuid, tag, intervals.replace(",", ":")
+def _merged(intervals: Iterable[_Interval]) -> Iterator[_Interval]:
+    """The same numbers in intervals as long as they can be, in order."""
+    ordered = iter(sorted(intervals))
+    first, end = next(ordered)
+    for start, last in ordered:
+        if start > end:
+            yield first, end
+            first, end = start, last
+        else:
+            end = max(end, last)
+    yield first, end
+
+
+class _GtidSet:
+    """The GTIDs of events."""
+
+    def __init__(self) -> None:
+        # By the source and the tag, or "".
+        self._groups: dict[tuple[str, str], list[_Interval]] = {}
+        # Of MariaDB the last sequence number, by the domain and the server.
+        self._last: dict[tuple[int, int], int] = {}
+
+    def add(self, event: Event) -> None:
+        """Raises LogError where the GTIDs can't be read."""
+        body = event.body
+        if body is None:
+            return
+        if event.event_type == EventType.PREVIOUS_GTIDS_EVENT:
+            for entry in body["sids"]:
+                for start, end in entry["intervals"]:
+                    self._add_interval((entry["uuid"], entry["tag"] or ""), start, end, event.position)
+        elif event.event_type in (_MARIA_GTID, _MARIA_GTID_LIST):
+            for text in body.get("gtids", [body.get("gtid")]):
+                domain, server, sequence = map(int, text.split("-"))
+                self._last[domain, server] = sequence
+        else:
+            self._add_interval((body["sid"], body["tag"] or ""), body["gno"], body["gno"] + 1, event.position)
+
+    def _add_interval(self, group: tuple[str, str], start: int, end: int, position: int) -> None:
+        """An interval whose end isn't above its start has no numbers."""
+        if start >= end:
+            return
+        if start < 1 or end - 1 > _LAST_GNO:
+            raise LogError(_BAD_GNO, position)
+        intervals = self._groups.setdefault(group, [])
+        # Most events follow on the one before them.
+        if intervals and intervals[-1][1] == start:
+            intervals[-1] = intervals[-1][0], end
+        else:
+            intervals.append((start, end))
+
+    def __str__(self) -> str:
+        sources: dict[str, list[str]] = {}
+        for (source, tag), intervals in sorted(self._groups.items()):
+            texts = [f"{start}-{end - 1}" if start + 1 < end else str(start) for start, end in _merged(intervals)]
+            sources.setdefault(source, [source]).extend([tag, *texts] if tag else texts)
+        maria = (f"{domain}-{server}-{sequence}" for (domain, server), sequence in sorted(self._last.items()))
+        return ",".join([*map(":".join, sources.values()), *maria])
 
 
 def gtid_set(path: Path) -> str:
     """The set of the GTIDs of a log's events, with those of its PREVIOUS_GTIDS, as MySQL writes a set: one source after
-    another with "," between, and "" for the empty set. The proved program `binlog` collects them.
+    another with "," between, and "" for the empty set. Of a MariaDB log the last GTID of each domain and server, with "," between.
 
     Raises LogError for the first event that is damaged or whose GTIDs can't be read, InvalidLog where the file doesn't
-    begin with the file header, OSError where it can't be read, ProgramNotFound and ProgramFailed.
+    begin with the file header, and OSError where it can't be read.
     """
-    open(path)
-    lines = output_of("gtids", path).text.splitlines()
-    wrong = _ERROR.fullmatch(lines[0]) if lines else None
-    if wrong is not None:
-        index, number = map(int, wrong.groups())
-        raise LogError(number, _position_of(path, index))
-    sources = []
-    for uuid, group in itertools.groupby(map(_source_of, lines), key=lambda found: found[0]):
-        parts = [f"{tag}:{intervals}" if tag else intervals for _, tag, intervals in group]
-        sources.append(":".join((uuid, *parts)))
-    return ",".join(sources)
+    found = _GtidSet()
+    log = open(path)
+    for batch in log.batches():
+        for fields in batch:
+            if fields[10]:
+                raise LogError(fields[10], fields[0])
+            if fields[9] in _WITH_GTIDS:
+                found.add(Event(log, fields))
+    return str(found)
 
 
 @dataclass

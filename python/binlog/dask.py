@@ -22,7 +22,6 @@ from dask.delayed import Delayed
 
 from . import _log, _whole
 from ._log import Damage, Event
-from ._program import lines_of
 from ._types import name_of
 from ._whole import Stats
 
@@ -66,8 +65,8 @@ def stats(files: Files) -> Delayed:
 
 
 def gtid_sets(files: Files) -> Delayed:
-    """The set of the GTIDs of each log: computed, a dict of the texts by path. `binlog.gtid_set` reads one log, by the proved
-    program `binlog`, and raises what its computation raises.
+    """The set of the GTIDs of each log: computed, a dict of the texts by path. `binlog.gtid_set` reads one log and raises what
+    its computation raises.
     """
     paths = _paths(files)
     collect = dask.delayed(_whole.gtid_set)
@@ -97,9 +96,8 @@ def _bare_objects(path: str) -> Iterator[dict[str, Any]]:
 
 
 def _objects(path: str) -> Iterator[dict[str, Any]]:
-    # The log may grow in between, so that the program prints more lines than there are objects.
-    for found, line in zip(_bare_objects(path), lines_of("json", path)):
-        yield {**found, **json.loads(line)}
+    for index, item in enumerate(_log.open(path).items()):
+        yield {"file": path, "position": item.position, **json.loads(item.line(index))}
 
 
 def events(files: Files, contents: bool = False) -> dask.bag.Bag:
@@ -107,11 +105,11 @@ def events(files: Files, contents: bool = False) -> dask.bag.Bag:
     (docs/JSON.md), and `file`, the path, and `position`, where the event begins in bytes from the start of its log. In the
     place of a damaged event, the object has `error`, the number of the error, and no field of the header.
 
-    With contents, the objects have `data` too, the event's body, from the lines of the proved program `binlog`; without, no
-    program is run.
+    With contents, the objects have the other members of the lines too: `data`, the event's body, and of row events `table` and
+    `rows`.
 
     Its computation raises InvalidLog for a file that doesn't begin with the file header, and OSError for one that can't be
-    read; with contents also ProgramNotFound and ProgramFailed.
+    read.
     """
     read = _objects if contents else _bare_objects
     return dask.bag.from_sequence(_paths(files), partition_size=1).map(read).flatten()

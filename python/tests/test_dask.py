@@ -3,7 +3,6 @@
 import importlib.util
 import json
 import os
-import shutil
 import subprocess
 import sys
 import tempfile
@@ -21,7 +20,6 @@ import gtids_sample
 import json_model
 import listing_model
 import make_sample
-from binlog import _program
 
 HAS_DASK = all(importlib.util.find_spec(name) for name in ("dask", "distributed"))
 if HAS_DASK:
@@ -33,9 +31,6 @@ UNDERSIZED = make_sample.HEADER.pack(1, 2, 3, 18, 4, 0)
 ALL_TYPES = MAGIC + b"".join(make_sample.frame(number, b"", 0) for number in range(256))
 LOGS = (make_sample.sample(), checksummed_sample.sample(), gtids_sample.sample(), MAGIC + UNDERSIZED, ALL_TYPES, MAGIC)
 SOURCE = "abababab-abab-abab-abab-abababababab"
-
-has_program = shutil.which(os.environ.get(_program.VARIABLE, "binlog")) is not None
-with_program = unittest.skipUnless(has_program, "the program binlog isn't there: nothing that it says is tested")
 
 
 def members(log, left_out):
@@ -75,7 +70,6 @@ class ManyLogs(unittest.TestCase):
         rotates = bag.filter(lambda event: event.get("name") == "ROTATE_EVENT").count().compute(scheduler="sync")
         self.assertEqual(rotates, sum(line.get("name") == "ROTATE_EVENT" for log in LOGS for line in members(log, "data")))
 
-    @with_program
     def test_contents(self):
         paths = self.files(LOGS)
         self.check_objects(binlog.dask.events(paths, contents=True).compute(scheduler="sync"), paths, "nothing")
@@ -89,7 +83,6 @@ class ManyLogs(unittest.TestCase):
         one = binlog.dask.stats(paths[0]).compute(scheduler="sync")
         self.assertEqual(one.files, {paths[0]: one.total})
 
-    @with_program
     def test_gtid_sets(self):
         paths = self.files([MAGIC + b"".join(map(gtids_sample.gtid, numbers)) for numbers in ((1, 2), (3, 5), ())])
         wanted = dict(zip(paths, (f"{SOURCE}:1-2", f"{SOURCE}:3:5", "")))
@@ -125,7 +118,7 @@ class Fleet(unittest.TestCase):
                     Path(path).write_bytes(MAGIC + (100_000 + number) * event + gtids_sample.gtid(number + 1))
                 else:
                     os.link(paths[number % 4], path)
-            words = [*(["--gtids"] if has_program else []), *paths]
+            words = ["--gtids", *paths]
             in_one = self.run_fleet("--workers", "0", *words)
             in_four = self.run_fleet("--workers", "4", "--lose-worker", *words)
         self.assertRegex(in_four.stderr, "(?m)^killed the process")
@@ -134,8 +127,7 @@ class Fleet(unittest.TestCase):
         self.assertEqual([found["file"] for found in each], paths)
         self.assertEqual(total["events"], 8 * sum(100_001 + number for number in range(4)))
         self.assertEqual(total["types"]["GTID_EVENT"], asdict(binlog.TypeStats(32, 32 * len(gtids_sample.gtid(1)))))
-        if has_program:
-            self.assertEqual([found["gtids"] for found in each], [f"{SOURCE}:{number % 4 + 1}" for number in range(32)])
+        self.assertEqual([found["gtids"] for found in each], [f"{SOURCE}:{number % 4 + 1}" for number in range(32)])
 
 
 if __name__ == "__main__":

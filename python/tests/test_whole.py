@@ -1,23 +1,24 @@
-"""Tests of what is said of whole logs. Where the program `binlog` isn't there, those of what it says are skipped."""
+"""Tests of what is said of whole logs."""
 
-import os
+import itertools
 import pickle
-import shutil
+import re
 import sys
 import tempfile
 import unittest
 import zlib
 from pathlib import Path
-from unittest import mock
 
 sys.path.insert(0, str(Path(__file__).resolve().parents[2] / "tests"))
 
 import binlog
 import checksummed_sample
+import encoded_logs
+import gtid_model
 import gtids_sample
 import listing_model
 import make_sample
-from binlog import _program
+import maria_gtids_sample
 
 SAMPLE = make_sample.sample()
 CHECKSUMMED = checksummed_sample.sample()
@@ -27,12 +28,26 @@ MAGIC = listing_model.FILE_HEADER
 UNDERSIZED = make_sample.HEADER.pack(1, 2, 3, 18, 4, 0)
 SOURCE = "abababab-abab-abab-abab-abababababab"
 
-has_program = shutil.which(os.environ.get(_program.VARIABLE, "binlog")) is not None
-with_program = unittest.skipUnless(has_program, "the program binlog isn't there: nothing that it says is tested")
-
 
 def frames(log):
     return listing_model.split(log[len(MAGIC) :])[0]
+
+
+def source_of(line):
+    """A line of GTIDs: the source as a UUID with hyphens, the tag or "", and the intervals between colons."""
+    name, intervals, *_ = line.split(" ")
+    source, _, tag = name.partition(":")
+    uuid = "-".join((source[:8], source[8:12], source[12:16], source[16:20], source[20:]))
+    return uuid, tag, intervals.replace(",", ":")
+
+
+def set_of(lines):
+    """The set of lines of GTIDs, as MySQL writes it, and MariaDB's GTIDs."""
+    maria = [line for line in lines if " " not in line]
+    sources = []
+    for uuid, group in itertools.groupby(map(source_of, lines[: len(lines) - len(maria)]), key=lambda found: found[0]):
+        sources.append(":".join([uuid, *(f"{tag}:{intervals}" if tag else intervals for _, tag, intervals in group)]))
+    return ",".join([*sources, *maria])
 
 
 class Files(unittest.TestCase):
@@ -87,28 +102,24 @@ class Counts(Files):
         self.assertEqual(len({item[0] for batch in batches for item in batch}), 1000)
 
 
-class Programs(Files):
-    @with_program
+class WholeLogs(Files):
     def test_checksums_are_right(self):
         every = frames(CHECKSUMMED)
         found = binlog.verify(self.file(CHECKSUMMED))
         self.assertEqual(found, binlog.Verification(len(every), sum(map(len, every)), len(every), ()))
         self.assertTrue(found.is_right)
 
-    @with_program
     def test_a_wrong_checksum(self):
         start = len(MAGIC) + len(frames(CHECKSUMMED)[0])
         content = bytearray(CHECKSUMMED)
         content[start + 30] ^= 1
         event = frames(bytes(content))[1]
         computed = zlib.crc32(event[:-4]).to_bytes(4, "little").hex()
-        text = f"checksum mismatch: stored {event[-4:].hex()}, computed {computed}"
-        # A name that the program would read as an option.
-        found = binlog.verify(self.file(content, "-q"))
-        self.assertEqual(found.damaged, (binlog.DamagedEvent(1, start, text),))
+        text = f"the stored checksum of an event is not the computed one: stored {event[-4:].hex()}, computed {computed}"
+        found = binlog.verify(self.file(content))
+        self.assertEqual(found.damaged, (binlog.DamagedEvent(1, start, "ChecksumMismatch", text),))
         self.assertFalse(found.is_right)
 
-    @with_program
     def test_gtids(self):
         every = frames(GTIDS)
         whole = MAGIC + b"".join(every[:4] + every[5:])
@@ -117,30 +128,49 @@ class Programs(Files):
         self.assertEqual(binlog.gtid_set(self.file(untagged)), f"{SOURCE}:1-2:7")
         self.assertEqual(binlog.gtid_set(self.file(SAMPLE)), "")
 
-    @with_program
+    def test_a_damaged_log(self):
+        found = binlog.verify(self.file(CHECKSUMMED + UNDERSIZED))
+        index, position, name, text = found.damaged[0]
+        self.assertEqual((index, position, name), (found.events, len(CHECKSUMMED), "EventSizeTooSmall"))
+        self.assertEqual((len(found.damaged), found.bytes), (1, position - len(MAGIC)))
+
+    def check_gtids(self, content):
+        """The set is that of the model's lines, or the first of its errors is raised."""
+        path = self.file(content)
+        lines = gtid_model.expected(content)[0].decode().splitlines()
+        wrong = re.fullmatch(r"(\d+) error E(\d+)", lines[0]) if lines else None
+        if wrong is None:
+            self.assertEqual(binlog.gtid_set(path), set_of(lines))
+            return
+        index, number = map(int, wrong.groups())
+        with self.assertRaises(binlog.LogError) as raised:
+            binlog.gtid_set(path)
+        position = [item.position for item in binlog.open(path).items()][index]
+        self.assertEqual((raised.exception.number, raised.exception.position), (number, position))
+
+    def test_sets_are_those_of_the_model(self):
+        for log in encoded_logs.logs():
+            self.check_gtids(log.content)
+        for module in (gtids_sample, maria_gtids_sample):
+            every = frames(MAGIC + b"".join(module.events()))
+            # Each event alone, and without those that can't be read.
+            for frame in every:
+                self.check_gtids(MAGIC + frame)
+            right = [frame for frame in every if b" error E" not in gtid_model.expected(MAGIC + frame)[0]]
+            self.check_gtids(MAGIC + b"".join(right))
+            self.check_gtids(MAGIC + maria_gtids_sample.start() + b"".join(every))
+        self.check_gtids(gtids_sample.sample())
+
+    def test_marias_gtids(self):
+        sample = [maria_gtids_sample.start(), *list(maria_gtids_sample.events())[:5]]
+        wanted = "0-4294967295-18446744073709551615,3-1-16,3-7-15,9-7-5,9-8-1"
+        self.assertEqual(binlog.gtid_set(self.file(MAGIC + b"".join(sample))), wanted)
+
     def test_gtids_that_cannot_be_read(self):
         position = len(MAGIC) + sum(map(len, frames(GTIDS)[:4]))
         with self.assertRaises(binlog.LogError) as raised:
             binlog.gtid_set(self.file(GTIDS))
         self.assertEqual((raised.exception.name, raised.exception.position), ("BadGno", position))
-
-    def test_no_program(self):
-        path = self.file(SAMPLE)
-        with mock.patch.dict(os.environ, {_program.VARIABLE: str(self.folder / "missing")}):
-            for call in (binlog.verify, binlog.gtid_set):
-                with self.assertRaises(binlog.ProgramNotFound) as raised:
-                    call(path)
-                self.assertIn("missing", str(raised.exception))
-
-    def test_a_program_that_fails(self):
-        path = self.file(SAMPLE)
-        with mock.patch.dict(os.environ, {_program.VARIABLE: "false"}):
-            for call in (binlog.verify, binlog.gtid_set, lambda path: list(_program.lines_of("json", path))):
-                with self.assertRaises(binlog.ProgramFailed) as raised:
-                    call(path)
-                self.assertEqual(raised.exception.status, 1)
-        with mock.patch.dict(os.environ, {_program.VARIABLE: "true"}), self.assertRaises(binlog.ProgramFailed):
-            binlog.verify(path)
 
     def test_no_log(self):
         for call in (binlog.stats, binlog.verify, binlog.gtid_set):
@@ -150,8 +180,8 @@ class Programs(Files):
                 call(self.folder / "missing")
 
     def test_errors_are_sent(self):
-        log_error, failed = binlog.LogError(3, 17), binlog.ProgramFailed("json", 3, "memory")
-        for error in (binlog.InvalidLog(2), log_error, binlog.ProgramNotFound("binlog", _program.VARIABLE), failed):
+        rows_error = binlog.RowsError({"error": "Truncated", "row": 3}, 17)
+        for error in (binlog.InvalidLog(2), binlog.LogError(3, 17), rows_error):
             sent = pickle.loads(pickle.dumps(error))
             self.assertEqual((type(sent), str(sent), sent.__dict__), (type(error), str(error), error.__dict__))
 

@@ -1,0 +1,70 @@
+"""The data of events as Python's values, from the members of their lines of JSON, which docs/JSON.md describes."""
+
+from typing import Any, Optional
+
+# The members that are bytes, in hexadecimal digits.
+_BYTES = {
+    "block_data",
+    "bqual",
+    "columns_metadata",
+    "columns_type",
+    "event_type_header_lengths",
+    "extra_data",
+    "gtrid",
+    "nonce",
+    "optional_metadata",
+    "raw",
+    "rows_data",
+    "status_vars_rest",
+}
+
+# The status variables whose values are bytes.
+_BYTES_VARIABLES = {"Catalog", "CommitTs", "CommitTs2", "MasterDataWritten"}
+
+
+class Body(dict[str, Any]):
+    """The data of an event: its members by their names, which are attributes, too.
+
+    Numbers are ints, texts are strs, or bytes where they aren't UTF-8, and bytes are bytes.
+    """
+
+    __slots__ = ()
+
+    def __getattr__(self, name: str) -> Any:
+        try:
+            return self[name]
+        except KeyError:
+            raise AttributeError(f"the data of the event has no member {name!r}") from None
+
+
+def _is_bytes(members: dict[str, Any], name: str) -> bool:
+    """Whether a member is bytes: of the members named `value` those of some status variables, and that of a user variable."""
+    if name == "value":
+        return members.get("key") in _BYTES_VARIABLES or "value_type" in members
+    return name in _BYTES
+
+
+def value_of(found: Any) -> Any:
+    """What a value of a line of JSON says."""
+    if isinstance(found, list):
+        return [value_of(item) for item in found]
+    if not isinstance(found, dict):
+        return found
+    if found.keys() == {"hex"}:
+        return bytes.fromhex(found["hex"])
+    return Body((name, bytes.fromhex(of) if _is_bytes(found, name) else value_of(of)) for name, of in found.items())
+
+
+def _cell_of(found: Any) -> Any:
+    """The value of a column. The bytes of texts that aren't UTF-8, of JSON documents and of compressed values are objects of
+    one member in the line."""
+    return bytes.fromhex(*found.values()) if isinstance(found, dict) else found
+
+
+def _image_of(found: Optional[dict[str, Any]]) -> dict[str, Any]:
+    return {name: _cell_of(cell) for name, cell in (found or {}).items()}
+
+
+def row_of(found: dict[str, Any]) -> dict[str, dict[str, Any]]:
+    """A row: its images, `before` and `after`, by the names of the columns."""
+    return {image: _image_of(cells) for image, cells in found.items()}

@@ -1,0 +1,124 @@
+"""Tests of the lines of JSON of events, and of what they say."""
+
+import json
+import sys
+import threading
+import unittest
+from pathlib import Path
+
+sys.path.insert(0, str(Path(__file__).resolve().parents[2] / "tests"))
+
+import binlog
+import checksummed_sample
+import encoded_logs
+import json_model
+import listing_model
+import make_sample
+
+SAMPLE = make_sample.sample()
+CHECKSUMMED = checksummed_sample.sample()
+MAGIC = listing_model.FILE_HEADER
+# A header that states 18 bytes.
+UNDERSIZED = make_sample.HEADER.pack(1, 2, 3, 18, 4, 0)
+
+
+def without_rows(line):
+    """A line without the members behind the data of a row event, which the model doesn't have."""
+    head, behind, _ = line.partition(b',"table":')
+    return head + b"}\n" if behind else line
+
+
+def lines(content, **parts):
+    return list(map(without_rows, binlog.Log(content, **parts).lines()))
+
+
+def wanted(content):
+    return json_model.expected(content)[0].splitlines(keepends=True)
+
+
+class Lines(unittest.TestCase):
+    def test_samples(self):
+        for content in (SAMPLE, CHECKSUMMED, SAMPLE + UNDERSIZED, SAMPLE[:-1], MAGIC):
+            self.assertEqual(lines(content), wanted(content))
+
+    def test_encoded_and_damaged_logs(self):
+        for log in encoded_logs.logs():
+            with self.subTest(log.name):
+                found, given = lines(log.content), wanted(log.content)
+                self.assertEqual(len(found), len(given))
+                for line, wanted_line in zip(found, given):
+                    self.assertEqual(line, wanted_line)
+
+    def test_an_index(self):
+        event = next(iter(binlog.Log(SAMPLE)))
+        for index in (0, 7, 2**64 - 1):
+            self.assertTrue(event.line(index).startswith(b'{"index":%d,' % index))
+
+    def test_a_wrong_checksum(self):
+        content = bytearray(CHECKSUMMED)
+        content[-5] ^= 1
+        *_, damage = binlog.Log(content, verify=True).items()
+        found = {"index": 9, "error": 17, "stored": damage.checksum.hex(), "computed": damage.computed_checksum.hex()}
+        self.assertEqual(damage.line(9).decode(), json.dumps(found, separators=(",", ":")) + "\n")
+        # The other lines are those of a log that isn't verified.
+        self.assertEqual(lines(content, verify=True)[:-1], lines(content)[:-1])
+
+    def test_a_log_that_was_changed(self):
+        content = bytearray(SAMPLE)
+        event = next(iter(binlog.Log(content)))
+        content[event.position + 17] ^= 1
+        with self.assertRaises(binlog.LogError) as raised:
+            event.line()
+        self.assertEqual((raised.exception.name, raised.exception.position), ("InvalidItem", event.position))
+
+    def test_threads(self):
+        log = binlog.Log(SAMPLE)
+        events = list(log)
+        found = {}
+
+        def make(number):
+            found[number] = [event.line(index) for index, event in enumerate(events)]
+
+        threads = [threading.Thread(target=make, args=(number,)) for number in range(4)]
+        for thread in threads:
+            thread.start()
+        for thread in threads:
+            thread.join()
+        self.assertEqual([list(map(without_rows, lines)) for lines in found.values()], 4 * [wanted(SAMPLE)])
+
+
+class Bodies(unittest.TestCase):
+    def test_texts_and_bytes(self):
+        for event in binlog.Log(SAMPLE):
+            members = json.loads(event.line())["data"]
+            if members and "error" not in members:
+                self.assertEqual(event.body.keys(), members.keys())
+        (query, *_) = (event for event in binlog.Log(SAMPLE) if event.type == binlog.EventType.QUERY_EVENT)
+        self.assertIsInstance(query.body.query, (str, bytes))
+        self.assertEqual(query.body["query"], query.body.query)
+        with self.assertRaises(AttributeError):
+            query.body.nothing
+
+    def test_bytes(self):
+        content = MAGIC + make_sample.frame(17, b"\1\0\0\0\xff\0", 0)
+        (event,) = binlog.Log(content)
+        self.assertEqual(event.body, {"file_id": 1, "block_data": b"\xff\0"})
+
+    def test_a_text_that_is_not_utf_8(self):
+        content = MAGIC + make_sample.frame(29, b"\1\xff", 0)
+        (event,) = binlog.Log(content)
+        self.assertEqual(event.body.query, b"\xff")
+
+    def test_an_unknown_type(self):
+        (event,) = binlog.Log(MAGIC + make_sample.frame(200, b"data", 0))
+        self.assertIsNone(event.body)
+
+    def test_data_that_is_not_a_body(self):
+        (event,) = binlog.Log(MAGIC + make_sample.frame(16, b"1234567", 0))
+        with self.assertRaises(binlog.LogError) as raised:
+            event.body
+        self.assertEqual((raised.exception.name, raised.exception.position), ("EndOfBody", len(MAGIC)))
+
+
+if __name__ == "__main__":
+    unittest.main()

@@ -1,0 +1,60 @@
+/* Asks the library for the line of JSON of each item of each log on standard input, which logs.h reads, while each allocation in
+ * turn is refused. Built with --wrap=malloc and --wrap=realloc. Prints how many calls were refused. */
+#define _DEFAULT_SOURCE
+#include "binlog.h"
+#include "logs.h"
+#include <string.h>
+
+enum { ROOM = 1 << 16 };
+
+void *__real_malloc(size_t);
+void *__real_realloc(void *, size_t);
+
+/* The number of allocations before the refused one; negative if none is refused. */
+static long left = -1;
+
+static int is_refused(void) { return left >= 0 && left-- == 0; }
+
+void *__wrap_malloc(size_t size);
+void *__wrap_malloc(size_t size) { return is_refused() ? NULL : __real_malloc(size); }
+
+void *__wrap_realloc(void *memory, size_t size);
+void *__wrap_realloc(void *memory, size_t size) { return is_refused() ? NULL : __real_realloc(memory, size); }
+
+/* How often memory is refused before there is a line. */
+static size_t check_item(const guarded_log *log, const binlog_item *item, uint64_t index) {
+    static char text[ROOM], filler[ROOM];
+    memset(filler, 0xa5, ROOM);
+    for (long refused = 0;; refused++) {
+        memset(text, 0xa5, ROOM);
+        uint8_t error = 77;
+        left = refused;
+        size_t size = binlog_json(log->bytes, log->size, item, NULL, 0, index, text, ROOM, &error);
+        int was_refused = left < 0;
+        left = -1;
+        if (!was_refused) {
+            require(error == BINLOG_OK && size > 1 && text[0] == '{', "with memory there is a line");
+            return (size_t)refused;
+        }
+        require(error == BINLOG_MEMORY && size == 0, "without memory there is that error");
+        require(memcmp(text, filler, ROOM) == 0, "without memory nothing is written");
+    }
+}
+
+int main(void) {
+    size_t refused = 0;
+    for (guarded_log log; next_log(&log); free_log(&log)) {
+        binlog_cursor cursor = {0, 0, 0};
+        binlog_item item;
+        memset(&item, 0, sizeof item);
+        uint8_t error = binlog_open(log.bytes, log.size, &cursor);
+        for (uint64_t index = 0; error == 0; index++) {
+            if (binlog_next(log.bytes, log.size, &cursor, &item, 1, &error) == 0) {
+                break;
+            }
+            refused += check_item(&log, &item, index);
+        }
+    }
+    printf("%zu refused\n", refused);
+    return refused > 0 ? 0 : 9;
+}
