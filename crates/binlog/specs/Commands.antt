@@ -1,5 +1,5 @@
 -- What each command makes of its output: the bytes of its writer, and the status.
-use Rattle.std.specs.Prelude.{◌≡◌, ◌⊎◌, ℕ, Bool, List, [], Option, None, Result, Ok, Err}
+use Rattle.std.specs.Prelude.{◌≡◌, ◌⊎◌, ℕ, Bool, List, [], Option, None, Result, Ok, Err, OnOk}
 use Rattle.std.specs.declared.io.Error.{Error as IoError}
 use Rattle.binlog_wire.specs.declared.error.Error.{Error}
 use Rattle.binlog_visits.specs.Visits.{VisitRelation, RefusalRelation}
@@ -20,6 +20,7 @@ use Rattle.binlog_status.specs.declared.output.Output.{Output}
 use Rattle.binlog_status.specs.declared.status.Outcome.{Outcome}
 use Rattle.binlog_status.specs.declared.status.Status.{Status}
 use Rattle.binlog_status.specs.declared.status.Status.TheVariants.{Fine}
+use Rattle.binlog_summaries.specs.StatsText.{IsStatsText, Writes}
 use Rattle.binlog.specs.Reading.{ShowsTaken}
 use Rattle.binlog.specs.Copying.{CopiesFiles}
 use Rattle.binlog.specs.Gtids.{WritesWanted}
@@ -99,7 +100,7 @@ module _ {B N : Type 0} (contents : B → Option (List ℕ)) (is_verified is_fol
 
   -- ---- `stats`
 
-  -- What a filter takes of the files is counted, and the text of the counts is written.
+  -- What a filter takes of the files is counted, and the text of the counts is written, all of it if the output doesn't fail.
   pub record WritesCounts (old : Option (List ℕ)) (status : Status) (new : Option (List ℕ)) : Type 0 where
     pub filter : Filter
     pub read : Outcome
@@ -110,6 +111,7 @@ module _ {B N : Type 0} (contents : B → Option (List ℕ)) (is_verified is_fol
     pub begins : Begins contents old output
     pub answer : Result (Unit {0}) IoError
     pub behind : Output B
+    pub writes : OnOk answer (Writes (λ text. IsStatsText counts text) (bytes_of contents output) (bytes_of contents behind))
     pub ends : Ends contents behind (worse_outcome read (outcome_of_text answer)) status new
 
   -- ---- `verify`

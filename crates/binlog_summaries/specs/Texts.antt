@@ -1,5 +1,5 @@
 -- The line of `binlog verify` for a file.
-use Rattle.std.specs.Prelude.{ℕ, List, [], ◌∷◌, ◌++◌, codes, decimal}
+use Rattle.std.specs.Prelude.{ℕ, List, ◌++◌, codes, decimal}
 use Rattle.binlog_commands.specs.declared.tally.Tally.{Tally}
 
 -- A number and the words behind it.

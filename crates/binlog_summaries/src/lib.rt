@@ -2,13 +2,18 @@
 #![tactic(auto)]
 
 ghost use Rattle.std.specs.Io.KnownBytes.{Appends};
-ghost use Rattle.std.specs.Prelude.{OnOk};
+ghost use Rattle.std.specs.Prelude.{◌≡◌, OnOk, Some, codes, ◌++◌};
+ghost use Rattle.jiff.specs.Words.{iso_datetime_text};
+ghost use Rattle.binlog_commands.specs.Statistics.{total};
+ghost use Rattle.binlog_summaries.specs.StatsText.{IsStatsText, IsTime, IsTimeLine, Writes, head_lines, largest_line, row_of, rows_below, type_text};
 ghost use Rattle.binlog_summaries.specs.Texts.{tally_line};
 
-use binlog_commands::{Stats, Tally};
+use binlog_commands::{Largest, Stats, Tally};
 use binlog_file::EventType;
 use binlog_json_lines::name_of;
 use jiff::Timestamp;
+use jiff::civil::DateTime;
+use jiff::tz::Offset;
 use std::io;
 use std::io::Write;
 
@@ -27,43 +32,106 @@ pub fn write_tally<W: Write>(name: &str, tally: &Tally, output: &mut W) -> io::R
 }
 
 /// Writes the lines of `binlog stats`.
-pub fn write_stats<W: Write>(stats: &Stats, output: &mut W) -> io::Result<()> {
-    let events = stats.all_events();
+pub fn write_stats<W: Write>(stats: &Stats, output: &mut W) -> io::Result<()>
+    ensures { OnOk result (Writes (λ text. IsStatsText stats.now text) (W.contents output.old) (W.contents output.new)) }
+{
     let bytes = stats.all_bytes();
-    writeln!(output, "events {events}")?;
-    writeln!(output, "bytes {bytes}")?;
-    writeln!(output, "damaged {}", stats.errors)?;
-    writeln!(output, "transactions {}", stats.transactions)?;
+    write_head(stats, output)?;
     write_time("first", stats.first_time, output)?;
     write_time("last", stats.last_time, output)?;
-    if let Some(largest) = stats.largest {
-        let index = largest.index;
-        let size = largest.size;
-        write!(output, "largest event {index} of {size} bytes, ")?;
-        write_type(largest.event_type, output)?;
-        writeln!(output, "")?;
+    write_largest(stats.largest, output)?;
+    write_rows(stats, bytes, output)
+}
+
+// Writes the counts of all types.
+fn write_head<W: Write>(stats: &Stats, output: &mut W) -> io::Result<()>
+    ensures { OnOk result (Appends (W.contents output.old) (W.contents output.new) (head_lines stats.now)) }
+{
+    let events = stats.all_events();
+    let bytes = stats.all_bytes();
+    let errors = stats.errors;
+    let transactions = stats.transactions;
+    writeln!(
+        output,
+        "events {events}\nbytes {bytes}\ndamaged {errors}\ntransactions {transactions}"
+    )
+}
+
+// Writes the line of a time, if there is one.
+fn write_time<W: Write>(word: &str, time: Option<u32>, output: &mut W) -> io::Result<()>
+    ensures { OnOk result (Writes (λ text. IsTimeLine word.now time text) (W.contents output.old) (W.contents output.new)) }
+{
+    match time {
+        Some(seconds) => write_seconds(word, seconds, output),
+        None => Ok(()),
     }
-    for number in 0..=u8::MAX {
-        write_row(stats, number, bytes, output)?;
+}
+
+// Writes the line of a time, in seconds since 1970.
+fn write_seconds<W: Write>(word: &str, seconds: u32, output: &mut W) -> io::Result<()>
+    ensures { OnOk result (Writes (λ text. IsTimeLine word.now (Some seconds) text) (W.contents output.old) (W.contents output.new)) }
+{
+    let time = datetime_of(seconds);
+    writeln!(output, "{word} {time}Z")
+}
+
+// The time in UTC.
+fn datetime_of(seconds: u32) -> DateTime
+    ensures { IsTime seconds (iso_datetime_text result ++ codes "Z") }
+{
+    match Timestamp::from_second(i64::from(seconds)) {
+        Ok(time) => Offset::UTC.to_datetime(time),
+        Err(_) => unreachable!(),
+    }
+}
+
+// Writes the line of the largest event, if there is one.
+fn write_largest<W: Write>(largest: Option<Largest>, output: &mut W) -> io::Result<()>
+    ensures { OnOk result (Appends (W.contents output.old) (W.contents output.new) (largest_line largest)) }
+{
+    match largest {
+        Some(largest) => write_largest_event(&largest, output),
+        None => Ok(()),
+    }
+}
+
+fn write_largest_event<W: Write>(largest: &Largest, output: &mut W) -> io::Result<()>
+    ensures { OnOk result (Appends (W.contents output.old) (W.contents output.new) (largest_line (Some largest.now))) }
+{
+    let index = largest.index;
+    let size = largest.size;
+    write!(output, "largest event {index} of {size} bytes, ")?;
+    write_type(largest.event_type, output)?;
+    writeln!(output, "")
+}
+
+// Writes the rows of all types.
+#[tactic(auto, using(crate::proofs::Rows::row_written, crate::proofs::Rows::no_row_written))]
+fn write_rows<W: Write>(stats: &Stats, all: u64, output: &mut W) -> io::Result<()>
+    ensures { OnOk result (Appends (W.contents output.old) (W.contents output.new) (rows_below 256 stats.now all)) }
+{
+    for number in 0..256 {
+        write_row(
+            number as u8,
+            stats.events[number],
+            stats.bytes[number],
+            all,
+            output,
+        )?;
     }
     Ok(())
 }
 
-// Writes the time of an event.
-fn write_time<W: Write>(word: &str, time: Option<u32>, output: &mut W) -> io::Result<()> {
-    let Some(seconds) = time else {
-        return Ok(());
-    };
-    match Timestamp::from_second(i64::from(seconds)) {
-        Ok(time) => writeln!(output, "{word} {time}"),
-        Err(_) => Ok(()),
-    }
-}
-
 // Writes the row of a type that has events: its name, its events, their bytes, and their share in hundredths.
-fn write_row<W: Write>(stats: &Stats, number: u8, all: u64, output: &mut W) -> io::Result<()> {
-    let events = stats.events[usize::from(number)];
-    let bytes = stats.bytes[usize::from(number)];
+fn write_row<W: Write>(
+    number: u8,
+    events: u64,
+    bytes: u64,
+    all: u64,
+    output: &mut W,
+) -> io::Result<()>
+    ensures { OnOk result (Appends (W.contents output.old) (W.contents output.new) (row_of number events bytes all)) }
+{
     if events == 0 {
         return Ok(());
     }
@@ -74,7 +142,10 @@ fn write_row<W: Write>(stats: &Stats, number: u8, all: u64, output: &mut W) -> i
 }
 
 // Writes the name of a type, or its number.
-fn write_type<W: Write>(number: u8, output: &mut W) -> io::Result<()> {
+#[tactic(auto, unfolding(crate::specs::StatsText::type_text))]
+fn write_type<W: Write>(number: u8, output: &mut W) -> io::Result<()>
+    ensures { OnOk result (Appends (W.contents output.old) (W.contents output.new) (type_text number)) }
+{
     match EventType::try_from(number) {
         Ok(event_type) => write!(output, "{}", name_of(event_type)),
         Err(_) => write!(output, "{number}"),

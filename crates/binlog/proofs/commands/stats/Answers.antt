@@ -10,5 +10,6 @@ returns-clause-ok g c = record {
   begins = record { has = c.in_ok-output.ensures.bytes; fine = c.in_ok-output.ensures.fine };
   answer = c.write_stats.result;
   behind = c.write_stats.new.output;
+  writes = c.write_stats.ensures;
   ends = rw (c.worse.ensures, c.outcome_of_text-written.ensures) at c.finish.ensures;
 }

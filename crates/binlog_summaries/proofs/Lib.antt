@@ -1,0 +1,4 @@
+mod Rows
+mod Times
+mod Written
+mod Whole
