@@ -5,6 +5,7 @@ pub mod Decimals
 pub mod FitLaws
 pub mod FractionLaws
 pub mod ImageViews
+pub mod IntegerLaws
 pub mod NewCells
 pub mod NewContents
 pub mod NewImages

@@ -1,10 +1,12 @@
 //! Laws of the definitions. Each is a function that does nothing and whose contract states the law.
-ghost use Rattle.std.specs.Prelude.{◌≡◌, ℕ, Bool, true, List, Ok};
+ghost use Rattle.std.specs.Prelude.{◌≡◌, ◌≤◌, ℕ, ℤ, Bool, true, List, Ok};
+ghost use Rattle.byteorder.specs.Endian.{twos_complement};
 ghost use Rattle.binlog_columns.specs.Metadata.{Typed};
 ghost use Rattle.binlog_columns.specs.Layouts.{layout_of};
 ghost use Rattle.binlog_values.specs.Contents.{Content, content_in};
 ghost use Rattle.binlog_images.specs.Cells.{RowShape, whole};
 ghost use Rattle.binlog_images.specs.Splits.{AreRows};
+ghost use Rattle.binlog_row_writing.specs.Numbers.{integer_number};
 ghost use Rattle.binlog_row_writing.specs.NewContents.{content_for};
 ghost use Rattle.binlog_row_writing.specs.NewRows.{NewRow};
 ghost use Rattle.binlog_row_writing.specs.PartLaws.{ReadsDate, ReadsTimestamp2, ReadsDateTime2, ReadsTime2};
@@ -13,7 +15,7 @@ ghost use Rattle.binlog_row_writing.specs.RowLaws.{AreAccepted, rows_bytes, rows
 ghost use Rattle.binlog_row_writing.specs.declared.new_value.NewDate.{NewDate};
 ghost use Rattle.binlog_row_writing.specs.declared.new_value.NewTime.{NewTime};
 ghost use Rattle.binlog_row_writing.specs.declared.new_value.NewValue.{NewValue};
-ghost use Rattle.binlog_row_writing.specs.declared.new_value.NewValue.TheVariants.{Timestamp, Time, DateTime};
+ghost use Rattle.binlog_row_writing.specs.declared.new_value.NewValue.TheVariants.{Unsigned, Signed, Timestamp, Time, DateTime};
 
 /// What is stored for a value fits its column.
 pub fn contents_fit()
@@ -26,8 +28,11 @@ pub fn written_rows_read_back()
     ensures { (shape : RowShape) (rows : List NewRow) (index : ℕ) → AreAccepted shape rows → AreRows (whole shape) index (rows_bytes shape rows) (rows_cells shape rows) }
 {}
 
-/// The parts of a date or a time are those that are read of its number.
+/// The number of an integer, of a signed one in two's complement of the column's size, and the parts of a date or a time are
+/// those that are read of the stored number.
 pub fn parts_read_back()
+    ensures unsigned { (size n number : ℕ) → integer_number size (Unsigned number) ≡ Ok n → n ≡ number }
+    ensures signed { (size n : ℕ) (number : ℤ) → 1 ≤ size → integer_number size (Signed number) ≡ Ok n → twos_complement size n ≡ number }
     ensures date { (date : NewDate) → is_date date ≡ true → ReadsDate date (date_bits date) }
     ensures timestamp2 { (digits seconds us n : ℕ) → timestamp2_number digits (Timestamp seconds us) ≡ Ok n → ReadsTimestamp2 digits seconds us n }
     ensures datetime2 { (digits n : ℕ) (date : NewDate) (time : NewTime) → datetime2_number digits (DateTime date time) ≡ Ok n → ReadsDateTime2 digits date time n }

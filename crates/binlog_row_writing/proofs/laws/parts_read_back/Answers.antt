@@ -1,8 +1,11 @@
+use Rattle.binlog_row_writing.specs.IntegerLaws.{unsigned_back, signed_back}
 use Rattle.binlog_row_writing.specs.PartLaws.{date_back, timestamp2_back, datetime2_back, time2_back}
 use Rattle.binlog_row_writing.proofs.laws.parts_read_back.Goals as goal
 
 pub returns : goal.returns
 returns c = record {
+  unsigned = λ size n number h. unsigned_back size n number h;
+  signed = λ size n number some h. signed_back size n number some h;
   date = λ date h. date_back date h;
   timestamp2 = λ digits seconds us n h. timestamp2_back digits seconds us n h;
   datetime2 = λ digits n date time h. datetime2_back digits n date time h;
