@@ -9,8 +9,8 @@ ghost use Rattle.binlog_images.specs.Splits.{AreRows};
 ghost use Rattle.binlog_row_writing.specs.Numbers.{integer_number};
 ghost use Rattle.binlog_row_writing.specs.NewContents.{content_for};
 ghost use Rattle.binlog_row_writing.specs.NewRows.{NewRow};
-ghost use Rattle.binlog_row_writing.specs.PartLaws.{ReadsDate, ReadsTimestamp2, ReadsDateTime2, ReadsTime2};
-ghost use Rattle.binlog_row_writing.specs.Times.{is_date, date_bits, timestamp2_number, datetime2_number, time2_number};
+ghost use Rattle.binlog_row_writing.specs.PartLaws.{ReadsDate, ReadsTime, ReadsDateTime, ReadsTimestamp2, ReadsDateTime2, ReadsTime2};
+ghost use Rattle.binlog_row_writing.specs.Times.{is_date, date_bits, time_number, datetime_number, timestamp2_number, datetime2_number, time2_number};
 ghost use Rattle.binlog_row_writing.specs.RowLaws.{AreAccepted, rows_bytes, rows_cells};
 ghost use Rattle.binlog_row_writing.specs.declared.new_value.NewDate.{NewDate};
 ghost use Rattle.binlog_row_writing.specs.declared.new_value.NewTime.{NewTime};
@@ -34,6 +34,8 @@ pub fn parts_read_back()
     ensures unsigned { (size n number : ℕ) → integer_number size (Unsigned number) ≡ Ok n → n ≡ number }
     ensures signed { (size n : ℕ) (number : ℤ) → 1 ≤ size → integer_number size (Signed number) ≡ Ok n → twos_complement size n ≡ number }
     ensures date { (date : NewDate) → is_date date ≡ true → ReadsDate date (date_bits date) }
+    ensures time { (n : ℕ) (is_negative : Bool) (time : NewTime) → time_number (Time is_negative time) ≡ Ok n → ReadsTime is_negative time n }
+    ensures datetime { (n : ℕ) (date : NewDate) (time : NewTime) → datetime_number (DateTime date time) ≡ Ok n → ReadsDateTime date time n }
     ensures timestamp2 { (digits seconds us n : ℕ) → timestamp2_number digits (Timestamp seconds us) ≡ Ok n → ReadsTimestamp2 digits seconds us n }
     ensures datetime2 { (digits n : ℕ) (date : NewDate) (time : NewTime) → datetime2_number digits (DateTime date time) ≡ Ok n → ReadsDateTime2 digits date time n }
     ensures time2 { (digits n : ℕ) (is_negative : Bool) (time : NewTime) → time2_number digits (Time is_negative time) ≡ Ok n → ReadsTime2 digits is_negative time n }
