@@ -131,13 +131,13 @@ bytes_append [] b fa fb i = fb i
 bytes_append (x ∷ a) b fa fb zero = fa 0
 bytes_append (x ∷ a) b fa fb (suc i) = bytes_append a b (λ j. fa (suc j)) fb i
 
-are_bytes : (precision : ℕ) (is_negative : Bool) (digits counts : List ℕ) (at place : ℕ) → IsBytes (groups_bytes precision is_negative digits counts at place)
+pub are_bytes : (precision : ℕ) (is_negative : Bool) (digits counts : List ℕ) (at place : ℕ) → IsBytes (groups_bytes precision is_negative digits counts at place)
 are_bytes precision is_negative digits [] at place = λ i. omega arith
 are_bytes precision is_negative digits (count ∷ counts) at place =
     bytes_append (group_bytes precision is_negative digits count at (place == 0)) (groups_bytes precision is_negative digits counts (at + count) (place + digits_len count))
     (group_are_bytes precision count at is_negative (place == 0) digits) (are_bytes precision is_negative digits counts (at + count) (place + digits_len count))
 
-sum_len : (here rest : List ℕ) (a b : ℕ) → length here ≡ a → length rest ≡ b → length (here ++ rest) ≡ a + b
+pub sum_len : (here rest : List ℕ) (a b : ℕ) → length here ≡ a → length rest ≡ b → length (here ++ rest) ≡ a + b
 sum_len here rest a b first second = omega (arith, length-append here rest)
 
 pub bytes_count : (precision : ℕ) (is_negative : Bool) (digits counts : List ℕ) (at place : ℕ) → length (groups_bytes precision is_negative digits counts at place) ≡ groups_len counts
@@ -228,7 +228,7 @@ stored_back (suc place) is_negative all n less =
     subst (λ (t : Bool). adjusted (suc place) (not is_negative) all (stored_number t is_negative all n) ≡ n) (sym (not_first place)) (later_back place is_negative all n (omega arith))
 
 -- At most nine digits each.
-abbrev AreNines : List ℕ → Type 0
+abbrev pub AreNines : List ℕ → Type 0
 AreNines [] = Unit {0}
 AreNines (count ∷ counts) = (count ≤ 9) × AreNines counts
 
@@ -247,7 +247,7 @@ one_or_more n k h = omega arith
 
 some_back : (precision : ℕ) (is_negative : Bool) (digits : List ℕ) (count at place : ℕ) (s before rest : List ℕ) → AreDigits digits → 1 ≤ count → count ≤ 9 → IsBytes s
     → nat_le 128 (get_or s 0 0) ≡ not is_negative → s ≡ before ++ (group_bytes precision is_negative digits count at (place == 0) ++ rest) → length before ≡ place
-    → nat_lt (big_number (digits_len count) (drop place (magnitude s))) (10 ^ count) ≡ true
+    → big_number (digits_len count) (drop place (magnitude s)) ≡ group_number precision digits count at
 unfolding group_bytes
 some_back precision is_negative digits count at place s before rest all some most bytes sign split size =
     let p = len_some count some most in
@@ -260,17 +260,24 @@ some_back precision is_negative digits count at place s before rest all some mos
     let behind : drop place s ≡ here ++ rest = ap (λ (t : List ℕ). drop place t) split ∙ drop_at before (here ++ rest) place size in
     let read : big_number len (drop place s) ≡ stored = ap (λ (t : List ℕ). big_number len t) behind ∙ big_number-reads_back len stored rest fits in
     let is = group_is s place len bytes (one_or_more len p.0 p.1) (wide_by s before here rest place len split size (length-bytes_high_first len stored)) in
-    let back : big_number len (drop place (magnitude s)) ≡ n =
     is ∙ ap (λ (t : Bool). adjusted place t (256 ^ len) (big_number len (drop place s))) sign ∙ ap (λ (m : ℕ). adjusted place (not is_negative) (256 ^ len) m) read
-    ∙ stored_back place is_negative (256 ^ len) n half in
-    lt-ltb _ _ (subst (λ (m : ℕ). m < 10 ^ count) (sym back) (group_small precision count at digits all))
+    ∙ stored_back place is_negative (256 ^ len) n half
+
+-- The number of a group is read back.
+pub number_back : (precision : ℕ) (is_negative : Bool) (digits : List ℕ) (count at place : ℕ) (s before rest : List ℕ) → AreDigits digits → count ≤ 9 → IsBytes s
+    → nat_le 128 (get_or s 0 0) ≡ not is_negative → s ≡ before ++ (group_bytes precision is_negative digits count at (place == 0) ++ rest) → length before ≡ place
+    → big_number (digits_len count) (drop place (magnitude s)) ≡ group_number precision digits count at
+unfolding group_number
+number_back precision is_negative digits zero at place s before rest all most bytes sign split size = refl
+number_back precision is_negative digits (suc c) at place s before rest all most bytes sign split size =
+    some_back precision is_negative digits (suc c) at place s before rest all (omega arith) most bytes sign split size
 
 group_back : (precision : ℕ) (is_negative : Bool) (digits : List ℕ) (count at place : ℕ) (s before rest : List ℕ) → AreDigits digits → count ≤ 9 → IsBytes s
     → nat_le 128 (get_or s 0 0) ≡ not is_negative → s ≡ before ++ (group_bytes precision is_negative digits count at (place == 0) ++ rest) → length before ≡ place
     → nat_lt (big_number (digits_len count) (drop place (magnitude s))) (10 ^ count) ≡ true
-group_back precision is_negative digits zero at place s before rest all most bytes sign split size = refl
-group_back precision is_negative digits (suc c) at place s before rest all most bytes sign split size =
-    some_back precision is_negative digits (suc c) at place s before rest all (omega arith) most bytes sign split size
+group_back precision is_negative digits count at place s before rest all most bytes sign split size =
+    let back = number_back precision is_negative digits count at place s before rest all most bytes sign split size in
+    lt-ltb _ _ (subst (λ (m : ℕ). m < 10 ^ count) (sym back) (group_small precision count at digits all))
 
 groups_back : (precision : ℕ) (is_negative : Bool) (digits counts : List ℕ) (at place : ℕ) (s before : List ℕ) → AreDigits digits → AreNines counts → IsBytes s
     → nat_le 128 (get_or s 0 0) ≡ not is_negative → s ≡ before ++ groups_bytes precision is_negative digits counts at place → length before ≡ place
@@ -291,17 +298,26 @@ some_group precision scale some most = omega arith
 below_nine : (n : ℕ) → n % 9 ≤ 9
 below_nine n = omega arith
 
+-- The groups of a decimal number have at most nine digits each.
+pub are_nines : (precision scale : ℕ) → AreNines (groups precision scale)
+are_nines precision scale = (below_nine (precision - scale), nines_all ((precision - scale) / 9 + scale / 9) (scale % 9) (below_nine scale))
+
+-- The first byte of a decimal number says its sign.
+pub sign_back : (precision scale : ℕ) (is_negative : Bool) (digits : List ℕ) → 1 ≤ precision → scale ≤ precision → AreDigits digits
+    → nat_le 128 (get_or (decimal_bytes precision scale is_negative digits) 0 0) ≡ not is_negative
+sign_back precision scale is_negative digits some most all =
+    let lead : ℕ = (precision - scale) % 9 in
+    let nines : ℕ = (precision - scale) / 9 + scale / 9 in
+    let tail : ℕ = scale % 9 in
+    sign_groups precision nines lead tail is_negative digits all (some_group precision scale some most) (below_nine (precision - scale)) (below_nine scale)
+
 -- The bytes of a decimal number are one of its precision and scale.
 pub decimal_fits : (precision scale : ℕ) (is_negative : Bool) (digits : List ℕ) → 1 ≤ precision → scale ≤ precision → AreDigits digits
     → is_decimal_bytes precision scale (decimal_bytes precision scale is_negative digits) ≡ true
 decimal_fits precision scale is_negative digits some most all =
-    let lead : ℕ = (precision - scale) % 9 in
-    let nines : ℕ = (precision - scale) / 9 + scale / 9 in
-    let tail : ℕ = scale % 9 in
     let s : List ℕ = decimal_bytes precision scale is_negative digits in
-    let sign = sign_groups precision nines lead tail is_negative digits all (some_group precision scale some most) (below_nine (precision - scale)) (below_nine scale) in
-    groups_back precision is_negative digits (groups precision scale) 0 0 s [] all (below_nine (precision - scale), nines_all nines tail (below_nine scale))
-    (are_bytes precision is_negative digits (groups precision scale) 0 0) sign refl refl
+    groups_back precision is_negative digits (groups precision scale) 0 0 s [] all (are_nines precision scale) (are_bytes precision is_negative digits (groups precision scale) 0 0)
+    (sign_back precision scale is_negative digits some most all) refl refl
 
 pub decimal_size : (precision scale : ℕ) (is_negative : Bool) (digits : List ℕ) → length (decimal_bytes precision scale is_negative digits) ≡ decimal_len precision scale
 decimal_size precision scale is_negative digits = bytes_count precision is_negative digits (groups precision scale) 0 0

@@ -1,6 +1,8 @@
 pub mod Builders
+pub mod DecimalDigits
 pub mod DecimalFits
 pub mod DecimalGroups
+pub mod DecimalLaws
 pub mod Decimals
 pub mod FitLaws
 pub mod FractionLaws

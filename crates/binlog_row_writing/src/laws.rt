@@ -1,5 +1,5 @@
 //! Laws of the definitions. Each is a function that does nothing and whose contract states the law.
-ghost use Rattle.std.specs.Prelude.{◌≡◌, ◌≤◌, ℕ, ℤ, Bool, true, List, Ok};
+ghost use Rattle.std.specs.Prelude.{◌≡◌, ◌≤◌, ◌-◌, ◌++◌, ℕ, ℤ, Bool, true, List, length, replicate, Ok};
 ghost use Rattle.byteorder.specs.Endian.{twos_complement};
 ghost use Rattle.binlog_columns.specs.Metadata.{Typed};
 ghost use Rattle.binlog_columns.specs.Layouts.{layout_of};
@@ -7,6 +7,8 @@ ghost use Rattle.binlog_values.specs.Contents.{Content, content_in};
 ghost use Rattle.binlog_images.specs.Cells.{RowShape, whole};
 ghost use Rattle.binlog_images.specs.Splits.{AreRows};
 ghost use Rattle.binlog_row_writing.specs.Numbers.{integer_number};
+ghost use Rattle.binlog_row_writing.specs.Decimals.{IsDecimal, decimal_bytes};
+ghost use Rattle.binlog_row_writing.specs.DecimalDigits.{is_negative_decimal, decimal_digits};
 ghost use Rattle.binlog_row_writing.specs.NewContents.{content_for};
 ghost use Rattle.binlog_row_writing.specs.NewRows.{NewRow};
 ghost use Rattle.binlog_row_writing.specs.PartLaws.{ReadsDate, ReadsTime, ReadsDateTime, ReadsTimestamp2, ReadsDateTime2, ReadsTime2};
@@ -39,4 +41,10 @@ pub fn parts_read_back()
     ensures timestamp2 { (digits seconds us n : ℕ) → timestamp2_number digits (Timestamp seconds us) ≡ Ok n → ReadsTimestamp2 digits seconds us n }
     ensures datetime2 { (digits n : ℕ) (date : NewDate) (time : NewTime) → datetime2_number digits (DateTime date time) ≡ Ok n → ReadsDateTime2 digits date time n }
     ensures time2 { (digits n : ℕ) (is_negative : Bool) (time : NewTime) → time2_number digits (Time is_negative time) ≡ Ok n → ReadsTime2 digits is_negative time n }
+{}
+
+/// The sign and the digits of a decimal number are those that are read of its bytes. Digits that are left out in front are 0.
+pub fn decimals_read_back()
+    ensures sign { (precision scale : ℕ) (is_negative : Bool) (digits : List ℕ) → IsDecimal precision scale digits → is_negative_decimal (decimal_bytes precision scale is_negative digits) ≡ is_negative }
+    ensures digits { (precision scale : ℕ) (is_negative : Bool) (digits : List ℕ) → IsDecimal precision scale digits → decimal_digits precision scale (decimal_bytes precision scale is_negative digits) ≡ replicate (precision - length digits) 0 ++ digits }
 {}
