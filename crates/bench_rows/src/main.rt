@@ -3,6 +3,7 @@
 #![tactic(auto)]
 
 mod sums;
+mod table;
 mod values;
 
 use binlog_file::{Counted, Error, Retrying};

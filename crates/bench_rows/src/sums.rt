@@ -1,10 +1,11 @@
 //! Sums over the rows of a log.
+use crate::table::Table;
 use crate::values::ValueSums;
 use binlog_file::{
     BinlogFileOf, BinlogVersion, Error, EventRef, EventStreamReader, EventType, ReadCounted,
     RowsEventOf,
 };
-use binlog_images::{HasWholeRows, Image, Row, Rows, RowsEventExt};
+use binlog_images::{HasWholeRows, Rows, RowsEventError, RowsEventExt};
 use binlog_rows::{DeleteRows, DeleteRowsV1, UpdateRows, UpdateRowsV1, WriteRows, WriteRowsV1};
 use std::alloc::Global;
 use std::fmt;
@@ -32,67 +33,61 @@ impl Sums {
         &mut self,
         alloc: Global,
         event: EventRef<'_>,
+        table: &mut Table,
         reader: &EventStreamReader,
     ) -> Result<(), Error> {
         match event.header().event_type() {
+            Ok(EventType::TABLE_MAP_EVENT) => table.keep(&event.read_event(alloc)?)?,
             Ok(EventType::WRITE_ROWS_EVENT) => {
-                self.count_rows::<WriteRows>(&event.read_event(alloc)?, reader);
+                self.count_rows::<WriteRows>(&event.read_event(alloc)?, table, reader);
             }
             Ok(EventType::UPDATE_ROWS_EVENT) => {
-                self.count_rows::<UpdateRows>(&event.read_event(alloc)?, reader);
+                self.count_rows::<UpdateRows>(&event.read_event(alloc)?, table, reader);
             }
             Ok(EventType::DELETE_ROWS_EVENT) => {
-                self.count_rows::<DeleteRows>(&event.read_event(alloc)?, reader);
+                self.count_rows::<DeleteRows>(&event.read_event(alloc)?, table, reader);
             }
             Ok(EventType::WRITE_ROWS_EVENT_V1) => {
-                self.count_rows::<WriteRowsV1>(&event.read_event(alloc)?, reader);
+                self.count_rows::<WriteRowsV1>(&event.read_event(alloc)?, table, reader);
             }
             Ok(EventType::UPDATE_ROWS_EVENT_V1) => {
-                self.count_rows::<UpdateRowsV1>(&event.read_event(alloc)?, reader);
+                self.count_rows::<UpdateRowsV1>(&event.read_event(alloc)?, table, reader);
             }
             Ok(EventType::DELETE_ROWS_EVENT_V1) => {
-                self.count_rows::<DeleteRowsV1>(&event.read_event(alloc)?, reader);
+                self.count_rows::<DeleteRowsV1>(&event.read_event(alloc)?, table, reader);
             }
             _ => {}
         }
         Ok(())
     }
 
-    // Counts the rows of an event.
+    // Counts the rows of an event. The columns of its table are read again only if the last table map is of another one.
     fn count_rows<K: HasWholeRows>(
         &mut self,
         event: &RowsEventOf<'_, K>,
+        table: &Table,
         reader: &EventStreamReader,
     ) {
-        let Some(table_map) = reader.get_tme(event.table_id()) else {
+        if let Some(columns) = table.columns_of(event.table_id()) {
+            return self.count_each(event.rows_of_table(columns));
+        }
+        match reader.get_tme(event.table_id()) {
+            Some(table_map) => self.count_each(event.rows(table_map)),
+            None => self.refused = self.refused.wrapping_add(1),
+        }
+    }
+
+    fn count_each(&mut self, rows: Result<Rows<'_>, RowsEventError>) {
+        let Ok(mut rest) = rows else {
             self.refused = self.refused.wrapping_add(1);
             return;
         };
-        match event.rows(table_map) {
-            Ok(rows) => self.count_each(rows),
-            Err(_) => self.refused = self.refused.wrapping_add(1),
-        }
-    }
-
-    fn count_each(&mut self, rows: Rows<'_>) {
-        for item in rows {
-            match item {
-                Ok(row) => self.count_row(&row),
-                Err(_) => self.refused = self.refused.wrapping_add(1),
-            }
-        }
-    }
-
-    fn count_row(&mut self, row: &Row<'_>) {
-        self.rows = self.rows.wrapping_add(1);
-        self.count_image(row.before());
-        self.count_image(row.after());
-    }
-
-    fn count_image(&mut self, image: Option<Image<'_>>) {
-        if let Some(image) = image {
-            for cell in image {
-                self.values.count(&cell);
+        // Bounded, so that the loop is proved to end.
+        for _ in 0..u64::MAX {
+            match rest.visit_next(&mut self.values) {
+                None => return,
+                Some(Ok(())) => self.rows = self.rows.wrapping_add(1),
+                Some(Err(_)) => self.refused = self.refused.wrapping_add(1),
             }
         }
     }
@@ -106,6 +101,7 @@ impl Sums {
 pub(crate) fn sums_of<R: ReadCounted + Drop>(alloc: Global, input: R) -> Result<Sums, Error> {
     let mut file = BinlogFileOf::new_counted(alloc, BinlogVersion::Version4, input)?;
     let mut sums = Sums::default();
+    let mut table = Table::new(alloc);
     // Bounded, so that the loop is proved to end.
     'items: for _ in 0..u64::MAX {
         let Some(item) = file.advance() else {
@@ -113,7 +109,7 @@ pub(crate) fn sums_of<R: ReadCounted + Drop>(alloc: Global, input: R) -> Result<
         };
         item?;
         if let Some(event) = file.event() {
-            sums.count_event(alloc, event, file.reader())?;
+            sums.count_event(alloc, event, &mut table, file.reader())?;
         }
     }
     Ok(sums)

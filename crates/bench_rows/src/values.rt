@@ -1,5 +1,5 @@
 //! Sums over values.
-use binlog_images::ColumnValue;
+use binlog_images::{ColumnValue, ColumnVisitor, ImageKind};
 use binlog_values::{Decimal, Value};
 use std::fmt;
 
@@ -41,17 +41,25 @@ impl fmt::Display for ValueSums {
     }
 }
 
-impl ValueSums {
-    /// Counts a column of an image; nothing for one that is absent.
-    pub(crate) fn count(&mut self, cell: &ColumnValue<'_>) {
-        match cell {
+/// Counts a column of an image; nothing for one that is absent.
+impl ColumnVisitor for ValueSums {
+    ghost use Rattle.std.specs.Prelude.{⊤};
+
+    ghost visits = { λ old image index cell new. ⊤ };
+
+    #[inline(always)]
+    fn visit_column(&mut self, _image: ImageKind, _index: u64, value: ColumnValue<'_>) {
+        match value {
             ColumnValue::Absent => {}
             ColumnValue::Null => self.nulls = self.nulls.wrapping_add(1),
-            ColumnValue::Value(value) => self.count_value(value),
+            ColumnValue::Value(value) => self.count_value(&value),
             ColumnValue::Diffs(bytes) => self.add_bytes(bytes),
         }
     }
+}
 
+impl ValueSums {
+    #[inline(always)]
     fn count_value(&mut self, value: &Value<'_>) {
         match value {
             Value::Null => self.nulls = self.nulls.wrapping_add(1),

@@ -10,3 +10,4 @@ pub mod RealTypes
 pub mod RefusalLaws
 pub mod Refusals
 pub mod TableColumns
+pub mod TableLaws

@@ -45,6 +45,7 @@ impl Column {
     /// - [`Error::WrongEventType`] with `number` if it isn't the number of a column type.
     /// - [`Error::EndOfBody`] if the bytes end within the metadata.
     /// - [`Error::InvalidData`] if the metadata isn't allowed for the type.
+    #[inline(always)]
     pub fn read(number: u8, buf: &mut ParseBuf<'_>) -> Result<Self, Error>
         ensures { Gives ⊥ buf.new (answer_typed result) ((column number).reads buf.old) }
     {
@@ -62,6 +63,7 @@ impl Column {
     }
 
     /// The type that the table map states.
+    #[inline(always)]
     pub fn column_type(&self) -> ColumnType
         ensures { result ≡ (typed_of self.now).0 }
     {
@@ -69,6 +71,7 @@ impl Column {
     }
 
     /// The metadata as a little-endian number; 0 if the type has none.
+    #[inline(always)]
     pub fn metadata(&self) -> u16
         ensures { result ≡ (typed_of self.now).1 }
     {
@@ -77,6 +80,7 @@ impl Column {
 
     /// The real type. For the types STRING, ENUM and SET the metadata states it: STRING, ENUM or SET. Any other type is
     /// its own real type.
+    #[inline(always)]
     pub fn real_type(&self) -> ColumnType
         ensures { result ≡ real_type (typed_of self.now) }
     {
@@ -89,6 +93,7 @@ impl Column {
     }
 
     /// Whether the metadata of a STRING, an ENUM or a SET states that the real type is ENUM.
+    #[inline(always)]
     pub fn states_enum(&self) -> bool
         ensures { result ≡ (real_number (typed_of self.now).1 == 247) }
     {
@@ -97,6 +102,7 @@ impl Column {
 
     /// How the values of the column are encoded.
     #[tactic(auto, using(crate::specs::LayoutLaws::sound_layout))]
+    #[inline(always)]
     pub fn layout(&self) -> Layout
         ensures layout { result ≡ layout_of (typed_of self.now) }
         ensures ranges { IsLayout result }
@@ -107,6 +113,7 @@ impl Column {
 
 /// How the values of a column of this type and metadata are encoded.
 #[tactic(auto, using(crate::specs::LayoutLaws::sound_layout))]
+#[inline(always)]
 fn layout_as(column_type: ColumnType, metadata: u16) -> Layout
     requires { is_metadata column_type metadata ≡ true }
     ensures { result ≡ layout_as column_type metadata }
@@ -141,6 +148,7 @@ fn layout_as(column_type: ColumnType, metadata: u16) -> Layout
 }
 
 /// The real type that the metadata of a STRING states.
+#[inline(always)]
 fn real_type_in(metadata: u16) -> ColumnType
     ensures { result ≡ real_as metadata }
 {
@@ -152,6 +160,7 @@ fn real_type_in(metadata: u16) -> ColumnType
 }
 
 /// Takes this many bytes of metadata, at most two, from the start of `buf`.
+#[inline(always)]
 fn read_metadata(len: usize, buf: &mut ParseBuf<'_>) -> Result<u16, Error>
     requires { len < 3 }
     ensures { Gives ⊥ buf.new result (number_at len buf.old) }
@@ -164,6 +173,7 @@ fn read_metadata(len: usize, buf: &mut ParseBuf<'_>) -> Result<u16, Error>
 }
 
 /// The number of the real type in the metadata of a STRING.
+#[inline(always)]
 fn real_number(metadata: u16) -> u16
     ensures { result ≡ real_number metadata }
 {
@@ -171,6 +181,7 @@ fn real_number(metadata: u16) -> u16
 }
 
 /// The length in bytes in the metadata of a STRING, at most 1,023.
+#[inline(always)]
 fn string_len(metadata: u16) -> u16
     ensures length { result ≡ string_length metadata }
     ensures small { result < 1024 }
@@ -179,6 +190,7 @@ fn string_len(metadata: u16) -> u16
 }
 
 /// Whether the metadata is allowed for a BIT.
+#[inline(always)]
 fn is_bit(metadata: u16) -> bool
     ensures { result ≡ is_bit metadata }
 {
@@ -187,6 +199,7 @@ fn is_bit(metadata: u16) -> bool
 }
 
 /// Whether the metadata is allowed for a NEWDECIMAL.
+#[inline(always)]
 fn is_decimal(metadata: u16) -> bool
     ensures { result ≡ is_decimal metadata }
 {
@@ -196,6 +209,7 @@ fn is_decimal(metadata: u16) -> bool
 }
 
 /// Whether the metadata is allowed for an ENUM or a SET.
+#[inline(always)]
 fn is_enum_or_set(metadata: u16) -> bool
     ensures { result ≡ is_enum_or_set metadata }
 {
@@ -205,6 +219,7 @@ fn is_enum_or_set(metadata: u16) -> bool
 }
 
 /// Whether the metadata is allowed for a column of this type.
+#[inline(always)]
 fn is_allowed(column_type: ColumnType, metadata: u16) -> bool
     ensures { result ≡ is_metadata column_type metadata }
 {
@@ -231,6 +246,7 @@ fn is_allowed(column_type: ColumnType, metadata: u16) -> bool
 }
 
 /// The number of bytes of metadata that a column of this type has, at most 2.
+#[inline(always)]
 fn metadata_bytes(column_type: ColumnType) -> usize
     ensures count { result ≡ metadata_len column_type }
     ensures small { result < 3 }
@@ -263,6 +279,7 @@ fn metadata_bytes(column_type: ColumnType) -> usize
 
 /// The layout for a BIT.
 #[tactic(auto, using(crate::specs::LayoutLaws::bit_is))]
+#[inline(always)]
 fn bit_layout(metadata: u16) -> Layout
     requires { is_bit metadata ≡ true }
     ensures { result ≡ Bits (bit_count metadata) }
@@ -271,6 +288,7 @@ fn bit_layout(metadata: u16) -> Layout
 }
 
 /// The layout for a NEWDECIMAL.
+#[inline(always)]
 fn decimal_layout(metadata: u16) -> Layout
     ensures { result ≡ Decimal (first_byte metadata) (second_byte metadata) }
 {
@@ -282,6 +300,7 @@ fn decimal_layout(metadata: u16) -> Layout
 
 /// The layout for an ENUM or a SET.
 #[tactic(auto, using(crate::specs::LayoutLaws::enum_or_set_is))]
+#[inline(always)]
 fn number_layout(metadata: u16) -> Layout
     requires { is_enum_or_set metadata ≡ true }
     ensures { result ≡ Number (string_length metadata) }
@@ -290,6 +309,7 @@ fn number_layout(metadata: u16) -> Layout
 }
 
 /// The layout for a STRING.
+#[inline(always)]
 fn string_layout_in(metadata: u16) -> Layout
     requires { is_string metadata ≡ true }
     ensures { result ≡ real_layout metadata }
@@ -302,6 +322,7 @@ fn string_layout_in(metadata: u16) -> Layout
 }
 
 /// The layout for strings of at most this many bytes.
+#[inline(always)]
 fn string_layout(max: u16) -> Layout
     ensures { result ≡ string_layout max }
 {
@@ -313,6 +334,7 @@ fn string_layout(max: u16) -> Layout
 
 /// The layout for strings whose length takes this many bytes.
 #[tactic(auto, using(crate::specs::LayoutLaws::size_is))]
+#[inline(always)]
 fn blob_layout(size: u16) -> Layout
     requires { is_size size ≡ true }
     ensures { result ≡ blob_layout size }

@@ -90,6 +90,7 @@ impl TryFrom<u8> for ColumnType {
 
     ghost try_from_gives = { λ number answer. answer ≡ column_type_of number };
 
+    #[inline(always)]
     fn try_from(number: u8) -> Result<ColumnType, UnknownColumnType> {
         match number {
             1 => Ok(ColumnType::MYSQL_TYPE_TINY),
@@ -141,6 +142,7 @@ impl From<ColumnType> for u8 {
 
     ghost from_gives = { λ column_type number. number ≡ column_number column_type };
 
+    #[inline(always)]
     fn from(column_type: ColumnType) -> u8 {
         column_type as u8
     }

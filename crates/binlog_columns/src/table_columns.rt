@@ -1,21 +1,25 @@
 //! The columns of a table, in order.
-ghost use Rattle.std.specs.Prelude.{◌≡◌, None, Some, MatchResult, length};
+ghost use Rattle.std.specs.Prelude.{◌≡◌, None, Some, MatchResult, [], length, map};
+ghost use Rattle.std.specs.Iterator.{YieldsFirstBy};
 ghost use Rattle.binlog_columns.specs.Refusals.{refusal, columns_in};
 
 use crate::column::Column;
 use crate::column_error::{ColumnError, ColumnErrorKind, kind_of};
 use binlog_wire::ParseBuf;
 
-/// The columns of a table, in order: an iterator over them. It borrows the types and the metadata of a table map, and
-/// allocates nothing.
+/// The columns of a table, in order: an iterator over them. It borrows the types and the metadata of a table map, which it
+/// reads again each time, or columns that were read before. It allocates nothing.
 #[derive(Clone, Copy, Debug)]
 pub struct TableColumns<'a> {
+    /// Columns that were read before. Those of the types and the metadata follow.
+    known: &'a [Column],
     types: &'a [u8],
     metadata: &'a [u8],
     ghost is_whole: { refusal 0 types.now metadata.now ≡ None },
 }
 
 impl<'a> TableColumns<'a> {
+    ghost use Rattle.binlog_columns.specs.Columns.{typed_of};
     ghost use Rattle.binlog_columns.specs.TableColumns.{columns_of};
 
     /// The columns of these types, one byte each, with this metadata: the metadata of each column, from left to right.
@@ -49,15 +53,50 @@ impl<'a> TableColumns<'a> {
                 column: types.len() as u64,
             });
         }
-        Ok(TableColumns { types, metadata })
+        Ok(TableColumns {
+            known: &[],
+            types,
+            metadata,
+        })
+    }
+
+    /// These columns, which were read before. A table map's columns are read once this way, and not for each row:
+    /// `columns.collect(alloc)?` of the columns of [`TableColumns::new`] keeps them.
+    pub fn known(columns: &'a [Column]) -> Self
+        ensures { columns_of result ≡ map typed_of columns.now }
+    {
+        TableColumns {
+            known: columns,
+            types: &[],
+            metadata: &[],
+        }
     }
 
     /// The number of columns that are left.
-    #[tactic(auto, using(crate::specs::RefusalLaws::columns_count))]
+    #[tactic(auto, using(crate::specs::TableLaws::columns_are_counted))]
     pub fn num_columns(&self) -> usize
         ensures { result ≡ length (columns_of self.now) }
     {
-        self.types.len()
+        self.known.len() + self.types.len()
+    }
+
+    /// Reads the next column of the types and the metadata.
+    #[inline(always)]
+    fn read_next(&mut self) -> Option<Column>
+        requires { self.old.known.now ≡ [] }
+        ensures { YieldsFirstBy typed_of columns_of self.old result self.new }
+    {
+        let (number, types) = self.types.split_first()?;
+        let mut rest = ParseBuf(self.metadata);
+        let Ok(column) = Column::read(*number, &mut rest) else {
+            unreachable!()
+        };
+        *self = TableColumns {
+            known: &[],
+            types,
+            metadata: rest.0,
+        };
+        Some(column)
     }
 }
 
@@ -73,16 +112,12 @@ impl<'a> Iterator for TableColumns<'a> {
 
     ghost remaining = { item_count columns_of };
 
+    #[inline(always)]
     fn next(&mut self) -> Option<Column> {
-        let (number, types) = self.types.split_first()?;
-        let mut rest = ParseBuf(self.metadata);
-        let Ok(column) = Column::read(*number, &mut rest) else {
-            unreachable!()
+        let Some((column, known)) = self.known.split_first() else {
+            return self.read_next();
         };
-        *self = TableColumns {
-            types,
-            metadata: rest.0,
-        };
-        Some(column)
+        self.known = known;
+        Some(*column)
     }
 }

@@ -5,3 +5,4 @@ pub mod Reading
 pub mod Splits
 pub mod Steps
 pub mod Taking
+pub mod Visited

@@ -28,7 +28,7 @@ taken_by index len x y true is h =
 taken_by index len x y false is h = absurd cc
 
 -- A row that is taken was read, and took bytes.
-taken_ok : (index len : ℕ) (r : Taken) (y : RowCells × List ℕ) → if_taken index len r ≡ Ok y → (r ≡ Ok y) × (length y.1 < len)
+pub taken_ok : (index len : ℕ) (r : Taken) (y : RowCells × List ℕ) → if_taken index len r ≡ Ok y → (r ≡ Ok y) × (length y.1 < len)
 taken_ok index len (Ok x) y h = taken_by index len x y (nat_lt (length x.1) len) refl h
 taken_ok index len (Err e) y h = absurd cc
 

@@ -22,10 +22,14 @@ HasBitEach columns present = IfSome present (λ bits. bits.0 ≡ length columns)
 abbrev pub event_shape : List Typed → RowsEvent → RowShape
 event_shape columns event = (option_map (λ bits. (columns, bits)) event.columns.before, option_map (λ bits. (columns, bits)) event.columns.after)
 
+-- The table has another number of columns than the event.
+abbrev pub count_error : ℕ → ℕ → Option RowsEventError
+count_error event table = if event == table then None else Some (ColumnCount event table)
+
 -- The columns of the table map are refused, or aren't as many as the event's.
 abbrev pub columns_error : ℕ → ℕ → Option ColumnError → Option RowsEventError
 columns_error event table (Some error) = Some (Columns error)
-columns_error event table None = if event == table then None else Some (ColumnCount event table)
+columns_error event table None = count_error event table
 
 -- Why the event's rows can't be read with this table map.
 abbrev pub event_error : TableMapEvent → RowsEvent → Option RowsEventError

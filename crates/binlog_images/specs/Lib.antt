@@ -9,6 +9,7 @@ pub mod Diffs
 pub mod DiffsOf
 pub mod EventRows
 pub mod Events
+pub mod Fronts
 pub mod ImageCells
 pub mod ImageShapes
 pub mod Images
@@ -16,3 +17,4 @@ pub mod Kinds
 pub mod RowCells
 pub mod RowsLeft
 pub mod Splits
+pub mod Visits

@@ -35,6 +35,7 @@ impl<'a> ColumnValue<'a> {
     ///
     /// Those of [`Value::read`].
     #[tactic(auto, using(crate::proofs::Reading::absent_read, crate::proofs::Reading::null_read, crate::proofs::Reading::value_read, crate::proofs::Reading::diffs_read, crate::proofs::Reading::refused_read))]
+    #[inline(always)]
     pub(crate) fn read(
         column: &Column,
         bits: &ImageBits<'_>,
@@ -59,6 +60,7 @@ impl<'a> ColumnValue<'a> {
 }
 
 /// The diffs in a value of a JSON column.
+#[inline(always)]
 fn diffs_in(value: Value<'_>) -> ColumnValue<'_>
     requires { meaning_of value ≡ json }
     ensures { cell_of result ≡ diff_list (content_of value.entry) }

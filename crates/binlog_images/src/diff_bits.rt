@@ -21,6 +21,7 @@ pub(crate) struct DiffBits<'a> {
 }
 
 /// Whether the column is of type JSON.
+#[inline(always)]
 pub(crate) fn is_json(column: &Column) -> bool
     ensures { result ≡ is_json (typed_of column.now) }
 {
@@ -28,6 +29,7 @@ pub(crate) fn is_json(column: &Column) -> bool
 }
 
 /// The diff bits of an image, before its first column.
+#[inline(always)]
 pub(crate) fn first_diffs<'a>(bits: Option<BitView<'a>>) -> Option<DiffBits<'a>>
     ensures { diffs_of result ≡ first_diffs (option_map bitmap_of bits.entry) }
 {
@@ -38,6 +40,7 @@ pub(crate) fn first_diffs<'a>(bits: Option<BitView<'a>>) -> Option<DiffBits<'a>>
 }
 
 /// Whether the next column, which is this one, is a list of diffs if it is present and not NULL.
+#[inline(always)]
 pub(crate) fn is_diffs(column: &Column, diffs: &Option<DiffBits<'_>>) -> bool
     ensures { result ≡ is_diffs (typed_of column.now) (diffs_of diffs.now) }
 {
@@ -48,6 +51,7 @@ pub(crate) fn is_diffs(column: &Column, diffs: &Option<DiffBits<'_>>) -> bool
 }
 
 /// The index of the next JSON column's bit, after this column.
+#[inline(always)]
 fn next_index(column: &Column, len: u64, index: u64) -> u64
     ensures { result ≡ (if is_json (typed_of column.now) && nat_lt index len then index + 1 else index) }
 {
@@ -58,16 +62,13 @@ fn next_index(column: &Column, len: u64, index: u64) -> u64
     }
 }
 
-/// The diff bits of the columns after the next one, which is this one.
-pub(crate) fn next_diffs<'a>(column: &Column, diffs: Option<DiffBits<'a>>) -> Option<DiffBits<'a>>
-    ensures { diffs_of result ≡ next_diffs (typed_of column.now) (diffs_of diffs.entry) }
+/// Goes to the columns after the next one, which is this one.
+#[inline(always)]
+pub(crate) fn advance_diffs(diffs: &mut Option<DiffBits<'_>>, column: &Column)
+    ensures { diffs_of diffs.new ≡ next_diffs (typed_of column.now) (diffs_of diffs.old) }
 {
-    match diffs {
-        Some(diffs) => Some(DiffBits {
-            bits: diffs.bits,
-            index: next_index(column, diffs.bits.len(), diffs.index),
-        }),
-        None => None,
+    if let Some(diffs) = diffs {
+        diffs.index = next_index(column, diffs.bits.len(), diffs.index);
     }
 }
 

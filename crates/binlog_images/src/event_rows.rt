@@ -1,10 +1,11 @@
 //! The rows of row events.
 ghost use Rattle.std.specs.Prelude.{◌≡◌, Bool, true, false};
+ghost use Rattle.binlog_columns.specs.TableColumns.{columns_of};
 ghost use Rattle.binlog_rows.specs.Rows.{IsOfForm};
 ghost use Rattle.binlog_rows.specs.declared.rows_form.RowsForm.{RowsForm};
 ghost use Rattle.binlog_rows.specs.declared.rows_event.RowsEvent.{RowsEvent};
 ghost use Rattle.binlog_rows.specs.RowsData.{event_in};
-ghost use Rattle.binlog_images.specs.EventRows.{GivesRows, is_partial};
+ghost use Rattle.binlog_images.specs.EventRows.{GivesRows, GivesRowsOf, is_partial};
 
 use crate::rows::Rows;
 use crate::rows_error::RowsEventError;
@@ -30,6 +31,7 @@ impl HasWholeRows for UpdateRowsV1 {}
 impl HasWholeRows for DeleteRowsV1 {}
 
 /// The rows of this event, whose type says which images they have, and that they are partial updates or aren't.
+#[tactic(auto, using(crate::proofs::Events::of_map))]
 fn rows_of<'a>(
     event: &'a RowsEvent<'_>,
     is_partial: bool,
@@ -46,7 +48,19 @@ fn rows_of<'a>(
         Ok(columns) => columns,
         Err(error) => return Err(RowsEventError::Columns(error)),
     };
-    let table = table_map.columns_count();
+    rows_with(event, is_partial, columns)
+}
+
+/// The rows of this event, of a table with these columns.
+fn rows_with<'a>(
+    event: &'a RowsEvent<'_>,
+    is_partial: bool,
+    columns: TableColumns<'a>,
+) -> Result<Rows<'a>, RowsEventError>
+    requires { (form : RowsForm) × IsOfForm form event.now }
+    ensures { GivesRowsOf is_partial (columns_of columns.entry) event.now result }
+{
+    let table = columns.num_columns() as u64;
     if event.num_columns() != table {
         return Err(RowsEventError::ColumnCount {
             event: event.num_columns(),
@@ -80,6 +94,15 @@ pub trait RowsEventExt {
     /// - [`RowsEventError::ColumnCount`] if the event has another number of columns than the table map.
     fn rows<'a>(&'a self, table_map: &'a TableMapEvent<'_>) -> Result<Rows<'a>, RowsEventError>
         ensures { GivesRows (is_partial self.now) table_map.now (event self.now) result };
+
+    /// The rows of the event, of a table with these columns: those of the table map in force for its table id. So a table's
+    /// columns need not be read again for each row event: see [`TableColumns::known`].
+    ///
+    /// # Errors
+    ///
+    /// [`RowsEventError::ColumnCount`] if the event has another number of columns.
+    fn rows_of_table<'a>(&'a self, columns: TableColumns<'a>) -> Result<Rows<'a>, RowsEventError>
+        ensures { GivesRowsOf (is_partial self.now) (columns_of columns.entry) (event self.now) result };
 }
 
 impl RowsEventExt for RowsEventData<'_> {
@@ -89,6 +112,10 @@ impl RowsEventExt for RowsEventData<'_> {
 
     fn rows<'a>(&'a self, table_map: &'a TableMapEvent<'_>) -> Result<Rows<'a>, RowsEventError> {
         rows_of(self.event(), is_partial(self), table_map)
+    }
+
+    fn rows_of_table<'a>(&'a self, columns: TableColumns<'a>) -> Result<Rows<'a>, RowsEventError> {
+        rows_with(self.event(), is_partial(self), columns)
     }
 }
 
@@ -101,6 +128,10 @@ impl<K: HasWholeRows> RowsEventExt for RowsEventOf<'_, K> {
     fn rows<'a>(&'a self, table_map: &'a TableMapEvent<'_>) -> Result<Rows<'a>, RowsEventError> {
         rows_of(self.event(), false, table_map)
     }
+
+    fn rows_of_table<'a>(&'a self, columns: TableColumns<'a>) -> Result<Rows<'a>, RowsEventError> {
+        rows_with(self.event(), false, columns)
+    }
 }
 
 /// Partial updates.
@@ -111,5 +142,9 @@ impl RowsEventExt for RowsEventOf<'_, PartialUpdateRows> {
 
     fn rows<'a>(&'a self, table_map: &'a TableMapEvent<'_>) -> Result<Rows<'a>, RowsEventError> {
         rows_of(self.event(), true, table_map)
+    }
+
+    fn rows_of_table<'a>(&'a self, columns: TableColumns<'a>) -> Result<Rows<'a>, RowsEventError> {
+        rows_with(self.event(), true, columns)
     }
 }

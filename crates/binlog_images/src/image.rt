@@ -9,7 +9,7 @@ ghost use Rattle.binlog_images.specs.Images.{left, image_at, image_with_at, part
 ghost use Rattle.binlog_images.specs.Answers.{Leaves, Takes};
 
 use crate::column_value::ColumnValue;
-use crate::diff_bits::{DiffBits, first_diffs, next_diffs, read_diff_bits};
+use crate::diff_bits::{DiffBits, advance_diffs, first_diffs, read_diff_bits};
 use crate::image_bits::{ImageBits, read_bitmap};
 use crate::image_columns::ImageColumns;
 use crate::rows_error::{ImageError, kind_of};
@@ -38,6 +38,7 @@ impl<'a> Image<'a> {
     /// # Errors
     ///
     /// The first fault, in the order of the bytes, with its column.
+    #[inline(always)]
     pub(crate) fn read(of: &ImageColumns<'a>, buf: &mut ParseBuf<'a>) -> Result<Self, ImageError>
         ensures { Takes buf.new (answer_cells result) (image_at (shape_of of.now) buf.old) }
     {
@@ -51,6 +52,7 @@ impl<'a> Image<'a> {
     ///
     /// The first fault, in the order of the bytes, with its column; None for the options and the diff bits.
     #[tactic(auto, using(crate::proofs::Steps::diffs_refused, crate::proofs::Steps::partial_read))]
+    #[inline(always)]
     pub(crate) fn read_partial(
         of: &ImageColumns<'a>,
         json_columns: u64,
@@ -70,6 +72,7 @@ impl<'a> Image<'a> {
 
     /// Takes an image with these columns and diff bits from the start of `buf`.
     #[tactic(auto, using(crate::proofs::Steps::nulls_refused, crate::proofs::Steps::image_taken, crate::proofs::Steps::image_refused, crate::proofs::Steps::whole))]
+    #[inline(always)]
     fn read_with(
         diffs: Option<BitView<'a>>,
         of: &ImageColumns<'a>,
@@ -108,6 +111,7 @@ impl<'a> Image<'a> {
 
 /// Takes the columns of an image from the start of `buf`, and leaves the bytes after them.
 #[tactic(auto, using(crate::proofs::Steps::left_step, crate::proofs::Steps::left_here, crate::proofs::Steps::range_first, crate::proofs::Steps::range_step))]
+#[inline(always)]
 fn skip_columns(
     columns: TableColumns<'_>,
     start: ImageBits<'_>,
@@ -121,14 +125,15 @@ fn skip_columns(
     let mut bits = start;
     let mut diffs = start_diffs;
     for column in columns {
+        let is_present = bits.is_present();
         if let Err(error) = ColumnValue::read(&column, &bits, &diffs, buf) {
             return Err(ImageError {
                 kind: kind_of(error),
                 column: Some(bits.index),
             });
         }
-        bits.advance();
-        diffs = next_diffs(&column, diffs);
+        bits.advance(is_present);
+        advance_diffs(&mut diffs, &column);
     }
     Ok(())
 }
@@ -146,19 +151,23 @@ impl<'a> Iterator for Image<'a> {
     ghost remaining = { item_count cells_of };
 
     #[tactic(auto, using(crate::proofs::Steps::whole_step, crate::proofs::Steps::never_refused, crate::proofs::Steps::cells_step, crate::proofs::Steps::range_first, crate::proofs::Steps::range_step))]
+    #[inline(always)]
     fn next(&mut self) -> Option<ColumnValue<'a>> {
         let mut columns = self.columns;
         let column = columns.next()?;
         let mut bits = self.bits;
+        let mut diffs = self.diffs;
+        let is_present = bits.is_present();
         let mut rest = ParseBuf(self.rest);
         let Ok(value) = ColumnValue::read(&column, &bits, &self.diffs, &mut rest) else {
             unreachable!()
         };
-        bits.advance();
+        bits.advance(is_present);
+        advance_diffs(&mut diffs, &column);
         *self = Image {
             columns,
             bits,
-            diffs: next_diffs(&column, self.diffs),
+            diffs,
             rest: rest.0,
         };
         Some(value)

@@ -1,9 +1,9 @@
 //! The bits of an image.
-ghost use Rattle.std.specs.Prelude.{◌≡◌, ◌<◌, ◌≤◌, ◌+◌, ◌-◌, ◌^◌};
+ghost use Rattle.std.specs.Prelude.{◌≡◌, ◌<◌, ◌≤◌, ◌+◌};
 ghost use Rattle.binlog_wire.specs.Reading.{Gives};
 ghost use Rattle.binlog_rows.specs.Columns.{bitmap};
 ghost use Rattle.binlog_rows.specs.Images.{bitmap_of};
-ghost use Rattle.binlog_images.specs.Bits.{is_set, is_present, is_null, next_place, next_bits, set_count};
+ghost use Rattle.binlog_images.specs.Bits.{is_set, is_present, is_null, next_bits, set_count};
 ghost use Rattle.binlog_images.specs.BitmapViews.{answer_bitmap};
 
 use binlog_wire::{BitView, Error, ParseBuf};
@@ -25,6 +25,7 @@ impl ImageBits<'_> {
     ghost use Rattle.binlog_images.specs.BitsOf.{bits_of};
 
     /// Whether the next column is present.
+    #[inline(always)]
     pub(crate) fn is_present(&self) -> bool
         ensures { result ≡ is_present (bits_of self.now) }
     {
@@ -32,27 +33,17 @@ impl ImageBits<'_> {
     }
 
     /// Whether the next column, if it is present, is NULL.
+    #[inline(always)]
     pub(crate) fn is_null(&self) -> bool
         ensures { result ≡ is_null (bits_of self.now) }
     {
         is_set(self.nulls, self.place)
     }
 
-    /// The place of the next column's null bit, after this column.
-    fn next_place(&self) -> u64
-        requires { self.now.place < 2 ^ 64 - 1 }
-        ensures place { result ≡ next_place (is_present (bits_of self.now)) self.now.place }
-        ensures most { result ≤ self.now.place + 1 }
-    {
-        if self.is_present() {
-            self.place + 1
-        } else {
-            self.place
-        }
-    }
-
-    /// Goes to the next column.
-    pub(crate) fn advance(&mut self)
+    /// Goes to the next column, after this one, which was present or not.
+    #[inline(always)]
+    pub(crate) fn advance(&mut self, was_present: bool)
+        requires present { was_present ≡ is_present (bits_of self.old) }
         requires index { self.old.index < self.old.present.len }
         requires place { self.old.place ≤ self.old.index }
         ensures next { bits_of self.new ≡ next_bits (bits_of self.old) }
@@ -60,13 +51,15 @@ impl ImageBits<'_> {
         ensures index { self.new.index ≡ self.old.index + 1 }
         ensures place { self.new.place ≤ self.new.index }
     {
-        let place = self.next_place();
+        if was_present {
+            self.place += 1;
+        }
         self.index += 1;
-        self.place = place;
     }
 }
 
 /// Whether the bit at this index is set; none is beyond the last one.
+#[inline(always)]
 pub(crate) fn is_set(bits: BitView<'_>, index: u64) -> bool
     ensures { result ≡ is_set (bitmap_of bits.entry) index }
 {
@@ -92,6 +85,7 @@ pub(crate) fn set_count(bits: BitView<'_>) -> u64
 /// # Errors
 ///
 /// [`Error::EndOfBody`] where its bytes aren't all there.
+#[inline(always)]
 pub(crate) fn read_bitmap<'a>(len: u64, buf: &mut ParseBuf<'a>) -> Result<BitView<'a>, Error>
     ensures { Gives ⊥ buf.new (answer_bitmap result) ((bitmap len).reads buf.old) }
 {

@@ -12,8 +12,11 @@ mod image_bits;
 mod image_columns;
 pub mod laws;
 mod row;
+mod row_visits;
 mod rows;
 mod rows_error;
+mod visiting;
+mod visitor;
 
 pub use column_value::ColumnValue;
 pub use event_rows::{HasWholeRows, RowsEventExt};
@@ -21,3 +24,4 @@ pub use image::Image;
 pub use row::Row;
 pub use rows::Rows;
 pub use rows_error::{ImageKind, RowsError, RowsErrorKind, RowsEventError};
+pub use visitor::ColumnVisitor;

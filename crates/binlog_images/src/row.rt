@@ -12,6 +12,7 @@ pub struct Row<'a> {
 
 impl<'a> Row<'a> {
     /// The row before it was updated or deleted; None for an inserted row.
+    #[inline(always)]
     pub fn before(&self) -> Option<Image<'a>>
         ensures { result ≡ self.now.before }
     {
@@ -19,6 +20,7 @@ impl<'a> Row<'a> {
     }
 
     /// The row after it was inserted or updated; None for a deleted row.
+    #[inline(always)]
     pub fn after(&self) -> Option<Image<'a>>
         ensures { result ≡ self.now.after }
     {

@@ -9,7 +9,7 @@ ghost use Rattle.binlog_images.specs.ImageShapes.{shape_of, IsJsonCount};
 ghost use Rattle.binlog_images.specs.declared.rows_error.ImageKind.TheVariants.{After};
 ghost use Rattle.binlog_images.specs.Images.{image_if_at, partial_if_at};
 ghost use Rattle.binlog_images.specs.ImageCells.{answer_image};
-ghost use Rattle.binlog_images.specs.Splits.{row_at, first_row, after_at};
+ghost use Rattle.binlog_images.specs.Splits.{row_at, first_row, after_at, left_over};
 ghost use Rattle.binlog_images.specs.RowCells.{answer_row, answer_first};
 
 use crate::image::Image;
@@ -24,12 +24,14 @@ use binlog_wire::{BitView, ParseBuf};
 /// that it gives None. It borrows the bytes of the event and of the table map, and takes no memory.
 #[derive(Clone, Copy, Debug)]
 pub struct Rows<'a> {
-    before: Option<ImageColumns<'a>>,
-    after: Option<ImageColumns<'a>>,
+    pub(crate) before: Option<ImageColumns<'a>>,
+    pub(crate) after: Option<ImageColumns<'a>>,
     /// How many of the table's columns are of type JSON, if the rows are partial updates.
-    json_columns: Option<u64>,
-    rest: &'a [u8],
-    row: u64,
+    pub(crate) json_columns: Option<u64>,
+    /// The bytes of the rows that are left.
+    pub(crate) rest: &'a [u8],
+    /// The index of the next row, counted from 0.
+    pub(crate) row: u64,
     ghost json_counted: { IsJsonCount json_columns after } by { Prim.hlevel props },
     ghost counted: { row + length rest.now < 2 ^ 64 },
 }
@@ -153,12 +155,19 @@ impl<'a> Rows<'a> {
         if buf.0.len() < self.rest.len() {
             Ok((row, buf.0))
         } else {
-            Err(RowsError {
-                kind: RowsErrorKind::LeftOver,
-                row: self.row,
-                image: None,
-                column: None,
-            })
+            Err(self.left_over())
+        }
+    }
+
+    /// The refusal of bytes that no row can take.
+    pub(crate) fn left_over(&self) -> RowsError
+        ensures { result ≡ left_over self.now.row }
+    {
+        RowsError {
+            kind: RowsErrorKind::LeftOver,
+            row: self.row,
+            image: None,
+            column: None,
         }
     }
 }

@@ -1,15 +1,14 @@
 -- Numbers of k bytes, most significant byte first.
-use Rattle.std.proofs.Common.{◌≡◌, ℕ, zero, suc, ◌+◌, ◌*◌, ◌/◌, ◌^◌, ◌<◌, ◌≤◌, Bool, true, false, cond, ltb, List, [], ◌∷◌, ◌++◌, length, take, drop, get_or, Ok, Err, refl, sym, ap, subst, ◌∙◌, arith}
+use Rattle.std.proofs.Common.{◌≡◌, ℕ, zero, suc, ◌+◌, ◌*◌, ◌/◌, ◌^◌, ◌<◌, ◌≤◌, false, cond, ltb, List, [], ◌∷◌, ◌++◌, length, take, drop, Ok, Err, refl, sym, ap, subst, ◌∙◌, arith}
 use Rattle.std.proofs.lemmas.Bool.{ltb-false, le-ltb}
 use Rattle.std.proofs.lemmas.List.{drop_at, take-append-drop, length-append, length-take, append-nil}
 use Rattle.std.proofs.lemmas.Nat.{div-mul-add}
 use Rattle.std.specs.Int.{byte_at}
 use Rattle.byteorder.specs.Endian.{big_from, big_number, big_bytes}
 use Rattle.byteorder.specs.Numbers.{big_from-cons, big_from-take, big_from-lt, big_number-reads_back, length-bytes_high_first}
-use Rattle.binlog_wire.specs.declared.error.Invalid.{Invalid}
-use Rattle.binlog_wire.specs.Reading.{ends, invalid, Read, ◌>>=◌}
-use Rattle.binlog_wire.specs.Fields.{IsBytes, allow}
-use Rattle.binlog_wire.specs.Laws.{KeepsTo, IsBytes-take, IsBytes-drop, bind_ok, guard_ok, allow_ok}
+use Rattle.binlog_wire.specs.Reading.{ends, Read}
+use Rattle.binlog_wire.specs.Fields.{IsBytes}
+use Rattle.binlog_wire.specs.Laws.{KeepsTo, IsBytes-take, IsBytes-drop, guard_ok}
 use Rattle.binlog_wire.specs.Formats.{Place, Format}
 
 -- A number of k bytes, most significant byte first.

@@ -1,7 +1,7 @@
 -- The contents of values: a number, bytes, or nothing; and their formats, by the layouts of columns.
 -- Source: MySQL's documentation of its source code, `mysql::binlog::event::Rows_event`; and, for the temporal types and
 -- for decimal numbers, of `my_time.h` and `decimal.h`.
-use Rattle.std.specs.Prelude.{◌≡◌, ℕ, zero, suc, ◌+◌, ◌-◌, ◌*◌, ◌/◌, ◌%◌, ◌^◌, ◌==◌, ◌&&◌, Bool, true, List, [], ◌∷◌, ◌++◌, length, drop, map, replicate, nat_lt, nat_le, if◌then◌else◌, refl}
+use Rattle.std.specs.Prelude.{◌≡◌, ℕ, ◌+◌, ◌-◌, ◌*◌, ◌/◌, ◌%◌, ◌^◌, ◌==◌, ◌&&◌, Bool, true, List, [], ◌∷◌, ◌++◌, length, drop, map, replicate, nat_lt, nat_le, if◌then◌else◌, refl}
 use Rattle.std.proofs.Common.{ap}
 use Rattle.byteorder.specs.Endian.{big_number}
 use Rattle.binlog_wire.specs.declared.error.Invalid.{Invalid}

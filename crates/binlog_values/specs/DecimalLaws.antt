@@ -1,14 +1,14 @@
 -- Laws of the groups of digits of decimal numbers.
-use Rattle.std.proofs.Common.{◌≡◌, ℕ, zero, suc, ◌+◌, ◌-◌, ◌*◌, ◌/◌, ◌%◌, ◌^◌, ◌<◌, ◌≤◌, Bool, true, false, cond, leb, List, [], ◌∷◌, ◌++◌, length, take, drop, map, replicate, get_or, refl, sym, ap, subst, ◌∙◌, add-one, arith}
-use Rattle.std.specs.Prelude.{◌&&◌, ◌==◌, nat_lt, nat_le}
+use Rattle.std.proofs.Common.{◌≡◌, ℕ, zero, suc, ◌+◌, ◌-◌, ◌*◌, ◌/◌, ◌%◌, ◌^◌, ◌<◌, ◌≤◌, Bool, true, false, cond, List, [], ◌∷◌, ◌++◌, length, drop, map, replicate, get_or, refl, sym, ap, ◌∙◌, arith}
+use Rattle.std.specs.Prelude.{◌&&◌, nat_lt, nat_le}
 use Rattle.std.proofs.lemmas.Bool.{leb-true, leb-false}
-use Rattle.std.proofs.lemmas.List.{drop-map, drop-drop, length-drop, length-map}
+use Rattle.std.proofs.lemmas.List.{drop-map, drop-drop, length-drop}
 use Rattle.std.proofs.Math.Nat.{add-mul, pow-succ'}
-use Rattle.byteorder.specs.Endian.{big_from, big_number}
-use Rattle.byteorder.specs.Numbers.{big_from-cons, big_from-lt}
+use Rattle.byteorder.specs.Endian.{big_number}
+use Rattle.byteorder.specs.Numbers.{big_from-cons}
 use Rattle.binlog_wire.specs.Fields.{IsBytes}
 use Rattle.binlog_wire.specs.Laws.{IsBytes-drop}
-use Rattle.binlog_values.specs.Contents.{digits_len, groups, groups_len, decimal_len, magnitude, groups_fit, is_decimal_bytes}
+use Rattle.binlog_values.specs.Contents.{digits_len, groups_len, decimal_len, magnitude, groups_fit}
 
 -- The number of complemented bytes.
 pub complemented : (k : ℕ) (s : List ℕ) → IsBytes s → k ≤ length s → big_number k (map (λ c. 255 - c) s) + big_number k s + 1 ≡ 256 ^ k

@@ -1,5 +1,5 @@
 -- Values as contracts see them: their contents, and what they mean.
-use Rattle.std.specs.Prelude.{◌≡◌, ℕ, ◌==◌, Result, Ok, Err, if◌then◌else◌}
+use Rattle.std.specs.Prelude.{ℕ, ◌==◌, Result, Ok, Err, if◌then◌else◌}
 use Rattle.binlog_wire.specs.declared.error.Error.{Error}
 use Rattle.binlog_columns.specs.Metadata.{Typed, real_number}
 use Rattle.binlog_columns.specs.Layouts.{layout_of}

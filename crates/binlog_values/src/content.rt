@@ -1,5 +1,6 @@
 //! The contents of values, by the layouts of columns.
 ghost use Rattle.std.specs.Prelude.{◌≡◌, ◌≤◌, ◌<◌, ◌+◌, ◌*◌, ◌/◌, ◌%◌, ◌^◌, ◌==◌, length, nat_le};
+ghost use Rattle.byteorder.specs.Endian.{little_number, big_number};
 ghost use Rattle.binlog_wire.specs.Fields.{number_at, block_at};
 ghost use Rattle.binlog_wire.specs.Reading.{Gives, result_now};
 ghost use Rattle.binlog_values.specs.BigNumbers.{big_at};
@@ -13,6 +14,7 @@ use byteorder::{BigEndian, ByteOrder, LittleEndian};
 const OUT_OF_RANGE: Error = Error::InvalidData(Invalid::FieldRange(0));
 
 /// Takes a little-endian number of `len` bytes, 1 to 8, from the start of `buf`.
+#[inline(always)]
 pub(crate) fn read_number(len: usize, buf: &mut ParseBuf<'_>) -> Result<u64, Error>
     requires low { 1 ≤ len }
     requires high { len ≤ 8 }
@@ -21,12 +23,46 @@ pub(crate) fn read_number(len: usize, buf: &mut ParseBuf<'_>) -> Result<u64, Err
     if buf.0.len() < len {
         return Err(Error::EndOfBody);
     }
-    let number = LittleEndian::read_uint(buf.0, len);
+    let number = little_number(buf.0, len);
     buf.0 = &buf.0[len..];
     Ok(number)
 }
 
+/// The little-endian number of the first `len` bytes, 1 to 8.
+#[tactic(auto, using(crate::proofs::Loads::little_loaded))]
+#[inline(always)]
+fn little_number(bytes: &[u8], len: usize) -> u64
+    requires low { 1 ≤ len }
+    requires high { len ≤ 8 }
+    requires there { len ≤ length bytes.now }
+    ensures { result ≡ little_number len bytes.now }
+{
+    if bytes.len() < 8 {
+        return LittleEndian::read_uint(bytes, len);
+    }
+    // One load, from which the bytes behind the number are shifted out.
+    let others = 8 * (8 - len);
+    LittleEndian::read_u64(bytes) << others >> others
+}
+
+/// The number of the first `len` bytes, 1 to 8, most significant byte first.
+#[tactic(auto, using(crate::proofs::Loads::big_loaded))]
+#[inline(always)]
+fn big_number(bytes: &[u8], len: usize) -> u64
+    requires low { 1 ≤ len }
+    requires high { len ≤ 8 }
+    requires there { len ≤ length bytes.now }
+    ensures { result ≡ big_number len bytes.now }
+{
+    if bytes.len() < 8 {
+        return BigEndian::read_uint(bytes, len);
+    }
+    // One load, from which the bytes behind the number are shifted out.
+    BigEndian::read_u64(bytes) >> (8 * (8 - len))
+}
+
 /// Takes a number of `len` bytes, 1 to 8, most significant byte first, from the start of `buf`.
+#[inline(always)]
 fn read_big(len: usize, buf: &mut ParseBuf<'_>) -> Result<u64, Error>
     requires low { 1 ≤ len }
     requires high { len ≤ 8 }
@@ -35,12 +71,13 @@ fn read_big(len: usize, buf: &mut ParseBuf<'_>) -> Result<u64, Error>
     if buf.0.len() < len {
         return Err(Error::EndOfBody);
     }
-    let number = BigEndian::read_uint(buf.0, len);
+    let number = big_number(buf.0, len);
     buf.0 = &buf.0[len..];
     Ok(number)
 }
 
 /// The number of bytes of a fraction of this many decimal digits, 0 to 6.
+#[inline(always)]
 pub(crate) fn fraction_len(digits: u8) -> usize
     requires { digits ≤ 6 }
     ensures { result ≡ fraction_len digits }
@@ -49,6 +86,7 @@ pub(crate) fn fraction_len(digits: u8) -> usize
 }
 
 /// 256 to the power of `len`, at most 3.
+#[inline(always)]
 pub(crate) fn pow_256(len: usize) -> u64
     requires { len ≤ 3 }
     ensures power { result ≡ 256 ^ len }
@@ -64,6 +102,7 @@ pub(crate) fn pow_256(len: usize) -> u64
 }
 
 /// 100 to the power of `len`, at most 3.
+#[inline(always)]
 fn pow_100(len: usize) -> u64
     requires { len ≤ 3 }
     ensures { result ≡ 100 ^ len }
@@ -77,6 +116,7 @@ fn pow_100(len: usize) -> u64
 }
 
 /// Whether the fraction at the end of a number is below one second.
+#[inline(always)]
 fn is_below_second(digits: u8, number: u64) -> bool
     requires { digits ≤ 6 }
     ensures { result ≡ is_below_second digits number }
@@ -86,6 +126,7 @@ fn is_below_second(digits: u8, number: u64) -> bool
 }
 
 /// Whether the number is one of a DATETIME2.
+#[inline(always)]
 fn is_datetime2(digits: u8, number: u64) -> bool
     requires { digits ≤ 6 }
     ensures { result ≡ is_datetime2 digits number }
@@ -94,6 +135,7 @@ fn is_datetime2(digits: u8, number: u64) -> bool
 }
 
 /// The number that encodes zero in a TIME2.
+#[inline(always)]
 pub(crate) fn time2_zero(digits: u8) -> u64
     requires { digits ≤ 6 }
     ensures zero { result ≡ time2_zero digits }
@@ -103,6 +145,7 @@ pub(crate) fn time2_zero(digits: u8) -> u64
 }
 
 /// The distance of the number of a TIME2 from zero.
+#[inline(always)]
 pub(crate) fn time2_distance(digits: u8, number: u64) -> u64
     requires { digits ≤ 6 }
     ensures { result ≡ time2_distance digits number }
@@ -116,6 +159,7 @@ pub(crate) fn time2_distance(digits: u8, number: u64) -> u64
 }
 
 /// Whether the number is one of a TIME2.
+#[inline(always)]
 fn is_time2(digits: u8, number: u64) -> bool
     requires { digits ≤ 6 }
     ensures { result ≡ is_time2 digits number }
@@ -125,6 +169,7 @@ fn is_time2(digits: u8, number: u64) -> bool
 }
 
 /// Takes this many bits, 1 to 64, from the start of `buf`.
+#[inline(always)]
 pub(crate) fn read_bits(count: u8, buf: &mut ParseBuf<'_>) -> Result<u64, Error>
     requires low { 1 ≤ count }
     requires high { count ≤ 64 }
@@ -139,6 +184,7 @@ pub(crate) fn read_bits(count: u8, buf: &mut ParseBuf<'_>) -> Result<u64, Error>
 }
 
 /// Takes the number of a TIMESTAMP2 from the start of `buf`.
+#[inline(always)]
 pub(crate) fn read_timestamp2(digits: u8, buf: &mut ParseBuf<'_>) -> Result<u64, Error>
     requires { digits ≤ 6 }
     ensures { Gives ⊥ buf.new result ((timestamp2 digits).reads buf.old) }
@@ -152,6 +198,7 @@ pub(crate) fn read_timestamp2(digits: u8, buf: &mut ParseBuf<'_>) -> Result<u64,
 }
 
 /// Takes the number of a DATETIME2 from the start of `buf`.
+#[inline(always)]
 pub(crate) fn read_datetime2(digits: u8, buf: &mut ParseBuf<'_>) -> Result<u64, Error>
     requires { digits ≤ 6 }
     ensures { Gives ⊥ buf.new result ((datetime2 digits).reads buf.old) }
@@ -165,6 +212,7 @@ pub(crate) fn read_datetime2(digits: u8, buf: &mut ParseBuf<'_>) -> Result<u64, 
 }
 
 /// Takes the number of a TIME2 from the start of `buf`.
+#[inline(always)]
 pub(crate) fn read_time2(digits: u8, buf: &mut ParseBuf<'_>) -> Result<u64, Error>
     requires { digits ≤ 6 }
     ensures { Gives ⊥ buf.new result ((time2 digits).reads buf.old) }
@@ -178,6 +226,7 @@ pub(crate) fn read_time2(digits: u8, buf: &mut ParseBuf<'_>) -> Result<u64, Erro
 }
 
 /// Takes this many bytes from the start of `buf`.
+#[inline(always)]
 fn take<'a>(count: usize, buf: &mut ParseBuf<'a>) -> Result<&'a [u8], Error>
     ensures { Gives ⊥ buf.new (result_now result) (block_at count buf.old) }
 {
@@ -185,6 +234,7 @@ fn take<'a>(count: usize, buf: &mut ParseBuf<'a>) -> Result<&'a [u8], Error>
 }
 
 /// Takes bytes, at most `max`, after their length in `prefix` bytes, from the start of `buf`.
+#[inline(always)]
 pub(crate) fn read_counted<'a>(
     prefix: usize,
     max: u64,
@@ -202,6 +252,7 @@ pub(crate) fn read_counted<'a>(
 }
 
 /// Takes bytes, a multiple of four, after their length in `prefix` bytes, from the start of `buf`.
+#[inline(always)]
 pub(crate) fn read_vector<'a>(prefix: usize, buf: &mut ParseBuf<'a>) -> Result<&'a [u8], Error>
     requires low { 1 ≤ prefix }
     requires high { prefix ≤ 4 }
@@ -215,6 +266,7 @@ pub(crate) fn read_vector<'a>(prefix: usize, buf: &mut ParseBuf<'a>) -> Result<&
 }
 
 /// Takes the bytes of a decimal number from the start of `buf`.
+#[inline(always)]
 pub(crate) fn read_decimal<'a>(
     precision: u8,
     scale: u8,

@@ -7,6 +7,7 @@ ghost use Rattle.binlog_values.specs.DecimalLaws.{adjusted};
 use byteorder::{BigEndian, ByteOrder};
 
 /// The number of bytes of a group of this many decimal digits, at most nine.
+#[inline(always)]
 fn digits_len(digits: u8) -> usize
     requires { digits ≤ 9 }
     ensures len { result ≡ digits_len digits }
@@ -20,6 +21,7 @@ fn digits_len(digits: u8) -> usize
 }
 
 /// 10 to the power of `digits`, at most 9.
+#[inline(always)]
 fn pow_10(digits: u8) -> u64
     requires { digits ≤ 9 }
     ensures { result ≡ 10 ^ digits }
@@ -40,6 +42,7 @@ fn pow_10(digits: u8) -> u64
 
 #[tactic(auto, using(crate::specs::DecimalLaws::decimal_count))]
 /// The number of bytes of a decimal number of this precision and scale, at most 31.
+#[inline(always)]
 pub(crate) fn decimal_len(precision: u8, scale: u8) -> usize
     requires high { precision ≤ 65 }
     requires scale { scale ≤ precision }
@@ -51,6 +54,7 @@ pub(crate) fn decimal_len(precision: u8, scale: u8) -> usize
 }
 
 /// 256 to the power of `len`, 1 to 4.
+#[inline(always)]
 fn pow_256(len: usize) -> u64
     requires low { 1 ≤ len }
     requires high { len ≤ 4 }
@@ -67,6 +71,7 @@ fn pow_256(len: usize) -> u64
 
 /// The number of a group, by its stored number: the top bit of the first group is the sign, and all bits of a negative
 /// number are complemented.
+#[inline(always)]
 fn adjusted(at: usize, is_positive: bool, all: u64, stored: u64) -> u64
     requires { 2 ≤ all }
     ensures { result ≡ adjusted at is_positive all stored }
@@ -81,6 +86,7 @@ fn adjusted(at: usize, is_positive: bool, all: u64, stored: u64) -> u64
 
 /// The number of the group of `len` bytes, 1 to 4, from the index `at`.
 #[tactic(auto, using(crate::specs::DecimalLaws::group_is))]
+#[inline(always)]
 fn group(bytes: &[u8], at: usize, len: usize) -> u64
     requires low { 1 ≤ len }
     requires high { len ≤ 4 }
@@ -92,6 +98,7 @@ fn group(bytes: &[u8], at: usize, len: usize) -> u64
 }
 
 /// Whether the group of this many digits, at most nine, from the index `at` is a number with as many digits.
+#[inline(always)]
 fn group_fits(bytes: &[u8], at: usize, digits: u8) -> bool
     requires digits { digits ≤ 9 }
     requires room { at + digits_len digits ≤ length bytes.now }
@@ -103,6 +110,7 @@ fn group_fits(bytes: &[u8], at: usize, digits: u8) -> bool
 
 /// Whether each of `count` groups of nine digits from the index `at`, and one of `tail` digits after them, is a number
 /// with as many digits.
+#[inline(always)]
 fn groups_fit(bytes: &[u8], at: usize, count: u8, tail: u8) -> bool
     requires digits { tail ≤ 9 }
     requires room { at + 4 * count + digits_len tail ≤ length bytes.now }
@@ -121,6 +129,7 @@ fn groups_fit(bytes: &[u8], at: usize, count: u8, tail: u8) -> bool
 #[tactic(auto, using(crate::specs::DecimalLaws::decimal_count))]
 /// Whether these bytes, as many as a decimal number of this precision and scale has, are one: each of its groups has to
 /// be a number with as many digits as the group has.
+#[inline(always)]
 pub(crate) fn is_decimal(precision: u8, scale: u8, bytes: &[u8]) -> bool
     requires high { precision ≤ 65 }
     requires scale { scale ≤ precision }

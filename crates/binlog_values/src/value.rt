@@ -71,6 +71,7 @@ impl<'a> Value<'a> {
     ///
     /// - [`Error::EndOfBody`] if the bytes end within the value.
     /// - [`Error::InvalidData`] if the value is complete and out of its range.
+    #[inline(always)]
     pub fn read(column: &Column, buf: &mut ParseBuf<'a>) -> Result<Self, Error>
         ensures content { Gives ⊥ buf.new (answer_content result) ((content_in (layout_of (typed_of column.now))).reads buf.old) }
         ensures meaning { IfOk result (λ value. meaning_of value ≡ meaning_in (typed_of column.now)) }
@@ -118,6 +119,7 @@ impl<'a> Value<'a> {
 }
 
 /// The value of a column that is a number of `len` bytes.
+#[inline(always)]
 fn number_value<'a>(column: &Column, len: u8, number: u64) -> Value<'a>
     ensures content { content_of result ≡ of_number number }
     ensures meaning { meaning_of result ≡ number_meaning len (typed_of column.now).0 (typed_of column.now).1 }
@@ -142,6 +144,7 @@ fn number_value<'a>(column: &Column, len: u8, number: u64) -> Value<'a>
 }
 
 /// The value of an ENUM or a SET.
+#[inline(always)]
 fn listed_value<'a>(column: &Column, number: u64) -> Value<'a>
     ensures content { content_of result ≡ of_number number }
     ensures meaning { meaning_of result ≡ listed (typed_of column.now).1 }
@@ -154,6 +157,7 @@ fn listed_value<'a>(column: &Column, number: u64) -> Value<'a>
 }
 
 /// The value of a column of this type that is bytes.
+#[inline(always)]
 fn bytes_value<'a>(column_type: ColumnType, bytes: &'a [u8]) -> Value<'a>
     ensures content { content_of result ≡ of_bytes bytes.now }
     ensures meaning { meaning_of result ≡ bytes_meaning column_type }

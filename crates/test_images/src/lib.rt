@@ -7,3 +7,5 @@ mod partial_updates;
 mod rows;
 #[cfg(test)]
 mod told;
+#[cfg(test)]
+mod visits;

@@ -7,7 +7,7 @@ use std::alloc::Global;
 use testkit_bodies::read;
 
 /// The table 5: two TINY columns and a VARCHAR of at most ten bytes.
-const TABLE: &[u8] = b"\x05\0\0\0\0\0\x01\0\x01d\0\x01t\0\x03\x01\x01\x0f\x02\x0a\0\x07";
+pub const TABLE: &[u8] = b"\x05\0\0\0\0\0\x01\0\x01d\0\x01t\0\x03\x01\x01\x0f\x02\x0a\0\x07";
 
 const BEFORE: ImageKind = ImageKind::Before;
 
@@ -55,7 +55,7 @@ fn refused(
 }
 
 /// All three columns; the second is NULL. Then a row of 1, 2 and the empty string.
-const FULL: &[u8] = b"\x05\0\0\0\0\0\x01\0\x02\0\x03\x07\x02\x05\x03abc\0\x01\x02\0";
+pub const FULL: &[u8] = b"\x05\0\0\0\0\0\x01\0\x02\0\x03\x07\x02\x05\x03abc\0\x01\x02\0";
 
 #[test]
 fn null_has_no_bytes(rt: HostRuntime) {
@@ -86,7 +86,7 @@ fn null_bits_count_present_columns(rt: HostRuntime) {
 }
 
 /// The first column before, the second after.
-const MOVED: &[u8] = b"\x05\0\0\0\0\0\x01\0\x02\0\x03\x01\x02\0\x05\0\x09";
+pub const MOVED: &[u8] = b"\x05\0\0\0\0\0\x01\0\x02\0\x03\x01\x02\0\x05\0\x09";
 
 #[test]
 fn each_image_has_columns_of_its_own(rt: HostRuntime) {
@@ -98,12 +98,12 @@ fn each_image_has_columns_of_its_own(rt: HostRuntime) {
 }
 
 /// The last image isn't there; the last image's value isn't there.
-const HALF: &[u8] = b"\x05\0\0\0\0\0\x01\0\x02\0\x03\x01\x02\0\x05\0\x09\0\x05";
+pub const HALF: &[u8] = b"\x05\0\0\0\0\0\x01\0\x02\0\x03\x01\x02\0\x05\0\x09\0\x05";
 
 const SHORT: &[u8] = b"\x05\0\0\0\0\0\x01\0\x02\0\x03\x01\x02\0\x05\0";
 
 /// A string of eleven bytes, and a row after it.
-const LONG: &[u8] = b"\x05\0\0\0\0\0\x01\0\x02\0\x03\x07\0\x01\x02\x0b01234567890\x07\x07";
+pub const LONG: &[u8] = b"\x05\0\0\0\0\0\x01\0\x02\0\x03\x07\0\x01\x02\x0b01234567890\x07\x07";
 
 /// No column is present, and a byte is there.
 const OVER: &[u8] = b"\x05\0\0\0\0\0\x01\0\x02\0\x03\xf8\0";

@@ -37,7 +37,8 @@ pub enum Told {
 /// The place of a column: the index of the row, the image, and the index of the column.
 pub type Place = (usize, ImageKind, usize);
 
-fn told_column(column: ColumnValue<'_>) -> Told {
+/// What a column is.
+pub fn told_column(column: ColumnValue<'_>) -> Told {
     match column {
         ColumnValue::Absent => Told::Absent,
         ColumnValue::Null => Told::Null,

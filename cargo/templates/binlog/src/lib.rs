@@ -151,8 +151,8 @@ pub mod values {
     pub use crate::binlog_column_facts::{ColumnFacts, TableMapColumns};
     pub use crate::binlog_columns::{Column, ColumnError, ColumnErrorKind, ColumnType, Layout};
     pub use crate::binlog_columns::{TableColumns, UnknownColumnType};
-    pub use crate::binlog_images::{ColumnValue, HasWholeRows, Image, ImageKind, Row, Rows};
-    pub use crate::binlog_images::{RowsError, RowsErrorKind, RowsEventError, RowsEventExt};
+    pub use crate::binlog_images::{ColumnValue, ColumnVisitor, HasWholeRows, Image, ImageKind};
+    pub use crate::binlog_images::{Row, Rows, RowsError, RowsErrorKind, RowsEventError, RowsEventExt};
     pub use crate::binlog_optional_metadata::{ColumnClass, DefaultCharset, IndexedNumbers};
     pub use crate::binlog_optional_metadata::{MemberLists, MetadataBits, Names, Numbers};
     pub use crate::binlog_optional_metadata::{OptionalMetadataError, OptionalMetadataErrorKind};

@@ -1,7 +1,7 @@
 use Rattle.std.proofs.Common.{rules}
 use Rattle.binlog_columns.specs.Columns.{typed_of}
 use Rattle.binlog_columns.specs.RefusalLaws.{tail_whole}
-use Rattle.binlog_columns.proofs.table_columns.TableColumnsIterator.next.Goals as goal
+use Rattle.binlog_columns.proofs.table_columns.TableColumns.read_next.Goals as goal
 
 pub invariant_of-self : goal.invariant_of-self
 invariant_of-self c = record {
