@@ -1,28 +1,62 @@
--- Decimal digits that are appended one by one.
-use Rattle.std.proofs.Common.{◌≡◌, ℕ, suc, ◌+◌, ◌-◌, ◌/◌, ◌%◌, ◌^◌, ◌<◌, ◌≤◌, List, [], ◌∷◌, ◌++◌, refl, sym, ap, ◌∙◌, append_assoc, append-nil, arith}
+-- The last digits of a number.
+use Rattle.std.proofs.Common.{◌≡◌, ℕ, zero, suc, ◌+◌, ◌-◌, ◌*◌, ◌/◌, ◌%◌, ◌^◌, ◌<◌, ◌≤◌, List, [], ◌∷◌, ◌++◌, length, refl, sym, ap, ◌∙◌, append_assoc, arith}
+use Rattle.std.proofs.Math.Nat.{pow-suc, pow-succ', one-le-pow, div-div-eq-div-mul}
+use Rattle.std.proofs.lemmas.Nat.{mod-mul-add, div-add-mod'}
+use Rattle.std.proofs.lemmas.List.{take_all}
+use Rattle.std.proofs.lemmas.Fmt.{decimal_digit, decimal_step}
+use Rattle.std.specs.Fmt.{decimal}
+use Rattle.std.specs.List.{slice_range}
 use Rattle.binlog_row_lines.specs.Times.{last_digits}
 
-digits_step : (count index n : ℕ) → index < count → last_digits (count - index) n ≡ (48 + n / 10 ^ (count - 1 - index) % 10) ∷ last_digits (count - (index + 1)) n
+-- One digit more: those of a tenth, and the last.
+digits_before : (count n : ℕ) → last_digits (suc count) n ≡ last_digits count (n / 10) ++ (48 + n % 10) ∷ []
 unfolding last_digits
-digits_step count index n below =
-    let left : count - index ≡ suc (count - 1 - index) = omega arith in
-    let next : count - (index + 1) ≡ count - 1 - index = omega arith in
-    rw (left, next) refl
+digits_before zero n = let e : n / 1 ≡ n = omega arith in ap (λ (m : ℕ). (48 + m % 10) ∷ []) e
+digits_before (suc count) n =
+    let place : n / 10 ^ suc count ≡ n / 10 / 10 ^ count = ap (λ (m : ℕ). n / m) (pow-succ' 10 count) ∙ sym (div-div-eq-div-mul n 10 (10 ^ count)) in
+    ap (λ (m : ℕ). (48 + m % 10) ∷ last_digits (suc count) n) place
+    ∙ ap (λ (l : List ℕ). (48 + n / 10 / 10 ^ count % 10) ∷ l) (digits_before count n)
 
--- One more digit.
-pub digit_pushed : (old new start : List ℕ) (count index n digit : ℕ) → index < count → digit ≡ 48 + n / 10 ^ (count - 1 - index) % 10
-    → old ++ last_digits (count - index) n ≡ start → new ≡ old ++ digit ∷ [] → new ++ last_digits (count - (index + 1)) n ≡ start
-digit_pushed old new start count index n digit below is whole pushed =
-    let rest : List ℕ = last_digits (count - (index + 1)) n in
-    ap (λ (l : List ℕ). l ++ rest) pushed ∙ append_assoc old (digit ∷ []) rest
-    ∙ ap (λ (d : ℕ). old ++ d ∷ rest) is ∙ ap (λ (l : List ℕ). old ++ l) (sym (digits_step count index n below)) ∙ whole
+-- The remainder by ten times a number.
+mod_ten_times : (k n : ℕ) → 0 < k → n % (k * 10) ≡ n / 10 % k * 10 + n % 10
+mod_ten_times k n some =
+    let tenth : n / 10 / k * k + n / 10 % k ≡ n / 10 = div-add-mod' (n / 10) k in
+    let below : n / 10 % k < k = omega (arith, some) in
+    let small : n / 10 % k * 10 + n % 10 < k * 10 = omega (arith, below) in
+    let parts : n / 10 / k * (k * 10) + (n / 10 % k * 10 + n % 10) ≡ n = omega (arith, tenth) in
+    ap (λ (m : ℕ). m % (k * 10)) (sym parts) ∙ mod-mul-add (n / 10 / k) (k * 10) (n / 10 % k * 10 + n % 10) small
 
--- All digits.
-pub digits_end : (text start : List ℕ) (count index n : ℕ) → count ≤ index → text ++ last_digits (count - index) n ≡ start → text ≡ start
+-- The digits of a number that has a one before so many last digits.
+pub one_before : (count n : ℕ) → 10 ^ count + n % 10 ^ count < 2 ^ 64 → decimal (10 ^ count + n % 10 ^ count) ≡ 49 ∷ last_digits count n
 unfolding last_digits
-digits_end text start count index n over whole =
-    let none : count - index ≡ 0 = omega arith in
-    sym (append-nil text) ∙ (rw none at whole)
+one_before zero n small = let e : 1 + n % 1 ≡ 1 = omega arith in rw e (decimal_digit 1 (omega arith))
+one_before (suc count) n small =
+    let some : 1 ≤ 10 ^ count = one-le-pow count 10 (omega arith) in
+    let whole : 10 ^ suc count + n % 10 ^ suc count ≡ (10 ^ count + n / 10 % 10 ^ count) * 10 + n % 10 =
+    ap (λ (m : ℕ). m + n % m) (pow-suc 10 count) ∙ omega (arith, mod_ten_times (10 ^ count) n some) in
+    let tenth : (10 ^ suc count + n % 10 ^ suc count) / 10 ≡ 10 ^ count + n / 10 % 10 ^ count = omega (arith, whole) in
+    let last : (10 ^ suc count + n % 10 ^ suc count) % 10 ≡ n % 10 = omega (arith, whole) in
+    let before : decimal (10 ^ count + n / 10 % 10 ^ count) ≡ 49 ∷ last_digits count (n / 10) = one_before count (n / 10) (omega (arith, whole, small)) in
+    decimal_step (10 ^ suc count + n % 10 ^ suc count) (omega (arith, whole, some)) small
+    ∙ ap (λ (m : ℕ). decimal m ++ (48 + (10 ^ suc count + n % 10 ^ suc count) % 10) ∷ []) tenth
+    ∙ ap (λ (d : ℕ). decimal (10 ^ count + n / 10 % 10 ^ count) ++ (48 + d) ∷ []) last
+    ∙ ap (λ (l : List ℕ). l ++ (48 + n % 10) ∷ []) before
+    ∙ ap (λ (l : List ℕ). 49 ∷ l) (sym (digits_before count n))
+
+length-last_digits : (count n : ℕ) → length (last_digits count n) ≡ count
+unfolding last_digits
+length-last_digits zero n = refl
+length-last_digits (suc count) n = ap suc (length-last_digits count n)
+
+-- All digits of this number but the first are the last digits of a number, of which there are at most nine.
+pub digits_behind_one : (power count n : ℕ) (text : List ℕ) → power ≡ 10 ^ count → power ≤ 10 ^ 9 → 1 ≤ power → text ≡ decimal (power + n % power) → (length text ≡ count + 1) × (slice_range text 1 (1 + count) ≡ last_digits count n)
+digits_behind_one power count n text is few some shown =
+    let below : n % power < power = omega (arith, some) in
+    let small : 10 ^ count + n % 10 ^ count < 2 ^ 64 = rw (← is) (omega (arith, few, below)) in
+    let whole : text ≡ 49 ∷ last_digits count n = shown ∙ ap (λ (m : ℕ). decimal (m + n % m)) is ∙ one_before count n small in
+    let len : length (last_digits count n) ≡ count = length-last_digits count n in
+    let front : 1 + count - 1 ≡ count = omega arith in
+    rw (whole, front) (omega (arith, len), take_all count (last_digits count n) (omega (arith, len)))
 
 -- ---- texts in four parts
 

@@ -4,6 +4,7 @@ ghost use Rattle.std.specs.String.{string_bytes};
 ghost use Rattle.std.specs.Fmt.{decimal};
 ghost use Rattle.binlog_row_lines.specs.Times.{last_digits, two_digits, year_text};
 
+use itoa::Buffer;
 use std::alloc::AllocError;
 
 /// 10 to the power of `exponent`, at most 9.
@@ -11,6 +12,7 @@ pub(crate) fn pow_10(exponent: u8) -> u64
     requires { exponent ≤ 9 }
     ensures power { result ≡ 10 ^ exponent }
     ensures some { 1 ≤ result }
+    ensures small { result ≤ 10 ^ 9 }
 {
     match exponent {
         0 => 1,
@@ -27,30 +29,25 @@ pub(crate) fn pow_10(exponent: u8) -> u64
 }
 
 /// Appends the last `count` decimal digits of a number, at most nine.
+// They are the digits behind the first one of a number with a one before them, which keeps the zeros in front. Inlined, since
+// most callers know the count: the digits are then a load and a store.
+#[inline(always)]
 pub(crate) fn push_last_digits(text: &mut String, count: u8, number: u64) -> Result<(), AllocError>
     requires { count ≤ 9 }
     ensures { OnOk result (string_bytes text.new ≡ string_bytes text.old ++ last_digits count number) }
 {
-    for index in 0..count {
-        let place = count - 1 - index;
-        text.push(last_digit(number / pow_10(place)))?;
-    }
-    Ok(())
-}
-
-/// The last decimal digit of a number.
-fn last_digit(number: u64) -> char
-    ensures digit { result ≡ 48 + number % 10 }
-    ensures ascii { result < 128 }
-{
-    (b'0' + (number % 10) as u8) as char
+    let power = pow_10(count);
+    let mut buffer = Buffer::new();
+    let digits = buffer.format(power + number % power);
+    text.push_str(&digits[1..1 + usize::from(count)])
 }
 
 /// Appends a number in decimal.
 pub(crate) fn push_number(text: &mut String, number: u64) -> Result<(), AllocError>
     ensures { OnOk result (string_bytes text.new ≡ string_bytes text.old ++ decimal number) }
 {
-    write!(text, "{number}")
+    let mut buffer = Buffer::new();
+    text.push_str(buffer.format(number))
 }
 
 /// Appends a number in two digits or more.
