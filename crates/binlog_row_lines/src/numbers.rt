@@ -52,7 +52,8 @@ pub(crate) fn write_integer(
         return line.number(bits);
     }
     let complement = (least - 1 + least).saturating_sub(bits);
-    line.signed_number(-1 - complement as i64)
+    let mut buffer = itoa::Buffer::new();
+    line.number_text(buffer.format(-1 - complement as i64))
 }
 
 /// Writes the bits of a floating-point number of four bytes; null if it isn't finite.
