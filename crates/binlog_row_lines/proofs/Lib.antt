@@ -5,5 +5,6 @@ mod FixedValues
 mod RowTexts
 mod Integers
 mod Padding
+mod PlainTexts
 mod SetTexts
 mod EnumTexts

@@ -8,6 +8,7 @@
 mod decimals;
 mod digits;
 mod members;
+mod names;
 mod numbers;
 mod rows;
 mod strings;

@@ -15,7 +15,6 @@ ghost use Rattle.binlog_row_lines.specs.Parts.{Writes};
 ghost use Rattle.binlog_row_lines.specs.Rows.{column_name, cell_parts, first_parts, image_parts, image_member, row_parts, kind_name, image_name, fault_image, fault_column, refusal_tokens, item_parts};
 ghost use Rattle.binlog_row_lines.specs.Written.{ShowsRows};
 
-use crate::digits::push_number;
 use crate::values::{ValueWriter, write_encoded};
 use binlog_column_facts::ColumnFacts;
 use binlog_images::{ColumnValue, Image, ImageKind, Row, Rows, RowsError, RowsErrorKind};
@@ -94,12 +93,7 @@ impl ValueWriter {
     {
         match facts.name {
             Some(name) => line.escaped_key(name),
-            None => {
-                self.text.clear();
-                self.text.push_str("@")?;
-                push_number(&mut self.text, index + 1)?;
-                line.escaped_key(self.text.as_str())
-            }
+            None => line.key(self.names.name(index as usize)?),
         }
     }
 

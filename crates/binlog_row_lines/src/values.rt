@@ -13,6 +13,7 @@ ghost use Rattle.binlog_row_lines.specs.Values.{year_of, date_of, time_of, datet
 
 use crate::decimals::push_decimal;
 use crate::members::{write_enum, write_set};
+use crate::names::NumberedNames;
 use crate::numbers::{write_double, write_integer, write_single};
 use crate::strings::write_string;
 use crate::times::{push_clock, push_date, push_fraction, push_sign};
@@ -25,8 +26,9 @@ use std::alloc::{AllocError, Global};
 /// Writes values, in memory that is reused from value to value.
 #[derive(Drop)]
 pub struct ValueWriter {
-    pub(crate) text: String,
+    text: String,
     bytes: Vec<u8>,
+    pub(crate) names: NumberedNames,
 }
 
 impl ValueWriter {
@@ -35,6 +37,7 @@ impl ValueWriter {
         ValueWriter {
             text: String::new(alloc),
             bytes: Vec::new(alloc),
+            names: NumberedNames::new(alloc),
         }
     }
 
