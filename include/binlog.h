@@ -131,7 +131,7 @@ size_t binlog_next_verified(const uint8_t *log, size_t size, binlog_cursor *curs
  * doesn't need table maps, and they aren't looked at. Usually these are the items of type 19 between the row event and the
  * event before it that is neither a row event nor a table map.
  *
- * The error is 0, or one of these; nothing is written then, and 0 is returned:
+ * The error is 0, or the first of these; nothing is written then, and 0 is returned:
  *
  * BINLOG_INVALID_ITEM: binlog_next doesn't give this item, with these members, from the place before it, {item->position,
  *     item->description, 0}; of an item with BINLOG_CHECKSUM_MISMATCH, binlog_next_verified doesn't.
