@@ -6,5 +6,6 @@ pub mod Found
 pub mod Calls
 pub mod FirstItems
 pub mod OneItem
+pub mod PlainEvents
 pub mod FilledItems
 pub mod TableMaps
