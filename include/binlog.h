@@ -112,9 +112,6 @@ size_t binlog_next(const uint8_t *log, size_t size, binlog_cursor *cursor, binlo
  * The checksum of an event is that of its bytes before the checksum, with the flag 0x1 of its header (the log isn't
  * closed) taken as clear. The log is only read. The description that the cursor names isn't verified.
  *
- * Each call first computes tables, which takes as long as the checksums of some 2,000 bytes, and needs 17 KB of stack
- * for them. So give it room for many items.
- *
  *     count = binlog_next_verified(log, size, &cursor, items, 64, &error); */
 size_t binlog_next_verified(const uint8_t *log, size_t size, binlog_cursor *cursor, binlog_item *items, size_t room,
                             uint8_t *error);

@@ -1,11 +1,11 @@
 -- Shifting bits out is linear under xor, so a word can be processed as the xor of its bytes, each looked up by itself.
-use Rattle.std.proofs.Common.{◌≡◌, ℕ, zero, suc, ◌+◌, ◌-◌, ◌*◌, ◌/◌, ◌%◌, ◌^◌, ◌<◌, ◌≤◌, List, [], ◌∷◌, ◌++◌, length, slice_index, slice_set, get_or, take, drop, refl, sym, ap, subst, inl, inr, ◌∙◌, arith}
-use Rattle.std.proofs.lemmas.List.{get_or-take, get_or-drop, get_or_past, length-take-le, take-append-drop, nil_from_length, get_or-set_same, get_or-set_other}
+use Rattle.std.proofs.Common.{◌≡◌, ℕ, zero, suc, ◌+◌, ◌*◌, ◌/◌, ◌%◌, ◌^◌, ◌<◌, ◌≤◌, List, [], ◌∷◌, ◌++◌, length, slice_index, get_or, take, drop, refl, sym, ap, subst, inl, inr, ◌∙◌, arith}
+use Rattle.std.proofs.lemmas.List.{get_or-take, get_or-drop, get_or_past, length-take-le, take-append-drop, nil_from_length}
 use Rattle.std.proofs.lemmas.Bool.{cases_lt}
 use Rattle.std.specs.Int.{w32, w64, from_le_bytes}
 use Rattle.std.specs.Int.RustNames.{bit_xor}
 use lib.Bits.{xor_assoc, xor_zero_l, xor_zero_r, xor_self, xor_comm, xor_shr, xor_mod, xor_shifted, shifted_half, shifted_even}
-use Rattle.crc32_ieee.specs.Crc32.{polynomial, after_bit, after_bits, register, AreEntries}
+use Rattle.crc32_ieee.specs.Crc32.{polynomial, after_bit, after_bits, register}
 
 pub xor_swap : (a b c d : ℕ) → bit_xor (bit_xor a b) (bit_xor c d) ≡ bit_xor (bit_xor a c) (bit_xor b d)
 xor_swap a b c d =
@@ -155,14 +155,6 @@ register-append c (b ∷ s) r = register-append (after_bits 8 (bit_xor c b)) s r
 
 -- ---- steps of the code
 
-pub one_more : (n k c v : ℕ) → n ≡ suc k → v ≡ after_bit c → after_bits k v ≡ after_bits n c
-unfolding after_bits
-one_more n k c v e step = ap (after_bits k) step ∙ sym (ap (λ (m : ℕ). after_bits m c) e)
-
-pub none_more : (n c : ℕ) → n ≡ 0 → after_bits n c ≡ c
-unfolding after_bits
-none_more n c e = ap (λ (m : ℕ). after_bits m c) e
-
 word_of : (w : List ℕ) → length w ≡ 8 → little w ≡ from_le_bytes w64 w
 unfolding little
 word_of (a ∷ b ∷ c ∷ d ∷ e ∷ f ∷ g ∷ h ∷ []) n = omega arith
@@ -218,31 +210,3 @@ byte_taken c v b s behind parts looked = ap (λ (x : ℕ). register x behind) lo
 pub none_left : (c : ℕ) (s : List ℕ) → length s ≡ 0 → register c s ≡ c
 unfolding register
 none_left c s none = ap (register c) (nil_from_length s none)
-
--- ---- the tables
-
-next_entry : (t : List ℕ) (i : ℕ) → 256 ≤ i → AreEntries i t
-    → bit_xor (get_or t (get_or t (i - 256) 0 % 256) 0) (get_or t (i - 256) 0 / 256) ≡ after_bits (8 * (i / 256 + 1)) (i % 256)
-next_entry t i big filled =
-    let x = get_or t (i - 256) 0 in
-    let q = i / 256 in
-    let rounds : 8 * ((i - 256) / 256 + 1) ≡ 8 * q = omega arith in
-    let byte : (i - 256) % 256 ≡ i % 256 = omega arith in
-    let before : x ≡ after_bits (8 * q) (i % 256) = filled (i - 256) (omega arith) ∙ (λ k. after_bits (rounds k) (byte k)) in
-    let one : 8 * ((x % 256) / 256 + 1) ≡ 8 = omega arith in
-    let same : (x % 256) % 256 ≡ x % 256 = omega arith in
-    let low : get_or t (x % 256) 0 ≡ after_bits 8 (x % 256) = filled (x % 256) (omega arith) ∙ (λ k. after_bits (one k) (same k)) in
-    let more : 8 * q + 8 ≡ 8 * (q + 1) = omega arith in
-    ap (λ (y : ℕ). bit_xor y (x / 256)) low ∙ sym (by_byte x) ∙ ap (after_bits 8) before
-    ∙ sym (after_bits-add (8 * q) 8 (i % 256)) ∙ ap (λ (k : ℕ). after_bits k (i % 256)) more
-
-pub entries_more : (t : List ℕ) (i : ℕ) → 256 ≤ i → i < length t → AreEntries i t
-    → AreEntries (i + 1) (slice_set t i (bit_xor (get_or t (get_or t (i - 256) 0 % 256) 0) (get_or t (i - 256) 0 / 256)))
-entries_more t i big inside filled j near = elim (cases_lt j i) [
-  | inl old ↦ get_or-set_other t i j _ 0 (λ e. absurd (omega arith)) ∙ filled j old
-  | inr new ↦
-      let e : i ≡ j = omega arith in
-      let v = bit_xor (get_or t (get_or t (i - 256) 0 % 256) 0) (get_or t (i - 256) 0 / 256) in
-      subst (λ (k : ℕ). slice_index (slice_set t i v) k ≡ after_bits (8 * (k / 256 + 1)) (k % 256)) e
-      (get_or-set_same t i v 0 inside ∙ next_entry t i big filled)
-]

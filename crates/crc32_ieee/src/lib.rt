@@ -6,10 +6,11 @@
 
 ghost use Rattle.std.specs.Prelude.{◌≡◌, ◌+◌, ◌*◌, ◌<◌, flat_map};
 ghost use Rattle.std.specs.Int.RustNames.{bit_xor};
-ghost use Rattle.crc32_ieee.specs.Crc32.{after_bit, after_bits, register, crc32, AreEntries};
+ghost use Rattle.crc32_ieee.specs.Crc32.{after_bits, register, crc32};
 
-/// The polynomial with its bits reversed.
-const POLYNOMIAL: u32 = 0xedb8_8320;
+mod tables;
+
+use tables::{BYTES, all_tables};
 
 /// The number of bytes processed at a time.
 const WORD: usize = 8;
@@ -17,32 +18,14 @@ const WORD: usize = 8;
 /// The number of bytes processed at once behind the last word.
 const HALF_WORD: usize = 4;
 
-/// The number of entries of one table.
-const BYTES: usize = 256;
-
-/// The number of entries of all tables.
-const ENTRIES: usize = WORD * BYTES;
-
-/// Computes CRC-32 checksums. It holds its lookup tables, 8 KiB: create one, and use it for any number of checksums.
-#[derive(Drop)]
-pub struct Crc32 {
-    // Eight tables of 256 entries: for the last byte of a word, for the byte before it, and so on.
-    tables: [u32; ENTRIES],
-    ghost are_entries: { AreEntries 2048 tables },
-}
+/// Computes CRC-32 checksums, by lookup tables that are constants: nothing is computed beforehand.
+#[derive(Clone, Copy, Debug, Drop)]
+pub struct Crc32;
 
 impl Crc32 {
-    /// Computes the tables.
+    /// What computes checksums.
     pub fn new() -> Crc32 {
-        let mut tables = [0; ENTRIES];
-        'first: for index in 0..BYTES {
-            tables[index] = after_eight_bits(index as u32);
-        }
-        'others: for index in BYTES..ENTRIES {
-            let before = tables[index - BYTES];
-            tables[index] = tables[(before % 256) as usize] ^ (before >> 8);
-        }
-        Crc32 { tables }
+        Crc32
     }
 
     /// The CRC-32 of the bytes, 0 for no bytes. They are read once, and nothing is allocated.
@@ -92,7 +75,7 @@ impl Crc32 {
         requires byte { byte < 256 }
         ensures { result ≡ after_bits (8 * (zeros_behind + 1)) byte }
     {
-        self.tables[zeros_behind * BYTES + byte as usize]
+        all_tables()[zeros_behind * BYTES + byte as usize]
     }
 
     // The result of shifting out all 64 bits of a register.
@@ -127,22 +110,6 @@ impl Crc32 {
     {
         self.entry(0, u64::from(crc % 256 ^ u32::from(byte))) ^ (crc >> 8)
     }
-}
-
-fn after_eight_bits(byte: u32) -> u32
-    ensures { result ≡ after_bits 8 byte }
-{
-    let mut crc = byte;
-    'bits: for _ in 0..8u32 {
-        crc = after_bit(crc);
-    }
-    crc
-}
-
-fn after_bit(crc: u32) -> u32
-    ensures { result ≡ after_bit crc }
-{
-    (crc / 2) ^ (crc % 2 * POLYNOMIAL)
 }
 
 #[cfg(test)]
