@@ -1,9 +1,7 @@
 mod Parts
-mod DigitTexts
-mod DecimalTexts
+mod FourParts
 mod FixedValues
 mod RowTexts
-mod Integers
 mod Padding
 mod PlainTexts
 mod SetTexts

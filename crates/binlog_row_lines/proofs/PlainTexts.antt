@@ -1,11 +1,11 @@
 -- Texts that need no escape.
-use Rattle.std.proofs.Common.{◌≡◌, ℕ, suc, ◌+◌, ◌%◌, ◌^◌, ◌<◌, true, ◌&&◌, List, [], ◌∷◌, ◌++◌, refl, arith}
+use Rattle.std.proofs.Common.{◌≡◌, ℕ, ◌+◌, ◌%◌, ◌^◌, ◌<◌, true, List, [], ◌∷◌, ◌++◌, refl, arith}
 use Rattle.std.proofs.lemmas.Bool.Decides.{nat_tests}
 use Rattle.std.proofs.lemmas.Bool.{and_parts, and_from}
 use Rattle.std.proofs.lemmas.Fmt.{decimal_by_steps}
 use Rattle.std.specs.Fmt.{decimal}
 use Rattle.json.specs.Run.{is_plain}
-use Rattle.json_line.specs.Lines.{are_plain, IsPlainText}
+use Rattle.json_line.specs.Lines.{IsPlainText}
 
 digit_is_plain : (n : ℕ) → n < 10 → is_plain (48 + n) ≡ true
 digit_is_plain n small = grind (arith, nat_tests)

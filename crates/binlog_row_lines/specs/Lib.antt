@@ -1,6 +1,5 @@
 pub mod Parts
 pub mod Numbers
-pub mod Decimals
 pub mod Members
 pub mod Times
 pub mod Values

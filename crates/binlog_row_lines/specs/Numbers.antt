@@ -1,23 +1,16 @@
 -- Numbers, as tokens.
-use Rattle.std.specs.Prelude.{ℕ, ◌-◌, ◌*◌, ◌%◌, ◌^◌, Bool, true, false, List, [], ◌∷◌, nat_lt, pos, negsuc, ℤ, from_bits, if◌then◌else◌}
+use Rattle.std.specs.Prelude.{ℕ, ◌%◌, ◌^◌, Bool, true, false, List, [], ◌∷◌, nat_lt, from_bits, if◌then◌else◌}
 use Rattle.std.specs.Float.{Format, binary32, binary64, float_is_finite}
 use Rattle.std.specs.Fmt.{signed_decimal}
+use Rattle.byteorder.specs.Endian.{twos_complement}
 use Rattle.json.specs.Token.{Token, number, null}
 use Rattle.json_line.specs.Tokens.{number_value}
 use Rattle.binlog_row_lines.specs.Parts.{Part, exactly, reading_back}
 
--- In two's complement of this many bytes a number is negative from here on.
-abbrev pub least_negative : ℕ → ℕ
-least_negative size = 2 ^ (8 * size - 1)
-
--- The number that these bits are in two's complement: a negative one is the complement of its bits, negated, less one.
-abbrev pub signed : ℕ → ℕ → ℤ
-signed size bits = if nat_lt bits (least_negative size) then pos bits else negsuc (2 * least_negative size - 1 - bits)
-
 -- An integer of this many bytes; in two's complement, unless the column is UNSIGNED.
 abbrev pub integer_value : Bool → ℕ → ℕ → List Token
 integer_value true size bits = number_value bits
-integer_value false size bits = number (signed_decimal (signed size bits)) ∷ []
+integer_value false size bits = number (signed_decimal (twos_complement size bits)) ∷ []
 
 -- A floating-point number; null if it isn't finite. Bits above those of infinity, but for the sign, are a NaN's.
 abbrev pub float_parts : Format → ℕ → ℕ → ℕ → List Part

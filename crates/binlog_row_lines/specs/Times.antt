@@ -1,19 +1,15 @@
 -- Dates and times as text.
-use Rattle.std.specs.Prelude.{ℕ, zero, suc, ◌+◌, ◌-◌, ◌/◌, ◌%◌, ◌^◌, ◌==◌, Bool, List, [], ◌∷◌, ◌++◌, nat_lt, if◌then◌else◌}
+use Rattle.std.specs.Prelude.{ℕ, ◌-◌, ◌/◌, ◌^◌, ◌==◌, List, [], ◌∷◌, ◌++◌, nat_lt, if◌then◌else◌}
 use Rattle.std.specs.Fmt.{decimal}
-
--- The last decimal digits of a number, this many, with zeros in front.
-unfoldable pub last_digits : ℕ → ℕ → List ℕ
-last_digits zero n = []
-last_digits (suc count) n = (48 + n / 10 ^ count % 10) ∷ last_digits count n
+use Rattle.binlog_values.specs.Texts.{digits_text}
 
 -- A number in two digits or more.
 abbrev pub two_digits : ℕ → List ℕ
-two_digits n = if nat_lt n 100 then last_digits 2 n else decimal n
+two_digits n = if nat_lt n 100 then digits_text 2 n else decimal n
 
 -- A year in four digits or more.
 abbrev pub year_text : ℕ → List ℕ
-year_text year = if nat_lt year 10000 then last_digits 4 year else decimal year
+year_text year = if nat_lt year 10000 then digits_text 4 year else decimal year
 
 -- A date: `2026-11-25`.
 unfoldable pub date_text : ℕ → ℕ → ℕ → List ℕ
@@ -25,8 +21,4 @@ clock_text hour minute second = two_digits hour ++ 58 ∷ [] ++ two_digits minut
 
 -- A fraction in this many digits, at most six, of these microseconds: `.000250`. No digits: nothing.
 abbrev pub fraction_text : ℕ → ℕ → List ℕ
-fraction_text digits microseconds = if digits == 0 then [] else 46 ∷ [] ++ last_digits digits (microseconds / 10 ^ (6 - digits))
-
--- A minus sign for a negative time.
-abbrev pub sign_text : Bool → List ℕ
-sign_text is_negative = if is_negative then 45 ∷ [] else []
+fraction_text digits microseconds = if digits == 0 then [] else 46 ∷ [] ++ digits_text digits (microseconds / 10 ^ (6 - digits))

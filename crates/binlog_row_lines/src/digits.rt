@@ -1,54 +1,10 @@
-//! Decimal digits.
-ghost use Rattle.std.specs.Prelude.{◌≡◌, ◌≤◌, ◌<◌, ◌/◌, ◌%◌, ◌+◌, ◌^◌, ◌++◌, OnOk};
+//! Numbers of dates and times as text.
+ghost use Rattle.std.specs.Prelude.{◌≡◌, ◌<◌, ◌++◌, OnOk};
 ghost use Rattle.std.specs.String.{string_bytes};
-ghost use Rattle.std.specs.Fmt.{decimal};
-ghost use Rattle.binlog_row_lines.specs.Times.{last_digits, two_digits, year_text};
+ghost use Rattle.binlog_row_lines.specs.Times.{two_digits, year_text};
 
-use itoa::Buffer;
+use binlog_values::text::{push_last_digits, push_number};
 use std::alloc::AllocError;
-
-/// 10 to the power of `exponent`, at most 9.
-pub(crate) fn pow_10(exponent: u8) -> u64
-    requires { exponent ≤ 9 }
-    ensures power { result ≡ 10 ^ exponent }
-    ensures some { 1 ≤ result }
-    ensures small { result ≤ 10 ^ 9 }
-{
-    match exponent {
-        0 => 1,
-        1 => 10,
-        2 => 100,
-        3 => 1_000,
-        4 => 10_000,
-        5 => 100_000,
-        6 => 1_000_000,
-        7 => 10_000_000,
-        8 => 100_000_000,
-        _ => 1_000_000_000,
-    }
-}
-
-/// Appends the last `count` decimal digits of a number, at most nine.
-// They are the digits behind the first one of a number with a one before them, which keeps the zeros in front. Inlined, since
-// most callers know the count: the digits are then a load and a store.
-#[inline(always)]
-pub(crate) fn push_last_digits(text: &mut String, count: u8, number: u64) -> Result<(), AllocError>
-    requires { count ≤ 9 }
-    ensures { OnOk result (string_bytes text.new ≡ string_bytes text.old ++ last_digits count number) }
-{
-    let power = pow_10(count);
-    let mut buffer = Buffer::new();
-    let digits = buffer.format(power + number % power);
-    text.push_str(&digits[1..1 + usize::from(count)])
-}
-
-/// Appends a number in decimal.
-pub(crate) fn push_number(text: &mut String, number: u64) -> Result<(), AllocError>
-    ensures { OnOk result (string_bytes text.new ≡ string_bytes text.old ++ decimal number) }
-{
-    let mut buffer = Buffer::new();
-    text.push_str(buffer.format(number))
-}
 
 /// Appends a number in two digits or more.
 pub(crate) fn push_two_digits(text: &mut String, number: u64) -> Result<(), AllocError>

@@ -5,7 +5,6 @@
 //! number.
 #![tactic(auto)]
 
-mod decimals;
 mod digits;
 mod members;
 mod names;

@@ -1,10 +1,11 @@
 //! Numbers as JSON.
-ghost use Rattle.std.specs.Prelude.{◌≡◌, ◌≤◌, ◌<◌, ◌-◌, ◌*◌, ◌^◌, ◌++◌, MatchOption, IsTrue};
+ghost use Rattle.std.specs.Prelude.{◌≡◌, ◌≤◌, ◌<◌, ◌-◌, ◌*◌, ◌^◌, ◌++◌, IsTrue};
 ghost use Rattle.std.specs.Float.{float_is_finite};
 ghost use Rattle.json_line.specs.Tokens.{Adds};
-ghost use Rattle.binlog_row_lines.specs.Numbers.{least_negative, integer_value, single_parts, double_parts};
+ghost use Rattle.binlog_row_lines.specs.Numbers.{integer_value, single_parts, double_parts};
 ghost use Rattle.binlog_row_lines.specs.Parts.{Writes};
 
+use binlog_values::Integer;
 use json_line::Line;
 use ryu::Buffer;
 use std::alloc::AllocError;
@@ -14,46 +15,19 @@ const SINGLE_INFINITY: u32 = 0x7f80_0000;
 
 const DOUBLE_INFINITY: u64 = 0x7ff0_0000_0000_0000;
 
-/// From which number on the bits of an integer of this many bytes are those of a negative number; None if no 64 bits are.
-fn least_negative(size: u8) -> Option<u64>
-    ensures { MatchOption result (8 < size) (λ least. (least ≡ least_negative size) × (least ≤ 2 ^ 63) × (1 ≤ least)) }
-{
-    match size {
-        0 => Some(1),
-        1 => Some(1 << 7),
-        2 => Some(1 << 15),
-        3 => Some(1 << 23),
-        4 => Some(1 << 31),
-        5 => Some(1 << 39),
-        6 => Some(1 << 47),
-        7 => Some(1 << 55),
-        8 => Some(1 << 63),
-        _ => None,
-    }
-}
-
-/// Writes the bits of an integer of this many bytes.
+/// Writes an integer of an UNSIGNED column, or of a signed one.
 pub(crate) fn write_integer(
     line: &mut Line,
     is_unsigned: bool,
-    size: u8,
-    bits: u64,
+    integer: &Integer,
 ) -> Result<(), AllocError>
-    ensures { Adds result line.old line.new (integer_value is_unsigned size bits) }
+    ensures { Adds result line.old line.new (integer_value is_unsigned integer.now.size integer.now.bits) }
 {
     if is_unsigned {
-        return line.number(bits);
+        return line.number(integer.unsigned());
     }
-    let least = match least_negative(size) {
-        Some(least) => least,
-        None => return line.number(bits),
-    };
-    if bits < least {
-        return line.number(bits);
-    }
-    let complement = (least - 1 + least).saturating_sub(bits);
     let mut buffer = itoa::Buffer::new();
-    line.number_text(buffer.format(-1 - complement as i64))
+    line.number_text(buffer.format(integer.signed()))
 }
 
 /// Writes the bits of a floating-point number of four bytes; null if it isn't finite.

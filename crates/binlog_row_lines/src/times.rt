@@ -3,9 +3,10 @@
 
 ghost use Rattle.std.specs.Prelude.{◌≡◌, ◌≤◌, ◌++◌, OnOk};
 ghost use Rattle.std.specs.String.{string_bytes};
-ghost use Rattle.binlog_row_lines.specs.Times.{date_text, clock_text, fraction_text, sign_text};
+ghost use Rattle.binlog_row_lines.specs.Times.{date_text, clock_text, fraction_text};
 
-use crate::digits::{pow_10, push_last_digits, push_two_digits, push_year};
+use crate::digits::{push_two_digits, push_year};
+use binlog_values::text::{pow_10, push_last_digits};
 use std::alloc::AllocError;
 
 /// Appends a date.
@@ -56,14 +57,4 @@ pub(crate) fn push_fraction(
     }
     text.push_str(".")?;
     push_last_digits(text, digits, microseconds / pow_10(6 - digits))
-}
-
-/// Appends a minus sign for a negative time.
-pub(crate) fn push_sign(text: &mut String, is_negative: bool) -> Result<(), AllocError>
-    ensures { OnOk result (string_bytes text.new ≡ string_bytes text.old ++ sign_text is_negative) }
-{
-    if is_negative {
-        text.push_str("-")?;
-    }
-    Ok(())
 }

@@ -5,20 +5,20 @@ ghost use Rattle.std.specs.Prelude.{◌≡◌, ◌++◌, ◌∷◌, []};
 ghost use Rattle.json.specs.Token.{string};
 ghost use Rattle.json_line.specs.Lines.{IsPlainText};
 ghost use Rattle.json_line.specs.Tokens.{Adds};
+ghost use Rattle.binlog_values.specs.Decimals.{decimal_text};
 ghost use Rattle.binlog_values.specs.Values.{meaning_of, content_of};
 ghost use Rattle.binlog_column_facts.specs.Facts.{facts_of};
 ghost use Rattle.binlog_row_lines.specs.Parts.{Writes};
-ghost use Rattle.binlog_row_lines.specs.Decimals.{decimal_text};
 ghost use Rattle.binlog_row_lines.specs.Values.{year_of, date_of, time_of, datetime_of, datetime2_of, time2_of, encoded_value, value_tokens, value_parts};
 
-use crate::decimals::push_decimal;
 use crate::members::{write_enum, write_set};
 use crate::names::NumberedNames;
 use crate::numbers::{write_double, write_integer, write_single};
 use crate::strings::write_string;
-use crate::times::{push_clock, push_date, push_fraction, push_sign};
+use crate::times::{push_clock, push_date, push_fraction};
 use crate::timestamps::write_timestamp;
 use binlog_column_facts::ColumnFacts;
+use binlog_values::text::push_sign;
 use binlog_values::{Date, DateTime, DateTime2, Decimal, Time, Time2, Value};
 use json_line::Line;
 use std::alloc::{AllocError, Global};
@@ -85,12 +85,7 @@ impl ValueWriter {
                 Ok(())
             }
             Value::Null => line.null(),
-            Value::Integer(integer) => write_integer(
-                line,
-                facts.is_unsigned,
-                integer.size(),
-                integer.unsigned(),
-            ),
+            Value::Integer(integer) => write_integer(line, facts.is_unsigned, integer),
             Value::Decimal(decimal) => write_decimal(line, text, decimal),
             Value::Date(date) => write_date(line, text, date),
             Value::Year(year) => line.number(year_of(*year)),
@@ -125,7 +120,7 @@ fn write_decimal(
     ensures { Adds result line.old line.new (string (decimal_text decimal.now.precision decimal.now.scale decimal.now.bytes.now) ∷ []) }
 {
     text.clear();
-    push_decimal(text, decimal)?;
+    decimal.push_to(text)?;
     line.string(text.as_str())
 }
 

@@ -1,27 +1,18 @@
 -- The sign and the digits of decimal numbers are read back as they were written.
-use Rattle.std.proofs.Common.{◌≡◌, ℕ, zero, suc, ◌+◌, ◌-◌, ◌*◌, ◌/◌, ◌%◌, ◌^◌, ◌<◌, ◌≤◌, Bool, true, false, List, [], ◌∷◌, ◌++◌, length, take, drop, replicate, get_or, refl, sym, ap, ◌∙◌, append_assoc, arith}
+use Rattle.std.proofs.Common.{◌≡◌, ℕ, zero, suc, ◌+◌, ◌-◌, ◌*◌, ◌/◌, ◌%◌, ◌<◌, ◌≤◌, Bool, true, false, List, [], ◌∷◌, ◌++◌, length, take, drop, replicate, get_or, refl, sym, ap, ◌∙◌, append_assoc, arith}
 use Rattle.std.specs.Prelude.{◌==◌, not, nat_lt, nat_le}
 use Rattle.std.proofs.lemmas.Bool.{ltb-true, ltb-false, leb-true, leb-false, lt-ltb, le-ltb}
 use Rattle.std.proofs.lemmas.List.{length-append, length-replicate, length-drop, get_or_append_left, get_or-append_right, get_or-replicate, get_or-drop, take-append-drop, take-take, take_all, take_more, drop-take, drop-drop}
-use Rattle.std.proofs.Math.Nat.{pow-succ', div-div-eq-div-mul}
 use Rattle.byteorder.specs.Endian.{big_number}
 use Rattle.binlog_wire.specs.Fields.{IsBytes}
 use Rattle.binlog_values.specs.Contents.{digits_len, groups, magnitude}
+use Rattle.binlog_values.specs.Texts.{last_digits}
+use Rattle.binlog_values.specs.Decimals.{is_negative_decimal, groups_digits, decimal_digits}
+use Rattle.binlog_values.proofs.DigitTexts.{last_more}
 use Rattle.binlog_row_writing.specs.Decimals.{AreDigits, IsDecimal, digit_at, group_number, group_bytes, groups_bytes, decimal_bytes}
-use Rattle.binlog_row_writing.specs.DecimalDigits.{is_negative_decimal, last_digits, groups_digits, decimal_digits}
 use Rattle.binlog_row_writing.specs.DecimalFits.{digit_small, digit_left_out, digit_given, group_len, sum_len, AreNines, are_nines, are_bytes, number_back, sign_back}
 
 -- ---- the digits of one group
-
--- The last digit, behind those of a tenth of the number.
-last_more : (count n : ℕ) → last_digits (suc count) n ≡ last_digits count (n / 10) ++ (n % 10) ∷ []
-unfolding last_digits
-last_more zero n =
-    let one : n / 10 ^ 0 % 10 ≡ n % 10 = omega arith in
-    ap (λ (d : ℕ). d ∷ []) one
-last_more (suc count) n =
-    let shifted : n / 10 ^ suc count ≡ n / 10 / 10 ^ count = ap (λ (p : ℕ). n / p) (pow-succ' 10 count) ∙ sym (div-div-eq-div-mul n 10 (10 ^ count)) in
-    ap (λ (m : ℕ). (m % 10) ∷ last_digits (suc count) n) shifted ∙ ap (λ (t : List ℕ). (n / 10 / 10 ^ count % 10) ∷ t) (last_more count n)
 
 -- As many digits as the precision, with zeros for those that are left out in front.
 abbrev padded : ℕ → List ℕ → List ℕ

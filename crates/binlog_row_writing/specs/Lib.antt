@@ -1,5 +1,4 @@
 pub mod Builders
-pub mod DecimalDigits
 pub mod DecimalFits
 pub mod DecimalGroups
 pub mod DecimalLaws

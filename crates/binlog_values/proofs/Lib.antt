@@ -1,1 +1,5 @@
 pub mod Loads
+pub mod SignedNumbers
+pub mod DigitTexts
+pub mod DecimalTexts
+mod DecimalDigits

@@ -57,7 +57,7 @@ big_shifted len m s bytes = rw (big_split 0 len m s) (div-mul-add (big_from 0 le
 
 -- ---- the shifts
 
-shift_power : (m : ℕ) → 2 ^ (8 * m) ≡ 256 ^ m
+pub shift_power : (m : ℕ) → 2 ^ (8 * m) ≡ 256 ^ m
 shift_power zero = refl
 shift_power (suc m) =
     let bits : 8 * suc m ≡ 8 + 8 * m = omega arith in
@@ -77,3 +77,6 @@ big_loaded len x s bytes most is =
     let count : len + (8 - len) ≡ 8 = omega arith in
     let all : big_from 0 (len + (8 - len)) s ≡ x = ap (λ (n : ℕ). big_from 0 n s) count ∙ sym is in
     rw (shift_power (8 - len), ← all) (big_shifted len (8 - len) s bytes)
+
+pub little_small : (len : ℕ) (s : List ℕ) → IsBytes s → little_number len s < 256 ^ len
+little_small len s bytes = little_from-lt 0 len s bytes

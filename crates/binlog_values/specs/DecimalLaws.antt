@@ -1,14 +1,16 @@
 -- Laws of the groups of digits of decimal numbers.
 use Rattle.std.proofs.Common.{◌≡◌, ℕ, zero, suc, ◌+◌, ◌-◌, ◌*◌, ◌/◌, ◌%◌, ◌^◌, ◌<◌, ◌≤◌, Bool, true, false, cond, List, [], ◌∷◌, ◌++◌, length, drop, map, replicate, get_or, refl, sym, ap, ◌∙◌, arith}
 use Rattle.std.specs.Prelude.{◌&&◌, nat_lt, nat_le}
-use Rattle.std.proofs.lemmas.Bool.{leb-true, leb-false}
+use Rattle.std.proofs.lemmas.Bool.{leb-true, leb-false, ltb-true, and_parts, ne_eqb}
 use Rattle.std.proofs.lemmas.List.{drop-map, drop-drop, length-drop}
-use Rattle.std.proofs.Math.Nat.{add-mul, pow-succ'}
+use Rattle.std.proofs.Math.Nat.{add-mul, mul_assoc, pow-succ', le-mul_of_pos_right, mul-le-mul_right, suc-mul, one-le-pow, pow-le-pow_right}
+use Rattle.std.proofs.lemmas.Nat.{pow-add}
 use Rattle.byteorder.specs.Endian.{big_number}
 use Rattle.byteorder.specs.Numbers.{big_from-cons}
 use Rattle.binlog_wire.specs.Fields.{IsBytes}
 use Rattle.binlog_wire.specs.Laws.{IsBytes-drop}
-use Rattle.binlog_values.specs.Contents.{digits_len, groups_len, decimal_len, magnitude, groups_fit}
+use Rattle.binlog_values.specs.Contents.{digits_len, groups, groups_len, decimal_len, magnitude, groups_fit, is_decimal_bytes}
+use Rattle.binlog_values.specs.Decimals.{digits_count, groups_number, decimal_number}
 
 -- The number of complemented bytes.
 pub complemented : (k : ℕ) (s : List ℕ) → IsBytes s → k ≤ length s → big_number k (map (λ c. 255 - c) s) + big_number k s + 1 ≡ 256 ^ k
@@ -91,3 +93,82 @@ fit_step n i tail place s less =
 -- The last group fits, or doesn't.
 pub fit_end : (n i tail : ℕ) (s : List ℕ) → n - i ≡ 0 → groups_fit (replicate (n - i) 9 ++ tail ∷ []) s ≡ nat_lt (big_number (digits_len tail) s) (10 ^ tail)
 fit_end n i tail s none = rw none (and_true (nat_lt (big_number (digits_len tail) s) (10 ^ tail)))
+
+-- The number of bytes of a group that isn't whole.
+few_len : (digits : ℕ) → digits < 9 → digits_len digits ≡ (digits + 1) / 2
+few_len digits few = rw (ne_eqb digits 9 (λ e. omega (arith, few, e))) refl
+
+-- A decimal number has a byte.
+pub some_bytes : (precision scale : ℕ) → 1 ≤ precision → scale ≤ precision → 1 ≤ decimal_len precision scale
+some_bytes precision scale some within =
+    let lead : ℕ = (precision - scale) % 9 in
+    let tail : ℕ = scale % 9 in
+    omega (arith, decimal_count precision scale, few_len lead (omega arith), few_len tail (omega arith))
+
+-- ---- the number of all digits
+
+pub joined_by : (p q n g r : ℕ) → n * (p * q) + (g * q + r) ≡ (n * p + g) * q + r
+joined_by p q n g r =
+    let outer : (n * p + g) * q ≡ n * p * q + g * q = add-mul (n * p) g q in
+    let product : n * p * q ≡ n * (p * q) = mul_assoc n p q in
+    omega (arith, outer, product)
+
+-- One more group behind the digits so far.
+pub number_step : (n i tail place number : ℕ) (s : List ℕ) → i < n
+    → number * 10 ^ digits_count (replicate (n - i) 9 ++ tail ∷ []) + groups_number (replicate (n - i) 9 ++ tail ∷ []) (drop place s)
+    ≡ (number * 10 ^ 9 + big_number 4 (drop place s)) * 10 ^ digits_count (replicate (n - (i + 1)) 9 ++ tail ∷ []) + groups_number (replicate (n - (i + 1)) 9 ++ tail ∷ []) (drop (place + 4) s)
+number_step n i tail place number s less =
+    let counts : List ℕ = replicate (n - (i + 1)) 9 ++ tail ∷ [] in
+    let left : n - i ≡ suc (n - (i + 1)) = omega arith in
+    let power : 10 ^ (9 + digits_count counts) ≡ 10 ^ 9 * 10 ^ digits_count counts = pow-add 10 9 (digits_count counts) in
+    let group : ℕ = big_number 4 (drop place s) in
+    let rest : ℕ = groups_number counts (drop 4 (drop place s)) in
+    rw (left, ← drop-drop 4 place s) (ap (λ (p : ℕ). number * p + (group * 10 ^ digits_count counts + rest)) power ∙ joined_by (10 ^ 9) (10 ^ digits_count counts) number group rest)
+
+-- The last group.
+pub number_end : (n i tail number : ℕ) (s : List ℕ) → n - i ≡ 0
+    → number * 10 ^ digits_count (replicate (n - i) 9 ++ tail ∷ []) + groups_number (replicate (n - i) 9 ++ tail ∷ []) s ≡ number * 10 ^ tail + big_number (digits_len tail) s
+number_end n i tail number s none =
+    let last : tail + 0 ≡ tail = omega arith in
+    let power : 10 ^ (tail + 0) ≡ 10 ^ tail = ap (λ (k : ℕ). 10 ^ k) last in
+    let whole : number * 10 ^ (tail + 0) ≡ number * 10 ^ tail = ap (λ (k : ℕ). number * k) power in
+    let one : big_number (digits_len tail) s * 1 ≡ big_number (digits_len tail) s = omega arith in
+    rw none (omega (arith, whole, one))
+
+-- Digits so far that are too many already.
+pub number_over : (most number p rest : ℕ) → most ≤ number → 1 ≤ p → most ≤ number * p + rest
+number_over most number p rest over some = omega (arith, over, le-mul_of_pos_right number some)
+
+pub rest_count : (n tail : ℕ) → digits_count (replicate n 9 ++ tail ∷ []) ≡ 9 * n + tail
+rest_count zero tail = omega arith
+rest_count (suc n) tail = let ih = rest_count n tail in omega (arith, ih)
+
+-- The groups of a decimal number have as many digits as its precision.
+pub whole_count : (precision scale : ℕ) → scale ≤ precision → digits_count (groups precision scale) ≡ precision
+whole_count precision scale within =
+    let rest = rest_count ((precision - scale) / 9 + scale / 9) (scale % 9) in
+    omega (arith, within, rest)
+
+-- The number of groups that fit has at most as many digits as they have.
+pub number_small : (counts s : List ℕ) → groups_fit counts s ≡ true → groups_number counts s < 10 ^ digits_count counts
+number_small [] s fits = omega arith
+number_small (count ∷ counts) s fits =
+    let both = and_parts (nat_lt (big_number (digits_len count) s) (10 ^ count)) (groups_fit counts (drop (digits_len count) s)) fits in
+    let first : big_number (digits_len count) s < 10 ^ count = ltb-true _ _ both.0 in
+    let others = number_small counts (drop (digits_len count) s) both.1 in
+    let group : ℕ = big_number (digits_len count) s in
+    let power : ℕ = 10 ^ digits_count counts in
+    let room : suc group * power ≤ 10 ^ count * power = mul-le-mul_right power first in
+    let split : suc group * power ≡ group * power + power = suc-mul group power in
+    rw (pow-add 10 count (digits_count counts)) (omega (arith, others, room, split))
+
+-- 38 digits are below 2^127.
+pub few_digits : (precision scale : ℕ) (s : List ℕ) → precision ≤ 38 → scale ≤ precision → is_decimal_bytes precision scale s ≡ true → decimal_number precision scale s < 2 ^ 127
+few_digits precision scale s few within fits =
+    let small = number_small (groups precision scale) (magnitude s) fits in
+    let count : 10 ^ digits_count (groups precision scale) ≡ 10 ^ precision = ap (λ (k : ℕ). 10 ^ k) (whole_count precision scale within) in
+    let most : 10 ^ precision ≤ 10 ^ 38 = pow-le-pow_right (omega arith) few in
+    omega (arith, small, count, most)
+
+pub power_some : (k : ℕ) → 1 ≤ 10 ^ k
+power_some k = one-le-pow k 10 (omega arith)

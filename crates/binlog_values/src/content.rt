@@ -1,10 +1,10 @@
 //! The contents of values, by the layouts of columns.
-ghost use Rattle.std.specs.Prelude.{◌≡◌, ◌≤◌, ◌<◌, ◌+◌, ◌*◌, ◌/◌, ◌%◌, ◌^◌, ◌==◌, length, nat_le};
+ghost use Rattle.std.specs.Prelude.{◌≡◌, ◌≤◌, ◌<◌, ◌+◌, ◌*◌, ◌/◌, ◌%◌, ◌^◌, ◌==◌, IfOk, true, length, nat_le};
 ghost use Rattle.byteorder.specs.Endian.{little_number, big_number};
 ghost use Rattle.binlog_wire.specs.Fields.{number_at, block_at};
 ghost use Rattle.binlog_wire.specs.Reading.{Gives, result_now};
 ghost use Rattle.binlog_values.specs.BigNumbers.{big_at};
-ghost use Rattle.binlog_values.specs.Contents.{counted, fraction_len, is_below_second, is_datetime2, is_time2, time2_zero, time2_distance, bits, timestamp2, datetime2, time2, decimal};
+ghost use Rattle.binlog_values.specs.Contents.{counted, fraction_len, is_below_second, is_datetime2, is_time2, time2_zero, time2_distance, bits, timestamp2, datetime2, time2, decimal, decimal_len, is_decimal_bytes};
 
 use crate::digits::{decimal_len, is_decimal};
 use binlog_wire::{Error, Invalid, ParseBuf};
@@ -18,7 +18,8 @@ const OUT_OF_RANGE: Error = Error::InvalidData(Invalid::FieldRange(0));
 pub(crate) fn read_number(len: usize, buf: &mut ParseBuf<'_>) -> Result<u64, Error>
     requires low { 1 ≤ len }
     requires high { len ≤ 8 }
-    ensures { Gives ⊥ buf.new result (number_at len buf.old) }
+    ensures number { Gives ⊥ buf.new result (number_at len buf.old) }
+    ensures small { IfOk result (λ number. number < 256 ^ len) }
 {
     if buf.0.len() < len {
         return Err(Error::EndOfBody);
@@ -29,13 +30,14 @@ pub(crate) fn read_number(len: usize, buf: &mut ParseBuf<'_>) -> Result<u64, Err
 }
 
 /// The little-endian number of the first `len` bytes, 1 to 8.
-#[tactic(auto, using(crate::proofs::Loads::little_loaded))]
+#[tactic(auto, using(crate::proofs::Loads::little_loaded, crate::proofs::Loads::little_small))]
 #[inline(always)]
 fn little_number(bytes: &[u8], len: usize) -> u64
     requires low { 1 ≤ len }
     requires high { len ≤ 8 }
     requires there { len ≤ length bytes.now }
-    ensures { result ≡ little_number len bytes.now }
+    ensures number { result ≡ little_number len bytes.now }
+    ensures small { result < 256 ^ len }
 {
     if bytes.len() < 8 {
         return LittleEndian::read_uint(bytes, len);
@@ -275,7 +277,9 @@ pub(crate) fn read_decimal<'a>(
     requires low { 1 ≤ precision }
     requires high { precision ≤ 65 }
     requires scale { scale ≤ precision }
-    ensures { Gives ⊥ buf.new (result_now result) ((decimal precision scale).reads buf.old) }
+    ensures decimal { Gives ⊥ buf.new (result_now result) ((decimal precision scale).reads buf.old) }
+    ensures whole { IfOk result (λ bytes. length bytes.now ≡ decimal_len precision scale) }
+    ensures fits { IfOk result (λ bytes. is_decimal_bytes precision scale bytes.now ≡ true) }
 {
     let bytes = take(decimal_len(precision, scale), buf)?;
     if is_decimal(precision, scale, bytes) {

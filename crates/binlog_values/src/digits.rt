@@ -3,12 +3,14 @@ ghost use Rattle.std.specs.Prelude.{◌≡◌, ◌≤◌, ◌<◌, ◌+◌, ◌-
 ghost use Rattle.byteorder.specs.Endian.{big_number};
 ghost use Rattle.binlog_values.specs.Contents.{digits_len, decimal_len, magnitude, is_decimal_bytes, groups_fit};
 ghost use Rattle.binlog_values.specs.DecimalLaws.{adjusted};
+ghost use Rattle.binlog_values.specs.Decimals.{group_at};
 
+use crate::text::pow_10;
 use byteorder::{BigEndian, ByteOrder};
 
 /// The number of bytes of a group of this many decimal digits, at most nine.
 #[inline(always)]
-fn digits_len(digits: u8) -> usize
+pub(crate) fn digits_len(digits: u8) -> usize
     requires { digits ≤ 9 }
     ensures len { result ≡ digits_len digits }
     ensures small { result ≤ 4 }
@@ -17,26 +19,6 @@ fn digits_len(digits: u8) -> usize
         4
     } else {
         (usize::from(digits) + 1) / 2
-    }
-}
-
-/// 10 to the power of `digits`, at most 9.
-#[inline(always)]
-fn pow_10(digits: u8) -> u64
-    requires { digits ≤ 9 }
-    ensures { result ≡ 10 ^ digits }
-{
-    match digits {
-        0 => 1,
-        1 => 10,
-        2 => 100,
-        3 => 1_000,
-        4 => 10_000,
-        5 => 100_000,
-        6 => 1_000_000,
-        7 => 10_000_000,
-        8 => 100_000_000,
-        _ => 1_000_000_000,
     }
 }
 
@@ -95,6 +77,19 @@ fn group(bytes: &[u8], at: usize, len: usize) -> u64
 {
     let stored = BigEndian::read_uint(&bytes[at..], len);
     adjusted(at, bytes[0] >= 128, pow_256(len), stored)
+}
+
+/// The number of the group of this many digits, at most nine, from the index `at`; 0 for no digits.
+#[inline(always)]
+pub(crate) fn group_number(bytes: &[u8], at: usize, digits: u8) -> u64
+    requires digits { digits ≤ 9 }
+    requires room { at + digits_len digits ≤ length bytes.now }
+    ensures { result ≡ group_at at digits (magnitude bytes.now) }
+{
+    match digits_len(digits) {
+        0 => 0,
+        len => group(bytes, at, len),
+    }
 }
 
 /// Whether the group of this many digits, at most nine, from the index `at` is a number with as many digits.

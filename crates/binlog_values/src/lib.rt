@@ -1,16 +1,21 @@
 //! The values of rows: reading the value of a column, whose type and metadata determine how it is encoded.
 //!
 //! `specs/Contents` defines the formats of values, by the layouts of `binlog_columns`; `specs/Values` and `specs/Times`
-//! define what a value means. Nothing is allocated.
+//! define what a value means, and `specs/Decimals` the number and the text of a decimal number. Only a text takes memory.
 #![tactic(auto)]
 
 mod content;
+mod decimal;
+mod decimal_number;
+mod decimal_text;
 mod digits;
 pub mod laws;
 mod numbers;
+pub mod text;
 mod times;
 mod value;
 
-pub use numbers::{Bit, Decimal, Integer};
+pub use decimal::Decimal;
+pub use numbers::{Bit, Integer};
 pub use times::{Date, DateTime, DateTime2, Time, Time2, Timestamp2};
 pub use value::Value;

@@ -1,15 +1,18 @@
 //! Numbers and bits.
-ghost use Rattle.std.specs.Prelude.{◌≡◌, ◌≤◌, ◌<◌, ◌^◌, ◌==◌};
+ghost use Rattle.std.specs.Prelude.{◌≡◌, ◌≤◌, ◌<◌, ◌^◌};
 ghost use Rattle.byteorder.specs.Endian.{twos_complement};
 
 /// The value of an integer column of 1, 2, 3, 4 or 8 bytes.
 ///
 /// Neither the column's type nor its metadata states whether the column is UNSIGNED; the optional metadata of a table
-/// map may. The value of a signed column is the two's complement of the same bits, in [`size`](Self::size) bytes.
+/// map may. The value of a signed column is the two's complement of the same bits.
 #[derive(Clone, Copy, Debug, PartialEq, Eq, Hash)]
 pub struct Integer {
     pub(crate) bits: u64,
     pub(crate) size: u8,
+    ghost some: { 1 ≤ size },
+    ghost most: { size ≤ 8 },
+    ghost fits: { bits < 256 ^ size },
 }
 
 impl Integer {
@@ -18,6 +21,19 @@ impl Integer {
         ensures { result ≡ self.now.bits }
     {
         self.bits
+    }
+
+    /// The value of a signed column.
+    #[tactic(auto, using(crate::proofs::SignedNumbers::signed_halves))]
+    pub fn signed(&self) -> i64
+        ensures { result ≡ twos_complement self.now.size self.now.bits }
+    {
+        let least = 1 << (8 * self.size - 1);
+        if self.bits < least {
+            self.bits as i64
+        } else {
+            -1 - (least - 1 - (self.bits - least)) as i64
+        }
     }
 
     /// The number of bytes: 1, 2, 3, 4 or 8.
@@ -48,36 +64,5 @@ impl Bit {
         ensures { result ≡ self.now.count }
     {
         self.count
-    }
-}
-
-/// The value of a DECIMAL column, as its bytes.
-#[derive(Clone, Copy, Debug, PartialEq, Eq, Hash)]
-pub struct Decimal<'a> {
-    pub(crate) bytes: &'a [u8],
-    pub(crate) precision: u8,
-    pub(crate) scale: u8,
-}
-
-impl<'a> Decimal<'a> {
-    /// The bytes of the number, as they are encoded.
-    pub fn as_bytes(&self) -> &'a [u8]
-        ensures { result.now ≡ self.now.bytes.now }
-    {
-        self.bytes
-    }
-
-    /// The number of decimal digits, 1 to 65.
-    pub fn precision(&self) -> u8
-        ensures { result ≡ self.now.precision }
-    {
-        self.precision
-    }
-
-    /// The number of decimal digits after the point, at most 38 and not above the precision.
-    pub fn scale(&self) -> u8
-        ensures { result ≡ self.now.scale }
-    {
-        self.scale
     }
 }

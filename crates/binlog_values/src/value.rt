@@ -11,7 +11,8 @@ use crate::content::{
     read_bits, read_counted, read_datetime2, read_decimal, read_number, read_time2,
     read_timestamp2, read_vector,
 };
-use crate::numbers::{Bit, Decimal, Integer};
+use crate::decimal::Decimal;
+use crate::numbers::{Bit, Integer};
 use crate::times::{Date, DateTime, DateTime2, Time, Time2, Timestamp2};
 use binlog_columns::{Column, ColumnType, Layout};
 use binlog_wire::{Error, ParseBuf};
@@ -121,6 +122,9 @@ impl<'a> Value<'a> {
 /// The value of a column that is a number of `len` bytes.
 #[inline(always)]
 fn number_value<'a>(column: &Column, len: u8, number: u64) -> Value<'a>
+    requires some { 1 ≤ len }
+    requires most { len ≤ 8 }
+    requires fits { number < 256 ^ len }
     ensures content { content_of result ≡ of_number number }
     ensures meaning { meaning_of result ≡ number_meaning len (typed_of column.now).0 (typed_of column.now).1 }
 {

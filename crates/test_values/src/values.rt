@@ -57,6 +57,26 @@ fn string_len(number: u8, metadata: &[u8], bytes: &[u8]) -> Result<usize, Error>
     }
 }
 
+/// The number of an integer column of this type, as an UNSIGNED one and as a signed one.
+fn integer(number: u8, bytes: &[u8]) -> Option<(u64, i64)> {
+    match value(number, b"", bytes) {
+        Ok(Value::Integer(integer)) => Some((integer.unsigned(), integer.signed())),
+        _ => None,
+    }
+}
+
+#[test]
+fn a_signed_integer_is_in_two_s_complement_of_its_size(rt: HostRuntime) {
+    assert!(rt; integer(1, b"\x7f") == Some((127, 127)));
+    assert!(rt; integer(1, b"\x80") == Some((128, -128)));
+    assert!(rt; integer(2, b"\xff\xff") == Some((65_535, -1)));
+    assert!(rt; integer(9, b"\xff\xff\x7f") == Some((8_388_607, 8_388_607)));
+    assert!(rt; integer(9, b"\0\0\x80") == Some((8_388_608, -8_388_608)));
+    assert!(rt; integer(3, b"\xfe\xff\xff\xff") == Some((4_294_967_294, -2)));
+    assert!(rt; integer(8, b"\0\0\0\0\0\0\0\x80") == Some((1 << 63, i64::MIN)));
+    assert!(rt; integer(8, b"\xff\xff\xff\xff\xff\xff\xff\x7f") == Some(((1 << 63) - 1, i64::MAX)));
+}
+
 #[test]
 fn a_negative_fraction_borrows_from_the_seconds(rt: HostRuntime) {
     assert!(rt; time2(2, b"\x7f\xff\xff\xff") == Some((true, 0, 0, 0, 10_000)));

@@ -1,7 +1,7 @@
 use Rattle.std.proofs.Common.{◌≡◌, ◌++◌, ◌∷◌, [], ◌/◌, ◌%◌, List, ℕ, unsigned_abs, string_bytes, rules, refl, ◌∙◌}
 use Rattle.jiff_core.specs.declared.civil.date.Date.{Date}
 use Rattle.binlog_row_lines.specs.Times.{date_text, clock_text, fraction_text}
-use Rattle.binlog_row_lines.proofs.DigitTexts.{four_parts}
+use Rattle.binlog_row_lines.proofs.FourParts.{four_parts}
 use Rattle.binlog_row_lines.proofs.timestamps.push_utc.Goals as goal
 
 pub returns : goal.returns

@@ -1,8 +1,8 @@
 use Rattle.std.proofs.Common.{◌≡◌, ◌+◌, rules, ◌∙◌, arith}
 use Rattle.std.proofs.lemmas.Str.{IsCharBoundary-from_ascii}
-use Rattle.binlog_row_lines.specs.Times.{last_digits}
-use Rattle.binlog_row_lines.proofs.DigitTexts.{digits_behind_one}
-use Rattle.binlog_row_lines.proofs.digits.push_last_digits.Goals as goal
+use Rattle.binlog_values.specs.Texts.{digits_text}
+use Rattle.binlog_values.proofs.DigitTexts.{digits_behind_one}
+use Rattle.binlog_values.proofs.text.push_last_digits.Goals as goal
 
 pub range-requires-clause-start_boundary : goal.range-requires-clause-start_boundary
 range-requires-clause-start_boundary c =
@@ -20,5 +20,5 @@ pub returns : goal.returns
 returns c =
     let power = c.pow_10-power.ensures in
     let digits = digits_behind_one _ c.args.count c.args.number _ power.power power.small power.some c.format-digits.ensures.text in
-    let pushed : c.range.result.now ≡ last_digits c.args.count c.args.number = rw c.from.ensures at c.range.ensures.value ∙ digits.1 in
+    let pushed : c.range.result.now ≡ digits_text c.args.count c.args.number = rw c.from.ensures at c.range.ensures.value ∙ digits.1 in
     rw (← pushed) (search rules)

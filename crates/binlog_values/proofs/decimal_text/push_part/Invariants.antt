@@ -1,7 +1,7 @@
 use Rattle.std.proofs.Common.{◌≡◌, ◌+◌, ◌-◌, ◌*◌, ◌++◌, string_bytes}
 use Rattle.binlog_values.specs.Contents.{magnitude}
-use Rattle.binlog_row_lines.specs.Decimals.{part_text}
-use Rattle.binlog_row_lines.proofs.decimals.push_part.Given as goal
+use Rattle.binlog_values.specs.Decimals.{part_text}
+use Rattle.binlog_values.proofs.decimal_text.push_part.Given as goal
 
 -- The groups so far, with those to come, are all of them.
 abbrev pub invariant-loop-index : goal.invariant-loop-index

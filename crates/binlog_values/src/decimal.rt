@@ -1,0 +1,89 @@
+//! Decimal numbers.
+ghost use Rattle.std.specs.Prelude.{◌≡◌, ◌≤◌, ◌^◌, ◌++◌, OnOk, MatchOption, IsSome, true, length};
+ghost use Rattle.std.specs.String.{string_bytes};
+ghost use Rattle.binlog_values.specs.Contents.{decimal_len, is_decimal_bytes};
+ghost use Rattle.binlog_values.specs.Decimals.{is_negative_decimal, decimal_number, unscaled, decimal_text};
+
+use crate::decimal_number::decimal_number;
+use crate::decimal_text::{push_scale, push_whole};
+use crate::digits::digits_len;
+use crate::text::push_sign;
+use std::alloc::AllocError;
+
+/// The value of a DECIMAL column.
+#[derive(Clone, Copy, Debug, PartialEq, Eq, Hash)]
+pub struct Decimal<'a> {
+    pub(crate) bytes: &'a [u8],
+    pub(crate) precision: u8,
+    pub(crate) scale: u8,
+    ghost some: { 1 ≤ precision },
+    ghost most: { precision ≤ 65 },
+    ghost within: { scale ≤ precision },
+    ghost whole: { length bytes.now ≡ decimal_len precision scale },
+    ghost fits: { is_decimal_bytes precision scale bytes.now ≡ true },
+}
+
+impl<'a> Decimal<'a> {
+    /// The bytes of the number, as they are encoded.
+    pub fn as_bytes(&self) -> &'a [u8]
+        ensures { result.now ≡ self.now.bytes.now }
+    {
+        self.bytes
+    }
+
+    /// The number of decimal digits, 1 to 65.
+    pub fn precision(&self) -> u8
+        ensures { result ≡ self.now.precision }
+    {
+        self.precision
+    }
+
+    /// The number of decimal digits after the point, at most 38 and not above the precision.
+    pub fn scale(&self) -> u8
+        ensures { result ≡ self.now.scale }
+    {
+        self.scale
+    }
+
+    /// Whether the number has a minus sign. Minus zero has one; servers don't write it.
+    #[tactic(auto, using(crate::specs::DecimalLaws::some_bytes))]
+    pub fn is_negative(&self) -> bool
+        ensures { result ≡ is_negative_decimal self.now.bytes.now }
+    {
+        self.bytes[0] < 128
+    }
+
+    /// The exact integer that the digits are without the point, with its sign: the number is this integer divided by 10 to the
+    /// power of [`scale`](Self::scale). `-12.50` is -1250 at the scale 2.
+    ///
+    /// None if its digits are 2^127 or more, which those of a precision of at most 38 never are.
+    #[tactic(auto, using(crate::specs::DecimalLaws::few_digits))]
+    pub fn unscaled(&self) -> Option<i128>
+        ensures number { MatchOption result (2 ^ 127 ≤ decimal_number self.now.precision self.now.scale self.now.bytes.now) (λ number. number ≡ unscaled self.now.precision self.now.scale self.now.bytes.now) }
+        ensures some { self.now.precision ≤ 38 → IsSome result }
+    {
+        let number = decimal_number(self.bytes, self.precision, self.scale)?;
+        if number >= 1 << 127 {
+            return None;
+        }
+        let number = number as i128;
+        Some(if self.is_negative() { -number } else { number })
+    }
+
+    /// Appends the number in decimal, with all digits after the point: `-12.50`. Of the digits before the point, zeros in
+    /// front are left out, and at least one digit is written.
+    ///
+    /// # Errors
+    ///
+    /// `AllocError` if memory is refused.
+    #[tactic(auto, using(std::proofs::Common::append_assoc, crate::specs::DecimalLaws::decimal_count), unfolding(crate::specs::Decimals::decimal_text))]
+    pub fn push_to(&self, text: &mut String) -> Result<(), AllocError>
+        ensures { OnOk result (string_bytes text.new ≡ string_bytes text.old ++ decimal_text self.now.precision self.now.scale self.now.bytes.now) }
+    {
+        let whole = self.precision - self.scale;
+        let start = digits_len(whole % 9) + 4 * usize::from(whole / 9);
+        push_sign(text, self.is_negative())?;
+        push_whole(text, self.bytes, whole)?;
+        push_scale(text, self.bytes, start, self.scale)
+    }
+}
