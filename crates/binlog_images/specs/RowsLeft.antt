@@ -12,10 +12,11 @@ use Rattle.binlog_images.specs.declared.rows_error.RowsError.{RowsError}
 abbrev pub row_shape : Rows → RowsShape
 row_shape rows = shape_as (is_some rows.json_columns) (option_map shape_of rows.before, option_map shape_of rows.after)
 
--- One call gives the first row that is left, and leaves the bytes after it; or its refusal, after which nothing is left;
--- or None where nothing is left.
+-- One call gives the first row that is left, and leaves the bytes after it; or its refusal, after which no bytes are left
+-- and all else is as before; or None where nothing is left.
 abbrev pub GivesRow : Rows → Option (Result Row RowsError) → Rows → Type 0
 GivesRow old None new = (old.rest.now ≡ []) × (new ≡ old)
 GivesRow old (Some (Ok row)) new = (first_row old.row (row_shape old) old.rest.now ≡ Ok (row_cells row, new.rest.now))
     × (new.row ≡ old.row + 1) × (row_shape new ≡ row_shape old)
 GivesRow old (Some (Err e)) new = (¬ (old.rest.now ≡ [])) × (first_row old.row (row_shape old) old.rest.now ≡ Err e) × (new.rest.now ≡ [])
+      × (new.row ≡ old.row) × (row_shape new ≡ row_shape old)

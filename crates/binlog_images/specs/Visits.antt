@@ -38,10 +38,11 @@ module _ {T : Type 0} (visits : VisitRelation T) where
     pub shape : row_shape new ≡ row_shape old
     pub visited : VisitsImages cells before after
 
-  -- One call visits the first row that is left; or it is refused, after the columns in front of the fault are visited, and
-  -- nothing is left; or nothing is left, and nothing is visited.
+  -- One call visits the first row that is left; or it is refused, after the columns in front of the fault are visited, no
+  -- bytes are left and all else is as before; or nothing is left, and nothing is visited.
   abbrev pub VisitsRow : Rows → T → Option (Result (Unit {0}) RowsError) → Rows → T → Type 0
   VisitsRow old before None new after = (old.rest.now ≡ []) × (new ≡ old) × (after ≡ before)
   VisitsRow old before (Some (Ok done)) new after = VisitsFirst old before new after
   VisitsRow old before (Some (Err e)) new after = (¬ (old.rest.now ≡ [])) × (first_row old.row (row_shape old) old.rest.now ≡ Err e)
-      × (new.rest.now ≡ []) × VisitsImages (row_front old.row (row_shape old) old.rest.now) before after
+      × (new.rest.now ≡ []) × (new.row ≡ old.row) × (row_shape new ≡ row_shape old)
+      × VisitsImages (row_front old.row (row_shape old) old.rest.now) before after
