@@ -10,8 +10,8 @@
  *                    items[i].position, items[i].event_type, items[i].data_size);
  *
  * C11 and C++. No function keeps anything between calls, or reads anything but what it is passed, so calls in different
- * threads are independent of each other. binlog_json alone allocates memory, by malloc and realloc, and frees it before it
- * returns.
+ * threads are independent of each other. binlog_json and binlog_json_lines alone allocate memory, by malloc and realloc, and
+ * free it before they return.
  *
  * The library is proved to be defined for all contents of the log, the cursor, the items and the buffers. The caller has
  * to ensure: each pointer and its length are memory of that length; it doesn't change during the call; the log, the
@@ -38,11 +38,11 @@ enum {
     BINLOG_TOO_SHORT_FOR_CHECKSUM = 4, /* an item: its event has fewer bytes after its header than the checksum has */
     BINLOG_END_OF_BODY = 5,            /* an item: a description, a rotate or a table map that ends within a field */
     BINLOG_INVALID_DATA = 6,           /* an item: one of these with a value that isn't allowed */
-    BINLOG_MEMORY = 12,                /* binlog_json: there is no memory for the line */
+    BINLOG_MEMORY = 12,                /* binlog_json, binlog_json_lines: there is no memory for a line */
     BINLOG_CHECKSUM_MISMATCH = 17,     /* an item of binlog_next_verified: its checksum isn't that of its bytes */
     BINLOG_INVALID_CURSOR = 100,       /* binlog_next, binlog_next_verified: the cursor isn't a place of this log */
-    BINLOG_INVALID_ITEM = 101,         /* binlog_json: the item isn't one of this log */
-    BINLOG_INVALID_TABLE_MAP = 102     /* binlog_json: one of the table maps isn't a table map of this log */
+    BINLOG_INVALID_ITEM = 101,         /* binlog_json, binlog_json_lines: the item isn't one of this log */
+    BINLOG_INVALID_TABLE_MAP = 102     /* the same two: one of the table maps isn't a table map of this log */
 };
 
 /* A place in a log: three numbers, without padding. It can be copied, stored and sent, and used with the same log, or
@@ -143,6 +143,23 @@ size_t binlog_next_verified(const uint8_t *log, size_t size, binlog_cursor *curs
  *         fwrite(text, 1, length, stdout); */
 size_t binlog_json(const uint8_t *log, size_t size, const binlog_item *item, const binlog_item *table_maps,
                    size_t count, uint64_t index, char *text, size_t room, uint8_t *error);
+
+/* Writes the lines of items of a log, one after another, as many as there is room for, and returns how many bytes they are. Each
+ * line is the one that binlog_json writes; their indexes count up from this one, and from 0 again after 2^64 - 1. It is faster than
+ * a call for each item, since memory is taken once.
+ *
+ * The table maps are the same for all items, and a table map among the items isn't one of them. So where row events have to be
+ * written with their rows, a call's items end behind a table map, and the next call has it among its table maps.
+ *
+ * `lines` becomes how many lines are written. The error is 0, or that of the first item whose line isn't written, as binlog_json has
+ * it. If it is 0 and not all lines are written, there is no room for the next line, whose length binlog_json returns.
+ *
+ *     size_t lines;
+ *     size_t length = binlog_json_lines(log, size, items, count, NULL, 0, index, text, room, &lines, &error);
+ *     fwrite(text, 1, length, stdout); */
+size_t binlog_json_lines(const uint8_t *log, size_t size, const binlog_item *items, size_t count,
+                         const binlog_item *table_maps, size_t map_count, uint64_t index, char *text, size_t room,
+                         size_t *lines, uint8_t *error);
 
 /* Writes the name of an error, "EndOfInput" for 1, with a zero after it, and returns its length without the zero.
  * Nothing is written if the room isn't more than that length. The length is 0 for a number that no error has; a name

@@ -69,6 +69,20 @@ def _load() -> ctypes.CDLL:
         size,
         ctypes.POINTER(byte),
     ]
+    library.binlog_json_lines.restype = size
+    library.binlog_json_lines.argtypes = [
+        ctypes.c_void_p,
+        size,
+        ctypes.c_char_p,
+        size,
+        ctypes.c_char_p,
+        size,
+        ctypes.c_uint64,
+        ctypes.c_void_p,
+        size,
+        ctypes.POINTER(size),
+        ctypes.POINTER(byte),
+    ]
     for write in (library.binlog_error_name, library.binlog_error_text):
         write.restype = size
         write.argtypes = [byte, ctypes.c_char_p, size]

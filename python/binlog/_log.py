@@ -19,6 +19,9 @@ _BATCH = 512
 # How many bytes a line has room for at first.
 _LINE = 4096
 
+# How many bytes the lines of a call have room for.
+_LINES = 1 << 18
+
 # The types whose events name a table map by its id.
 _ROWS = frozenset((23, 24, 25, 30, 31, 32, 39))
 
@@ -62,6 +65,22 @@ class _TableMaps:
         elif event_type == EventType.ROTATE_EVENT and any(self._bytes[start : start + 8]):
             self._maps.clear()
         return ()
+
+
+def _runs(batch: list[tuple], table_maps: _TableMaps) -> Iterator[tuple[list[tuple], tuple[tuple, ...]]]:
+    """The items of a batch, in runs, each with the table maps that all of its row events have."""
+    run: list[tuple] = []
+    maps: Optional[tuple[tuple, ...]] = None
+    for fields in batch:
+        found = () if fields[10] else table_maps.after(fields)
+        if not fields[10] and fields[9] in _ROWS:
+            if maps is not None and found != maps:
+                yield run, maps
+                run = []
+            maps = found
+        run.append(fields)
+    if run:
+        yield run, maps or ()
 
 
 class _Item:
@@ -270,6 +289,26 @@ class Log:
                 raise LogError(error.value, fields[0])
         return ctypes.string_at(text, size)
 
+    def _lines(self, run: list[tuple], table_maps: tuple[tuple, ...], index: int) -> Iterator[bytes]:
+        """The lines of JSON of items, of which the first has this index, with these table maps."""
+        items = b"".join(ITEM.pack(*fields) for fields in run)
+        maps = b"".join(ITEM.pack(*table_map) for table_map in table_maps)
+        text = ctypes.create_string_buffer(_LINES)
+        count, error = ctypes.c_size_t(), ctypes.c_uint8()
+        done = 0
+        while done < len(run):
+            left, first = items[done * ITEM.size :], index + done
+            size = LIBRARY.binlog_json_lines(
+                self._at, self._size, left, len(run) - done, maps, len(table_maps), first, text, _LINES, count, error
+            )
+            yield from ctypes.string_at(text, size).splitlines(keepends=True)
+            done += count.value
+            if error.value:
+                raise LogError(error.value, run[done][0])
+            if count.value == 0:
+                yield self._line(run[done], table_maps, index + done)
+                done += 1
+
     def batches(self, start: Optional[Cursor] = None) -> Iterator[list[tuple]]:
         """The items from a place on, as they stand in the library's structures, batch after batch: for each a tuple of the
         members of `binlog_item` in their order, which are in include/binlog.h. It is the fastest way to the fields of headers.
@@ -308,8 +347,12 @@ class Log:
 
     def lines(self) -> Iterator[bytes]:
         """The lines of JSON of all items, each with its index, as the program `binlog json` prints them."""
-        for index, item in enumerate(self.items()):
-            yield item.line(index)
+        table_maps = _TableMaps(self._bytes)
+        index = 0
+        for batch in self.batches():
+            for run, maps in _runs(batch, table_maps):
+                yield from self._lines(run, maps, index)
+                index += len(run)
 
     def __iter__(self) -> Iterator[Event]:
         return self.events()

@@ -49,6 +49,14 @@ class Lines(unittest.TestCase):
                 for line, wanted_line in zip(found, given):
                     self.assertEqual(line, wanted_line)
 
+    def test_a_line_that_has_no_room_beside_others(self):
+        def event(event_type, data):
+            return make_sample.HEADER.pack(1, event_type, 3, 19 + len(data), 4, 0) + data
+
+        xid, statement = event(16, bytes(8)), event(29, b"\0" + b"a" * 300_000)
+        content = MAGIC + xid + statement + xid + xid + statement
+        self.assertEqual(lines(content), wanted(content))
+
     def test_an_index(self):
         event = next(iter(binlog.Log(SAMPLE)))
         for index in (0, 7, 2**64 - 1):

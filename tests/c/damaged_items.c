@@ -1,6 +1,6 @@
 /* Asks the library for lines of JSON over each log on standard input, which logs.h reads, of items that it did not give, as many
- * as the argument says. A line is given for exactly those items that the library gives at the place that the item names. Prints
- * how many have a line, and how many are refused. */
+ * as the argument says. A line is given for exactly those items that the library gives at the place that the item names, and one
+ * call for several items does what a call for each does. Prints how many have a line, and how many are refused. */
 #define _DEFAULT_SOURCE
 #include "binlog.h"
 #include "logs.h"
@@ -93,6 +93,34 @@ static int check_item(const guarded_log *log, const binlog_item *item, const bin
     return 1;
 }
 
+/* Whether one call for three items, of which this is the second, does what a call for each does. */
+static void check_items(const guarded_log *log, const binlog_item *item, const binlog_item *maps, size_t count) {
+    static char text[3 * ROOM], filler[3 * ROOM], single[ROOM];
+    binlog_item items[3] = {some_item(log), *item, damaged_item(log)};
+    memset(text, 0xa5, sizeof text);
+    memset(filler, 0xa5, sizeof filler);
+    size_t room = next_random() % 4 ? sizeof text : next_random() % 1024;
+    uint64_t index = next_random() % 2 ? UINT64_MAX : next_random();
+    size_t lines = 77;
+    uint8_t error = 77;
+    size_t size = binlog_json_lines(log->bytes, log->size, items, 3, maps, count, index, text, room, &lines, &error);
+    require(size <= room && memcmp(text + size, filler, sizeof text - size) == 0, "nothing is written behind the lines");
+    size_t at = 0;
+    for (size_t i = 0; i < 3; i++) {
+        uint8_t why = 77;
+        size_t wanted = binlog_json(log->bytes, log->size, &items[i], maps, count, index + i, single, ROOM, &why);
+        if (i < lines) {
+            require(why == BINLOG_OK && wanted <= ROOM && wanted <= size - at, "a line is written that a call for it writes");
+            require(memcmp(text + at, single, wanted) == 0, "it is the same line");
+            at += wanted;
+        } else {
+            require(i > lines || error == why, "the error is that of the first item without a line");
+            require(i > lines || why != BINLOG_OK || wanted > room - at, "a line is left out where it has no room");
+        }
+    }
+    require(at == size && lines <= 3 && (lines < 3 || error == BINLOG_OK), "the lines are as long as the answer");
+}
+
 int main(int argc, char **argv) {
     size_t rounds = argc > 1 ? strtoul(argv[1], NULL, 10) : 10000;
     size_t given = 0, refused = 0;
@@ -103,6 +131,7 @@ int main(int argc, char **argv) {
             for (size_t i = 0; i < count; i++) {
                 maps[i] = next_random() % 2 ? some_item(&log) : damaged_item(&log);
             }
+            check_items(&log, &item, maps, next_random() % 2 ? count : 0);
             if (check_item(&log, &item, maps, next_random() % 2 ? count : 0)) {
                 given++;
             } else {

@@ -1,5 +1,5 @@
-/* Asks the library for the line of JSON of each item of each log on standard input, which logs.h reads, while each allocation in
- * turn is refused. Built with --wrap=malloc and --wrap=realloc. Prints how many calls were refused. */
+/* Asks the library for the line of JSON of each item of each log on standard input, which logs.h reads, alone and of two in one
+ * call, while each allocation in turn is refused. Built with --wrap=malloc and --wrap=realloc. Prints how many calls were refused. */
 #define _DEFAULT_SOURCE
 #include "binlog.h"
 #include "logs.h"
@@ -41,6 +41,28 @@ static size_t check_item(const guarded_log *log, const binlog_item *item, uint64
     }
 }
 
+/* The same of a call for two items, of which the second needs no memory of its own. */
+static size_t check_items(const guarded_log *log, const binlog_item *item, uint64_t index) {
+    static char text[2 * ROOM];
+    binlog_item items[2] = {*item, *item};
+    for (long refused = 0;; refused++) {
+        memset(text, 0xa5, sizeof text);
+        uint8_t error = 77;
+        size_t lines = 77;
+        left = refused;
+        size_t size = binlog_json_lines(log->bytes, log->size, items, 2, NULL, 0, index, text, sizeof text, &lines, &error);
+        int was_refused = left < 0;
+        left = -1;
+        if (!was_refused) {
+            require(error == BINLOG_OK && lines == 2, "with memory there are both lines");
+            return (size_t)refused;
+        }
+        require(error == BINLOG_MEMORY && lines < 2, "without memory there is that error");
+        require(lines == 1 ? text[0] == '{' && text[size - 1] == '\n' : size == 0, "the lines before it are written");
+        require((unsigned char)text[size] == 0xa5, "without memory nothing else is written");
+    }
+}
+
 int main(void) {
     size_t refused = 0;
     for (guarded_log log; next_log(&log); free_log(&log)) {
@@ -53,6 +75,7 @@ int main(void) {
                 break;
             }
             refused += check_item(&log, &item, index);
+            refused += check_items(&log, &item, index);
         }
     }
     printf("%zu refused\n", refused);

@@ -9,3 +9,6 @@ pub mod OneItem
 pub mod PlainEvents
 pub mod FilledItems
 pub mod TableMaps
+mod Lines
+mod LaterPlaces
+mod PlainLines
