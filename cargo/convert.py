@@ -111,7 +111,7 @@ def lay_out(out):
 
 
 def main(arguments):
-    if len(arguments) != 1:
+    if len(arguments) != 1 or arguments[0].startswith("-"):
         print(__doc__.strip(), file=sys.stderr)
         return 1
     out = Path(arguments[0])
