@@ -1,4 +1,4 @@
-//! Prints the items of a binary log as JSON lines, one object for each.
+//! The items of a binary log as lines of JSON, one object for each.
 #![tactic(auto)]
 
 mod bits;
@@ -7,7 +7,6 @@ mod data_value;
 mod gtids;
 mod json_lines;
 mod names;
-mod printing;
 mod rows;
 mod statements;
 mod status_vars;
@@ -16,5 +15,4 @@ pub use bits::write_bits;
 pub use data_value::write_refusal;
 pub use json_lines::{JsonLines, write_event_members, write_header};
 pub use names::name_of;
-pub use printing::print_events;
 pub use statements::{write_query_head, write_query_texts};

@@ -4,3 +4,4 @@ pub mod Gtids
 pub mod Compressed
 pub mod Data
 pub mod Lines
+pub mod Output

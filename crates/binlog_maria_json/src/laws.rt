@@ -1,5 +1,5 @@
 //! Laws of the lines. Each is a function without effect whose contract states it.
-ghost use Rattle.std.specs.Prelude.{ℕ, List, Result};
+ghost use Rattle.std.specs.Prelude.{◌≡◌, ◌||◌, ℕ, List, Result};
 ghost use Rattle.binlog_wire.specs.declared.error.Error.{Error};
 ghost use Rattle.binlog_events.specs.Events.{EventView};
 ghost use Rattle.binlog_file.specs.TableMapsInForce.{TableMaps};
@@ -7,12 +7,24 @@ ghost use Rattle.binlog_visits.specs.Visits.{Visits};
 ghost use Rattle.binlog_filters.specs.TakenLines.{WritesTaken};
 ghost use Rattle.binlog_filters.specs.declared.filtered.Filtered.{Filtered};
 ghost use Rattle.binlog_maria_json.specs.Lines.{IsLineIn};
+ghost use Rattle.binlog_maria_json.specs.Output.{WritesLines, has_errors_in};
 ghost use Rattle.binlog_maria_json.specs.declared.writer.MariaJsonWriter.{MariaJsonWriter};
 
 use crate::writer::MariaJsonWriter;
 use binlog_filters::Filtered;
 use binlog_visits::Visitor;
 use std::io::Write;
+
+/// The lines of a log. If the visits of items, one after another, are Ok, the output has grown by their lines, in order, and
+/// the writer knows whether one was an error.
+pub fn json_lines<W: Write>()
+    ensures lines { (maps : TableMaps) (index : ℕ) (items : List (Result EventView Error)) (old new : MariaJsonWriter W)
+        → Visits ⟦<MariaJsonWriter<W> as Visitor>⟧.visits maps index items old new
+        → WritesLines maps index items (W.contents old.output) (W.contents new.output) }
+    ensures errors { (maps : TableMaps) (index : ℕ) (items : List (Result EventView Error)) (old new : MariaJsonWriter W)
+        → Visits ⟦<MariaJsonWriter<W> as Visitor>⟧.visits maps index items old new
+        → new.has_errors ≡ (old.has_errors || has_errors_in items) }
+{}
 
 /// The lines of what a filter takes. If the visits of items, one after another, are Ok, the output has grown by the lines of
 /// the items that the filter takes, in order, each with its index in the log. The rows of a row event are those of the table

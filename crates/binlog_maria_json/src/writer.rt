@@ -1,5 +1,5 @@
 //! A visitor that writes the line of each item.
-ghost use Rattle.std.specs.Prelude.{◌≡◌, option_copied};
+ghost use Rattle.std.specs.Prelude.{◌≡◌, false, option_copied};
 ghost use Rattle.binlog_events.specs.EventRefs.{view_of};
 ghost use Rattle.binlog_file.specs.State.{state_of};
 ghost use Rattle.binlog_maria_json.specs.Lines.{map_of_event};
@@ -7,7 +7,6 @@ ghost use Rattle.binlog_maria_json.specs.Lines.{map_of_event};
 use crate::lines::MariaJsonLines;
 use binlog_file::{CountedRef, Error, EventRef, EventStreamReader, TableMapEvent};
 use binlog_lines::write_line;
-use binlog_messages::Refusing;
 use binlog_row_json::table_id;
 use binlog_visits::Visitor;
 use std::alloc::Global;
@@ -19,18 +18,28 @@ pub struct MariaJsonWriter<W> {
     alloc: Global,
     lines: MariaJsonLines,
     output: W,
+    has_errors: bool,
 }
 
 impl<W> MariaJsonWriter<W> {
     /// Writes to this output. Nothing is allocated.
     pub fn new(alloc: Global, output: W) -> Self
-        ensures { result.output ≡ output }
+        ensures output { result.output ≡ output }
+        ensures errors { result.has_errors ≡ false }
     {
         MariaJsonWriter {
             alloc,
             lines: MariaJsonLines::new(alloc),
             output,
+            has_errors: false,
         }
+    }
+
+    /// Whether an item so far was an error in the place of an event.
+    pub fn has_errors(&self) -> bool
+        ensures { result ≡ self.now.has_errors }
+    {
+        self.has_errors
     }
 
     /// The output.
@@ -55,14 +64,18 @@ fn table_map<'a>(
     }
 }
 
-/// A visit writes the line of the item. It is refused with [`Error::Writer`] if the writer failed, which then has a prefix
-/// of the line, or with [`Error::Memory`] if an allocation failed for the line; nothing is written then.
+/// A visit writes the line of the item, and notes an error. It is refused with [`Error::Writer`] if the writer failed, which
+/// then has a prefix of the line, or with [`Error::Memory`] if an allocation failed for the line; nothing is written then.
+/// [`MariaJsonWriter::has_errors`] stays as it was.
 impl<W: Write> Visitor for MariaJsonWriter<W> {
+    ghost use Rattle.std.specs.Prelude.{◌≡◌, ◌||◌, is_err};
     ghost use Rattle.binlog_maria_json.specs.Lines.{WritesLine, WritesNoLine};
 
-    ghost visits = { λ old maps index item new. WritesLine maps index item (W.contents old.output) (W.contents new.output) };
+    ghost visits = { λ old maps index item new.
+        WritesLine maps index item (W.contents old.output) (W.contents new.output) × (new.has_errors ≡ (old.has_errors || is_err item)) };
 
-    ghost refuses = { λ old maps index item error new. WritesNoLine maps index item (W.contents old.output) error (W.contents new.output) };
+    ghost refuses = { λ old maps index item error new.
+        WritesNoLine maps index item (W.contents old.output) error (W.contents new.output) × (new.has_errors ≡ old.has_errors) };
 
     #[inline(always)]
     fn visit_event(
@@ -87,13 +100,11 @@ impl<W: Write> Visitor for MariaJsonWriter<W> {
     ) -> Result<(), Error> {
         let line = self.lines.error_line(self.alloc, index, error)?;
         let mut output = CountedRef::new(&mut self.output);
-        write_line(&mut output, line)
+        write_line(&mut output, line)?;
+        self.has_errors = true;
+        Ok(())
     }
 }
 
-/// Data that can't be read has the number of its error in the line, and is none of the log.
-impl<W> Refusing for MariaJsonWriter<W> {
-    fn refused(&self) -> u64 {
-        0
-    }
-}
+#[cfg(test)]
+mod tests;

@@ -3,6 +3,7 @@ ghost use Rattle.std.specs.Prelude.{◌≡◌, ℕ};
 
 use binlog_commands::{Copier, GtidCollector, Stats, Tally};
 use binlog_filters::Filtered;
+use binlog_maria_json::MariaJsonWriter;
 use binlog_visits::LineWriter;
 
 /// What a visitor makes of events whose data it can't read.
@@ -16,6 +17,13 @@ pub trait Refusing {
 }
 
 impl<L, W> Refusing for LineWriter<L, W> {
+    fn refused(&self) -> u64 {
+        0
+    }
+}
+
+/// Data that can't be read has the number of its error in the line, and is no error of the log.
+impl<W> Refusing for MariaJsonWriter<W> {
     fn refused(&self) -> u64 {
         0
     }

@@ -1,5 +1,6 @@
 pub mod Loads
 pub mod SignedNumbers
 pub mod DigitTexts
+pub mod TextFronts
 pub mod DecimalTexts
 mod DecimalDigits

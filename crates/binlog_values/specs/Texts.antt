@@ -1,5 +1,5 @@
 -- Decimal digits, and text of them.
-use Rattle.std.specs.Prelude.{ℕ, zero, suc, ◌+◌, ◌/◌, ◌%◌, ◌^◌, Bool, List, [], ◌∷◌, map, if◌then◌else◌}
+use Rattle.std.specs.Prelude.{ℕ, zero, suc, ◌+◌, ◌/◌, ◌%◌, ◌^◌, Bool, List, [], ◌∷◌, ◌++◌, map, if◌then◌else◌, ◌≡◌}
 
 -- The last decimal digits of a number, this many, with zeros in front.
 unfoldable pub last_digits : ℕ → ℕ → List ℕ
@@ -13,3 +13,7 @@ digits_text count n = map (λ digit. 48 + digit) (last_digits count n)
 -- A minus sign for a negative number.
 abbrev pub sign_text : Bool → List ℕ
 sign_text is_negative = if is_negative then 45 ∷ [] else []
+
+-- The text has the first one in front.
+abbrev pub StartsWith : List ℕ → List ℕ → Type 0
+StartsWith front text = (rest : List ℕ) × (text ≡ front ++ rest)

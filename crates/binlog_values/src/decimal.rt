@@ -1,7 +1,8 @@
 //! Decimal numbers.
-ghost use Rattle.std.specs.Prelude.{◌≡◌, ◌≤◌, ◌^◌, ◌++◌, OnOk, MatchOption, IsSome, true, length};
+ghost use Rattle.std.specs.Prelude.{◌≡◌, ◌≤◌, ◌^◌, ◌++◌, OnOk, OnErr, MatchOption, IsSome, is_ok, true, length, if◌then◌else◌};
 ghost use Rattle.std.specs.String.{string_bytes};
 ghost use Rattle.binlog_values.specs.Contents.{decimal_len, is_decimal_bytes};
+ghost use Rattle.binlog_values.specs.Texts.{StartsWith};
 ghost use Rattle.binlog_values.specs.Decimals.{is_negative_decimal, decimal_number, unscaled, decimal_text};
 
 use crate::decimal_number::decimal_number;
@@ -75,10 +76,25 @@ impl<'a> Decimal<'a> {
     ///
     /// # Errors
     ///
-    /// `AllocError` if memory is refused.
-    #[tactic(auto, using(std::proofs::Common::append_assoc, crate::specs::DecimalLaws::decimal_count), unfolding(crate::specs::Decimals::decimal_text))]
+    /// `AllocError` if memory is refused. The text is then as it was.
     pub fn push_to(&self, text: &mut String) -> Result<(), AllocError>
-        ensures { OnOk result (string_bytes text.new ≡ string_bytes text.old ++ decimal_text self.now.precision self.now.scale self.now.bytes.now) }
+        ensures { string_bytes text.new ≡ (if is_ok result then string_bytes text.old ++ decimal_text self.now.precision self.now.scale self.now.bytes.now else string_bytes text.old) }
+    {
+        let len = text.len();
+        match self.push_parts(text) {
+            Ok(()) => Ok(()),
+            Err(error) => {
+                text.truncate(len);
+                Err(error)
+            }
+        }
+    }
+
+    // Appends the number in decimal, or a part of it if memory is refused.
+    #[tactic(auto, using(std::proofs::Common::append_assoc, crate::specs::DecimalLaws::decimal_count, crate::proofs::TextFronts::starts_on, crate::proofs::TextFronts::starts_before), unfolding(crate::specs::Decimals::decimal_text))]
+    fn push_parts(&self, text: &mut String) -> Result<(), AllocError>
+        ensures ok { OnOk result (string_bytes text.new ≡ string_bytes text.old ++ decimal_text self.now.precision self.now.scale self.now.bytes.now) }
+        ensures err { OnErr result (StartsWith (string_bytes text.old) (string_bytes text.new)) }
     {
         let whole = self.precision - self.scale;
         let start = digits_len(whole % 9) + 4 * usize::from(whole / 9);

@@ -1,9 +1,10 @@
 //! Decimal numbers as text.
 #![tactic(auto, using(std::proofs::Common::append_assoc))]
 
-ghost use Rattle.std.specs.Prelude.{◌≡◌, ◌≤◌, ◌<◌, ◌+◌, ◌-◌, ◌*◌, ◌/◌, ◌%◌, ◌^◌, ◌++◌, OnOk, length};
+ghost use Rattle.std.specs.Prelude.{◌≡◌, ◌≤◌, ◌<◌, ◌+◌, ◌-◌, ◌*◌, ◌/◌, ◌%◌, ◌^◌, ◌++◌, OnOk, OnErr, is_ok, length, if◌then◌else◌};
 ghost use Rattle.std.specs.String.{string_bytes};
 ghost use Rattle.binlog_values.specs.Contents.{digits_len, magnitude};
+ghost use Rattle.binlog_values.specs.Texts.{StartsWith};
 ghost use Rattle.binlog_values.specs.Decimals.{group_text, nines_text, whole_text, part_text, scale_text, whole_len};
 
 use crate::digits::{digits_len, group_number};
@@ -13,7 +14,7 @@ use std::alloc::AllocError;
 /// Appends a group before the point, without the zeros before the first digit that isn't zero.
 fn push_group(text: &mut String, is_begun: bool, digits: u8, number: u64) -> Result<(), AllocError>
     requires { digits ≤ 9 }
-    ensures { OnOk result (string_bytes text.new ≡ string_bytes text.old ++ group_text is_begun digits number) }
+    ensures { string_bytes text.new ≡ (if is_ok result then string_bytes text.old ++ group_text is_begun digits number else string_bytes text.old) }
 {
     if is_begun {
         push_last_digits(text, digits, number)
@@ -28,7 +29,8 @@ fn push_group(text: &mut String, is_begun: bool, digits: u8, number: u64) -> Res
 #[tactic(auto, using(std::proofs::Common::append_assoc), unfolding(crate::specs::Decimals::whole_text))]
 pub(crate) fn push_whole(text: &mut String, bytes: &[u8], digits: u8) -> Result<(), AllocError>
     requires { whole_len digits ≤ length bytes.now }
-    ensures { OnOk result (string_bytes text.new ≡ string_bytes text.old ++ whole_text digits (magnitude bytes.now)) }
+    ensures ok { OnOk result (string_bytes text.new ≡ string_bytes text.old ++ whole_text digits (magnitude bytes.now)) }
+    ensures err { OnErr result (StartsWith (string_bytes text.old) (string_bytes text.new)) }
 {
     let lead = digits % 9;
     let first = group_number(bytes, 0, lead);
@@ -45,7 +47,8 @@ fn push_nines(
     was_begun: bool,
 ) -> Result<(), AllocError>
     requires { start + 4 * count ≤ length bytes.now }
-    ensures { OnOk result (string_bytes text.new ≡ string_bytes text.old ++ nines_text count start was_begun (magnitude bytes.now)) }
+    ensures ok { OnOk result (string_bytes text.new ≡ string_bytes text.old ++ nines_text count start was_begun (magnitude bytes.now)) }
+    ensures err { OnErr result (StartsWith (string_bytes text.old) (string_bytes text.new)) }
 {
     let mut place = start;
     let mut is_begun = was_begun;
@@ -71,7 +74,8 @@ fn push_part(
 ) -> Result<(), AllocError>
     requires tail { tail ≤ 9 }
     requires room { start + 4 * count + digits_len tail ≤ length bytes.now }
-    ensures { OnOk result (string_bytes text.new ≡ string_bytes text.old ++ part_text count start tail (magnitude bytes.now)) }
+    ensures ok { OnOk result (string_bytes text.new ≡ string_bytes text.old ++ part_text count start tail (magnitude bytes.now)) }
+    ensures err { OnErr result (StartsWith (string_bytes text.old) (string_bytes text.new)) }
 {
     let mut place = start;
     for _index in 0..count {
@@ -90,7 +94,8 @@ pub(crate) fn push_scale(
     scale: u8,
 ) -> Result<(), AllocError>
     requires { start + 4 * (scale / 9) + digits_len (scale % 9) ≤ length bytes.now }
-    ensures { OnOk result (string_bytes text.new ≡ string_bytes text.old ++ scale_text scale start (magnitude bytes.now)) }
+    ensures ok { OnOk result (string_bytes text.new ≡ string_bytes text.old ++ scale_text scale start (magnitude bytes.now)) }
+    ensures err { OnErr result (StartsWith (string_bytes text.old) (string_bytes text.new)) }
 {
     if scale == 0 {
         return Ok(());

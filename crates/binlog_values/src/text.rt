@@ -1,5 +1,5 @@
 //! Text of numbers, which the text of decimal numbers, dates and times shares.
-ghost use Rattle.std.specs.Prelude.{◌≡◌, ◌≤◌, ◌+◌, ◌%◌, ◌^◌, ◌++◌, OnOk};
+ghost use Rattle.std.specs.Prelude.{◌≡◌, ◌≤◌, ◌+◌, ◌%◌, ◌^◌, ◌++◌, is_ok, if◌then◌else◌};
 ghost use Rattle.std.specs.String.{string_bytes};
 ghost use Rattle.std.specs.Fmt.{decimal};
 ghost use Rattle.binlog_values.specs.Texts.{digits_text, sign_text};
@@ -33,13 +33,13 @@ pub fn pow_10(exponent: u8) -> u64
 ///
 /// # Errors
 ///
-/// `AllocError` if memory is refused.
+/// `AllocError` if memory is refused. The text is then as it was.
 // They are the digits behind the first one of a number with a one before them, which keeps the zeros in front. Inlined, since
 // most callers know the count: the digits are then a load and a store.
 #[inline(always)]
 pub fn push_last_digits(text: &mut String, count: u8, number: u64) -> Result<(), AllocError>
     requires { count ≤ 9 }
-    ensures { OnOk result (string_bytes text.new ≡ string_bytes text.old ++ digits_text count number) }
+    ensures { string_bytes text.new ≡ (if is_ok result then string_bytes text.old ++ digits_text count number else string_bytes text.old) }
 {
     let power = pow_10(count);
     let mut buffer = Buffer::new();
@@ -51,9 +51,9 @@ pub fn push_last_digits(text: &mut String, count: u8, number: u64) -> Result<(),
 ///
 /// # Errors
 ///
-/// `AllocError` if memory is refused.
+/// `AllocError` if memory is refused. The text is then as it was.
 pub fn push_number(text: &mut String, number: u64) -> Result<(), AllocError>
-    ensures { OnOk result (string_bytes text.new ≡ string_bytes text.old ++ decimal number) }
+    ensures { string_bytes text.new ≡ (if is_ok result then string_bytes text.old ++ decimal number else string_bytes text.old) }
 {
     let mut buffer = Buffer::new();
     text.push_str(buffer.format(number))
@@ -63,9 +63,9 @@ pub fn push_number(text: &mut String, number: u64) -> Result<(), AllocError>
 ///
 /// # Errors
 ///
-/// `AllocError` if memory is refused.
+/// `AllocError` if memory is refused. The text is then as it was.
 pub fn push_sign(text: &mut String, is_negative: bool) -> Result<(), AllocError>
-    ensures { OnOk result (string_bytes text.new ≡ string_bytes text.old ++ sign_text is_negative) }
+    ensures { string_bytes text.new ≡ (if is_ok result then string_bytes text.old ++ sign_text is_negative else string_bytes text.old) }
 {
     if is_negative {
         text.push_str("-")?;

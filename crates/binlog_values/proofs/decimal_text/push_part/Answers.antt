@@ -1,11 +1,13 @@
 use Rattle.std.proofs.Common.{arith}
 use Rattle.binlog_values.specs.Contents.{magnitude}
+use Rattle.binlog_values.proofs.TextFronts.{starts_on}
 use Rattle.binlog_values.proofs.DecimalTexts.{part_pushed}
 use Rattle.binlog_values.proofs.decimal_text.push_part.Goals as goal
 
 pub loop-index-preserved : goal.loop-index-preserved
 loop-index-preserved c = (
   omega arith,
-  part_pushed _ _ _ (magnitude c.args.bytes.now) c.args.count c.loop-index._index c.loop-index.place c.args.tail c.group_number.result (omega arith) c.group_number.ensures c.loop-index.invariant.1
+  starts_on _ _ _ _ c.loop-index.invariant.1 c.in_ok-push_last_digits.ensures,
+  part_pushed _ _ _ (magnitude c.args.bytes.now) c.args.count c.loop-index._index c.loop-index.place c.args.tail c.group_number.result (omega arith) c.group_number.ensures c.loop-index.invariant.2
       c.in_ok-push_last_digits.ensures,
 )
