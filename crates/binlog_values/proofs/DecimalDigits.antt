@@ -32,7 +32,7 @@ number_of_last (suc count) n =
     ∙ omega (arith, ih, mod_ten_times (10 ^ count) n (one-le-pow count 10 (omega arith)))
     ∙ ap (λ (p : ℕ). n % p) (sym (pow-suc 10 count))
 
-digits_of_groups : (counts s : List ℕ) → length (groups_digits counts s) ≡ digits_count counts
+pub digits_of_groups : (counts s : List ℕ) → length (groups_digits counts s) ≡ digits_count counts
 digits_of_groups [] s = refl
 digits_of_groups (count ∷ counts) s =
     let ih = digits_of_groups counts (drop (digits_len count) s) in

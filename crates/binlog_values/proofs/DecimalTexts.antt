@@ -1,7 +1,7 @@
 -- Decimal numbers as text, group by group.
 use Rattle.std.proofs.Common.{◌≡◌, ℕ, suc, ◌+◌, ◌-◌, ◌<◌, ◌≤◌, Bool, true, false, cond, List, [], ◌∷◌, ◌++◌, refl, sym, ap, ◌∙◌, append_assoc, append-nil, arith}
 use Rattle.binlog_values.specs.Texts.{digits_text}
-use Rattle.binlog_values.specs.Decimals.{group_at, group_text, is_begun_by, nines_text, part_text}
+use Rattle.binlog_values.specs.DecimalGroups.{group_at, group_text, is_begun_by, nines_text, part_text}
 
 -- ---- the digits before the point
 

@@ -1,6 +1,6 @@
 -- The last digits of a number.
 use Rattle.std.proofs.Common.{◌≡◌, ℕ, zero, suc, ◌+◌, ◌-◌, ◌*◌, ◌/◌, ◌%◌, ◌^◌, ◌<◌, ◌≤◌, List, [], ◌∷◌, ◌++◌, length, map, refl, sym, ap, ◌∙◌, arith}
-use Rattle.std.proofs.Math.Nat.{pow-suc, pow-succ', one-le-pow, div-div-eq-div-mul}
+use Rattle.std.proofs.Math.Nat.{pow-suc, pow-succ', one-le-pow, div-div-eq-div-mul, mul_assoc, le-mul_of_pos_right}
 use Rattle.std.proofs.lemmas.Nat.{mod-mul-add, div-add-mod'}
 use Rattle.std.proofs.lemmas.List.{take_all, length-map, map-append}
 use Rattle.std.proofs.lemmas.Fmt.{decimal_digit, decimal_step}
@@ -30,22 +30,31 @@ mod_ten_times k n some =
     let parts : n / 10 / k * (k * 10) + (n / 10 % k * 10 + n % 10) ≡ n = omega (arith, tenth) in
     ap (λ (m : ℕ). m % (k * 10)) (sym parts) ∙ mod-mul-add (n / 10 / k) (k * 10) (n / 10 % k * 10 + n % 10) small
 
--- The digits of a number that has a one before so many last digits.
-pub one_before : (count n : ℕ) → 10 ^ count + n % 10 ^ count < 2 ^ 64 → decimal (10 ^ count + n % 10 ^ count) ≡ 49 ∷ digits_text count n
+-- The digits of a number that has this one before so many last digits.
+pub digit_and_last : (digit count n : ℕ) → 1 ≤ digit → digit ≤ 9 → digit * 10 ^ count + n % 10 ^ count < 2 ^ 64
+    → decimal (digit * 10 ^ count + n % 10 ^ count) ≡ (48 + digit) ∷ digits_text count n
 unfolding last_digits
-one_before zero n small = let e : 1 + n % 1 ≡ 1 = omega arith in rw e (decimal_digit 1 (omega arith))
-one_before (suc count) n small =
-    let some : 1 ≤ 10 ^ count = one-le-pow count 10 (omega arith) in
-    let whole : 10 ^ suc count + n % 10 ^ suc count ≡ (10 ^ count + n / 10 % 10 ^ count) * 10 + n % 10 =
-    ap (λ (m : ℕ). m + n % m) (pow-suc 10 count) ∙ omega (arith, mod_ten_times (10 ^ count) n some) in
-    let tenth : (10 ^ suc count + n % 10 ^ suc count) / 10 ≡ 10 ^ count + n / 10 % 10 ^ count = omega (arith, whole) in
-    let last : (10 ^ suc count + n % 10 ^ suc count) % 10 ≡ n % 10 = omega (arith, whole) in
-    let before : decimal (10 ^ count + n / 10 % 10 ^ count) ≡ 49 ∷ digits_text count (n / 10) = one_before count (n / 10) (omega (arith, whole, small)) in
-    decimal_step (10 ^ suc count + n % 10 ^ suc count) (omega (arith, whole, some)) small
-    ∙ ap (λ (m : ℕ). decimal m ++ (48 + (10 ^ suc count + n % 10 ^ suc count) % 10) ∷ []) tenth
-    ∙ ap (λ (d : ℕ). decimal (10 ^ count + n / 10 % 10 ^ count) ++ (48 + d) ∷ []) last
+digit_and_last digit zero n some few small = let e : digit * 1 + n % 1 ≡ digit = omega arith in rw e (decimal_digit digit (omega (arith, few)))
+digit_and_last digit (suc count) n some few small =
+    let power : 1 ≤ 10 ^ count = one-le-pow count 10 (omega arith) in
+    let front : digit * (10 ^ count * 10) ≡ digit * 10 ^ count * 10 = sym (mul_assoc digit (10 ^ count) 10) in
+    let first : 1 ≤ digit * 10 ^ count = omega (arith, power, some, le-mul_of_pos_right digit power) in
+    let whole : digit * 10 ^ suc count + n % 10 ^ suc count ≡ (digit * 10 ^ count + n / 10 % 10 ^ count) * 10 + n % 10 =
+    ap (λ (m : ℕ). digit * m + n % m) (pow-suc 10 count) ∙ omega (arith, front, mod_ten_times (10 ^ count) n power) in
+    let tenth : (digit * 10 ^ suc count + n % 10 ^ suc count) / 10 ≡ digit * 10 ^ count + n / 10 % 10 ^ count = omega (arith, whole) in
+    let last : (digit * 10 ^ suc count + n % 10 ^ suc count) % 10 ≡ n % 10 = omega (arith, whole) in
+    let before : decimal (digit * 10 ^ count + n / 10 % 10 ^ count) ≡ (48 + digit) ∷ digits_text count (n / 10) = digit_and_last digit count (n / 10) some few (omega (arith, whole, small)) in
+    decimal_step (digit * 10 ^ suc count + n % 10 ^ suc count) (omega (arith, whole, first)) small
+    ∙ ap (λ (m : ℕ). decimal m ++ (48 + (digit * 10 ^ suc count + n % 10 ^ suc count) % 10) ∷ []) tenth
+    ∙ ap (λ (d : ℕ). decimal (digit * 10 ^ count + n / 10 % 10 ^ count) ++ (48 + d) ∷ []) last
     ∙ ap (λ (l : List ℕ). l ++ (48 + n % 10) ∷ []) before
-    ∙ ap (λ (l : List ℕ). 49 ∷ l) (sym (digit_before count n))
+    ∙ ap (λ (l : List ℕ). (48 + digit) ∷ l) (sym (digit_before count n))
+
+-- The digits of a number that has a one before so many last digits.
+one_before : (count n : ℕ) → 10 ^ count + n % 10 ^ count < 2 ^ 64 → decimal (10 ^ count + n % 10 ^ count) ≡ 49 ∷ digits_text count n
+one_before count n small =
+    let one : 1 * 10 ^ count ≡ 10 ^ count = omega arith in
+    ap (λ (m : ℕ). decimal (m + n % 10 ^ count)) (sym one) ∙ digit_and_last 1 count n (omega arith) (omega arith) (omega (arith, one, small))
 
 pub length-last_digits : (count n : ℕ) → length (last_digits count n) ≡ count
 unfolding last_digits

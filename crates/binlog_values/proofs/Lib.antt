@@ -3,4 +3,5 @@ pub mod SignedNumbers
 pub mod DigitTexts
 pub mod TextFronts
 pub mod DecimalTexts
+mod ShownDigits
 mod DecimalDigits

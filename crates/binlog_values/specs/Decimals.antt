@@ -1,18 +1,13 @@
 -- Decimal numbers: the sign, the digits, the exact integer, and the text.
 -- Source: MySQL's documentation of its source code, `decimal.h`.
-use Rattle.std.specs.Prelude.{ℕ, zero, suc, ◌+◌, ◌-◌, ◌*◌, ◌/◌, ◌%◌, ◌^◌, ◌==◌, ◌||◌, not, Bool, true, false, ℤ, pos, neg_ℤ, List, [], ◌∷◌, ◌++◌, drop, length, slice_index, nat_lt, if◌then◌else◌}
-use Rattle.std.specs.Fmt.{decimal}
+use Rattle.std.specs.Prelude.{ℕ, ◌+◌, ◌-◌, ◌*◌, ◌^◌, ◌==◌, Bool, ℤ, pos, neg_ℤ, List, [], ◌∷◌, ◌++◌, take, drop, length, slice_index, nat_lt, if◌then◌else◌}
 use Rattle.byteorder.specs.Endian.{big_number}
 use Rattle.binlog_values.specs.Contents.{digits_len, groups, magnitude}
-use Rattle.binlog_values.specs.Texts.{last_digits, digits_text, sign_text}
+use Rattle.binlog_values.specs.Texts.{last_digits, digits_codes, sign_text}
 
 -- The number is negative: the top bit of its first byte isn't set.
 abbrev pub is_negative_decimal : List ℕ → Bool
 is_negative_decimal s = nat_lt (slice_index s 0) 128
-
--- The number of the group of this many digits, at most nine, from this place of the digits' bytes.
-abbrev pub group_at : ℕ → ℕ → List ℕ → ℕ
-group_at place digits s = big_number (digits_len digits) (drop place s)
 
 -- ---- the digits
 
@@ -53,42 +48,27 @@ unscaled precision scale s = let n = decimal_number precision scale s in if is_n
 
 -- ---- the text
 
--- A group before the point. Zeros in front of the first digit that isn't zero are left out; `is_begun` says that there is
--- such a digit before the group.
-abbrev pub group_text : Bool → ℕ → ℕ → List ℕ
-group_text true digits n = digits_text digits n
-group_text false digits n = if n == 0 then [] else decimal n
+-- Digits without the zeros in front.
+abbrev pub without_zeros : List ℕ → List ℕ
+without_zeros [] = []
+without_zeros (digit ∷ digits) = if digit == 0 then without_zeros digits else digit ∷ digits
 
--- There is a digit that isn't zero before or in the group.
-abbrev pub is_begun_by : Bool → ℕ → Bool
-is_begun_by is_begun n = is_begun || not (n == 0)
+-- Digits, or a zero if there are none.
+abbrev pub or_zero : List ℕ → List ℕ
+or_zero [] = 0 ∷ []
+or_zero (digit ∷ digits) = digit ∷ digits
 
--- So many groups of nine digits before the point; a zero if all digits are.
-abbrev pub nines_text : ℕ → ℕ → Bool → List ℕ → List ℕ
-nines_text zero place is_begun s = if is_begun then [] else 48 ∷ []
-nines_text (suc count) place is_begun s =
-    group_text is_begun 9 (group_at place 9 s) ++ nines_text count (place + 4) (is_begun_by is_begun (group_at place 9 s)) s
-
--- The digits before the point: a group of fewer than nine digits, and groups of nine.
-unfoldable pub whole_text : ℕ → List ℕ → List ℕ
-whole_text digits s =
-    group_text false (digits % 9) (group_at 0 (digits % 9) s)
-    ++ nines_text (digits / 9) (digits_len (digits % 9)) (is_begun_by false (group_at 0 (digits % 9) s)) s
-
--- The digits after the point: groups of nine, and a group of fewer.
-abbrev pub part_text : ℕ → ℕ → ℕ → List ℕ → List ℕ
-part_text zero place tail s = digits_text tail (group_at place tail s)
-part_text (suc count) place tail s = digits_text 9 (group_at place 9 s) ++ part_text count (place + 4) tail s
+-- The digits before the point: without zeros in front, but at least one.
+abbrev pub shown_whole : List ℕ → List ℕ
+shown_whole digits = or_zero (without_zeros digits)
 
 -- The point and the digits after it, if there are any.
-unfoldable pub scale_text : ℕ → ℕ → List ℕ → List ℕ
-scale_text scale place s = if scale == 0 then [] else 46 ∷ [] ++ part_text (scale / 9) place (scale % 9) s
+abbrev pub shown_scale : List ℕ → List ℕ
+shown_scale [] = []
+shown_scale (digit ∷ digits) = 46 ∷ digits_codes (digit ∷ digits)
 
--- The place behind the digits before the point.
-abbrev pub whole_len : ℕ → ℕ
-whole_len digits = digits_len (digits % 9) + 4 * (digits / 9)
-
--- A decimal number of this precision and scale, by its bytes: `-1234567890.1234`.
+-- A decimal number of this precision and scale, by its bytes: `-1234567890.1234`. Its last `scale` digits are after the point.
 unfoldable pub decimal_text : ℕ → ℕ → List ℕ → List ℕ
 decimal_text precision scale s =
-    sign_text (is_negative_decimal s) ++ whole_text (precision - scale) (magnitude s) ++ scale_text scale (whole_len (precision - scale)) (magnitude s)
+    let digits = decimal_digits precision scale s in
+    sign_text (is_negative_decimal s) ++ digits_codes (shown_whole (take (precision - scale) digits)) ++ shown_scale (drop (precision - scale) digits)

@@ -1,6 +1,7 @@
 pub mod BigNumbers
 pub mod ContentLaws
 pub mod Contents
+pub mod DecimalGroups
 pub mod DecimalLaws
 pub mod Decimals
 pub mod Texts

@@ -6,9 +6,13 @@ unfoldable pub last_digits : ℕ → ℕ → List ℕ
 last_digits zero n = []
 last_digits (suc count) n = (n / 10 ^ count % 10) ∷ last_digits count n
 
--- The same as text.
+-- Digits as text.
+abbrev pub digits_codes : List ℕ → List ℕ
+digits_codes digits = map (λ digit. 48 + digit) digits
+
+-- The last decimal digits of a number as text.
 abbrev pub digits_text : ℕ → ℕ → List ℕ
-digits_text count n = map (λ digit. 48 + digit) (last_digits count n)
+digits_text count n = digits_codes (last_digits count n)
 
 -- A minus sign for a negative number.
 abbrev pub sign_text : Bool → List ℕ

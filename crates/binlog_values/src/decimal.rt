@@ -3,6 +3,7 @@ ghost use Rattle.std.specs.Prelude.{◌≡◌, ◌≤◌, ◌^◌, ◌++◌, OnO
 ghost use Rattle.std.specs.String.{string_bytes};
 ghost use Rattle.binlog_values.specs.Contents.{decimal_len, is_decimal_bytes};
 ghost use Rattle.binlog_values.specs.Texts.{StartsWith};
+ghost use Rattle.binlog_values.specs.DecimalGroups.{grouped_text};
 ghost use Rattle.binlog_values.specs.Decimals.{is_negative_decimal, decimal_number, unscaled, decimal_text};
 
 use crate::decimal_number::decimal_number;
@@ -77,6 +78,7 @@ impl<'a> Decimal<'a> {
     /// # Errors
     ///
     /// `AllocError` if memory is refused. The text is then as it was.
+    #[tactic(auto, using(crate::proofs::ShownDigits::decimal_shown))]
     pub fn push_to(&self, text: &mut String) -> Result<(), AllocError>
         ensures { string_bytes text.new ≡ (if is_ok result then string_bytes text.old ++ decimal_text self.now.precision self.now.scale self.now.bytes.now else string_bytes text.old) }
     {
@@ -91,9 +93,9 @@ impl<'a> Decimal<'a> {
     }
 
     // Appends the number in decimal, or a part of it if memory is refused.
-    #[tactic(auto, using(std::proofs::Common::append_assoc, crate::specs::DecimalLaws::decimal_count, crate::proofs::TextFronts::starts_on, crate::proofs::TextFronts::starts_before), unfolding(crate::specs::Decimals::decimal_text))]
+    #[tactic(auto, using(std::proofs::Common::append_assoc, crate::specs::DecimalLaws::decimal_count, crate::proofs::TextFronts::starts_on, crate::proofs::TextFronts::starts_before), unfolding(crate::specs::DecimalGroups::grouped_text))]
     fn push_parts(&self, text: &mut String) -> Result<(), AllocError>
-        ensures ok { OnOk result (string_bytes text.new ≡ string_bytes text.old ++ decimal_text self.now.precision self.now.scale self.now.bytes.now) }
+        ensures ok { OnOk result (string_bytes text.new ≡ string_bytes text.old ++ grouped_text self.now.precision self.now.scale self.now.bytes.now) }
         ensures err { OnErr result (StartsWith (string_bytes text.old) (string_bytes text.new)) }
     {
         let whole = self.precision - self.scale;

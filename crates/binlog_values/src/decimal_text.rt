@@ -5,7 +5,7 @@ ghost use Rattle.std.specs.Prelude.{◌≡◌, ◌≤◌, ◌<◌, ◌+◌, ◌-
 ghost use Rattle.std.specs.String.{string_bytes};
 ghost use Rattle.binlog_values.specs.Contents.{digits_len, magnitude};
 ghost use Rattle.binlog_values.specs.Texts.{StartsWith};
-ghost use Rattle.binlog_values.specs.Decimals.{group_text, nines_text, whole_text, part_text, scale_text, whole_len};
+ghost use Rattle.binlog_values.specs.DecimalGroups.{group_text, nines_text, whole_text, part_text, scale_text, whole_len};
 
 use crate::digits::{digits_len, group_number};
 use crate::text::{push_last_digits, push_number};
@@ -26,7 +26,7 @@ fn push_group(text: &mut String, is_begun: bool, digits: u8, number: u64) -> Res
 }
 
 /// Appends this many digits before the point.
-#[tactic(auto, using(std::proofs::Common::append_assoc), unfolding(crate::specs::Decimals::whole_text))]
+#[tactic(auto, using(std::proofs::Common::append_assoc), unfolding(crate::specs::DecimalGroups::whole_text))]
 pub(crate) fn push_whole(text: &mut String, bytes: &[u8], digits: u8) -> Result<(), AllocError>
     requires { whole_len digits ≤ length bytes.now }
     ensures ok { OnOk result (string_bytes text.new ≡ string_bytes text.old ++ whole_text digits (magnitude bytes.now)) }
@@ -86,7 +86,7 @@ fn push_part(
 }
 
 /// Appends the point and the digits after it, if there are any.
-#[tactic(auto, using(std::proofs::Common::append_assoc), unfolding(crate::specs::Decimals::scale_text))]
+#[tactic(auto, using(std::proofs::Common::append_assoc), unfolding(crate::specs::DecimalGroups::scale_text))]
 pub(crate) fn push_scale(
     text: &mut String,
     bytes: &[u8],

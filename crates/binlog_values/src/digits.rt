@@ -3,7 +3,7 @@ ghost use Rattle.std.specs.Prelude.{◌≡◌, ◌≤◌, ◌<◌, ◌+◌, ◌-
 ghost use Rattle.byteorder.specs.Endian.{big_number};
 ghost use Rattle.binlog_values.specs.Contents.{digits_len, decimal_len, magnitude, is_decimal_bytes, groups_fit};
 ghost use Rattle.binlog_values.specs.DecimalLaws.{adjusted};
-ghost use Rattle.binlog_values.specs.Decimals.{group_at};
+ghost use Rattle.binlog_values.specs.DecimalGroups.{group_at};
 
 use crate::text::pow_10;
 use byteorder::{BigEndian, ByteOrder};

@@ -1,7 +1,7 @@
 use Rattle.std.proofs.Common.{◌≡◌, ◌+◌, ◌-◌, ◌*◌, ◌++◌, string_bytes}
 use Rattle.binlog_values.specs.Contents.{magnitude}
 use Rattle.binlog_values.specs.Texts.{StartsWith}
-use Rattle.binlog_values.specs.Decimals.{part_text}
+use Rattle.binlog_values.specs.DecimalGroups.{part_text}
 use Rattle.binlog_values.proofs.decimal_text.push_part.Given as goal
 
 -- The groups so far are behind the text, and with those to come are all of them.
