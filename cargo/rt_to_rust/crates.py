@@ -31,6 +31,12 @@ TOOLS = [
     "binlog_gtid_listing",
     "binlog_maria_gtid_listing",
     "binlog_json_lines",
+    "binlog_row_lines",
+    "binlog_row_json",
+    "inflate",
+    "binlog_mariadb_compression",
+    "binlog_visits",
+    "binlog_maria_json",
 ]
 
 # The crates of programs, and the programs' names.

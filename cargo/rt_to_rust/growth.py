@@ -49,6 +49,32 @@ def constructors(source):
             yield source.span(index, index + 2, name)
 
 
+def formatted(source):
+    """Texts with their arguments, which are made with memory."""
+    for index in source.places("format", "!", "(", "in"):
+        arguments = index
+        while source.code[arguments].text != ";":
+            arguments += 1
+        close = source.partner[index + 2]
+        yield source.span(index, arguments, "try_format(format_args!(")
+        yield source.span(close, close, "))")
+
+
+def filled(source):
+    """Vectors of so many copies of a value, which are made with memory."""
+    for index in source.places("vec", "!", "[", "in"):
+        value = index
+        while source.code[value].text != ";":
+            value += 1
+        count = value + 1
+        while source.code[count].text != ";":
+            count += 1
+        close = source.partner[index + 2]
+        yield source.span(index, value, "vec_filled(")
+        yield source.span(count, count, ",")
+        yield source.span(close, close, ")")
+
+
 def failures(source):
     """A failed growth holds no value: conversions of its error to `AllocError` are none."""
     for index in source.places(".", "map_err", "(", "AllocError", "::", "from", ")"):
@@ -59,6 +85,18 @@ def failures(source):
         yield source.span(close, close)
 
 
+def kept_values(source):
+    """Conversions of the error of a failed growth that holds the value."""
+    for index in source.places("From", "<", "AllocFailed", "<"):
+        first, opening = index, index
+        while source.code[first].text != "impl":
+            first -= 1
+        while source.code[opening].text != "{":
+            opening += 1
+        yield source.span(first, source.partner[opening])
+
+
 def grown(source):
     """The source with growth that may be refused."""
-    return source.changed([*growing_calls(source), *constructors(source), *failures(source)])
+    source = source.changed(kept_values(source))
+    return source.changed([*growing_calls(source), *constructors(source), *formatted(source), *filled(source), *failures(source)])

@@ -10,6 +10,7 @@ from rt_to_rust.source import segments
 
 # Names of the toolchain's std and ports: what stands for them, None where nothing does; `crate` is the crate's root.
 STAND_INS = {
+    "std::alloc::AllocFailed": None,
     "std::alloc::Global": None,
     "std::marker::Model": None,
     "std::string::String": None,
@@ -24,6 +25,7 @@ STAND_INS = {
     "std::simd::Simd": "crate::simd::Simd",
     "itoa::write_digits": "crate::digits::write_digits",
     "json::Writer": "crate::json::Writer",
+    "jiff_core::civil::Date": "crate::calendar::Date",
     "bitflags::Flag": "crate::bitflags::Flag",
     "bitflags::Flags": "crate::bitflags::Flags",
     "bitflags::bitflag_items": "crate::bitflags::bitflag_items",
@@ -33,7 +35,7 @@ STAND_INS = {
 SAME = re.compile(
     r"(std::(cell::Cell|cmp::Ordering|fmt|hash::\w+|io(::\w+)?|marker::PhantomData|mem(::swap)?|process::ExitCode|str)"
     r"|std::sync::Arc"
-    r"|byteorder::\w+|memchr::\w+|hex::encode_to_slice|itoa::Buffer|uuid::Uuid|thiserror::Error)"
+    r"|byteorder::\w+|memchr::\w+|hex::encode_to_slice|itoa::Buffer|ryu::Buffer|uuid::Uuid|thiserror::Error)"
 )
 
 # The calls of the module for memory, by the name that a file has to import.
@@ -41,7 +43,9 @@ MEMORY = {
     "TryGrow": ["try_push", "try_insert", "try_resize", "try_extend_from_slice"],
     "TryGrowText": ["try_push_str"],
     "string_from": ["string_from"],
+    "try_format": ["try_format"],
     "try_lossy_text": ["try_lossy_text"],
+    "vec_filled": ["vec_filled"],
     "vec_from_slice": ["vec_from_slice"],
     "vec_with_capacity": ["vec_with_capacity"],
 }

@@ -1,13 +1,12 @@
 //! The objects of GTIDs and of lists of them.
 #![tactic(auto, using(std::proofs::Common::append_assoc))]
 
-ghost use Rattle.std.specs.Prelude.{◌≡◌, ◌++◌, flat_map, option_copied, OnOk};
-ghost use Rattle.std.specs.String.{string_bytes};
-ghost use Rattle.std.specs.Fmt.{decimal};
+ghost use Rattle.std.specs.Prelude.{◌≡◌, ◌++◌, flat_map, option_copied};
 ghost use Rattle.json_line.specs.Tokens.{Adds, number_value, or_null, array};
 ghost use Rattle.binlog_maria_json.specs.Gtids.{gtid_text, gtid_value, xa_object, extra_object, gtid_parts, gtid_object, gtid_list_object};
 
 use binlog_mariadb::{GtidExtra, GtidListEvent, MariaGtid, MariaGtidEvent, XaId};
+use binlog_values::text::push_number;
 use json_line::Line;
 use std::alloc::AllocError;
 
@@ -147,11 +146,4 @@ fn write_gtid_text(line: &mut Line, text: &mut String, gtid: &MariaGtid) -> Resu
     text.push_str("-")?;
     push_number(text, gtid.sequence())?;
     line.string(text.as_str())
-}
-
-// Appends a number in decimal.
-fn push_number(text: &mut String, number: u64) -> Result<(), AllocError>
-    ensures { OnOk result (string_bytes text.new ≡ string_bytes text.old ++ decimal number) }
-{
-    write!(text, "{number}")
 }

@@ -7,7 +7,18 @@ pub mod binlog_json_lines;
 pub mod binlog_lines;
 pub mod binlog_listing;
 pub mod binlog_maria_gtid_listing;
+pub mod binlog_maria_json;
+#[doc(hidden)]
+pub mod binlog_mariadb_compression;
+#[doc(hidden)]
+pub mod binlog_row_json;
+#[doc(hidden)]
+pub mod binlog_row_lines;
+pub mod binlog_visits;
+mod calendar;
 mod digits;
+#[doc(hidden)]
+pub mod inflate;
 mod json;
 #[doc(hidden)]
 pub mod json_line;

@@ -158,6 +158,8 @@ pub mod values {
     pub use crate::binlog_optional_metadata::{OptionalMetadataError, OptionalMetadataErrorKind};
     pub use crate::binlog_values::{Bit, Date, DateTime, DateTime2, Decimal, Integer, Time, Time2};
     pub use crate::binlog_values::{Timestamp2, Value};
+    #[doc(hidden)]
+    pub use crate::binlog_values::text;
 }
 
 /// The text of a set of GTIDs, as servers write it.

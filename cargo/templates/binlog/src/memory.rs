@@ -117,6 +117,13 @@ impl fmt::Write for Growing<'_> {
     }
 }
 
+/// A vector of so many copies of a value.
+pub fn vec_filled<T: Copy>(value: T, count: usize) -> Result<Vec<T>, AllocError> {
+    let mut made = Vec::new();
+    made.try_resize(count, value)?;
+    Ok(made)
+}
+
 /// An empty vector with room for as many items.
 #[inline]
 pub fn vec_with_capacity<T>(count: usize) -> Result<Vec<T>, AllocError> {
@@ -139,6 +146,13 @@ pub fn string_from(text: &str) -> Result<String, AllocError> {
     copy.try_reserve_exact(text.len())?;
     copy.push_str(text);
     Ok(copy)
+}
+
+/// A text with its arguments.
+pub fn try_format(text: fmt::Arguments<'_>) -> Result<String, AllocError> {
+    let mut made = String::new();
+    TryWrite::write_fmt(&mut made, text)?;
+    Ok(made)
 }
 
 /// Owned bytes or text, whose memory may be refused.
