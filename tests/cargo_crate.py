@@ -32,7 +32,7 @@ from damaged_copies import PROCESSES_AT_A_TIME, REPOSITORY
 CONVERTER = REPOSITORY / "cargo"
 TOOLS = ("cargo", "rustc", "rustfmt")
 REGISTRY = Path("/usr/share/cargo/registry")
-PACKAGES = [f"librust-{name}-dev" for name in ("byteorder", "hex", "itoa", "memchr", "thiserror", "uuid")]
+PACKAGES = [f"librust-{name}-dev" for name in ("byteorder", "hex", "itoa", "memchr", "ryu", "thiserror", "time", "uuid")]
 
 # The optional crates, which are features of the packages too, and the tests that each needs.
 OPTIONAL = {"crc32fast": "crc32"}

@@ -465,9 +465,15 @@ def failure(programs, model, case):
     name, content, *stated = case
     results = [(Path(program).name, *run(program, content)) for program in programs]
     results.append(("the model", *model.expected(content)))
-    results += [("the encoder", output, listing_model.STATUS_FINE) for output in stated]
     faults = [fault for pair in combinations(results, 2) for fault in all_faults(*pair)]
+    faults += [fault for output in stated for fault in encoder_faults(results[0], output)]
     return f"{name}: {'; '.join(faults)}" if faults else None
+
+
+def encoder_faults(found, output):
+    """What is unlike the encoder's output, which has no rows."""
+    name, lines, status = found
+    return all_faults((name, json_model.without_rows(lines), status), ("the encoder", output, listing_model.STATUS_FINE))
 
 
 def all_faults(found, wanted):

@@ -153,10 +153,11 @@ def all_failures(watch):
             command = [watched.program(name)]
             yield from failures(watch, f"{name} over {log}", command, content, fault(content))
     maria = maria_events.sample()
-    command = [watched.program("binlog"), "json"]
-    yield from failures(watch, "binlog json over MariaDB's events", command, maria.content, command_fault(maria.lines))
-    content, lines = row_lines.sample()
-    yield from failures(watch, "binlog json over rows", command, content, command_fault(lines))
+    for title, content, lines in (("MariaDB's events", maria.content, maria.lines), ("rows", *row_lines.sample())):
+        command = [watched.program("binlog"), "json"]
+        yield from failures(watch, f"binlog json over {title}", command, content, command_fault(lines))
+        command = [watched.program("binlog_json")]
+        yield from failures(watch, f"binlog_json over {title}", command, content, json_fault(content))
     for program, name in watched.tests():
         stated = stated_allocations(name)
         if stated is not None:

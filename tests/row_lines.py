@@ -3,9 +3,8 @@
 
 Usage: row_lines.py [--count N] [PROGRAM]
 
-PROGRAM is the built binlog if not given. Each line has the members that the model of JSON lines gives, and a row event that can be
-read has `table` and `rows` behind them: those that the encoder states for events of every type of column, and those of the model
-for N damaged events (20,000 if not given). Which table map is in force follows from all events of the log, also where a filter
+PROGRAM is the built binlog if not given. Each line has the members that the model of JSON lines gives; the rows are those that the
+encoder states for events of every type of column, and those of the model for N damaged events (20,000 if not given). Which table map is in force follows from all events of the log, also where a filter
 takes only some. The last line is `N passed, M failed`; the exit status is 1 if something failed.
 """
 
@@ -17,20 +16,14 @@ import sys
 from pathlib import Path
 
 import encoded_events as encode
-import encoded_logs
-import event_data_model
 import json_model
 import row_events
-import row_model
 import row_values
-from json_model import as_json
-from row_model import Fault
 from row_values import WHOLE, framed, is_same, row_event, start, table_map
 
 PROGRAM = row_values.REPOSITORY / "crates/binlog/out/binlog"
 STATUSES = (0, 2)
 VERSIONS = ("8.0.36", "10.11.6-MariaDB")
-LENGTHS = encoded_logs.POST_HEADER_LENGTHS
 ROTATE, TABLE_MAP, PARTIAL_UPDATE = 4, 19, 39
 ROW_TYPES = {kind[0] for kind in encode.ROWS_KINDS}
 WRITE, UPDATE, DELETE = WHOLE[3], WHOLE[4], WHOLE[5]
@@ -40,81 +33,25 @@ INT, TEXT = 3, 15
 # ---- what is wanted of a log
 
 
-def pairs(value):
-    """A JSON value with its objects as lists of pairs."""
-    return json.loads(json.dumps(value), object_pairs_hook=list)
-
-
-class InForce:
-    """The table maps in force, and the members that are wanted of an event."""
-
-    def __init__(self, is_maria):
-        self.is_maria, self.maps = is_maria, {}
-
-    def take(self, kind, body):
-        if kind == ROTATE and len(body) >= 8 and any(body[:8]):
-            self.maps = {}
-        if kind == TABLE_MAP:
-            try:
-                found, _ = event_data_model.table_map(body, LENGTHS[TABLE_MAP - 1])
-                self.maps[found["table_id"]] = found
-            except event_data_model.Fault:
-                pass
-
-    def members(self, kind, body):
-        if kind not in ROW_TYPES:
-            return []
-        try:
-            event = event_data_model.fields(kind, body, LENGTHS)
-        except event_data_model.Fault:
-            return []
-        table = self.maps.get(event["table_id"])
-        if table is None:
-            return [("table", None), ("rows", None)]
-        name = table["database_name"].bytes + b"." + table["table_name"].bytes
-        return [("table", pairs(as_json(event_data_model.Text(name)))), ("rows", self.rows(kind, event, table))]
-
-    def rows(self, kind, event, table):
-        try:
-            columns = row_model.columns(table["columns_type"].bytes, table["columns_metadata"].bytes)
-        except Fault as fault:
-            return [[("error", fault.args[0]), ("column", fault.args[1])]]
-        if event["num_columns"] != len(columns):
-            return [[("error", "ColumnCount"), ("event", event["num_columns"]), ("table", len(columns))]]
-        facts = row_model.facts(columns, table["optional_metadata"].bytes, self.is_maria)
-        images = [(name, event[f"columns_{name}_image"]) for name in ("before", "after")]
-        present = [(name, image) for name, image in images if image is not None]
-        return row_model.rows(columns, facts, present, event["rows_data"].bytes, is_partial=kind == PARTIAL_UPDATE)
-
-
 def content_of(version, events):
     return start(version) + b"".join(framed(kind, body) for kind, body in events)
 
 
+def parsed(lines):
+    """The lines, each object as a list of pairs."""
+    return [json.loads(line, object_pairs_hook=list) for line in lines.splitlines()]
+
+
 def wanted_lines(version, events):
-    """The members of each line, those of the description first."""
-    in_force = InForce(version != VERSIONS[0])
-    added = [[]]
-    for kind, body in events:
-        in_force.take(kind, body)
-        added.append(in_force.members(kind, body))
-    plain = json_model.expected(content_of(version, events))[0].splitlines()
-    return [[*json.loads(line, object_pairs_hook=list), *members] for line, members in zip(plain, added, strict=True)]
-
-
-def plain(value):
-    """A JSON value that has no empty object, with its objects as lists of pairs, in Python's own form."""
-    if isinstance(value, list) and value and all(isinstance(item, tuple) for item in value):
-        return {name: plain(member) for name, member in value}
-    return [plain(item) for item in value] if isinstance(value, list) else value
+    """The members of each line by the model, those of the description first."""
+    return parsed(json_model.expected(content_of(version, events))[0])
 
 
 def sample():
     """A log with rows, of which one is refused, and its lines."""
     events = [FIRST, written(1, 7, b"a"), OTHER, written(2, 8, b"b"), written(2, 9, b"c" * 11), written(3, 1, b"")]
-    lines = [plain(line) for line in wanted_lines(VERSIONS[0], events)]
-    texts = [json.dumps(line, ensure_ascii=False, separators=(",", ":")) + "\n" for line in lines]
-    return content_of(VERSIONS[0], events), "".join(texts).encode()
+    content = content_of(VERSIONS[0], events)
+    return content, json_model.expected(content)[0]
 
 
 # ---- runs
@@ -124,7 +61,7 @@ def lines_of(program, version, events, words=()):
     finished = subprocess.run([program, "json", *words], input=content_of(version, events), capture_output=True)
     if finished.returncode not in STATUSES:
         return f"status {finished.returncode}"
-    return [json.loads(line, object_pairs_hook=list) for line in finished.stdout.splitlines()]
+    return parsed(finished.stdout)
 
 
 def failure(name, program, version, events, wanted, words=()):

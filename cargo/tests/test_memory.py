@@ -43,6 +43,16 @@ class Growth(Case):
         text = "fn f() {\n    Vec::with_capacity(alloc, 9)?;\n    Vec::from_slice(alloc, b)?;\n}"
         self.has(text, "vec_with_capacity( 9)?; vec_from_slice( b)?;")
 
+    def test_vectors_of_copies(self):
+        self.has("fn f() {\n    vec![in alloc; 0; 1 << bits]?;\n}", "vec_filled(0, 1 << bits)?;")
+
+    def test_texts_with_arguments(self):
+        self.has('fn f() {\n    format!(in self.alloc; "@{}", a + 1)?;\n}', 'try_format(format_args!("@{}", a + 1))?;')
+
+    def test_a_conversion_of_a_failure_with_its_value_goes(self):
+        text = "use std::alloc::AllocFailed;\nimpl<T: Drop> From<AllocFailed<T>> for A {\n    fn from(_e: AllocFailed<T>) -> A {\n        A::B\n    }\n}\nfn f() {}"
+        self.gives(text, "fn f() {}")
+
 
 HELD = """impl<'a, K: A> TryClone for Held<'a, K> {
     fn clone(&self, alloc: Global) -> Result<Self, Error> {

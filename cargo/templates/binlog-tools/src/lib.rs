@@ -7,9 +7,12 @@ pub mod binlog_json_lines;
 pub mod binlog_lines;
 pub mod binlog_listing;
 pub mod binlog_maria_gtid_listing;
+// Of some functions a contract alone reads a parameter.
+#[allow(unused_variables)]
 pub mod binlog_maria_json;
 #[doc(hidden)]
 pub mod binlog_mariadb_compression;
+#[allow(unused_variables)]
 #[doc(hidden)]
 pub mod binlog_row_json;
 #[doc(hidden)]
