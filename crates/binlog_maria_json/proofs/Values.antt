@@ -1,5 +1,5 @@
 -- Values that are appended to a line.
-use Rattle.std.proofs.Common.{◌≡◌, ℕ, ◌<◌, List, [], ◌∷◌, ◌++◌, length, Result, Ok, Err, OnOk, false, refl, ap, sym, ◌∙◌, subst, arith}
+use Rattle.std.proofs.Common.{◌≡◌, ℕ, ◌<◌, List, [], ◌∷◌, ◌++◌, length, Result, Ok, Err, OnOk, false, refl, sym, subst, arith}
 use Rattle.json.specs.Token.{Token}
 use Rattle.binlog_wire.specs.Reading.{Read}
 use Rattle.binlog_wire.specs.Errors.{error_number, is_environment_error}
@@ -11,7 +11,7 @@ use Rattle.binlog_mariadb.specs.declared.event_data.MariaEventData.{MariaEventDa
 use Rattle.binlog_mariadb_compression.specs.Compressed.{IsCompressed, Denies}
 use Rattle.binlog_mariadb_compression.specs.declared.error.CompressionError.{CompressionError}
 use Rattle.binlog_mariadb_compression.specs.declared.error.CompressionError.TheVariants as compression
-use Rattle.binlog_row_json.specs.Shown.{Appended, Shows}
+use Rattle.binlog_row_json.specs.Shown.{Shows}
 use Rattle.binlog_maria_json.specs.Data.{IsObject, IsValue}
 
 -- The object of data is the value of what was read.

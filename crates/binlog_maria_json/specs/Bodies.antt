@@ -1,5 +1,5 @@
 -- The objects of the smaller events.
-use Rattle.std.specs.Prelude.{ℕ, List, ◌++◌, codes, take}
+use Rattle.std.specs.Prelude.{List, ◌++◌, codes, take}
 use Rattle.json.specs.Token.{Token}
 use Rattle.json_line.specs.Tokens.{number_value, text_value, bytes_value, member, object}
 use Rattle.binlog_mariadb.specs.declared.annotate_rows.AnnotateRowsEvent.{AnnotateRowsEvent}

@@ -1,5 +1,5 @@
 -- The `data` member of one of MariaDB's own events.
-use Rattle.std.specs.Prelude.{◌≡◌, ℕ, List, [], ◌∷◌, Result, Ok, Err}
+use Rattle.std.specs.Prelude.{◌≡◌, ℕ, List, [], ◌∷◌, Ok, Err}
 use Rattle.json.specs.Token.{Token}
 use Rattle.binlog_wire.specs.Reading.{Read}
 use Rattle.binlog_rows.specs.RowsData.{event_in}

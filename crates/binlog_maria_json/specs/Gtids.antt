@@ -1,5 +1,5 @@
 -- The objects of GTIDs and of lists of them.
-use Rattle.std.specs.Prelude.{ℕ, List, [], ◌∷◌, ◌++◌, codes, decimal, flat_map, take, Option, Some, None, if◌then◌else◌}
+use Rattle.std.specs.Prelude.{ℕ, List, [], ◌∷◌, ◌++◌, codes, decimal, flat_map, take, Some, None, if◌then◌else◌}
 use Rattle.json.specs.Token.{Token, string}
 use Rattle.json_line.specs.Tokens.{number_value, bytes_value, or_null, member, object, array}
 use Rattle.binlog_mariadb.specs.Gtids.{has_commit_id, has_xa, has_engines, has_alter, has_thread}
