@@ -54,6 +54,12 @@ def gtid(data):
 
 def gtid_list(data):
     """The entries of a list."""
+    _, entries = flags_and_entries(data)
+    return entries
+
+
+def flags_and_entries(data):
+    """The flags and the entries of a list: a domain, a server and a sequence number each."""
     number, data = taken_number(data, 4)
     count = number % ENTRY_COUNT
     if count == 0:
@@ -66,4 +72,4 @@ def gtid_list(data):
         entries.append((domain, server_id, sequence))
     if data:
         raise Fault(7)
-    return entries
+    return number // ENTRY_COUNT, entries

@@ -7,7 +7,7 @@ import zlib
 
 import event_data_model
 from event_data_model import Bytes, Fault, Text, allowed, number_in, taken, taken_number
-from maria_gtid_model import COMMIT_ID, ENTRY_COUNT, LEAST, RESERVED_LENGTH, XA_ID
+from maria_gtid_model import COMMIT_ID, LEAST, XA_ID, flags_and_entries
 
 ANNOTATE_ROWS, BINLOG_CHECKPOINT, GTID, GTID_LIST, START_ENCRYPTION, QUERY_COMPRESSED = range(160, 166)
 QUERY = 2
@@ -101,15 +101,8 @@ def gtid(data, server_id):
 
 
 def gtid_list(data):
-    number, data = taken_number(data, 4)
-    count = number % ENTRY_COUNT
-    if count == 0:
-        _, data = taken(data, RESERVED_LENGTH)
-    gtids = []
-    for _ in range(count):
-        entry, data = taken(data, 16)
-        gtids.append(f"{number_in(entry, 0, 4)}-{number_in(entry, 4, 4)}-{number_in(entry, 8, 8)}")
-    return {"flags": number // ENTRY_COUNT, "gtids": gtids}, data
+    flags, entries = flags_and_entries(data)
+    return {"flags": flags, "gtids": ["-".join(map(str, entry)) for entry in entries]}, b""
 
 
 def checkpoint(data):
