@@ -4,7 +4,7 @@
 Usage: row_values.py [--count N] [PROGRAM]
 
 PROGRAM is the built probe_rows if not given; it prints the rows of each row event of a log. The encoder gives events of every
-type of column, with extremes, and the rows that they have; the model gives those of N damaged events (100,000 if not given).
+type of column, with extremes, and the rows that they have; the model gives those of N damaged events (1,000,000 if not given).
 The last line is `N passed, M failed`; the exit status is 1 if something failed.
 """
 
@@ -15,6 +15,7 @@ import random
 import struct
 import subprocess
 import sys
+from concurrent.futures import ProcessPoolExecutor
 from pathlib import Path
 
 import encoded_events as encode
@@ -28,6 +29,7 @@ from row_model import Facts, Fault, Float
 REPOSITORY = Path(__file__).resolve().parent.parent
 PROGRAM = REPOSITORY / "crates/probe_rows/out/probe_rows"
 EVENTS_OF_A_LOG = 2_000
+EVENTS_OF_A_PART = 20_000
 SHOWN_FAILURES = 20
 HEADER = (1, 2, 3, 0)
 SPELLING = encode.Spelling(id_width=6)
@@ -447,28 +449,43 @@ def is_same_with_floats(found, wanted):
     return found == wanted or isinstance(found, Float) and wanted is None
 
 
-def damaged_failures(program, count):
-    chance, kinds = random.Random(34), list(row_events.kinds())
+def damaged_part(part):
+    """How many damaged events of one part are as the model has them, and what is wrong with others."""
+    program, seed, count = part
+    chance, kinds = random.Random(seed), list(row_events.kinds())
+    passed, failures = 0, []
     while count > 0:
         version = chance.choice(("8.0.36", "10.11.6-MariaDB"))
         events, rows = damaged_log(chance, kinds, min(count, EVENTS_OF_A_LOG))
         wanted = list(lines_of(events, version != "8.0.36"))
-        result = failure(f"damaged events, {count} left", program, version, events, wanted)
-        yield from [result] * (1 if result else rows)
+        wrong = failure(f"damaged events, seed {seed}, {count} left", program, version, events, wanted)
+        passed, failures = (passed, [*failures, wrong]) if wrong else (passed + rows, failures)
         count -= rows
+    return passed, failures
+
+
+def damaged_parts(program, count):
+    """The same of all damaged events, in parts with a seed each, side by side."""
+    parts = [(program, seed, min(EVENTS_OF_A_PART, count - first)) for seed, first in enumerate(range(0, count, EVENTS_OF_A_PART))]
+    with ProcessPoolExecutor() as pool:
+        yield from pool.map(damaged_part, parts)
 
 
 def main():
     parser = argparse.ArgumentParser(description="Compares rows with a model.")
-    parser.add_argument("--count", type=int, default=100_000)
+    parser.add_argument("--count", type=int, default=1_000_000)
     parser.add_argument("program", nargs="?", default=PROGRAM)
     arguments = parser.parse_args()
     program = str(Path(arguments.program).resolve())
-    results = [*encoded_failures(program), *damaged_failures(program, arguments.count)]
-    failures = [result for result in results if result is not None]
+    encoded_results = list(encoded_failures(program))
+    failures = [result for result in encoded_results if result is not None]
+    passed = len(encoded_results) - len(failures)
+    for part_passed, part_failures in damaged_parts(program, arguments.count):
+        passed += part_passed
+        failures += part_failures
     for message in failures[:SHOWN_FAILURES]:
         print(message)
-    print(f"{len(results) - len(failures)} passed, {len(failures)} failed")
+    print(f"{passed} passed, {len(failures)} failed")
     return 1 if failures else 0
 
 

@@ -105,6 +105,3 @@ impl<W: Write> Visitor for MariaJsonWriter<W> {
         Ok(())
     }
 }
-
-#[cfg(test)]
-mod tests;

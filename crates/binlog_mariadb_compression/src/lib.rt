@@ -9,6 +9,3 @@ mod stored;
 
 pub use error::CompressionError;
 pub use stored::uncompress;
-
-#[cfg(test)]
-mod tests;

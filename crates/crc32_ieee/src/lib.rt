@@ -111,6 +111,3 @@ impl Crc32 {
         self.entry(0, u64::from(crc % 256 ^ u32::from(byte))) ^ (crc >> 8)
     }
 }
-
-#[cfg(test)]
-mod tests;

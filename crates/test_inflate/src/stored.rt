@@ -1,4 +1,5 @@
-use crate::{CompressionError, uncompress};
+//! What MariaDB stores for a text.
+use binlog_mariadb_compression::{CompressionError, uncompress};
 use std::alloc::Global;
 
 /// The zlib stream of `insert into t values (1)`, as zlib 1.2 makes it at level 6.

@@ -1,4 +1,5 @@
-use super::Crc32;
+//! Checksums of bytes and of parts.
+use crc32_ieee::Crc32;
 use std::process::Abort;
 
 // The first is the check value of CRC-32 in catalogues of CRCs; all are the values of zlib's `crc32`.

@@ -1,5 +1,6 @@
-use super::MariaJsonWriter;
+//! The lines of a log, one after another.
 use binlog_file::SliceReader;
+use binlog_maria_json::MariaJsonWriter;
 use binlog_visits::visit_counted;
 use std::io;
 use std::io::Write;

@@ -1,5 +1,6 @@
-use super::JsonLines;
+//! Lines of items that are errors.
 use binlog_file::Error;
+use binlog_json_lines::JsonLines;
 use binlog_lines::ItemLines;
 
 #[test]

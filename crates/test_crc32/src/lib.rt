@@ -1,0 +1,5 @@
+//! Tests of `crc32_ieee`.
+#![tactic(auto)]
+
+#[cfg(test)]
+mod checksums;
