@@ -1,9 +1,7 @@
 -- What each command makes of its output: the bytes of its writer, and the status.
 use Rattle.std.specs.Prelude.{◌≡◌, ◌⊎◌, ℕ, Bool, List, [], Option, None, Result, Ok, Err, OnOk}
 use Rattle.std.specs.declared.io.Error.{Error as IoError}
-use Rattle.binlog_wire.specs.declared.error.Error.{Error}
 use Rattle.binlog_visits.specs.Visits.{VisitRelation, RefusalRelation}
-use Rattle.binlog_events.specs.Events.{EventView}
 use Rattle.binlog_ends.specs.Views.{CountedView}
 use Rattle.binlog_gtid_listing.specs.GtidListing.{tracked}
 use Rattle.binlog_filters.specs.declared.filter.Filter.{Filter}

@@ -1,9 +1,7 @@
 -- The copy of the files that a command reads.
-use Rattle.std.specs.Prelude.{◌≡◌, ℕ, Bool, true, List, Option, Result}
+use Rattle.std.specs.Prelude.{◌≡◌, ℕ, Bool, true, List, Option}
 use Rattle.std.specs.Io.KnownBytes.{Appends}
-use Rattle.binlog_wire.specs.declared.error.Error.{Error}
 use Rattle.binlog_visits.specs.Visits.{VisitRelation, RefusalRelation}
-use Rattle.binlog_events.specs.Events.{EventView}
 use Rattle.binlog_events.specs.FileHeader.{file_header}
 use Rattle.binlog_filters.specs.declared.filter.Filter.{Filter}
 use Rattle.binlog_status.specs.declared.status.Outcome.{Outcome}

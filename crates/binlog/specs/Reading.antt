@@ -3,7 +3,6 @@ use Rattle.std.specs.Prelude.{◌≡◌, ◌⊎◌, ℕ, ◌<◌, ◌^◌, Bool,
 use Rattle.binlog_wire.specs.declared.error.Error.{Error}
 use Rattle.binlog_wire.specs.declared.error.Error.TheVariants.{EndOfInput, InvalidFileHeader, Writer}
 use Rattle.crc32_ieee.specs.Checksums.{IsCrc32}
-use Rattle.binlog_events.specs.Events.{EventView}
 use Rattle.binlog_visits.specs.Visits.{VisitRelation, RefusalRelation, VisitsLog, VisitsVerifiedLog}
 use Rattle.binlog_filters.specs.Filtering.{Filters, RefusesTaken}
 use Rattle.binlog_filters.specs.declared.filter.Filter.{Filter}
