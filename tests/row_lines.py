@@ -4,8 +4,9 @@
 Usage: row_lines.py [--count N] [PROGRAM]
 
 PROGRAM is the built binlog if not given. Each line has the members that the model of JSON lines gives; the rows are those that the
-encoder states for events of every type of column, and those of the model for N damaged events (20,000 if not given). Which table map is in force follows from all events of the log, also where a filter
-takes only some. The last line is `N passed, M failed`; the exit status is 1 if something failed.
+encoder states for events of every type of column, and those of the model for N damaged events (20,000 if not given). Which table
+map is in force follows from all events of the log, also where a filter takes only some. The last line is `N passed, M failed`;
+the exit status is 1 if something failed.
 """
 
 import argparse
