@@ -527,3 +527,11 @@ def rows(found, stated, images, data, is_partial=False):
                 return items + [refusal(fault.args[0], len(items), ("image", image_name), ("column", fault.args[1]))]
         items.append(row)
     return items
+
+
+def rows_of_event(found, table, event, is_maria, is_partial):
+    """The rows of an event, by the fields of its table map and its own, and the columns of that."""
+    stated = facts(found, table["optional_metadata"].bytes, is_maria)
+    images = [(image_name, event[f"columns_{image_name}_image"]) for image_name in ("before", "after")]
+    present = [(image_name, columns_of_image) for image_name, columns_of_image in images if columns_of_image is not None]
+    return rows(found, stated, present, event["rows_data"].bytes, is_partial)

@@ -101,10 +101,7 @@ class Tables:
             return [("error", "Columns")]
         if event["num_columns"] != len(columns):
             return [("error", "ColumnCount")]
-        facts = row_model.facts(columns, table["optional_metadata"].bytes, self.is_maria)
-        present = [event["columns_before_image"], event["columns_after_image"]]
-        images = [(name, image) for name, image in zip(("before", "after"), present) if image is not None]
-        return [("rows", row_model.rows(columns, facts, images, event["rows_data"].bytes, is_partial=kind == PARTIAL[0]))]
+        return [("rows", row_model.rows_of_event(columns, table, event, self.is_maria, kind == PARTIAL[0]))]
 
 
 def is_same(found, wanted):
