@@ -1,12 +1,15 @@
 #!/usr/bin/env python3
 """Makes cargo packages of the proved sources.
 
-Usage: convert.py OUT
+Usage: convert.py [--debian] [--repository URL] OUT
 
 OUT gets a workspace of three packages, `binlog`, `binlog-tools` and `binlog-tests`; what it has of an earlier run is
-replaced. A form that the converter doesn't know stops it with file and line, and status 1.
+replaced, and a folder that has anything else is refused. With --debian cargo takes the crates that they depend on from
+Debian's packages there, without network. With --repository the manifests name the repository of the sources. A form that the
+converter doesn't know stops it with file and line, and status 1.
 """
 
+import argparse
 import shutil
 import subprocess
 import sys
@@ -17,6 +20,7 @@ from rt_to_rust import crates
 from rt_to_rust.devices import LEFT_OUT
 from rt_to_rust.facade import public_names
 from rt_to_rust.ghosts import without_proofs
+from rt_to_rust.host import VERSIONS
 from rt_to_rust.imports import Place
 from rt_to_rust.inlined import INLINED
 from rt_to_rust.items import functions
@@ -32,6 +36,22 @@ REPOSITORY = Path(__file__).resolve().parent.parent
 TEMPLATES = REPOSITORY / "cargo/templates"
 MADE = "// Made of {}: change that file.\n"
 EDITION = "2024"
+LICENCES = ("LICENSE-APACHE", "LICENSE-MIT")
+
+# By which the manifest of a workspace is known as one of these.
+MEMBERS = 'members = ["binlog", "binlog-tests", "binlog-tools"]'
+
+# The folder of the crates in Debian's packages, and how cargo is told of it.
+REGISTRY = "/usr/share/cargo/registry"
+SETTINGS = f"""[source.crates-io]
+replace-with = "debian"
+
+[source.debian]
+directory = "{REGISTRY}"
+
+[net]
+offline = true
+"""
 
 
 def sources_of(names):
@@ -61,10 +81,9 @@ def target(crate, relative):
 def place_of(crate, public):
     """Where a crate's paths lead."""
     if crate in crates.LIBRARY:
-        return Place(crate, None, has_runtime=False)
+        return Place(crate, None, is_test=False)
     is_program = crate in crates.PROGRAMS
-    has_runtime = is_program or crate in crates.PACKAGES["binlog-tests"]
-    return Place(None if is_program else crate, public, has_runtime)
+    return Place(None if is_program else crate, public, is_test=crate in crates.PACKAGES["binlog-tests"])
 
 
 def is_by_hand(source, text, file, found):
@@ -99,6 +118,7 @@ def convert(out):
     unused = ({*CHECKS, *OF_TRAITS} - used.checks) | (set(BOTH_FORMS) - used.both_forms)
     unused |= (set(LEFT_OUT) - used.left_out) | (set(crates.BY_HAND) - by_hand) | (set(INLINED) - used.inlined)
     unused |= (set(SHARED_FORMS) - used.shared_forms) | ({name for _, name in FIXED} - used.lifetimes)
+    unused |= set(VERSIONS) - used.versions
     if unused:
         raise Refusal("cargo/rt_to_rust", 0, f"rows of tables that nothing uses: {', '.join(sorted(unused))}")
 
@@ -110,14 +130,59 @@ def lay_out(out):
     subprocess.run(["rustfmt", "--edition", EDITION, *roots], check=True)
 
 
-def main(arguments):
-    if len(arguments) != 1 or arguments[0].startswith("-"):
-        print(__doc__.strip(), file=sys.stderr)
+def holds_others(out):
+    """Whether a folder has anything but what an earlier run made and what cargo adds to that."""
+    made = {path.name for path in TEMPLATES.iterdir()} | {".cargo", "Cargo.lock", "target"}
+    found = {path.name for path in out.iterdir()} if out.is_dir() else set()
+    manifest = out / "Cargo.toml"
+    return bool(found) and (not found <= made or not manifest.is_file() or MEMBERS not in manifest.read_text())
+
+
+def add_licences(out):
+    """Copies the texts of the licences into each package that may be published."""
+    for package, licence in product(crates.PUBLISHED, LICENCES):
+        shutil.copy(REPOSITORY / licence, out / package)
+
+
+def set_crates(out, is_debian):
+    """Has cargo take crates from Debian's packages, or from its registry."""
+    settings = out / ".cargo/config.toml"
+    if is_debian:
+        settings.parent.mkdir(exist_ok=True)
+        settings.write_text(SETTINGS)
+    else:
+        settings.unlink(missing_ok=True)
+
+
+def name_repository(out, url):
+    """Has the manifests name the repository of the sources."""
+    for package in crates.PUBLISHED:
+        manifest = out / package / "Cargo.toml"
+        licence = "license.workspace = true\n"
+        manifest.write_text(manifest.read_text().replace(licence, f'{licence}repository = "{url}"\n'))
+
+
+def read_arguments():
+    parser = argparse.ArgumentParser(description="Makes cargo packages of the proved sources.")
+    parser.add_argument("--debian", action="store_true", help="cargo takes crates from Debian's packages")
+    parser.add_argument("--repository", metavar="URL", help="the repository of the sources, for the manifests")
+    parser.add_argument("out", metavar="OUT", type=Path)
+    return parser.parse_args()
+
+
+def main():
+    arguments = read_arguments()
+    out = arguments.out
+    if holds_others(out):
+        print(f"{out} isn't empty, and isn't a workspace of an earlier run", file=sys.stderr)
         return 1
-    out = Path(arguments[0])
-    for package, folder in product(crates.PACKAGES, ("src", "tests")):
+    for package, folder in product(crates.PACKAGES, ("src", "tests", "examples")):
         shutil.rmtree(out / package / folder, ignore_errors=True)
     shutil.copytree(TEMPLATES, out, dirs_exist_ok=True)
+    add_licences(out)
+    set_crates(out, arguments.debian)
+    if arguments.repository:
+        name_repository(out, arguments.repository)
     try:
         convert(out)
     except Refusal as refusal:
@@ -128,4 +193,4 @@ def main(arguments):
 
 
 if __name__ == "__main__":
-    sys.exit(main(sys.argv[1:]))
+    sys.exit(main())

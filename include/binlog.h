@@ -91,7 +91,8 @@ uint8_t binlog_open(const uint8_t *log, size_t size, binlog_cursor *cursor);
  * after them. Returns how many. The items behind these are unchanged.
  *
  * If there are fewer than there is room for, the log has no more whole events. If it ends within an event, the cursor
- * is before that event, so that a later call continues once the log has grown. An item with
+ * is before that event, so that a later call continues once the log has grown, and binlog_rest has the number of its bytes.
+ * An item with
  * BINLOG_EVENT_SIZE_TOO_SMALL is the last one. An event that is too short for its checksum, or a malformed
  * description, rotate or table map, is an item with an error number, and the next item is the event after it.
  *
@@ -115,6 +116,17 @@ size_t binlog_next(const uint8_t *log, size_t size, binlog_cursor *cursor, binlo
  *     count = binlog_next_verified(log, size, &cursor, items, 64, &error); */
 size_t binlog_next_verified(const uint8_t *log, size_t size, binlog_cursor *cursor, binlog_item *items, size_t room,
                             uint8_t *error);
+
+/* How many bytes a log of this size has from the cursor on, if they are the beginning of an event: fewer than a header has, or
+ * than the header states. 0 if an item follows at the cursor, if no byte does, and if the cursor has ended.
+ *
+ * At the end, after a call that had room for more items than there were, it is 0 exactly if all bytes before are whole events,
+ * unless the last item is an error BINLOG_EVENT_SIZE_TOO_SMALL. Otherwise the log ends within an event: it is cut off, or is
+ * still being written.
+ *
+ *     if ((rest = binlog_rest(log, size, &cursor)) > 0)
+ *         printf("the last %zu bytes are the beginning of an event\n", rest); */
+size_t binlog_rest(const uint8_t *log, size_t size, const binlog_cursor *cursor);
 
 /* Writes the line of JSON of an item of a log, as the program `binlog json` prints it: one object, which begins with this
  * index, and a line feed behind it; no zero. docs/JSON.md has the members. Returns the length of the line, and writes it

@@ -1,22 +1,23 @@
 #!/usr/bin/env python3
 """Checks the allocations of the programs and the tests, and that all memory is freed.
 
-Usage: allocations.py
+Usage: allocations.py FLAG
 
-The programs and tests are those that are built in crates/NAME/out. Each further event takes one buffer if it is owned
-(probe_owned_events), and nothing if it is borrowed (binlog_list, binlog_json, bench_write_back), even if statements and
-their status variables are read (bench_typed), or MariaDB's GTIDs (bench_maria_gtids), or rows (bench_rows), or GTIDs that
-come in order are kept (binlog_gtids_list). Checksums take nothing. A format description that comes into force, and a table map, is copied once: one
-allocation for each of its texts that isn't empty, and one for the description.
+FLAG is --proved or --cargo. With --proved the programs and tests are those that are built in crates/NAME/out, with --cargo the
+commands `list`, `json`, `gtids` and `copy` of the packages' `binlog`. Each further event takes one buffer if it is owned
+(probe_owned_events), and nothing if it is borrowed (binlog_list, binlog_json, bench_write_back, and those commands), even if
+statements and their status variables are read (bench_typed), or MariaDB's GTIDs (bench_maria_gtids), or rows (bench_rows), or
+GTIDs that come in order are kept (binlog_gtids_list). Checksums take nothing. A format description that comes into force, and a
+table map, is copied once: one allocation for each of its texts that isn't empty, and one for the description.
 
-No allocation of a program is larger than the bytes that came and 65,536 more; the vector of table maps may have 12 bytes
-for each byte that came. All memory is freed when a program or a test ends. Where a header states 4,294,967,295 bytes and
-few come, 20 at a time, no allocation of a program grows by more than 65,536 bytes, nor does one of a test whose name
-contains `boundless`. The last line is `N passed, M failed`; the exit status is 1 if something failed. Without the C
-compiler
-`cc` nothing is run, and both numbers are 0.
+No allocation of a program is larger than the bytes that came and 65,536 more; the vector of table maps may have 12 bytes for
+each byte that came. All memory is freed when a program or a test ends; Rust's runtime keeps some blocks, as many whatever the
+log. Where a header states 4,294,967,295 bytes and few come, 20 at a time, no allocation of a program grows by more than 65,536
+bytes, nor does one of a test whose name contains `boundless`. The last line is `N passed, M failed`; the exit status is 1 if
+something failed. Without the C compiler `cc` nothing is run, and both numbers are 0.
 """
 
+import argparse
 import socket
 import struct
 import sys
@@ -26,6 +27,7 @@ import checksummed_sample
 import gtids_sample
 import json_sample
 import make_sample
+import programs
 import watched
 from damaged_copies import MAGIC
 
@@ -34,7 +36,7 @@ FEW, MANY = 10, 1010
 TABLE_MAP, MARIA_GTID = 19, 162
 
 # A log of a MariaDB server.
-MARIA_LOG = watched.CRATES / "probe_maria_events/stdin"
+MARIA_LOG = programs.CRATES / "probe_maria_events/stdin"
 
 
 def table_map(table_id):
@@ -117,6 +119,9 @@ PROGRAMS = {
     "probe_owned_events": 1,
 }
 
+# The commands of the packages' program, whose further events take nothing.
+PACKAGED = ("list", "json", "gtids", "write back")
+
 # The programs that hold a whole log, for which a buffer may have twice the bytes, and others.
 HOLDING = {"probe_slice_listing"}
 OTHERS = HOLDING | {"probe_typed_events", "probe_maria_events", "bench_reading"}
@@ -147,32 +152,58 @@ def counts(name, log, few, many, for_each):
     return f"{name}: {further} allocations for {MANY - FEW} events, not {wanted}"
 
 
-def left_failure(name, run):
-    """None if the program freed all that it allocated, else what is wrong."""
-    return None if run.left == 0 else f"{name}: {run.left} blocks aren't freed"
+class Program(NamedTuple):
+    """A program: its name, its command, and the blocks that its runtime keeps when it ends."""
+
+    name: str
+    command: list
+    kept: int = 0
+
+    def is_holding(self):
+        return self.name in HOLDING
+
+    def left_failure(self, title, run):
+        """None if the program freed all that it allocated, else what is wrong."""
+        return None if run.left == self.kept else f"{title}: {run.left} blocks aren't freed"
 
 
-def log_failures(watch, name, for_each):
+def log_failures(watch, program, for_each):
     """What is wrong with a program over the logs that repeat an event."""
     for described, log in LOGS.items():
-        title = f"{name} over {described}"
+        title = f"{program.name} over {described}"
         contents = [log.of(count) for count in (FEW, MANY)]
-        runs = [watch.run([watched.program(name)], content) for content in contents]
+        runs = [watch.run(program.command, content) for content in contents]
         if for_each is not None and log.is_counted:
             yield counts(title, log, *runs, for_each)
-        factor = OF_TABLE_MAPS if log.growths else 2 if name in HOLDING else 1
+        factor = OF_TABLE_MAPS if log.growths else 2 if program.is_holding() else 1
         for run, content in zip(runs, contents):
             yield total_failure(title, run, factor * len(content))
-            yield left_failure(title, run)
+            yield program.left_failure(title, run)
 
 
-def whole_log_failures(watch, name):
+def whole_log_failures(watch, program):
     for described, content in WHOLE_LOGS.items():
-        title = f"{name} over {described}"
-        run = watch.run([watched.program(name)], content)
-        factor = 2 if name in HOLDING else 1
-        yield total_failure(title, run, factor * len(content))
-        yield left_failure(title, run)
+        title = f"{program.name} over {described}"
+        run = watch.run(program.command, content)
+        yield total_failure(title, run, (2 if program.is_holding() else 1) * len(content))
+        yield program.left_failure(title, run)
+
+
+def boundless_failures(watch, program):
+    for log, content in BOUNDLESS_LOGS.items():
+        title = f"{program.name} over {log} of a boundless event"
+        run = watch.run(program.command, content)
+        yield growth_failure(title, run)
+        yield total_failure(title, run, len(content))
+        yield program.left_failure(title, run)
+        if len(content) < 10 * PIECE:
+            yield growth_failure(f"{title}, in pieces", run_over_pieces(watch, program.command, content))
+
+
+def program_failures(watch, program, for_each):
+    yield from log_failures(watch, program, for_each)
+    yield from whole_log_failures(watch, program)
+    yield from boundless_failures(watch, program)
 
 
 def run_over_pieces(watch, command, content):
@@ -201,29 +232,34 @@ def total_failure(name, run, came):
     return f"{name}: an allocation of {largest} bytes where {came} came"
 
 
-def all_failures(watch):
+def proved_failures(watch):
     for name, for_each in PROGRAMS.items():
-        yield from log_failures(watch, name, for_each)
-        yield from whole_log_failures(watch, name)
-        command = [watched.program(name)]
-        for log, content in BOUNDLESS_LOGS.items():
-            described = f"{name} over {log} of a boundless event"
-            run = watch.run(command, content)
-            yield growth_failure(described, run)
-            yield total_failure(described, run, len(content))
-            yield left_failure(described, run)
-            if len(content) < 10 * PIECE:
-                pieces = run_over_pieces(watch, command, content)
-                yield growth_failure(f"{described}, in pieces", pieces)
+        yield from program_failures(watch, Program(name, programs.proved(name)), for_each)
     for name in sorted(OTHERS):
-        yield from log_failures(watch, name, None)
-        yield from whole_log_failures(watch, name)
-    for program, name in watched.tests():
-        run = watch.run([program, name])
-        yield left_failure(f"the test {name}", run)
+        program = Program(name, programs.proved(name))
+        yield from log_failures(watch, program, None)
+        yield from whole_log_failures(watch, program)
+    for path, name in watched.tests():
+        test = Program(f"the test {name}", [path, name])
+        run = watch.run(test.command)
+        yield test.left_failure(test.name, run)
         if "boundless" in name:
-            yield growth_failure(f"the test {name}", run)
+            yield growth_failure(test.name, run)
+
+
+def packaged_failures(watch):
+    for purpose in PACKAGED:
+        words = next(filter(programs.is_command, programs.CARGO.commands(purpose)))
+        kept = watch.run(words, b"").left
+        yield from program_failures(watch, Program(" ".join(words[1:]), words, kept), 0)
+
+
+def main():
+    parser = argparse.ArgumentParser(description="Checks the allocations of the programs.")
+    programs.add_flags(parser)
+    build = programs.parsed(parser, *PACKAGED).build
+    return watched.report(packaged_failures if build is programs.CARGO else proved_failures)
 
 
 if __name__ == "__main__":
-    sys.exit(watched.main(all_failures))
+    sys.exit(main())

@@ -1,14 +1,15 @@
 #!/usr/bin/env python3
 """Runs each command of `binlog` on good and damaged logs: its output, its messages and its exit status.
 
-Usage: binlog_command.py [PROGRAM]
+Usage: binlog_command.py FLAG
 
-PROGRAM is the built binlog if not given. The output of `list`, `json` and `gtids` is that of the models; what filters take,
+FLAG is one of `programs.py`: it says which `binlog` is run. The output of `list`, `json` and `gtids` is that of the models; what filters take,
 the counts and the copies follow from the frames of a log and their headers. The progress is what a terminal is shown, and a
 log that is followed grows while it is read. What `bin/install` and `bin/package` make of the program is tried in a temporary
 folder; without `dpkg-deb` no package is made. The last line is `N passed, M failed`; the exit status is 1 if something failed.
 """
 
+import argparse
 import os
 import pty
 import re
@@ -19,7 +20,9 @@ import sys
 import tempfile
 import zlib
 from concurrent.futures import ThreadPoolExecutor
+from datetime import datetime, timezone
 from functools import partial
+from itertools import chain
 from pathlib import Path
 
 import checksummed_sample
@@ -29,10 +32,14 @@ import json_model
 import listing_model
 import make_sample
 import maria_events
-from damaged_copies import EVENT, MAGIC, PROCESSES_AT_A_TIME, REPOSITORY, SIZE_OFFSET, frame_starts, with_byte
+import programs
+import results
+from damaged_copies import EVENT, MAGIC, PROCESSES_AT_A_TIME, SIZE_OFFSET, frame_starts, with_byte
+from programs import REPOSITORY
 
-PROGRAM = REPOSITORY / "crates/binlog/out/binlog"
 COMMANDS = ("list", "json", "gtids", "verify", "stats", "copy")
+# The commands that a model has.
+MODELS = (("list", listing_model), ("json", json_model), ("gtids", gtid_model))
 
 FINE, NOT_OPENED, DAMAGED, FAILED, USAGE = 0, 1, 2, 3, 64
 MISSING = "missing.bin"
@@ -44,13 +51,19 @@ SAMPLE = make_sample.sample()
 CHECKSUMMED = checksummed_sample.sample()
 GTIDS = gtids_sample.sample()
 SID = "abababab-abab-abab-abab-abababababab"
+TAGGED_SID = "00000000-0000-0000-0000-000000000000"
+
+
+def gtid_event(number):
+    """The event of the GTID with this number, or with this tag and number."""
+    return gtids_sample.tagged_gtid(*number) if isinstance(number, tuple) else gtids_sample.gtid(number)
 
 
 def transactions(*numbers):
-    """A log of a transaction for each number: its GTID, and two statements; the log begins with a rotate."""
+    """A log of a transaction for each number, or tag and number: its GTID, and two statements; the log begins with a rotate."""
     statement = make_sample.frame(make_sample.QUERY, make_sample.query_body(b"test", b"select 1"), 0)
     rotate = make_sample.frame(make_sample.ROTATE, make_sample.ROTATE_BODY, 0)
-    return MAGIC + rotate + b"".join(gtids_sample.gtid(number) + 2 * statement for number in numbers)
+    return MAGIC + rotate + b"".join(gtid_event(number) + 2 * statement for number in numbers)
 
 
 class Result:
@@ -74,8 +87,9 @@ def difference(name, finished, wanted):
 class Runner:
     """Runs the program in a folder that has the logs of a case."""
 
-    def __init__(self, program, folder):
-        self.program, self.folder = program, Path(folder)
+    def __init__(self, build, folder):
+        (self.program,) = build.command("binlog")
+        self.making, self.folder = build.making, Path(folder)
 
     def run(self, words, logs=(), given=b"", **ends):
         for place, log in enumerate(logs):
@@ -85,6 +99,12 @@ class Runner:
 
     def check(self, words, wanted, logs=(), given=b""):
         return difference(" ".join(words), self.run(words, logs, given), wanted)
+
+    def version_fault(self, program):
+        """None if a program says its version, and how it was made."""
+        said = subprocess.run([program, "--version"], capture_output=True)
+        is_right = re.fullmatch(rf"binlog 0\.1\.0 \({self.making}\)\n", said.stdout.decode()) and said.returncode == FINE
+        return None if is_right else f"--version: {said}"
 
 
 def message(place, index, position, text):
@@ -102,6 +122,18 @@ def frames(log):
     return listing_model.split(log[len(MAGIC) :])[0]
 
 
+def tail_of(log):
+    """The bytes behind the last event of a log."""
+    return listing_model.split(log[len(MAGIC) :])[1]
+
+
+def cut_message(place, log):
+    """The message of a log that ends within an event; none if it doesn't."""
+    size = len(tail_of(log))
+    text = f"the last {size} bytes, from byte {len(log) - size} on, are the beginning of an event"
+    return re.escape(f"binlog: {place}: {text}\n") if size else ""
+
+
 def copy_of(log, indexes):
     every = frames(log)
     return MAGIC + b"".join(every[index] for index in indexes)
@@ -115,13 +147,21 @@ def models(runner):
     ends = [*frame_starts(SAMPLE), len(SAMPLE)]
     cut = SAMPLE[: ends[7] + 10]
     for log in (SAMPLE, CHECKSUMMED, GTIDS, cut, MAGIC, transactions(1, 2)):
-        for command, model in (("list", listing_model), ("json", json_model), ("gtids", gtid_model)):
+        for command, model in MODELS:
             output, status = model.expected(log)
+            if log == cut:
+                status = max(status, DAMAGED)
             messages = "" if status == FINE else MESSAGES
             wanted = Result(output, status, messages)
             yield runner.check([command, "0.bin"], wanted, [log])
             yield runner.check([command, "-"], wanted, given=log)
             yield runner.check([command], wanted, given=log)
+
+
+def mismatch(event):
+    """What is wrong with an event whose checksum isn't that of its bytes."""
+    computed = zlib.crc32(event[:-4]).to_bytes(4, "little").hex()
+    return f"checksum mismatch: stored {event[-4:].hex()}, computed {computed}"
 
 
 def damaged(runner):
@@ -137,9 +177,7 @@ def damaged(runner):
     place = starts[1] + 30
     wrong = with_byte(CHECKSUMMED, place, CHECKSUMMED[place] ^ 1)
     event = frames(wrong)[1]
-    computed = zlib.crc32(event[:-4]).to_bytes(4, "little").hex()
-    text = f"checksum mismatch: stored {event[-4:].hex()}, computed {computed}"
-    messages = message("0.bin", 1, starts[1], text)
+    messages = message("0.bin", 1, starts[1], mismatch(event))
     length = len(CHECKSUMMED) - len(MAGIC)
     count = len(starts)
     right = f"1.bin: {count} events, {length} bytes, {count} checksums right, 0 events damaged\n"
@@ -153,6 +191,56 @@ def damaged(runner):
     first = f"1.bin: 1 events, {starts[1] - starts[0]} bytes, 1 checksums right, 0 events damaged\n"
     words = ["verify", "--stop-position", str(starts[1]), "1.bin"]
     yield runner.check(words, Result(first.encode()), both)
+
+
+def tally(log, damaged):
+    """The line of `verify` for a log whose checksums are right."""
+    every = listing_model.expected(log)[0].splitlines()
+    checksums = sum(line.split()[6] != b"-" for line in every)
+    counts = f"{len(every)} events, {sum(map(len, frames(log)))} bytes, {checksums} checksums right"
+    return f"0.bin: {counts}, {damaged} events damaged\n".encode()
+
+
+def cut_logs(runner):
+    """A log that is cut at each byte of its last three events: what is whole is read, and the rest has its message."""
+    for log in (SAMPLE, CHECKSUMMED):
+        for size in range(list(frame_starts(log))[-3], len(log) + 1):
+            cut = log[:size]
+            whole = cut[: size - len(tail_of(cut))]
+            status = FINE if cut == whole else DAMAGED
+            messages = cut_message("0.bin", cut)
+            for command, model in MODELS:
+                yield runner.check([command, "0.bin"], Result(model.expected(whole)[0], status, messages), [cut])
+            counts = tally(whole, int(cut != whole))
+            yield runner.check(["verify", "0.bin"], Result(counts, status, messages), [cut])
+            yield runner.check(["verify", "-q", "0.bin"], Result(b"", status, messages), [cut])
+            yield runner.check(["stats", "0.bin"], Result(counts_of(whole), status, messages), [cut])
+            yield runner.check(["copy", "-o", "-", "0.bin"], Result(whole, status, messages), [cut])
+
+
+def cut_ends(runner):
+    """A log that is cut among others, on standard input, behind a damaged event, and behind an event without a size."""
+    cut = SAMPLE[:-1]
+    whole = listing_model.expected(cut)[0]
+    once = listing_model.expected(SAMPLE)[0]
+    wanted = Result(whole + once, DAMAGED, cut_message("0.bin", cut))
+    yield runner.check(["list", "0.bin", "1.bin"], wanted, [cut, SAMPLE])
+    yield runner.check(["list"], Result(whole, DAMAGED, cut_message("standard input", cut)), given=cut)
+    filtered = ["list", "--stop-position", "4", "0.bin"]
+    yield runner.check(filtered, Result(b"", DAMAGED, cut_message("0.bin", cut)), [cut])
+    difference_of = ["gtids", "--missing-in", "1.bin", "0.bin"]
+    yield runner.check(difference_of, Result(b"", DAMAGED, cut_message("1.bin", cut)), [SAMPLE, cut])
+
+    wrong = with_byte(CHECKSUMMED, len(CHECKSUMMED) - 5, CHECKSUMMED[-5] ^ 1) + EVENT[:7]
+    index, start = len(frames(wrong)) - 1, list(frame_starts(CHECKSUMMED))[-1]
+    messages = message("0.bin", index, start, mismatch(frames(wrong)[-1]))
+    rest = re.escape("binlog: 0.bin: the last 7 bytes are the beginning of an event\n")
+    yield runner.check(["verify", "-q", "0.bin"], Result(b"", DAMAGED, messages + rest), [wrong])
+
+    small = SAMPLE + with_byte(EVENT, SIZE_OFFSET, 5)
+    text = "an event states the size 5, and its header alone takes 19 bytes"
+    wanted = Result(listing_model.expected(small)[0], DAMAGED, message("0.bin", len(frames(SAMPLE)), len(SAMPLE), text))
+    yield runner.check(["list", "0.bin"], wanted, [small])
 
 
 def reported(runner):
@@ -214,9 +302,8 @@ def filters(runner):
 
 def gtid_filters(runner):
     """Whole transactions are taken, and the events of the log itself."""
-    log = transactions(1, 2, 3)
     first, second, third = [1, 2, 3], [4, 5, 6], [7, 8, 9]
-    cases = [
+    untagged = [
         (["--include-gtids", f"{SID}:2"], [0, *second]),
         (["--include-gtids", f"{SID}:2-3"], [0, *second, *third]),
         (["--exclude-gtids", f"{SID}:2"], [0, *first, *third]),
@@ -224,10 +311,18 @@ def gtid_filters(runner):
         (["--include-gtids", f"{SID}:tag:2"], [0]),
         (["--include-gtids", f"{SID}:2", "--type", "QUERY"], second[1:]),
     ]
-    for words, indexes in cases:
-        yield runner.check(["list", *words, "0.bin"], Result(lines(log, indexes)), [log])
-        # The log has no format description.
-        yield runner.check(["copy", *words, "-o", "-", "0.bin"], Result(copy_of(log, indexes)), [log])
+    tagged = [
+        (["--include-gtids", f"{TAGGED_SID}:tag:2"], [0, *second]),
+        (["--exclude-gtids", f"{TAGGED_SID}:tag:2"], [0, *first, *third]),
+        (["--include-gtids", f"{SID}:1-9"], [0, *first]),
+        (["--exclude-gtids", f"{SID}:1-9"], [0, *second, *third]),
+        (["--include-gtids", f"{SID}:1,{TAGGED_SID}:tag:1-9:other:1-9", "--exclude-gtids", f"{TAGGED_SID}:tag:1-9"], [0, *first, *third]),
+    ]
+    for log, cases in (transactions(1, 2, 3), untagged), (transactions(1, (b"tag", 2), (b"other", 2)), tagged):
+        for words, indexes in cases:
+            yield runner.check(["list", *words, "0.bin"], Result(lines(log, indexes)), [log])
+            # The log has no format description.
+            yield runner.check(["copy", *words, "-o", "-", "0.bin"], Result(copy_of(log, indexes)), [log])
 
 
 def gtids(runner):
@@ -241,21 +336,31 @@ def gtids(runner):
     yield runner.check([*missing, MISSING, "0.bin"], Result(b"", NOT_OPENED, NOT_FOUND), logs)
 
 
-def stats(runner):
-    """The counts of a log, from its frames."""
-    every = frames(SAMPLE)
+def time_of(frame):
+    seconds = int.from_bytes(frame[:4], "little")
+    return datetime.fromtimestamp(seconds, timezone.utc).strftime("%Y-%m-%dT%H:%M:%SZ")
+
+
+def counts_of(log):
+    """The text of `stats` for a log, from its frames."""
+    every = frames(log)
     size = sum(map(len, every))
     largest = max(range(len(every)), key=lambda index: len(every[index]))
     rows = {2: "QUERY_EVENT", 4: "ROTATE_EVENT", 15: "FORMAT_DESCRIPTION_EVENT", 16: "XID_EVENT"}
     wanted = [f"events {len(every)}", f"bytes {size}", "damaged 0", "transactions 0"]
-    wanted += ["first 2009-09-24T09:03:56Z", "last 2009-09-24T09:03:57Z"]
+    wanted += [f"first {time_of(every[0])}", f"last {time_of(every[-1])}"]
     kind = rows[listing_model.type_number(every[largest])]
     wanted += [f"largest event {largest} of {len(every[largest])} bytes, {kind}"]
     for number, name in rows.items():
         sizes = [len(frame) for frame in every if listing_model.type_number(frame) == number]
-        wanted += [f"type {name} {len(sizes)} events {sum(sizes)} bytes {sum(sizes) * 100 // size}%"]
-    output = "".join(line + "\n" for line in wanted).encode()
-    yield runner.check(["stats", "0.bin"], Result(output), [SAMPLE])
+        if sizes:
+            wanted += [f"type {name} {len(sizes)} events {sum(sizes)} bytes {sum(sizes) * 100 // size}%"]
+    return "".join(line + "\n" for line in wanted).encode()
+
+
+def stats(runner):
+    """The counts of a log, from its frames."""
+    yield runner.check(["stats", "0.bin"], Result(counts_of(SAMPLE)), [SAMPLE])
     finished = runner.run(["stats", "0.bin", "0.bin"], [transactions(1, 2)])
     yield None if b"\ntransactions 4\n" in finished.stdout else f"stats: {finished.stdout!r}"
 
@@ -264,7 +369,6 @@ def copies(runner):
     """A copy has the events that are taken, byte for byte, and all format descriptions."""
     starts = list(frame_starts(SAMPLE))
     yield runner.check(["copy", "-o", "-", "0.bin"], Result(SAMPLE), [SAMPLE])
-    yield runner.check(["copy", "-o", "-", "0.bin"], Result(SAMPLE[: starts[-1]]), [SAMPLE[:-1]])
     words = ["copy", "--start-position", str(starts[17]), "--output", "out.bin", "0.bin"]
     yield runner.check(words, Result(b""), [SAMPLE])
     later = range(17, len(starts))
@@ -293,7 +397,7 @@ def words(runner):
         finished = runner.run([command, "--help"])
         is_shown = finished.returncode == FINE and b"Examples:\n" in finished.stdout and not finished.stderr
         yield None if is_shown else f"{command} --help: {finished}"
-    yield runner.check(["--version"], Result(b"binlog 0.1.0\n"))
+    yield runner.version_fault(runner.program)
     finished = runner.run([])
     yield None if finished.returncode == USAGE and b"Commands:" in finished.stderr else f"no words: {finished}"
     wrong = [["lists"], ["list", "--bogus"], ["copy", "0.bin"], ["list", "--start-position", "x"]]
@@ -386,7 +490,8 @@ def progress(runner):
 
 
 def followed(runner):
-    """Events that come to a file while it is followed have their lines at once; the first files aren't waited for."""
+    """Events that come to a file while it is followed have their lines at once, without a message while there is only a part of
+    one; the first files aren't waited for."""
     first = listing_model.expected(SAMPLE)[0]
     ends = [*frame_starts(SAMPLE), len(SAMPLE)]
     (runner.folder / "0.bin").write_bytes(SAMPLE)
@@ -395,7 +500,8 @@ def followed(runner):
             log.write(SAMPLE[: ends[2]])
             log.flush()
             words = [runner.program, "list", option, "0.bin", "1.bin"]
-            with subprocess.Popen(words, cwd=runner.folder, stdout=subprocess.PIPE) as running:
+            ends_of_run = {"stdout": subprocess.PIPE, "stderr": subprocess.PIPE}
+            with subprocess.Popen(words, cwd=runner.folder, **ends_of_run) as running:
                 shown = b"".join(running.stdout.readline() for _ in range(first.count(b"\n") + 2))
                 for piece in (SAMPLE[ends[2] : ends[3]], SAMPLE[ends[3] : ends[5] - 1], SAMPLE[ends[5] - 1 :]):
                     log.write(piece)
@@ -404,7 +510,8 @@ def followed(runner):
                 shown += b"".join(running.stdout.readline() for _ in ends[6:])
                 is_waiting = running.poll() is None
                 running.kill()
-        yield None if is_waiting and shown == 2 * first else f"list {option}: {shown[-200:]!r}"
+                messages = running.stderr.read()
+        yield None if is_waiting and shown == 2 * first and not messages else f"list {option}: {shown[-200:]!r}"
 
 
 # ---- installed
@@ -421,8 +528,7 @@ def completed(runner, completions, *words):
 
 def laid_out(runner, prefix):
     """The program, the man page and the completions below a prefix."""
-    version = subprocess.run([prefix / "bin/binlog", "--version"], capture_output=True)
-    yield difference("the installed program", version, Result(b"binlog 0.1.0\n"))
+    yield runner.version_fault(prefix / "bin/binlog")
     page = prefix / "share/man/man1/binlog.1"
     completions = prefix / "share/bash-completion/completions/binlog"
     text = page.read_text().replace("\\", "")
@@ -457,26 +563,23 @@ def installs(runner):
     yield from laid_out(runner, runner.folder / "unpacked/usr")
 
 
-PARTS = (models, damaged, reported, several, filters, gtid_filters, gtids, stats, copies, maria, words, ends, progress, followed, installs)
+PARTS = (models, damaged, cut_logs, cut_ends, reported, several, filters, gtid_filters, gtids, stats, copies, maria)
+PARTS += (words, ends, progress, followed, installs)
 
 
-def results_of(program, part):
+def results_of(build, part):
     """What a part finds, in a folder of its own."""
     with tempfile.TemporaryDirectory() as folder:
-        return list(part(Runner(program, folder)))
+        return list(part(Runner(build, folder)))
 
 
-def main(arguments):
-    program = str(Path(arguments[0] if arguments else PROGRAM).resolve())
+def main():
+    parser = argparse.ArgumentParser(description="Runs each command of `binlog`.")
+    programs.add_flags(parser)
+    build = programs.parsed(parser, "binlog").build
     with ThreadPoolExecutor(PROCESSES_AT_A_TIME) as pool:
-        found = list(pool.map(partial(results_of, program), PARTS))
-    results = [result for results in found for result in results]
-    failures = [result for result in results if result is not None]
-    for failure in failures:
-        print(failure)
-    print(f"{len(results) - len(failures)} passed, {len(failures)} failed")
-    return 1 if failures else 0
+        return results.report(chain.from_iterable(pool.map(partial(results_of, build), PARTS)))
 
 
 if __name__ == "__main__":
-    sys.exit(main(sys.argv[1:]))
+    sys.exit(main())

@@ -1,25 +1,20 @@
 #!/usr/bin/env python3
-"""Compares the listing program and the listing over a slice with the model on samples and damaged copies of them.
+"""Compares listing programs with the model on samples and damaged copies of them.
 
-The encoder also gives the listing and the lines of JSON of the events that it encodes.
+Usage: damaged_copies.py [--json | --gtids] [--every N] [--sample FILE] FLAG..
 
-Usage: damaged_copies.py [--json | --gtids] [PROGRAM [SAMPLE]]
-
-PROGRAM reads a binlog on standard input; its default is the built binlog_list,
-with --json, which compares lines of JSON, the built binlog_json, and with --gtids,
-which compares listings of GTIDs, the built binlog_gtids_list. Without a flag the
-built probe_slice_listing lists each log too, and has to list it alike.
-Without SAMPLE the sample is made in memory. The last line of the output is
-`N passed, M failed`; the exit status is 1 if something failed.
+Each FLAG is one of `programs.py`, or --beside: the proved programs beside those of cargo, where these are built. They list the
+events of a log; with --json they print its lines of JSON, and with --gtids they list its GTIDs. The encoder also gives the
+listing and the lines of JSON of the events that it encodes. With --every one case in N is run. Without a sample one is made in
+memory. The last line of the output is `N passed, M failed`; the exit status is 1 if something failed.
 """
 
 import argparse
-import subprocess
 import sys
-from concurrent.futures import ThreadPoolExecutor
-from itertools import combinations
+from concurrent.futures import ProcessPoolExecutor
+from functools import lru_cache, partial
+from itertools import islice
 from pathlib import Path
-from types import ModuleType
 from typing import Callable, NamedTuple
 
 import bodies_sample
@@ -31,12 +26,8 @@ import json_model
 import listing_model
 import make_sample
 import maria_gtids_sample
-
-REPOSITORY = Path(__file__).resolve().parent.parent
-LISTING_PROGRAM = REPOSITORY / "crates/binlog_list/out/binlog_list"
-SLICE_PROGRAM = REPOSITORY / "crates/probe_slice_listing/out/probe_slice_listing"
-JSON_PROGRAM = REPOSITORY / "crates/binlog_json/out/binlog_json"
-GTIDS_PROGRAM = REPOSITORY / "crates/binlog_gtids_list/out/binlog_gtids_list"
+import programs
+import results
 
 PROCESSES_AT_A_TIME = 2
 SHOWN_FAILURES = 20
@@ -444,13 +435,6 @@ def all_cases(sample, stated):
     yield from encoded(stated)
 
 
-def run(program, content):
-    finished = subprocess.run(
-        [program], input=content, stdout=subprocess.PIPE, stderr=subprocess.DEVNULL
-    )
-    return finished.stdout, finished.returncode
-
-
 def first_difference(found, wanted):
     """The first pair of lines that differ, for the message of a failure."""
     found_lines, wanted_lines = found.split(b"\n"), wanted.split(b"\n")
@@ -460,77 +444,69 @@ def first_difference(found, wanted):
     return f"{len(found_lines) - 1} lines, not {len(wanted_lines) - 1}"
 
 
-def failure(programs, model, case):
+class Compared(NamedTuple):
+    """The models of a listing, of its own program and of the command of `binlog`, which give the output and the status for a
+    log; and the encoder's output for a log, None if it has none."""
+
+    program: Callable
+    command: Callable
+    stated: Callable
+
+    def model_of(self, words):
+        return self.command if programs.is_command(words) else self.program
+
+
+COMPARED = {
+    "list": Compared(listing_model.expected, listing_model.of_command(listing_model.expected), lambda log: log.listing),
+    "json": Compared(json_model.expected, listing_model.of_command(json_model.expected), lambda log: log.lines),
+    "gtids": Compared(gtid_model.expected, listing_model.of_command(gtid_model.expected_of_mysql), lambda _log: None),
+}
+
+
+def failure(commands, purpose, case):
     """None if all programs, the model and the encoder agree on the case, else what is wrong."""
     name, content, *stated = case
-    results = [(Path(program).name, *run(program, content)) for program in programs]
-    results.append(("the model", *model.expected(content)))
-    faults = [fault for pair in combinations(results, 2) for fault in all_faults(*pair)]
-    faults += [fault for output in stated for fault in encoder_faults(results[0], output)]
+    compared = COMPARED[purpose]
+    wanted = lru_cache(lambda model: model(content))
+    faults = [
+        fault
+        for words in commands
+        for fault in all_faults(" ".join(words), programs.run(words, content), wanted(compared.model_of(words)))
+    ]
+    faults += [fault for output in stated for fault in encoder_faults(wanted(compared.program), output)]
     return f"{name}: {'; '.join(faults)}" if faults else None
 
 
-def encoder_faults(found, output):
-    """What is unlike the encoder's output, which has no rows."""
-    name, lines, status = found
-    return all_faults((name, json_model.without_rows(lines), status), ("the encoder", output, listing_model.STATUS_FINE))
-
-
-def all_faults(found, wanted):
-    found_name, output, status = found
-    wanted_name, wanted_output, wanted_status = wanted
+def all_faults(name, found, wanted):
+    output, status = found
+    wanted_output, wanted_status = wanted
     if status != wanted_status:
-        yield f"{found_name}, unlike {wanted_name}: status {status}, not {wanted_status}"
+        yield f"{name}: status {status}, not {wanted_status}"
     if output != wanted_output:
-        yield f"{found_name}, unlike {wanted_name}: {first_difference(output, wanted_output)}"
+        yield f"{name}: {first_difference(output, wanted_output)}"
 
 
-class Compared(NamedTuple):
-    """A program, others that have to print the same, the model, and the encoder's output for a log, None if it has none."""
-
-    program: Path
-    others: list
-    model: ModuleType
-    stated: Callable
-
-
-LISTING = Compared(LISTING_PROGRAM, [SLICE_PROGRAM], listing_model, lambda log: log.listing)
-JSON = Compared(JSON_PROGRAM, [], json_model, lambda log: log.lines)
-GTIDS = Compared(GTIDS_PROGRAM, [], gtid_model, lambda _log: None)
-
-
-def read_arguments():
-    parser = argparse.ArgumentParser(description="Compares a listing program with the model.")
-    kinds = parser.add_mutually_exclusive_group()
-    kinds.add_argument("--json", dest="compared", action="store_const", const=JSON, default=LISTING)
-    kinds.add_argument("--gtids", dest="compared", action="store_const", const=GTIDS, default=LISTING)
-    parser.add_argument("program", nargs="?", type=Path)
-    parser.add_argument("sample", nargs="?", type=Path)
-    arguments = parser.parse_args()
-    for program in programs_of(arguments):
-        if not program.is_file():
-            parser.error(f"no program at {program}")
-    return arguments
-
-
-def programs_of(arguments):
-    return [arguments.program or arguments.compared.program, *arguments.compared.others]
+def encoder_faults(found, output):
+    """What of the model is unlike the encoder's output, which has no rows."""
+    lines, status = found
+    wanted = output, listing_model.STATUS_FINE
+    return all_faults("the model, unlike the encoder", (json_model.without_rows(lines), status), wanted)
 
 
 def main():
-    arguments = read_arguments()
-    programs = [str(program.resolve()) for program in programs_of(arguments)]
+    parser = argparse.ArgumentParser(description="Compares listing programs with the model.")
+    programs.add_flags(parser, compares=True)
+    programs.add_purposes(parser)
+    parser.add_argument("--every", type=int, default=1, metavar="N", help="one case in so many")
+    parser.add_argument("--sample", type=Path, metavar="FILE")
+    arguments = programs.parsed(parser)
+    purposes = ["list", "list a slice"] if arguments.purpose == "list" else [arguments.purpose]
+    found = (words for build in arguments.builds for purpose in purposes for words in build.commands(purpose))
+    commands = list(dict.fromkeys(map(tuple, found)))
     sample = arguments.sample.read_bytes() if arguments.sample else make_sample.sample()
-    cases = list(all_cases(sample, arguments.compared.stated))
-    with ThreadPoolExecutor(PROCESSES_AT_A_TIME) as pool:
-        results = list(pool.map(lambda case: failure(programs, arguments.compared.model, case), cases))
-    failures = [result for result in results if result is not None]
-    for message in failures[:SHOWN_FAILURES]:
-        print(message)
-    if len(failures) > SHOWN_FAILURES:
-        print(f"and {len(failures) - SHOWN_FAILURES} more")
-    print(f"{len(cases) - len(failures)} passed, {len(failures)} failed")
-    return 1 if failures else 0
+    cases = islice(all_cases(sample, COMPARED[arguments.purpose].stated), 0, None, arguments.every)
+    with ProcessPoolExecutor(PROCESSES_AT_A_TIME) as pool:
+        return results.report(pool.map(partial(failure, commands, arguments.purpose), cases, chunksize=20))
 
 
 if __name__ == "__main__":

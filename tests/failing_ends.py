@@ -1,62 +1,62 @@
 #!/usr/bin/env python3
-"""Runs the listing with an input that fails, and with an output that fails: its exit status is 3.
+"""Runs listings with an input that fails, and with an output that fails: the exit status is 3.
 
-Usage: failing_ends.py [--json | --gtids] [PROGRAM]
+Usage: failing_ends.py [--json | --gtids] FLAG
 
-PROGRAM lists the binlog on its standard input; its default is the built binlog_list, with --json, where the listing
-is lines of JSON, the built binlog_json, and with --gtids, where it is one of GTIDs, the built binlog_gtids_list. An input
-that fails is a folder, a closed descriptor, and a terminal that hangs up after a prefix of the sample: all events that
-were whole by then must be listed, of a listing of GTIDs the errors alone. An output that fails is a full device, a
-closed descriptor and a pipe that nobody reads; the listing is short, so that the failure shows when it is flushed, or
-long. The last line is `N passed, M failed`; the exit status is 1 if something failed.
+FLAG is one of `programs.py`: each of its programs that list a log, with --json those that print lines of JSON, or with --gtids
+those that list GTIDs. An input that fails is a folder, a closed descriptor, and a terminal that hangs up after a prefix of the
+sample: all events that were whole by then must be listed, or their GTIDs, but binlog_gtids_list lists the errors alone. An output
+that fails is a full device, a closed descriptor and a pipe that nobody reads; the listing is short, so that the failure shows
+when it is flushed, or long. For the program `binlog` a pipe that nobody reads is no failure. For a program of Rust's runtime a
+closed descriptor is the null device: its input is empty, and it writes nothing. The last line is `N passed, M failed`; the exit
+status is 1 if something failed.
 """
 
+import argparse
 import os
 import subprocess
 import sys
 import tty
 from concurrent.futures import ThreadPoolExecutor
-from pathlib import Path
-from typing import Callable, NamedTuple
+from types import ModuleType
+from typing import NamedTuple
 
 import gtid_model
 import gtids_sample
 import json_model
 import listing_model
 import make_sample
-from damaged_copies import (
-    EVENT,
-    GTIDS_PROGRAM,
-    JSON_PROGRAM,
-    LISTING_PROGRAM,
-    MAGIC,
-    PROCESSES_AT_A_TIME,
-    frame_starts,
-)
+import programs
+import results
+from damaged_copies import EVENT, MAGIC, PROCESSES_AT_A_TIME, frame_starts
 
-FAILED = 3
+FINE, NOT_A_BINLOG, DAMAGED, FAILED = 0, 1, 2, 3
 
 
 class Listing(NamedTuple):
-    """A program, its sample, what it lists if the input fails behind a content, and a log whose listing is longer than its
-    output buffer of 65,536 bytes."""
+    """A listing's model, a sample, a log whose listing is longer than an output buffer of 65,536 bytes, and the status of both
+    logs where nothing fails."""
 
-    program: Path
+    model: ModuleType
     sample: bytes
-    listed_before: Callable
     long_log: bytes
-
-
-def all_lines(model):
-    return lambda content: model.expected(content)[0]
+    status: int
 
 
 LONG_LOG = MAGIC + 20_000 * EVENT
-TEXT = Listing(LISTING_PROGRAM, make_sample.sample(), all_lines(listing_model), LONG_LOG)
-JSON = Listing(JSON_PROGRAM, make_sample.sample(), all_lines(json_model), LONG_LOG)
-GTIDS = Listing(
-    GTIDS_PROGRAM, gtids_sample.sample(), gtid_model.error_lines, MAGIC + 20_000 * gtids_sample.gtid(0)
-)
+LONG_GTIDS = MAGIC + 20_000 * gtids_sample.gtid(0)
+LISTINGS = {
+    "list": Listing(listing_model, make_sample.sample(), LONG_LOG, FINE),
+    "json": Listing(json_model, make_sample.sample(), LONG_LOG, FINE),
+    "gtids": Listing(gtid_model, gtids_sample.sample(), LONG_GTIDS, DAMAGED),
+}
+
+
+def listed_before(words, listing, content):
+    """What is listed if the input fails behind this content."""
+    if listing.model == gtid_model and not programs.is_command(words):
+        return gtid_model.error_lines(content)
+    return listing.model.expected(content)[0]
 
 
 def hung_up(content):
@@ -70,28 +70,26 @@ def hung_up(content):
     return master
 
 
-def listed(program, **ends):
-    finished = subprocess.run(
-        [program], stdout=subprocess.PIPE, stderr=subprocess.DEVNULL, **ends
-    )
+def listed(words, **ends):
+    finished = subprocess.run(words, stdout=subprocess.PIPE, stderr=subprocess.DEVNULL, **ends)
     return finished.stdout, finished.returncode
 
 
-def listed_until_it_fails(program, front):
+def listed_until_it_fails(words, front):
     descriptor = hung_up(front)
     try:
-        return listed(program, stdin=descriptor)
+        return listed(words, stdin=descriptor)
     finally:
         os.close(descriptor)
 
 
-def front_failure(program, listing, length):
+def front_failure(words, listing, length):
     """None if the whole events in a prefix of the sample are listed, else what is wrong."""
     front = listing.sample[:length]
     return difference(
         f"an input that fails behind {length} bytes",
-        listed_until_it_fails(program, front),
-        (listing.listed_before(front), FAILED),
+        listed_until_it_fails(words, front),
+        (listed_before(words, listing, front), FAILED),
     )
 
 
@@ -101,21 +99,18 @@ def difference(name, found, wanted):
     return f"{name}: status {found[1]} and {len(found[0])} bytes, not {wanted[1]} and {len(wanted[0])}"
 
 
-def unread_inputs(program):
-    with open("/dev/null", "rb") as output:
-        folder = os.open("/", os.O_RDONLY)
-        try:
-            yield difference("a folder as input", listed(program, stdin=folder), (b"", FAILED))
-        finally:
-            os.close(folder)
-        closed = listed(program, preexec_fn=lambda: os.close(0))
-        yield difference("a closed input", closed, (b"", FAILED))
+def unread_inputs(words, build):
+    folder = os.open("/", os.O_RDONLY)
+    try:
+        yield difference("a folder as input", listed(words, stdin=folder), (b"", FAILED))
+    finally:
+        os.close(folder)
+    closed = listed(words, preexec_fn=lambda: os.close(0))
+    yield difference("a closed input", closed, (b"", NOT_A_BINLOG if build.has_rusts_runtime else FAILED))
 
 
-def status_with_output(program, log, **ends):
-    process = subprocess.Popen(
-        [program], stdin=subprocess.PIPE, stderr=subprocess.DEVNULL, **ends
-    )
+def status_with_output(words, log, **ends):
+    process = subprocess.Popen(words, stdin=subprocess.PIPE, stderr=subprocess.DEVNULL, **ends)
     try:
         process.communicate(log)
     except BrokenPipeError:
@@ -123,19 +118,21 @@ def status_with_output(program, log, **ends):
     return process.returncode
 
 
-def failing_outputs(program, listing):
+def failing_outputs(words, build, listing):
     unread, writing = os.pipe()
     os.close(unread)
     with open("/dev/full", "wb") as full:
+        outputs = {
+            "a full device": ({"stdout": full}, True),
+            "a pipe that nobody reads": ({"stdout": writing}, not programs.is_command(words)),
+            "a closed output": ({"preexec_fn": lambda: os.close(1)}, not build.has_rusts_runtime),
+        }
         for length, log in (("short", listing.sample), ("long", listing.long_log)):
-            outputs = {
-                "a full device": {"stdout": full},
-                "a pipe that nobody reads": {"stdout": writing},
-                "a closed output": {"preexec_fn": lambda: os.close(1)},
-            }
-            for name, ends in outputs.items():
-                status = status_with_output(program, log, **ends)
-                yield difference(f"a {length} listing to {name}", (b"", status), (b"", FAILED))
+            for name, (ends, is_failure) in outputs.items():
+                status = status_with_output(words, log, **ends)
+                # One that is no failure may end the listing before it comes to an error.
+                is_right = status == FAILED if is_failure else status in (FINE, listing.status)
+                yield None if is_right else f"a {length} listing to {name}: status {status}"
     os.close(writing)
 
 
@@ -146,20 +143,23 @@ def lengths(sample):
     return sorted(set(range(300)) | {length for length in beside if length <= len(sample)})
 
 
-def main(arguments):
-    listing = JSON if "--json" in arguments else GTIDS if "--gtids" in arguments else TEXT
-    paths = [argument for argument in arguments if not argument.startswith("--")]
-    program = str(Path(paths[0] if paths else listing.program).resolve())
+def all_failures(words, build, listing):
     with ThreadPoolExecutor(PROCESSES_AT_A_TIME) as pool:
-        results = list(pool.map(lambda length: front_failure(program, listing, length), lengths(listing.sample)))
-    results += unread_inputs(program)
-    results += failing_outputs(program, listing)
-    failures = [result for result in results if result is not None]
-    for message in failures:
-        print(message)
-    print(f"{len(results) - len(failures)} passed, {len(failures)} failed")
-    return 1 if failures else 0
+        yield from pool.map(lambda length: front_failure(words, listing, length), lengths(listing.sample))
+    yield from unread_inputs(words, build)
+    yield from failing_outputs(words, build, listing)
+
+
+def main():
+    parser = argparse.ArgumentParser(description="Runs listings with ends that fail.")
+    programs.add_flags(parser)
+    programs.add_purposes(parser)
+    arguments = programs.parsed(parser)
+    build, listing = arguments.build, LISTINGS[arguments.purpose]
+    commands = build.commands(arguments.purpose)
+    named = ((" ".join(words), wrong) for words in commands for wrong in all_failures(words, build, listing))
+    return results.report(wrong and f"{name}: {wrong}" for name, wrong in named)
 
 
 if __name__ == "__main__":
-    sys.exit(main(sys.argv[1:]))
+    sys.exit(main())

@@ -1,4 +1,5 @@
-"""A plain model of the listing of GTIDs: the output and the exit status of `binlog_gtids_list`.
+"""A plain model of the listing of GTIDs: the output and the exit status of `binlog_gtids_list`, and those of `binlog gtids`, which
+lists MySQL's GTIDs alone.
 
 The items of a log, and which of them are errors, come from the model of the listing; the fields of MySQL's GTID events come
 from the model of event data, those of MariaDB's from `maria_gtid_model`. A set is a list of the intervals that were added,
@@ -44,8 +45,9 @@ def gtids_of(type_number, data, lengths):
     return intervals
 
 
-def frame_gtids(frame, in_force):
-    """What the event of a frame adds, MySQL's GTIDs and MariaDB's; a fault if the item is an error, or the event is."""
+def frame_gtids(frame, in_force, lists_maria):
+    """What the event of a frame adds, MySQL's GTIDs, and MariaDB's if they are listed; a fault if the item is an error, or the
+    event is."""
     parts = listing_model.cut(frame, in_force.algorithm)
     if parts is None:
         raise Fault(4)
@@ -54,7 +56,7 @@ def frame_gtids(frame, in_force):
     if fault is not None:
         raise Fault(fault)
     type_number = listing_model.type_number(frame)
-    if maria_gtid_model.is_maria(in_force.server_version):
+    if lists_maria and maria_gtid_model.is_maria(in_force.server_version):
         return gtids_of(type_number, data, in_force.lengths), maria_gtid_model.gtids_of(
             type_number, data, listing_model.server_id(frame)
         )
@@ -91,13 +93,13 @@ def group_line(sid, tag, intervals):
     return f"{name} {intervals_text(numbers)} gaps {intervals_text(gaps(numbers))}\n"
 
 
-def tracked(content):
+def tracked(content, lists_maria=True):
     """The lines of the errors, for each source and tag the intervals that were added, and MariaDB's last GTIDs."""
     frames, tail = listing_model.split(content[4:])
     lines, groups, last = [], {}, {}
     for index, (frame, in_force) in enumerate(zip(frames, listing_model.in_force_at(frames))):
         try:
-            intervals, gtids = frame_gtids(frame, in_force)
+            intervals, gtids = frame_gtids(frame, in_force, lists_maria)
             for sid, tag, start, end in intervals:
                 groups.setdefault((sid, tag), []).append((start, end))
             for domain, server_id, sequence in gtids:
@@ -115,12 +117,17 @@ def error_lines(content):
     return "".join(lines).encode("ascii")
 
 
-def expected(content):
+def expected(content, lists_maria=True):
     """The standard output and the exit status for a file of this content."""
     if content[:4] != listing_model.FILE_HEADER:
         return b"", listing_model.STATUS_NOT_A_BINLOG
-    lines, groups, last = tracked(content)
+    lines, groups, last = tracked(content, lists_maria)
     group_lines = [group_line(sid, tag, groups[sid, tag]) for sid, tag in sorted(groups)]
     maria_lines = [f"{domain}-{server_id}-{last[domain, server_id]}\n" for domain, server_id in sorted(last)]
     listing = "".join(lines + group_lines + maria_lines)
     return listing.encode("ascii"), listing_model.STATUS_ERRORS if lines else listing_model.STATUS_FINE
+
+
+def expected_of_mysql(content):
+    """The same without MariaDB's GTIDs, as `binlog gtids` has it."""
+    return expected(content, lists_maria=False)

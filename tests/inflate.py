@@ -1,15 +1,13 @@
 #!/usr/bin/env python3
-"""Compares probe_inflate with Python's zlib on random streams and on damaged copies of them.
+"""Compares the texts of zlib streams with those of Python's zlib, on random streams and on damaged copies of them.
 
-Usage: inflate.py [--streams N] [PROGRAM]
+Usage: inflate.py [--streams N] FLAG
        inflate.py [--streams N] --cases FOLDER
 
-PROGRAM writes the text of the zlib stream on standard input, or fails with status 1;
-its default is the built probe_inflate. A stream is accepted if zlib reads it to its end
-and nothing is left behind it; then the program has to write the same text, and else to
-refuse the stream. With --cases no program is run: the streams and what is wanted of each
-are written into FOLDER, one folder for each. The last line of the output is
-`N passed, M failed`; the exit status is 1 if something failed.
+FLAG is one of `programs.py`: its program writes the text of the zlib stream on standard input, or fails with status 1. A stream
+is accepted if zlib reads it to its end and nothing is left behind it; then the program has to write the same text, and else to
+refuse the stream. With --cases no program is run: the streams and what is wanted of each are written into FOLDER, one folder
+for each. The last line of the output is `N passed, M failed`; the exit status is 1 if something failed.
 """
 
 import argparse
@@ -20,14 +18,13 @@ import zlib
 from concurrent.futures import ThreadPoolExecutor
 from pathlib import Path
 
-REPOSITORY = Path(__file__).resolve().parent.parent
-PROGRAM = REPOSITORY / "crates/probe_inflate/out/probe_inflate"
+import programs
+import results
 
 STREAMS = 1500
 DAMAGED_COPIES = 3
 LONGEST_TEXT = 70_000
 PROCESSES_AT_A_TIME = 2
-SHOWN_FAILURES = 20
 
 STRATEGIES = [
     zlib.Z_DEFAULT_STRATEGY,
@@ -132,8 +129,8 @@ def zlib_text(stream):
     return text if decompressor.eof else None
 
 
-def failure_of(program, name, stream):
-    result = subprocess.run([program], input=stream, capture_output=True, check=False)
+def failure_of(words, name, stream):
+    result = subprocess.run(words, input=stream, capture_output=True, check=False)
     wanted = wanted_of(stream)
     if wanted is None:
         right = result.returncode == 1 and not result.stdout
@@ -156,24 +153,20 @@ def write_cases(folder, count):
 
 
 def main():
-    parser = argparse.ArgumentParser()
+    parser = argparse.ArgumentParser(description="Compares texts of zlib streams with zlib's.")
+    programs.add_flags(parser)
     parser.add_argument("--streams", type=int, default=STREAMS)
     parser.add_argument("--cases", type=Path)
-    parser.add_argument("program", nargs="?", type=Path, default=PROGRAM)
-    arguments = parser.parse_args()
-    if arguments.cases:
+    if (arguments := parser.parse_args()).cases:
         write_cases(arguments.cases, arguments.streams)
         return 0
+    words = programs.parsed(parser, "texts").build.command("texts")
     cases = list(streams(arguments.streams))
     with ThreadPoolExecutor(PROCESSES_AT_A_TIME) as pool:
-        outcomes = list(pool.map(lambda case: failure_of(arguments.program, *case), cases))
-    failures = [outcome for outcome in outcomes if outcome]
-    for failure in failures[:SHOWN_FAILURES]:
-        print(failure)
+        outcomes = list(pool.map(lambda case: failure_of(words, *case), cases))
     accepted = sum(wanted_of(stream) is not None for _, stream in cases)
     print(f"{accepted} of {len(cases)} streams are accepted by zlib")
-    print(f"{len(cases) - len(failures)} passed, {len(failures)} failed")
-    return 1 if failures else 0
+    return results.report(outcomes)
 
 
 if __name__ == "__main__":

@@ -8,7 +8,7 @@ listing has to be that of the built binlog_list without its last word. The C pro
 built with the sanitizers of the C compiler, and with checksums verified, as the built bench_verifying does; it computes
 the checksums by itself, bit by bit. A third program calls the library with 10,000 cursors that it did not
 make over each of some logs. A C program and a C++ one print the lines of JSON of all these logs: they have to be those of the
-built `binlog json`; another C program asks for those of 10,000 items that it changed over each of some logs, and one refuses
+built binlog_json; another C program asks for those of 10,000 items that it changed over each of some logs, and one refuses
 each of their allocations in turn. Then the tests of the Python package run over the shared library, which is made of the static one. At last what bin/install and bin/package
 make of the library: a C program is built against each by pkg-config and lists the sample, and Python lists it by the package
 that is installed. Without pkg-config the flags are written out; without dpkg-deb there is no package; a line says so.
@@ -16,7 +16,7 @@ that is installed. Without pkg-config the flags are written out; without dpkg-de
 With --build the static library is first proved and built by bin/build if a source is newer. With --over-ci it is built by
 static_library.py over what `rt ci` left, which proves the crate binlog_c alone once more. Where there is no library then, a
 line says so, nothing is run, and both numbers are 0; the same is true without the C compiler `cc`. Without a C++ compiler
-`c++`, sanitizers, Dask, or the programs `bench_verifying` and `binlog`, a line says so, and what needs them isn't run. The
+`c++`, sanitizers, Dask, or the programs `bench_verifying` and `binlog_json`, a line says so, and what needs them isn't run. The
 last line is `N passed, M failed`; the exit status is 1 if something failed.
 """
 
@@ -33,12 +33,16 @@ from pathlib import Path
 import checksummed_sample
 import encoded_logs
 import make_sample
+import programs
+import results
 import static_library
-from damaged_copies import LISTING_PROGRAM, PROCESSES_AT_A_TIME, REPOSITORY, all_cases, first_difference, rows_log, run
+from damaged_copies import PROCESSES_AT_A_TIME, all_cases, first_difference, rows_log
+from programs import REPOSITORY
 
 LIBRARY = REPOSITORY / "crates/binlog_c/out/libbinlog_c.a"
-VERIFYING_PROGRAM = REPOSITORY / "crates/bench_verifying/out/bench_verifying"
-PROGRAM = REPOSITORY / "crates/binlog/out/binlog"
+LISTING = programs.PROVED.command("list")
+VERIFYING = programs.PROVED.command("verify")
+JSON = programs.PROVED.command("json")
 # Those that may have Debian's Dask.
 INTERPRETERS = (sys.executable, "/usr/bin/python3")
 SOURCES = REPOSITORY / "tests/c"
@@ -94,8 +98,8 @@ def without_word(listing):
     )
 
 
-def listed(content, program=LISTING_PROGRAM):
-    listing, status = run(str(program), content)
+def listed(content, words=LISTING):
+    listing, status = programs.run(words, content)
     return without_word(listing), status
 
 
@@ -111,15 +115,15 @@ def listing_failures(name, found, names, wanted):
             yield None if status == wanted_status else f"{name}, {log}: status {status}, not {wanted_status}"
 
 
-def wanted_listings(program, contents):
+def wanted_listings(words, contents):
     """What a built program lists of each log, without the last words, and its status."""
     with ThreadPoolExecutor(PROCESSES_AT_A_TIME) as pool:
-        return list(pool.map(lambda content: listed(content, program), contents))
+        return list(pool.map(lambda content: listed(content, words), contents))
 
 
 def program_failures(folder, cases):
     names, contents = zip(*((name, content) for name, content, *_ in cases))
-    wanted = wanted_listings(LISTING_PROGRAM, contents)
+    wanted = wanted_listings(LISTING, contents)
     plain = build(folder, "list", "list.c")
     yield from listing_failures("C", listings(plain, contents), names, wanted)
     yield from listing_failures("C, one item a call", listings(plain, contents, "1"), names, wanted)
@@ -129,7 +133,7 @@ def program_failures(folder, cases):
     checked = build(folder, "list_sanitized", "list.c", flags)
     yield from listing_failures("C with sanitizers", listings(checked, contents), names, wanted)
     cursors = build(folder, "damaged", "damaged.c", flags)
-    if VERIFYING_PROGRAM.exists():
+    if Path(VERIFYING[0]).exists():
         yield from verified_failures(plain, checked, names, contents)
     else:
         print("no program bench_verifying: no checksum is verified")
@@ -143,32 +147,26 @@ def program_failures(folder, cases):
 
 def verified_failures(plain, checked, names, contents):
     """For each log, None or what is wrong with the programs' listings of it with checksums verified."""
-    wanted = wanted_listings(VERIFYING_PROGRAM, contents)
+    wanted = wanted_listings(VERIFYING, contents)
     one_a_call = listings(plain, contents, "1", "verified")
     yield from listing_failures("C, verified, one item a call", one_a_call, names, wanted)
     yield from listing_failures("C, verified", listings(checked, contents, "64", "verified"), names, wanted)
-
-
-def printed(content):
-    """The lines of JSON that `binlog json` prints of a log, and its status."""
-    finished = subprocess.run([PROGRAM, "json", "-"], input=content, stdout=subprocess.PIPE, stderr=subprocess.DEVNULL)
-    return finished.stdout, finished.returncode
 
 
 def json_failures(folder, names, contents, flags):
     """For each log, None or what is wrong with the programs' lines of JSON of it."""
     plain = build(folder, "json", "json.c")
     checked = build(folder, "json_checked", "json.c", flags)
-    if PROGRAM.exists():
+    if Path(JSON[0]).exists():
         with ThreadPoolExecutor(PROCESSES_AT_A_TIME) as pool:
-            wanted = list(pool.map(printed, contents))
+            wanted = list(pool.map(lambda content: programs.run(JSON, content), contents))
         yield from listing_failures("C, JSON", listings(plain, contents), names, wanted)
         yield from listing_failures("C with sanitizers, JSON", listings(checked, contents), names, wanted)
         if shutil.which("c++"):
             found = listings(build(folder, "json_cpp", "json.cpp"), contents)
             yield from listing_failures("C++, JSON", found, names, wanted)
     else:
-        print("no program binlog: no line of JSON is compared")
+        print("no program binlog_json: no line of JSON is compared")
     found = listings(checked, contents, "verified")
     yield None if found is not None and len(found) == len(contents) else "C, JSON, verified: not all logs are printed"
     yield from damaged_failures("damaged items", build(folder, "damaged_items", "damaged_items.c", flags), DAMAGED_ITEMS)
@@ -313,24 +311,14 @@ def main():
     if sys.argv[1:] == ["--build"]:
         subprocess.run([REPOSITORY / "bin/build", "binlog_c"], check=True)
     if sys.argv[1:] == ["--over-ci"] and not is_built_over_ci():
-        print("0 passed, 1 failed")
-        return 1
+        return results.close(0, 1)
     reason = missing()
     if reason:
-        print(f"{reason}: nothing is run")
-        print("0 passed, 0 failed")
-        return 0
+        return results.left_out(f"{reason}: nothing is run")
     with tempfile.TemporaryDirectory() as name:
         folder = Path(name)
         cases = list(all_cases(make_sample.sample(), lambda log: None))
-        results = [*program_failures(folder, cases), *python_failures(folder), *install_failures(folder)]
-    failures = [result for result in results if result is not None]
-    for message in failures[:20]:
-        print(message)
-    if len(failures) > 20:
-        print(f"and {len(failures) - 20} more")
-    print(f"{len(results) - len(failures)} passed, {len(failures)} failed")
-    return 1 if failures else 0
+        return results.report([*program_failures(folder, cases), *python_failures(folder), *install_failures(folder)])
 
 
 if __name__ == "__main__":

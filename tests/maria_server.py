@@ -1,15 +1,15 @@
 #!/usr/bin/env python3
 """Compares what the library reads of a MariaDB server's logs with what `mariadb-binlog` prints of them.
 
-Usage: maria_server.py [--logs FOLDER] [PROGRAM]
+Usage: maria_server.py [--logs FOLDER] FLAG
 
-PROGRAM prints MariaDB's own events of the binary log on standard input, a line for each; its default is the built
-probe_maria_events. A server runs a mixed load in a temporary folder, on a socket there, and is shut down. Then, of each
-log, a test each: that the lines are those of the model, and that there is none under another server's version; that each of
-MariaDB's own events is printed by `mariadb-binlog` as its line says; that each event is listed with the type, end and
-checksum that are printed; that the listing and the lines of JSON are those of their models; and that the log is written back
-byte for byte, with each checksum recomputed. That the load has events of each kind that the server can write. Another server
-encrypts its log, of which the start is compared. With --logs the logs in FOLDER are compared, and no server is started.
+FLAG is one of `programs.py`. A server runs a mixed load in a temporary folder, on a socket there, and is shut down. Then, of
+each log, a test each: that each event is listed with the type, end and checksum that `mariadb-binlog` prints; that the listing
+and the lines of JSON are those of their models; and that the log is written back byte for byte. Where there is a program that
+prints a line for each of MariaDB's own events: that these lines are those of the model, and that there is none under another
+server's version; that each of these events is printed by `mariadb-binlog` as its line says; and that the load has events of each
+kind that the server can write. Another server encrypts its log, of which the start is compared. With --logs the logs in FOLDER
+are compared, and no server is started.
 
 Where there is no server that is known (`maria_daemon.py` says where it comes from), or the client's programs `mariadb` and
 `mariadb-binlog` aren't there, a line says so, nothing is run, and both numbers are 0. Where the server has no plugin for
@@ -27,12 +27,16 @@ from pathlib import Path
 import listing_model
 import maria_model
 import maria_printed
-from damaged_copies import JSON, LISTING, REPOSITORY, SHOWN_FAILURES, failure, run
+import programs
+import results
+import written_back
+from damaged_copies import failure
 from maria_daemon import SECONDS_TO_RUN, LeftOut, Server, is_within, plugins_of, program_in
-from written_back import COPIER
 
-PROBE = REPOSITORY / "crates/probe_maria_events/out/probe_maria_events"
-LOAD = REPOSITORY / "tests/maria_load.sql"
+LOAD = programs.REPOSITORY / "tests/maria_load.sql"
+
+# The program that prints a line for each of MariaDB's own events.
+OWN_EVENTS = "mariadb"
 
 MIXED = [
     "--server-id=7",
@@ -86,33 +90,39 @@ def complete_elsewhere(server):
 # ---- The comparison
 
 
-def lines_of(program, content):
-    output, status = run(str(program), content)
+def lines_of(words, content):
+    output, status = programs.run(words, content)
     return output.decode("ascii").splitlines(), status
 
 
-def log_failures(program, path):
+def log_failures(build, path):
     """For each test of a log, None or what is wrong."""
     content = path.read_bytes()
-    lines, status = lines_of(program, content)
+    events = list(maria_printed.printed(path))
+    for words in build.commands(OWN_EVENTS):
+        yield from own_event_failures(words, content, events)
+    for words in build.commands("list"):
+        yield from listing_failures(words, content, events)
+    yield from model_failures(build, path.name, content)
+    for words in build.commands("write back"):
+        yield written_back.failure(words, path.name, content)
+
+
+def own_event_failures(words, content, events):
+    """For each line of MariaDB's own events, None or what is wrong, by the model and by what is printed."""
+    lines, status = lines_of(words, content)
     yield None if status == 0 else f"status {status}"
     for place, (found, wanted) in enumerate(zip_longest(lines, maria_model.expected(content))):
         yield None if found == wanted else f"line {place} is {found}, not {wanted}"
     other_server = content.replace(b"-MariaDB", b"-mariadb", 1)
-    yield None if lines_of(program, other_server) == ([], 0) else "lines for a log that isn't MariaDB's"
-    events = list(maria_printed.printed(path))
+    yield None if lines_of(words, other_server) == ([], 0) else "lines for a log that isn't MariaDB's"
     yield from printed_failures(content, lines, events)
-    yield from listing_failures(content, events)
-    yield from model_failures(path.name, content)
-    output, status = run(str(COPIER), content)
-    yield None if (output, status) == (content, 0) else f"written back as {len(output)} other bytes, status {status}"
 
 
-def model_failures(name, content):
-    """Whether the listing, and the lines of JSON, are those of their models."""
-    for compared in (LISTING, JSON):
-        programs = [str(program) for program in (compared.program, *compared.others)]
-        yield failure(programs, compared.model, (name, content))
+def model_failures(build, name, content):
+    """Whether the listings, and the lines of JSON, are those of their models."""
+    for purpose in ("list", "json"):
+        yield failure(build.commands(purpose), purpose, (name, content))
 
 
 def printed_failures(content, lines, events):
@@ -132,10 +142,10 @@ def printed_failures(content, lines, events):
     yield from (f"a line for {end}, where no event ends" for end in all_words)
 
 
-def listing_failures(content, events):
+def listing_failures(words, content, events):
     """For each line of the listing, None or how the event is printed otherwise."""
-    listing, _ = run(str(LISTING.program), content)
-    for line, event in zip_longest(listing.decode("ascii").splitlines(), events):
+    lines, _ = lines_of(words, content)
+    for line, event in zip_longest(lines, events):
         if line is None or event is None or " error " in line:
             yield f"listed as {line}, printed as {event}"
             continue
@@ -162,30 +172,31 @@ WANTED_KINDS = {f"type {number}" for number in (160, 161, 162, 163, 165, 166, 16
 WANTED_KINDS |= {f"flag {1 << bit}" for bit in range(8)} | {f"extra flag {1 << bit}" for bit in range(4)}
 
 
-def kind_failures(program, logs):
+def kind_failures(words, logs):
     found = set()
     for path in logs:
-        lines, _ = lines_of(program, path.read_bytes())
+        lines, _ = lines_of(words, path.read_bytes())
         found |= set(kinds(map(maria_printed.split_line, lines)))
     yield from (None if kind in found else f"no event of {kind}" for kind in sorted(WANTED_KINDS))
 
 
-def server_failures(program):
+def server_failures(build):
     """For each test of the logs of servers, None or what is wrong."""
     with tempfile.TemporaryDirectory() as name:
         folder = Path(name)
         daemon = program_in(folder / "unpacked")
         with Server(daemon, folder / "mixed", MIXED) as server:
             run_load(server)
-        yield from all_failures(program, server.logs())
-        yield from kind_failures(program, server.logs())
+        yield from all_failures(build, server.logs())
+        for words in build.commands(OWN_EVENTS):
+            yield from kind_failures(words, server.logs())
         try:
-            yield from encrypted_failures(program, daemon, folder)
+            yield from encrypted_failures(build, daemon, folder)
         except LeftOut as reason:
             print(f"{reason}: no encrypted log is compared")
 
 
-def encrypted_failures(program, daemon, folder):
+def encrypted_failures(build, daemon, folder):
     """Of an encrypted log the start is compared, and how the whole is split."""
     if not (plugins_of(daemon) / f"{KEYS_PLUGIN}.so").exists():
         raise LeftOut(f"there is no plugin {KEYS_PLUGIN}")
@@ -196,51 +207,42 @@ def encrypted_failures(program, daemon, folder):
         server.run(b"create database shop;")
     (path,) = server.logs()
     content = path.read_bytes()
-    yield from model_failures("encrypted", content)
+    yield from model_failures(build, "encrypted", content)
     frames, tail = listing_model.split(content[len(listing_model.FILE_HEADER) :])
     # The description, the start of encryption, a list of GTIDs, a checkpoint, a GTID, a statement and the end.
     yield None if (len(frames), tail) == (7, b"") else f"an encrypted log of {len(frames)} events"
     start = content[: len(listing_model.FILE_HEADER) + len(frames[0]) + len(frames[1])]
     path.write_bytes(start)
-    lines, status = lines_of(program, start)
+    for words in build.commands(OWN_EVENTS):
+        yield from encryption_failures(words, path, start)
+
+
+def encryption_failures(words, path, start):
+    """Whether the start of encryption is as the model and `mariadb-binlog` have it."""
+    lines, status = lines_of(words, start)
     yield None if (lines, status) == (maria_model.expected(start), 0) else f"encryption begins: {lines}, status {status}"
-    words = maria_printed.split_line(lines[0])
-    wanted = f"# Encryption scheme: {words['scheme']}, key_version: {words['key_version']}, nonce: {words['nonce']}\n"
+    line = maria_printed.split_line(lines[0])
+    wanted = f"# Encryption scheme: {line['scheme']}, key_version: {line['key_version']}, nonce: {line['nonce']}\n"
     found = re.findall(rb"^# Encryption scheme.*\n", maria_printed.output_of(path), re.MULTILINE)
     yield None if found == [wanted.encode()] else f"encryption begins: {found}, not {wanted}"
 
 
-def all_failures(program, logs):
+def all_failures(build, logs):
     for path in logs:
-        yield from (wrong and f"{path.name}: {wrong}" for wrong in log_failures(program, path))
-
-
-def read_arguments():
-    parser = argparse.ArgumentParser(description="Compares what is read of a MariaDB server's logs.")
-    parser.add_argument("--logs", type=Path)
-    parser.add_argument("program", nargs="?", type=Path, default=PROBE)
-    return parser.parse_args()
+        yield from (wrong and f"{path.name}: {wrong}" for wrong in log_failures(build, path))
 
 
 def main():
-    arguments = read_arguments()
-    program = arguments.program.resolve()
+    parser = argparse.ArgumentParser(description="Compares what is read of a MariaDB server's logs.")
+    programs.add_flags(parser)
+    parser.add_argument("--logs", type=Path)
+    arguments = programs.parsed(parser, "list", "json", "write back", OWN_EVENTS)
     try:
         if arguments.logs:
-            results = list(all_failures(program, sorted(arguments.logs.glob("*-bin.0*"))))
-        else:
-            results = list(server_failures(program))
+            return results.report(all_failures(arguments.build, sorted(arguments.logs.glob("*-bin.0*"))))
+        return results.report(server_failures(arguments.build))
     except LeftOut as reason:
-        print(f"{reason}: no logs of a server are compared")
-        print("0 passed, 0 failed")
-        return 0
-    failures = [result for result in results if result is not None]
-    for message in failures[:SHOWN_FAILURES]:
-        print(message)
-    if len(failures) > SHOWN_FAILURES:
-        print(f"and {len(failures) - SHOWN_FAILURES} more")
-    print(f"{len(results) - len(failures)} passed, {len(failures)} failed")
-    return 1 if failures else 0
+        return results.left_out(f"{reason}: no logs of a server are compared")
 
 
 if __name__ == "__main__":

@@ -1,21 +1,32 @@
 #!/usr/bin/env python3
 """Refuses each allocation in turn, in the programs and in the tests of refused memory.
 
-Usage: refused_memory.py
+Usage: refused_memory.py FLAG
 
-The programs and tests are those that are built in crates/NAME/out. Each runs with its first allocation refused, then with
-its second one, and so on until a run makes fewer. Listings and JSON lines must then be a prefix of all lines, with
-status 3; what is written back must be a prefix of the log; and a program must free all its memory. A test must pass;
-those are run whose full name contains `memory`. A test whose name ends in `takes_no_memory` or `take_no_memory` must
+FLAG is --proved or --cargo. Each program runs with its first allocation refused, then with its second one, and so on until a run
+makes fewer.
+
+With --proved the programs and the tests are those that are built in crates/NAME/out. Listings and JSON lines must be a prefix
+of all lines, with status 3; what is written back must be a prefix of the log; and a program must free all its memory. A test
+must pass; those are run whose full name contains `memory`. A test whose name ends in `takes_no_memory` or `take_no_memory` must
 make no allocation, not even one whose refusal it would hide. One whose name ends in `makes_one_allocation` or
 `make_two_allocations` must make exactly as many; the names count to nine.
+
+With --cargo the commands `list`, `json` and `copy` of the packages' `binlog` print a prefix of all lines, or of the log. They end
+with status 3, or are aborted where the allocation is one of Rust's runtime or of another crate's, or do without it, and then
+they print all.
+
 The last line is `N passed, M failed`, where each run counts; the exit status is 1 if one failed. Without the C compiler `cc`
 nothing is run, and both numbers are 0.
 """
 
+import argparse
 import re
+import subprocess
 import sys
+from functools import partial
 from itertools import count
+from signal import SIGABRT
 
 import checksummed_sample
 import gtid_model
@@ -26,6 +37,7 @@ import listing_model
 import make_sample
 import maria_events
 import maria_gtids_sample
+import programs
 import row_lines
 import watched
 
@@ -40,7 +52,7 @@ LOGS = {
     "GTIDs": gtids_sample.sample(),
     "MariaDB's GTIDs": maria_gtids_sample.sample(),
     "long events": make_sample.sample() + 3 * LONG_EVENT,
-    "MariaDB's events": (watched.CRATES / "probe_maria_events/stdin").read_bytes(),
+    "MariaDB's events": (programs.CRATES / "probe_maria_events/stdin").read_bytes(),
 }
 
 
@@ -147,16 +159,16 @@ def stated_fault(run, stated):
     return test_fault(run) if made == stated else f"it makes {made} allocations, not {stated}"
 
 
-def all_failures(watch):
+def proved_failures(watch):
     for name, fault in PROGRAMS.items():
         for log, content in LOGS.items():
-            command = [watched.program(name)]
+            command = programs.proved(name)
             yield from failures(watch, f"{name} over {log}", command, content, fault(content))
     maria = maria_events.sample()
     for title, content, lines in (("MariaDB's events", maria.content, maria.lines), ("rows", *row_lines.sample())):
-        command = [watched.program("binlog"), "json"]
+        command = programs.proved("binlog", "json")
         yield from failures(watch, f"binlog json over {title}", command, content, command_fault(lines))
-        command = [watched.program("binlog_json")]
+        command = programs.proved("binlog_json")
         yield from failures(watch, f"binlog_json over {title}", command, content, json_fault(content))
     for program, name in watched.tests():
         stated = stated_allocations(name)
@@ -167,5 +179,39 @@ def all_failures(watch):
             yield from failures(watch, name, [program, name], b"", test_fault)
 
 
+# ---- the cargo packages' program
+
+
+def packaged_fault(run, wanted, status):
+    """What is wrong with a run of the packages' program that would print this and end with this status."""
+    if not wanted.startswith(run.output):
+        return f"{len(run.output)} bytes that are no front of the output"
+    is_whole = (run.output, run.status) == (wanted, status)
+    return None if is_whole or run.status in (OUTSIDE, -SIGABRT) else f"status {run.status}"
+
+
+def packaged_failures(watch):
+    models = {"list": listing_model, "json": json_model}
+    for log, content in LOGS.items():
+        outputs = {purpose: model.expected(content) for purpose, model in models.items()}
+        if outputs["list"][1] == SUCCESS:
+            outputs["write back"] = content, SUCCESS
+        for purpose, (wanted, status) in outputs.items():
+            words = next(filter(programs.is_command, programs.CARGO.commands(purpose)))
+            run = partial(watch.run, words, content, stderr=subprocess.DEVNULL)
+            for number in count(1):
+                if not (found := run(refused=number)).is_refused:
+                    break
+                wrong = packaged_fault(found, wanted, status)
+                yield wrong and f"{' '.join(words)} over {log}, its allocation {number} refused: {wrong}"
+
+
+def main():
+    parser = argparse.ArgumentParser(description="Refuses each allocation in turn.")
+    programs.add_flags(parser)
+    build = programs.parsed(parser, "list", "json", "gtids", "write back").build
+    return watched.report(packaged_failures if build is programs.CARGO else proved_failures)
+
+
 if __name__ == "__main__":
-    sys.exit(watched.main(all_failures))
+    sys.exit(main())

@@ -1,12 +1,12 @@
 #!/usr/bin/env python3
 """Compares the rows in the lines of `binlog json` with an encoder of rows and with a model of them.
 
-Usage: row_lines.py [--count N] [PROGRAM]
+Usage: row_lines.py [--count N] FLAG
 
-PROGRAM is the built binlog if not given. Each line has the members that the model of JSON lines gives; the rows are those that the
-encoder states for events of every type of column, and those of the model for N damaged events (20,000 if not given). Which table
-map is in force follows from all events of the log, also where a filter takes only some. The last line is `N passed, M failed`;
-the exit status is 1 if something failed.
+FLAG is one of `programs.py`: it says which `binlog` is run. Each line has the members that the model of JSON lines gives; the rows
+are those that the encoder states for events of every type of column, and those of the model for N damaged events (20,000 if not
+given). Which table map is in force follows from all events of the log, also where a filter takes only some. The last line is
+`N passed, M failed`; the exit status is 1 if something failed.
 """
 
 import argparse
@@ -14,15 +14,15 @@ import json
 import random
 import subprocess
 import sys
-from pathlib import Path
 
 import encoded_events as encode
 import json_model
+import programs
+import results
 import row_events
 import row_values
 from row_values import WHOLE, framed, is_same, row_event, start, table_map
 
-PROGRAM = row_values.REPOSITORY / "crates/binlog/out/binlog"
 STATUSES = (0, 2)
 VERSIONS = ("8.0.36", "10.11.6-MariaDB")
 ROTATE, TABLE_MAP, PARTIAL_UPDATE = 4, 19, 39
@@ -58,16 +58,16 @@ def sample():
 # ---- runs
 
 
-def lines_of(program, version, events, words=()):
-    finished = subprocess.run([program, "json", *words], input=content_of(version, events), capture_output=True)
+def lines_of(binlog, version, events, words=()):
+    finished = subprocess.run([*binlog, "json", *words], input=content_of(version, events), capture_output=True)
     if finished.returncode not in STATUSES:
         return f"status {finished.returncode}"
     return parsed(finished.stdout)
 
 
-def failure(name, program, version, events, wanted, words=()):
+def failure(name, binlog, version, events, wanted, words=()):
     """None if the lines are the wanted ones, else what is wrong."""
-    found = lines_of(program, version, events, words)
+    found = lines_of(binlog, version, events, words)
     if isinstance(found, str) or len(found) != len(wanted):
         return f"{name}: {found if isinstance(found, str) else len(found)}, not {len(wanted)} lines"
     for line, wanted_line in zip(found, wanted):
@@ -76,15 +76,15 @@ def failure(name, program, version, events, wanted, words=()):
     return None
 
 
-def agrees(name, program, version, events):
+def agrees(name, binlog, version, events):
     """Compares with the model alone."""
-    return failure(f"{name}, {version}", program, version, events, wanted_lines(version, events))
+    return failure(f"{name}, {version}", binlog, version, events, wanted_lines(version, events))
 
 
 # ---- encoded events
 
 
-def encoded(program):
+def encoded(binlog):
     """Events of every type of column, with the rows that the encoder states."""
     for version in VERSIONS:
         events, stated = [], []
@@ -96,16 +96,16 @@ def encoded(program):
         wanted = wanted_lines(version, events)
         for line, rows in zip(wanted[1:], stated, strict=True):
             line[-1:] = line[-1:] if rows is None else [rows]
-        yield failure(f"encoded, {version}", program, version, events, wanted)
+        yield failure(f"encoded, {version}", binlog, version, events, wanted)
 
 
-def damaged(program, count):
+def damaged(binlog, count):
     """Damaged events, by the model."""
     chance, kinds = random.Random(35), list(row_events.kinds())
     while count > 0:
         version = chance.choice(VERSIONS)
         events, rows = row_values.damaged_log(chance, kinds, min(count, row_values.EVENTS_OF_A_LOG))
-        result = agrees(f"damaged events, {count} left", program, version, events)
+        result = agrees(f"damaged events, {count} left", binlog, version, events)
         yield from [result] * (1 if result else rows)
         count -= rows
 
@@ -113,8 +113,8 @@ def damaged(program, count):
 # ---- which table map is in force
 
 
-def named_map(table_id, database, table, names, types=bytes([INT, TEXT]), metadata=b"\x0a\0"):
-    optional = row_events.names(names)
+def named_map(table_id, database, table, names, types=bytes([INT, TEXT]), metadata=b"\x0a\0", fields=b""):
+    optional = fields + row_events.names(names)
     nulls = [True] * len(types)
     event = encode.table_map(
         row_values.SPELLING, table_id=table_id, flags=1, database=database, table=table, types=types, metadata=metadata, nulls=nulls, optional=optional
@@ -180,6 +180,13 @@ def refused():
     yield "a column of no type", [bad_type, event(row)], [rows(error("BadType", ("column", 1)))]
     left_over = named_map(1, "shop", "orders", [b"id", b"note"], metadata=b"\x0a\0\0")
     yield "metadata left over", [left_over, event(row)], [rows(error("LeftOver", ("column", 2)))]
+    unread = lambda kind, field: ("metadata", [("error", kind), ("field", field)])
+    of_table = lambda fields: named_map(1, "shop", "orders", [b"id", b"note"], fields=fields)
+    named, numbered = rows(good), rows([("after", [("@1", 7), ("@2", "a")])])
+    yield "collations that are cut", [of_table(row_events.field(3, b"")), event(row)], [[named[0], unread("Truncated", 3), named[1]]]
+    twice = row_events.field(1, b"\0\0") + row_events.field(3, b"\xff")
+    yield "the first field that is refused", [of_table(twice), event(row)], [[named[0], unread("LeftOver", 1), named[1]]]
+    yield "a field without an end", [of_table(b"\3\xfb"), event(row)], [[numbered[0], unread("BadValue", None), numbered[1]]]
     partial = next(kind for kind in encode.ROWS_KINDS if kind[0] == PARTIAL_UPDATE)
     values = [("id", 7), ("note", "a")]
     both, bad_options = [("before", values), ("after", values)], error("BadValue", ("row", 0), ("image", "after"))
@@ -189,41 +196,36 @@ def refused():
     yield "a name with escapes", names, [shown("d.t", ("after", [('a"\n', 7)]))]
 
 
-def in_force(program):
+def in_force(binlog):
     """The table map that is in force, with all events and with those of one type."""
     for name, events, wanted in cases():
         lines = wanted_lines(VERSIONS[0], events)
         for line, members in zip(lines[-len(wanted) :], wanted):
             line[10:] = members
-        yield failure(name, program, VERSIONS[0], events, lines)
+        yield failure(name, binlog, VERSIONS[0], events, lines)
         taken = [line for line in lines if dict(line)["type"] in ROW_TYPES] if all("type" in dict(line) for line in lines) else None
         for type_name in {dict(line)["name"] for line in taken or []}:
             of_type = [line for line in taken if dict(line)["name"] == type_name]
-            yield failure(f"{name}, {type_name} alone", program, VERSIONS[0], events, of_type, ["--type", type_name])
+            yield failure(f"{name}, {type_name} alone", binlog, VERSIONS[0], events, of_type, ["--type", type_name])
 
 
-def not_texts(program):
+def not_texts(binlog):
     """Names that aren't UTF-8."""
     head = b"\1\0\0\0\0\0" + b"\1\0"
     body = head + b"\2d\xff\0" + b"\1t\0" + b"\1\3" + b"\0" + b"\1"
     events = [(TABLE_MAP, body), row_event(WRITE, 1, [True], [True], b"\0\7\0\0\0")]
     lines = wanted_lines(VERSIONS[0], events)
     lines[-1][10:] = [("table", [("hex", b"d\xff.t".hex())]), ("rows", [[("after", [("@1", 7)])]])]
-    yield failure("a name that isn't UTF-8", program, VERSIONS[0], events, lines)
+    yield failure("a name that isn't UTF-8", binlog, VERSIONS[0], events, lines)
 
 
 def main():
     parser = argparse.ArgumentParser(description="Compares the rows in lines of JSON with a model.")
+    programs.add_flags(parser)
     parser.add_argument("--count", type=int, default=20_000)
-    parser.add_argument("program", nargs="?", default=PROGRAM)
-    arguments = parser.parse_args()
-    program = str(Path(arguments.program).resolve())
-    results = [*encoded(program), *in_force(program), *not_texts(program), *damaged(program, arguments.count)]
-    failures = [result for result in results if result is not None]
-    for message in failures[: row_values.SHOWN_FAILURES]:
-        print(message)
-    print(f"{len(results) - len(failures)} passed, {len(failures)} failed")
-    return 1 if failures else 0
+    arguments = programs.parsed(parser, "binlog")
+    binlog = arguments.build.command("binlog")
+    return results.report([*encoded(binlog), *in_force(binlog), *not_texts(binlog), *damaged(binlog, arguments.count)])
 
 
 if __name__ == "__main__":

@@ -27,9 +27,9 @@ ENUM_SIZES, SET_SIZES = (1, 2), range(1, 9)
 COMPRESSED, JSON, GEOMETRY, VECTOR = (140, 141), 245, 255, 242
 BINARY = 63
 
-NUMERIC = (*INTEGERS, 4, 5, 246)
 YEAR = 13
-CHARACTER = (STRING, 253, 15, 249, 250, 251, 252, 140, 141, GEOMETRY)
+NUMERIC = (*INTEGERS, 4, 5, YEAR, 246)
+TEXTS = (STRING, 253, 15, 249, 250, 251, 252, 140, 141)
 
 
 class Fault(Exception):
@@ -436,31 +436,46 @@ def read_field(kind, content, places, total):
     return None
 
 
+def character_types(is_maria):
+    """The real types of the columns with a collation."""
+    return (*TEXTS, GEOMETRY if is_maria else VECTOR)
+
+
 def places_of(found, is_maria):
     """The columns of each class."""
     of = lambda kinds: [place for place, column in enumerate(found) if column.real in kinds]
-    numeric = (*NUMERIC, YEAR) if is_maria else NUMERIC
-    return of(numeric), of(CHARACTER), of((ENUM, SET)), of((ENUM,)), of((SET,)), of((GEOMETRY,)), of((VECTOR,))
+    return of(NUMERIC), of(character_types(is_maria)), of((ENUM, SET)), of((ENUM,)), of((SET,)), of((GEOMETRY,)), of((VECTOR,))
+
+
+def fields_of(optional):
+    """The type and the content of each field; the last is a fault where its type or its length can't be read."""
+    data = Bytes(optional)
+    while data.left():
+        try:
+            yield data.number(1), Bytes(data.take(data.lenenc()))
+        except Fault as fault:
+            yield None, fault
+            return
 
 
 def facts(found, optional, is_maria):
-    """What the fields up to the first that is refused state of each column."""
-    stated = [Facts()] * len(found)
-    data = Bytes(optional)
+    """What the fields state of each column, and the first that is refused: its fault and its type; None if all are read."""
+    stated, refused = [Facts()] * len(found), None
     places = places_of(found, is_maria)
-    try:
-        while data.left():
-            kind = data.number(1)
-            content = Bytes(data.take(data.lenenc()))
+    for kind, content in fields_of(optional):
+        try:
+            if kind is None:
+                raise content
             field = read_field(kind, content, places, len(found))
             allowed(not content.left(), "LeftOver")
-            if field is not None:
-                fact, columns_of_field, values = field
-                for place, value in zip(columns_of_field, values):
-                    stated[place] = stated[place]._replace(**{fact: value})
-    except Fault:
-        pass
-    return stated
+        except Fault as fault:
+            refused = refused or (fault.args[0], kind)
+            continue
+        if field is not None:
+            fact, columns_of_field, values = field
+            for place, value in zip(columns_of_field, values):
+                stated[place] = stated[place]._replace(**{fact: value})
+    return stated, refused
 
 
 # ---- rows
@@ -531,7 +546,7 @@ def rows(found, stated, images, data, is_partial=False):
 
 def rows_of_event(found, table, event, is_maria, is_partial):
     """The rows of an event, by the fields of its table map and its own, and the columns of that."""
-    stated = facts(found, table["optional_metadata"].bytes, is_maria)
+    stated, _ = facts(found, table["optional_metadata"].bytes, is_maria)
     images = [(image_name, event[f"columns_{image_name}_image"]) for image_name in ("before", "after")]
     present = [(image_name, columns_of_image) for image_name, columns_of_image in images if columns_of_image is not None]
     return rows(found, stated, present, event["rows_data"].bytes, is_partial)

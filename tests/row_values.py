@@ -1,11 +1,11 @@
 #!/usr/bin/env python3
 """Compares the rows that the library reads with an encoder of rows and with a model of them, over damaged row events.
 
-Usage: row_values.py [--count N] [PROGRAM]
+Usage: row_values.py [--count N] FLAG
 
-PROGRAM is the built probe_rows if not given; it prints the rows of each row event of a log. The encoder gives events of every
-type of column, with extremes, and the rows that they have; the model gives those of N damaged events (1,000,000 if not given).
-The last line is `N passed, M failed`; the exit status is 1 if something failed.
+FLAG is one of `programs.py`: its program prints the rows of each row event of a log. The encoder gives events of every type of
+column, with extremes, and the rows that they have; the model gives those of N damaged events (1,000,000 if not given). The last
+line is `N passed, M failed`; the exit status is 1 if something failed.
 """
 
 import argparse
@@ -16,21 +16,19 @@ import struct
 import subprocess
 import sys
 from concurrent.futures import ProcessPoolExecutor
-from pathlib import Path
 
 import encoded_events as encode
 import encoded_logs
 import event_data_model
 import listing_model
+import programs
+import results
 import row_events
 import row_model
 from row_model import Facts, Fault, Float
 
-REPOSITORY = Path(__file__).resolve().parent.parent
-PROGRAM = REPOSITORY / "crates/probe_rows/out/probe_rows"
 EVENTS_OF_A_LOG = 2_000
 EVENTS_OF_A_PART = 20_000
-SHOWN_FAILURES = 20
 HEADER = (1, 2, 3, 0)
 SPELLING = encode.Spelling(id_width=6)
 
@@ -180,7 +178,7 @@ def stated_facts():
     for is_by_default in (False, True):
         # The second of the three character columns is binary.
         charset = row_events.field(2, b"\x2d\1\x3f") if is_by_default else row_events.field(3, b"\x2d\x3f\x2d")
-        optional = row_events.field(1, row_events.first_bits([False, True])) + charset + row_events.names(texts)
+        optional = row_events.field(1, row_events.first_bits([False, False, True])) + charset + row_events.names(texts)
         optional += row_events.field(200, b"unknown")
         content = b"\0" + b"\2ab" + b"\xff" + b"\1" + b"\xff" + b"\2ab" + b"\1c"
         image = [("a", "ab"), ("\u00e4", -1), ("@3", 1901), ("id", 255), ("a", "6162" + 16 * "0"), ("", "c")]
@@ -235,9 +233,9 @@ def stated_members():
     yield table_rows(11, types, metadata, lists, rows)
     # The later field counts.
     yield table_rows(12, types, metadata, row_events.members(6, [[b"no"], [b"no"]]) + lists, rows)
-    # A refused field states nothing, but the one before it stands.
-    refused = row_events.members(6, [COLORS, [b"x"]]) + row_events.members(5, [COLORS])
-    yield table_rows(13, types, metadata, refused, [[(b"\1\0", 1), number, (b"\1", "red"), other, (b"\2", 2)]])
+    # A refused field states nothing, but those before it and behind it stand.
+    for fields in (row_events.members(6, [COLORS, [b"x"]]), row_events.members(5, [COLORS])), (row_events.members(5, [COLORS]), row_events.members(6, [COLORS, [b"x"]])):
+        yield table_rows(13, types, metadata, b"".join(fields), [[(b"\1\0", 1), number, (b"\1", "red"), other, (b"\2", 2)]])
     # No members at all.
     empty = row_events.members(6, [[], [b"x"]]) + row_events.members(5, [[], [b"a", b"b"]])
     yield table_rows(14, types, metadata, empty, [[(b"\0\0", ""), number, (b"\0", ""), other, last], [(b"\1\0", 1), number, (b"\1", 1), other, last]])
@@ -317,7 +315,8 @@ def random_table(chance, kinds):
     if chance.random() < 0.5:
         optional = random_members(chance, chosen)
         optional += row_events.field(1, chance.randbytes(2)[: (len(chosen) + 7) // 8])
-        characters = [column for column in chosen if column.type in row_model.CHARACTER and real_type(column) == column.type]
+        types_of_text = row_model.character_types(chance.random() < 0.5)
+        characters = [column for column in chosen if column.type in types_of_text and real_type(column) == column.type]
         optional += row_events.field(3, bytes(chance.choice((0x2D, 0x3F)) for _ in characters))
     return chosen, table_map(chance.randrange(4), types, metadata, optional)
 
@@ -409,15 +408,15 @@ def lines_of(events, is_maria):
             yield [("index", index + 1), *wanted]
 
 
-def printed(program, version, events):
+def printed(words, version, events):
     content = start(version) + b"".join(framed(kind, body) for kind, body in events)
-    finished = subprocess.run([program], input=content, stdout=subprocess.PIPE)
+    finished = subprocess.run(words, input=content, stdout=subprocess.PIPE)
     return finished.returncode, [json.loads(line, object_pairs_hook=list) for line in finished.stdout.splitlines()]
 
 
-def failure(name, program, version, events, wanted):
+def failure(name, words, version, events, wanted):
     """None if the program prints what is wanted, else what is wrong."""
-    status, lines = printed(program, version, events)
+    status, lines = printed(words, version, events)
     if status != 0:
         return f"{name}: status {status}"
     if len(lines) != len(wanted):
@@ -428,15 +427,13 @@ def failure(name, program, version, events, wanted):
     return None
 
 
-def encoded_failures(program):
+def encoded_failures(words):
     for version in ("8.0.36", "10.11.6-MariaDB"):
         for name, events, wanted in encoded():
             is_maria = version != "8.0.36"
-            if name == "stated_facts" and is_maria:
-                continue
             lines = [[("index", 2), *line] for line in wanted]
             model = list(lines_of(events, is_maria))
-            yield failure(f"{name}, the encoder", program, version, events, lines)
+            yield failure(f"{name}, the encoder", words, version, events, lines)
             yield None if is_same_with_floats(model, lines) else f"{name}: the model has {str(model)[:300]}"
 
 
@@ -448,42 +445,39 @@ def is_same_with_floats(found, wanted):
 
 def damaged_part(part):
     """How many damaged events of one part are as the model has them, and what is wrong with others."""
-    program, seed, count = part
+    words, seed, count = part
     chance, kinds = random.Random(seed), list(row_events.kinds())
     passed, failures = 0, []
     while count > 0:
         version = chance.choice(("8.0.36", "10.11.6-MariaDB"))
         events, rows = damaged_log(chance, kinds, min(count, EVENTS_OF_A_LOG))
         wanted = list(lines_of(events, version != "8.0.36"))
-        wrong = failure(f"damaged events, seed {seed}, {count} left", program, version, events, wanted)
+        wrong = failure(f"damaged events, seed {seed}, {count} left", words, version, events, wanted)
         passed, failures = (passed, [*failures, wrong]) if wrong else (passed + rows, failures)
         count -= rows
     return passed, failures
 
 
-def damaged_parts(program, count):
+def damaged_parts(words, count):
     """The same of all damaged events, in parts with a seed each, side by side."""
-    parts = [(program, seed, min(EVENTS_OF_A_PART, count - first)) for seed, first in enumerate(range(0, count, EVENTS_OF_A_PART))]
+    parts = [(words, seed, min(EVENTS_OF_A_PART, count - first)) for seed, first in enumerate(range(0, count, EVENTS_OF_A_PART))]
     with ProcessPoolExecutor() as pool:
         yield from pool.map(damaged_part, parts)
 
 
 def main():
     parser = argparse.ArgumentParser(description="Compares rows with a model.")
+    programs.add_flags(parser)
     parser.add_argument("--count", type=int, default=1_000_000)
-    parser.add_argument("program", nargs="?", default=PROGRAM)
-    arguments = parser.parse_args()
-    program = str(Path(arguments.program).resolve())
-    encoded_results = list(encoded_failures(program))
+    arguments = programs.parsed(parser, "rows")
+    words = arguments.build.command("rows")
+    encoded_results = list(encoded_failures(words))
     failures = [result for result in encoded_results if result is not None]
     passed = len(encoded_results) - len(failures)
-    for part_passed, part_failures in damaged_parts(program, arguments.count):
+    for part_passed, part_failures in damaged_parts(words, arguments.count):
         passed += part_passed
         failures += part_failures
-    for message in failures[:SHOWN_FAILURES]:
-        print(message)
-    print(f"{passed} passed, {len(failures)} failed")
-    return 1 if failures else 0
+    return results.report_counts(passed, failures)
 
 
 if __name__ == "__main__":

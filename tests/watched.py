@@ -7,9 +7,9 @@ import tempfile
 from pathlib import Path
 from typing import NamedTuple
 
-from damaged_copies import REPOSITORY
+import results
+from programs import CRATES
 
-CRATES = REPOSITORY / "crates"
 SOURCE = Path(__file__).resolve().parent / "watch_allocations.c"
 COMPILER = "cc"
 
@@ -40,20 +40,22 @@ class Watch:
     def __exit__(self, *raised):
         self.folder.cleanup()
 
-    def run(self, command, content=b"", refused=0, stdin=None):
-        """A run over the content, or over the descriptor `stdin`, in which the allocation with this number is refused."""
+    def run(self, command, content=b"", refused=0, stdin=None, stderr=subprocess.STDOUT):
+        """A run over the content, or over the descriptor `stdin`, in which the allocation with this number is refused. The
+        messages are among the output, if `stderr` isn't another file."""
         with tempfile.TemporaryFile() as report:
             environment = {
                 **os.environ,
                 "LD_PRELOAD": str(self.library),
                 "ALLOCATION_REPORT": str(report.fileno()),
                 "REFUSED_ALLOCATION": str(refused),
+                "RUST_BACKTRACE": "0",
             }
             finished = subprocess.run(
                 command,
                 **({"input": content} if stdin is None else {"stdin": stdin}),
                 stdout=subprocess.PIPE,
-                stderr=subprocess.STDOUT,
+                stderr=stderr,
                 env=environment,
                 pass_fds=[report.fileno()],
             )
@@ -63,10 +65,6 @@ class Watch:
         sizes = [tuple(map(int, line.split())) for line in lines if line[0].isdigit()]
         left_last = left[-1] if left else None
         return Run(finished.stdout, finished.returncode, "refused" in lines, sizes, left_last)
-
-
-def program(name):
-    return str(CRATES / name / "out" / name)
 
 
 def tests():
@@ -79,16 +77,9 @@ def tests():
                 yield str(path), name
 
 
-def main(all_results):
+def report(all_results):
     """Prints the failures among the results, each None or a message, and the counts; returns the exit status."""
     if shutil.which(COMPILER) is None:
-        print(f"{COMPILER} is missing, so no allocation is watched")
-        print("0 passed, 0 failed")
-        return 0
+        return results.left_out(f"{COMPILER} is missing, so no allocation is watched")
     with Watch() as watch:
-        results = list(all_results(watch))
-    failures = [result for result in results if result is not None]
-    for message in failures:
-        print(message)
-    print(f"{len(results) - len(failures)} passed, {len(failures)} failed")
-    return 1 if failures else 0
+        return results.report(all_results(watch))

@@ -14,6 +14,9 @@ def drop_bounds(source):
         before, after = source.code[index - 1].text, source.code[index + 1].text
         if before == "+":
             yield source.span(index - 1, index)
+        elif source.is_at(index - 3, "where") and after == ",":
+            is_only = source.is_at(index + 2, "{")
+            yield source.span(index - 3 if is_only else index - 2, index + 1)
         elif before == ":" and after in (",", ">", "{"):
             yield source.span(index - 1, index)
         elif before == ":" and after == "+":

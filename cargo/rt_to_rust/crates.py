@@ -15,6 +15,7 @@ LIBRARY = [
     "binlog_optional_metadata",
     "binlog_column_facts",
     "binlog_images",
+    "binlog_row_writing",
     "binlog_event_data",
     "binlog_gtid_sets",
     "binlog_gtid_text",
@@ -36,11 +37,18 @@ TOOLS = [
     "inflate",
     "binlog_mariadb_compression",
     "binlog_visits",
+    "binlog_filters",
+    "binlog_commands",
+    "binlog_arguments",
+    "binlog_status",
+    "binlog_filter_arguments",
     "binlog_maria_json",
+    "binlog_messages",
+    "binlog_summaries",
 ]
 
 # The crates of programs, and the programs' names.
-PROGRAMS = {"binlog_list": "binlog-list", "binlog_json": "binlog-json", "binlog_gtids_list": "binlog-gtids"}
+PROGRAMS = {"binlog": "binlog"}
 
 # The crates of tests, and their helpers.
 TESTKITS = ["testkit_bodies", "testkit_logs"]
@@ -84,6 +92,9 @@ PACKAGES = {
     "binlog-tools": [*TOOLS, *PROGRAMS],
     "binlog-tests": [*TESTKITS, *TESTS],
 }
+
+# The packages that may be published.
+PUBLISHED = ("binlog", "binlog-tools")
 
 
 def sources(crate_folder):

@@ -73,6 +73,10 @@ def arms(source):
     for index in source.places("Err", "(", "_", ")", "=>", "Err", "(", "Error", "::"):
         if source.code[index + 9].text in VARIANTS:
             yield (index + 2, index + 2, "error"), index + 5, "error"
+    for index in source.places("Err", "(", "Error", "::"):
+        variant = source.code[index + 4].text
+        if variant in VARIANTS and source.is_at(index + 5, ")", "=>"):
+            yield (index + 4, index + 4, f"{variant}(error)"), index + 7, "error"
 
 
 def in_arms(source):
@@ -80,6 +84,7 @@ def in_arms(source):
     changes, known = [], set()
     for (first, last, text), start, name in arms(source):
         end, is_used = arm_end(source, start), False
+        known.add(first - 2)
         for index in range(start, end):
             if source.is_at(index, "Error", "::") and source.code[index + 2].text in VARIANTS:
                 changes.append(source.span(index + 2, index + 2, f"{source.code[index + 2].text}({name}.into())"))

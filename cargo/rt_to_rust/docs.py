@@ -3,11 +3,26 @@
 import re
 import textwrap
 
+from rt_to_rust.tokens import Refusal
+
 # What only a reader of the proofs asks for.
 PROOFS = re.compile(r"\b[Cc]ontracts?\b|\bproved?\b|\bprover\b|specs/|\blaws?\b|\bghost\b")
 
 # What isn't so in the packages, in which interruptions are tried again, and what is inlined is another thing.
 OTHERWISE = re.compile(r"\binterrupted (isn't\s+retried|write is a failure)|\bIt isn't inlined, since the inlined code\b")
+
+# Words of the sources on what the packages have in another form, and what is said in place of them.
+REWORDED = {
+    re.compile(r"\.collect\(alloc\)\?"): ".collect::<Vec<_>>()",
+    re.compile(r"Counted::new\(Retrying::new\((\w+)\)\)"): r"Counted::new(\1)",
+    re.compile(r"\bNeeds no allocator\b"): "Takes no memory",
+    re.compile(r",? with memory from this set's allocator\b"): "",
+    re.compile(r": it has no allocator\b"): "",
+    re.compile(r"\bwithout an allocator\b"): "without memory of their own",
+}
+
+# Words that a user of the packages doesn't know.
+UNKNOWN = re.compile(r"\(alloc\)|\ballocator\b|Retrying::new\(|(?<!::)\bbinlog_file\b")
 
 # A paragraph that begins so is about a contract as a whole.
 CONTRACT = re.compile(r"Its contract is\b")
@@ -77,8 +92,16 @@ def for_users(lines, unspoken):
     kept = []
     for paragraph in paragraphs(lines):
         if not CONTRACT.match(paragraph[0]):
-            kept += without_sentences(paragraph, is_of_proofs)
+            kept += reworded(without_sentences(paragraph, is_of_proofs))
     return without_blank_ends(kept)
+
+
+def reworded(paragraph):
+    """A paragraph in the words of the packages."""
+    text = new = " ".join(paragraph)
+    for words, others in REWORDED.items():
+        new = words.sub(others, new)
+    return paragraph if new == text else [new]
 
 
 def rewritten(lines, mark, indent):
@@ -115,13 +138,15 @@ def ghost_members(source):
     return names - words
 
 
-def spoken(source, unspoken):
+def spoken(source, unspoken, is_test):
     """The source whose documentation is for users of Rust; `unspoken` are names of which it has no sentence: the ghost
     members that it had, and the parameters that are fixed."""
     changes = []
     for run in blocks_of(source):
         lines = [token.text[3:].removeprefix(" ") for token in run]
         kept = for_users(lines, unspoken)
+        if not is_test and (unknown := UNKNOWN.search(" ".join(kept))):
+            raise Refusal(source.path, run[0].line, f"documentation on `{unknown.group()}`, which the packages don't have")
         if kept == without_blank_ends(lines):
             continue
         mark = run[0].text[:3]

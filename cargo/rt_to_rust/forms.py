@@ -57,12 +57,14 @@ def buffers(source):
         yield source.span(behind, end)
 
 
-def programs(source):
-    """The standard input and output, which the runtime gives."""
-    for index in source.places("rt", ".", "reader", "(", ")"):
-        yield source.span(index, index + 4, "io::stdin().lock()")
-    for index in source.places("io", "::", "writer", "(", "rt", ")"):
-        yield source.span(index, index + 5, "io::stdout().lock()")
+def matched_buffers(source):
+    """`match BufWriter::with_capacity(..) { Ok(..) => .., Err(_) => .. }`: the buffer isn't refused."""
+    for kind in ("BufReader", "BufWriter"):
+        for index in source.places("match", kind, "::", "with_capacity", "("):
+            end = source.code[source.partner[index + 4]].end
+            start = source.code[index + 1].start
+            yield start, start, "Ok::<_, ()>("
+            yield end, end, ")"
 
 
 def json_writers(source):
@@ -74,4 +76,4 @@ def json_writers(source):
 def rust_calls(source):
     """The source with Rust's calls."""
     source = source.changed([*shared_owners(source), *lossy_texts(source)])
-    return source.changed(buffers(source))
+    return source.changed([*buffers(source), *matched_buffers(source)])

@@ -4,6 +4,7 @@ import re
 from typing import NamedTuple
 
 from rt_to_rust.crates import LIBRARY, TESTKITS, TESTS, TOOLS
+from rt_to_rust.host import host_imports
 from rt_to_rust.items import fields
 from rt_to_rust.kinds import base
 from rt_to_rust.source import segments
@@ -23,6 +24,12 @@ STAND_INS = {
     "std::borrow::CowSlice": "std::borrow::Cow",
     "std::borrow::CowStr": "std::borrow::Cow",
     "std::simd::Simd": "crate::simd::Simd",
+    "std::env": "TOOLS::host::env",
+    "std::env::Env": "TOOLS::host::Env",
+    "std::fs": "TOOLS::host::fs",
+    "std::rt::Files": "TOOLS::host::Files",
+    "std::thread": "TOOLS::host::thread",
+    "std::time::Clock": "TOOLS::host::Clock",
     "itoa::write_digits": "crate::digits::write_digits",
     "json::Writer": "crate::json::Writer",
     "jiff_core::civil::Date": "crate::calendar::Date",
@@ -31,10 +38,13 @@ STAND_INS = {
     "bitflags::bitflag_items": "crate::bitflags::bitflag_items",
 }
 
+# Crates of which a module of `binlog-tools` has the names that are used.
+PORTS = ("clap", "jiff")
+
 # Names that Rust has as they are.
 SAME = re.compile(
     r"(std::(cell::Cell|cmp::Ordering|fmt|hash::\w+|io(::\w+)?|marker::PhantomData|mem(::swap)?|process::ExitCode|str)"
-    r"|std::sync::Arc"
+    r"|std::sync::Arc|std::time::Duration"
     r"|byteorder::\w+|memchr::\w+|hex::encode_to_slice|itoa::Buffer|ryu::Buffer|uuid::Uuid|thiserror::Error)"
 )
 
@@ -53,15 +63,19 @@ MEMORY = {
 
 class Place(NamedTuple):
     """Where a source goes: the module of its crate in the package, None in a program, whose modules are the package's
-    own; the path of each public name of the library, outside of it; and whether its functions take the runtime."""
+    own; the path of each public name of the library, outside of it; and whether it is one of a crate of tests."""
 
     module: str | None
     public: dict | None
-    has_runtime: bool
+    is_test: bool
 
-    def is_test(self):
-        """Whether the source is one of a crate of tests."""
-        return self.has_runtime and self.module is not None
+    def is_program(self):
+        """Whether the source is one of a program."""
+        return self.module is None
+
+    def tools(self):
+        """How the source names the root of `binlog-tools`."""
+        return "binlog_tools" if self.is_test or self.is_program() else "crate"
 
 
 def leaves(source, index, prefix=()):
@@ -99,7 +113,9 @@ def crate_path(source, index, place, path):
     if head in TESTKITS + TESTS:
         return "::".join(["crate", *path])
     if head in TOOLS:
-        return "::".join(["binlog_tools" if place.has_runtime else "crate", *path])
+        return "::".join([place.tools(), *path])
+    if head in PORTS:
+        return "::".join([place.tools(), *path])
     if head in LIBRARY:
         return outside_path(source, index, place, path) if place.public else "::".join(["crate", *path])
     return None
@@ -112,7 +128,7 @@ def path_for(source, index, place, path):
         return None
     if text in STAND_INS:
         found = STAND_INS[text]
-        return found and found.replace("MEMORY", memory_path(place))
+        return found and found.replace("MEMORY", memory_path(place)).replace("TOOLS", place.tools())
     own = crate_path(source, index, place, path)
     if own or SAME.fullmatch(text) or path[0] in ("super", "self", "crate") or is_local(source, path[0]):
         return own or text
@@ -169,7 +185,7 @@ def merged(paths):
 def paths(source, place):
     """Paths of the crates outside of imports."""
     for index, token in enumerate(source.code):
-        if token.text not in LIBRARY + TOOLS + ["crate"] or not source.is_at(index + 1, "::"):
+        if token.text not in LIBRARY + TOOLS + ["crate", *PORTS] or not source.is_at(index + 1, "::"):
             continue
         if source.is_at(index - 1, "::") or in_import(source, index):
             continue
@@ -219,14 +235,16 @@ def of_memory(source, place):
         names.append("TryIntoOwned")
     module = memory_path(place)
     imported = [f"{module}::{name}" for name in names]
-    if place.is_test() and "as_str" in words:
+    if place.is_test and "as_str" in words:
         imported.append("crate::AsStr")
+    if place.public and not place.is_test:
+        imported += host_imports(source, f"{place.tools()}::host")
     if imported:
         first = next((i for i in source.places("use") if not source.is_at(i - 1, "pub")), None)
         if first is None:
             first = next(iter(source.places("use")), 0)
         offset = source.code[first].start
-        yield offset, offset, "".join(f"use {path}; " for path in imported)
+        yield offset, offset, "".join(f"use {text}; " for text in merged(imported))
 
 
 # Names that the toolchain asks a source to import and Rust doesn't, or whose calls went: those that are in no code go.
@@ -259,6 +277,6 @@ def placed(source, place, public):
 
 
 def with_memory(source, place):
-    """The source with the imports that its calls for memory need."""
+    """The source with the imports that its calls for memory and of the machine need."""
     source = source.changed(unused(source))
     return source.changed(of_memory(source, place))

@@ -11,7 +11,7 @@ REFERENCE = ("&", "mut")
 RETURN_VECTORS = ("joined", "written")
 
 # The types of fields that another source than the one that calls declares.
-FIELDS_OF_OTHERS = {"gnos": ["GnoSet"]}
+FIELDS_OF_OTHERS = {"gnos": ["GnoSet"], "types": ["Vec"]}
 
 
 def base(texts):

@@ -11,6 +11,7 @@ from rt_to_rust.devices import tried_again, with_devices
 from rt_to_rust.docs import ghost_members, spoken
 from rt_to_rust.ghosts import without_proofs
 from rt_to_rust.growth import grown
+from rt_to_rust.host import on_host
 from rt_to_rust.imports import placed, with_memory
 from rt_to_rust.inlined import with_inlined
 from rt_to_rust.lifetimes import fixed_parameters, with_fixed_lifetimes
@@ -31,6 +32,7 @@ class Used:
         self.inlined = set()
         self.lifetimes = set()
         self.shared_forms = set()
+        self.versions = set()
 
 
 def rust(path, text, place, public, clones, used):
@@ -40,15 +42,18 @@ def rust(path, text, place, public, clones, used):
     unspoken = ghost_members(source) | fixed_parameters(place)
     if not place.public:
         source = open_enums(guarded(source, public, used.checks))
-    source = without_proofs(source, is_test=place.is_test())
+    source = without_proofs(source, is_test=place.is_test)
     source = with_fixed_lifetimes(source, place, used.lifetimes)
     source = without_drops(source)
-    if place.has_runtime:
-        source = without_runtime(source.changed(forms.programs(source)))
-    if place.has_runtime and not place.is_test():
+    if place.is_test:
+        source = without_runtime(source)
+    elif place.public:
+        source = on_host(source, used.versions)
+    if place.is_program():
         source = source.changed(tried_again(source))
-    source = with_devices(source, place.is_test(), used.left_out)
-    source = lent_on(source) if place.has_runtime else by_value(source, None if place.public else public)
+    source = with_devices(source, place.is_test, used.left_out)
+    is_called_by_others = not place.is_test and not place.is_program()
+    source = by_value(source, None if place.public else public) if is_called_by_others else lent_on(source)
     source = borrowed(source)
     source = source.changed(forms.json_writers(source))
     source = renamed(source, clones, used.both_forms)
@@ -60,6 +65,6 @@ def rust(path, text, place, public, clones, used):
     source = with_memory(source, place)
     source = with_panics(with_plain_forms(written_out(source), public))
     source = with_defaults(source)
-    if not place.has_runtime:
+    if is_called_by_others:
         source = with_inlined(source, used.inlined)
-    return spoken(source, unspoken).marks_removed().lstrip("\n")
+    return spoken(source, unspoken, place.is_test).marks_removed().lstrip("\n")

@@ -13,10 +13,10 @@ PUBLIC = {
     "Kind": "binlog::consts::Kind",
     "Retrying": "binlog::counted::Retrying",
 }
-LIBRARY = Place("binlog_wire", None, has_runtime=False)
-TOOL = Place("binlog_lines", PUBLIC, has_runtime=False)
-PROGRAM = Place(None, PUBLIC, has_runtime=True)
-TEST = Place("test_fields", PUBLIC, has_runtime=True)
+LIBRARY = Place("binlog_wire", None, is_test=False)
+TOOL = Place("binlog_lines", PUBLIC, is_test=False)
+PROGRAM = Place(None, PUBLIC, is_test=False)
+TEST = Place("test_fields", PUBLIC, is_test=True)
 
 
 def source(text):

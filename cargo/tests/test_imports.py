@@ -42,7 +42,7 @@ class Imports(Case):
         self.gives("/// See [`crate::a::B`].\nstruct A;", "/// See [`crate::binlog_wire::a::B`]. struct A;")
 
     def test_links_from_the_facade_lead_to_public_names(self):
-        place = Place("binlog_file", None, has_runtime=False)
+        place = Place("binlog_file", None, is_test=False)
         text = "/// See [`crate::Held::f`] and [`crate::Other`].\nstruct A;"
         wanted = "/// See [`crate::events::Held::f`] and [`crate::binlog_file::Other`]. struct A;"
         self.gives(text, wanted, place=place)

@@ -5,8 +5,8 @@ import unittest
 from rt_to_rust.imports import Place
 from tests.samples import Case, PROGRAM, TEST, TOOL, converted, refusal
 
-EVENTS = Place("binlog_events", None, has_runtime=False)
-FILE = Place("binlog_file", None, has_runtime=False)
+EVENTS = Place("binlog_events", None, is_test=False)
+FILE = Place("binlog_file", None, is_test=False)
 
 STRUCT = "pub struct Event<'d> {\n    fde: Arc<A<'d>>,\n}\n"
 STRUCT_WITHOUT = "pub struct Event { fde: Arc<A<'static>>, }"

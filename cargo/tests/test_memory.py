@@ -134,15 +134,7 @@ class Borrowing(Case):
         self.gives(text, "fn f() { Event::read_shared(&a(), b); C::read(b); }", place=TEST)
 
 
-class Programs(Case):
-    def test_a_program_reads_standard_input(self):
-        text = "fn run(rt: &(impl Input + AllocGlobal)) -> Result<bool, Error> {\n"
-        text += "    let Ok(input) = BufReader::with_capacity(rt.alloc(), 9, rt.reader()) else {\n        return Err(Error::Memory);\n    };\n"
-        text += "    list(rt.alloc(), input)\n}\nfn main(rt: HostRuntime) {\n    run(&rt);\n}"
-        wanted = "fn run() -> Result<bool, Error> { let input = BufReader::with_capacity( 9, io::stdin().lock()) ; "
-        wanted += "list( input) } fn main() { run(); }"
-        self.gives(text, wanted, place=PROGRAM)
-
+class Buffers(Case):
     def test_a_test_s_buffer_is_never_refused(self):
         text = "fn f() -> bool {\n    let Ok(input) = BufReader::with_capacity(alloc, 1, A) else {\n        return false;\n    };\n    true\n}"
         self.has(text, "let input = BufReader::with_capacity(1, A);", place=TEST)
@@ -150,6 +142,11 @@ class Programs(Case):
     def test_a_buffer_whose_refusal_is_another_is_refused(self):
         text = "fn f() -> bool {\n    let Ok(input) = BufReader::with_capacity(alloc, 1, A) else {\n        return g();\n    };\n    true\n}"
         self.assertEqual(refusal(text, TEST), "sample.rt:2: a buffer whose refusal isn't `Error::Memory`")
+
+    def test_a_matched_buffer_is_there(self):
+        text = "fn f(alloc: Global) {\n    match BufWriter::with_capacity(alloc, 1, A) {\n        Ok(b) => g(b),\n        Err(_) => {}\n    }\n}"
+        wanted = "fn f() { match Ok::<_, ()>(BufWriter::with_capacity(1, A)) { Ok(b) => g(b), Err(_) => {} } }"
+        self.gives(text, wanted, place=PROGRAM)
 
 
 if __name__ == "__main__":

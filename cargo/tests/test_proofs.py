@@ -94,6 +94,20 @@ class Documentation(Case):
         self.gives(text, " ".join(text.split()))
 
 
+    def test_allocators_and_retrying_are_spoken_of_in_other_words(self):
+        for text, wanted in [
+            ("Reads it. Needs no allocator.", "Reads it. Takes no memory."),
+            ("`columns.collect(alloc)?` keeps them.", "`columns.collect::<Vec<_>>()` keeps them."),
+            ("By `Counted::new(Retrying::new(input))`.", "By `Counted::new(input)`."),
+            ("The union, with memory from this set's allocator.", "The union."),
+        ]:
+            self.gives(f"/// {text}\nstruct A;", f"/// {wanted}\nstruct A;")
+
+    def test_documentation_on_an_allocator_of_another_form_is_refused(self):
+        message = "sample.rt:1: documentation on `allocator`, which the packages don't have"
+        self.assertEqual(refusal("/// Of the allocator.\nstruct A;"), message)
+
+
 class Tests(Case):
     def test_tests_need_no_runtime(self):
         text = "#[test]\nfn f(rt: HostRuntime) -> Result<(), Fail> {\n    assert!(rt; g(&rt, rt.alloc(), 1)? == 2);\n    Ok(())\n}"

@@ -57,6 +57,8 @@ def _load() -> ctypes.CDLL:
             size,
             ctypes.POINTER(byte),
         ]
+    library.binlog_rest.restype = size
+    library.binlog_rest.argtypes = [ctypes.c_void_p, size, ctypes.POINTER(CursorStruct)]
     library.binlog_json.restype = size
     library.binlog_json.argtypes = [
         ctypes.c_void_p,

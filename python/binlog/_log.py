@@ -270,10 +270,23 @@ class Log:
             raise InvalidLog(error)
         self._first = Cursor(first.position, first.description, first.ended)
         self._fill = LIBRARY.binlog_next_verified if verify else LIBRARY.binlog_next
+        self._rest: Optional[int] = None
 
     def __len__(self) -> int:
         """How many bytes the log has."""
         return self._size
+
+    @property
+    def rest(self) -> int:
+        """How many bytes lie behind the last item: 0 where all bytes are whole events, and after EventSizeTooSmall. Otherwise the
+        log ends within an event, and these bytes are its beginning.
+
+        The log is read to its end for it, unless an iteration from its start has come there.
+        """
+        if self._rest is None:
+            for _ in self.batches():
+                pass
+        return self._rest or 0
 
     def _line(self, fields: tuple, table_maps: tuple[tuple, ...], index: int) -> bytes:
         """The line of JSON of an item, with these table maps."""
@@ -323,6 +336,8 @@ class Log:
             count = self._fill(self._at, self._size, place, items, _BATCH, error)
             if error.value:
                 raise LogError(error.value, place.position)
+            if count < _BATCH and start is None:
+                self._rest = LIBRARY.binlog_rest(self._at, self._size, place)
             yield list(ITEM.iter_unpack(memoryview(items)[: count * ITEM.size]))
 
     def items(self, start: Optional[Cursor] = None) -> Iterator[Union[Event, Damage]]:

@@ -35,17 +35,19 @@ class Verification(NamedTuple):
     bytes: how many bytes these have.
     checksums: how many of them have a checksum, which is right.
     damaged: the other events, in the order of the log.
+    rest: how many bytes lie behind them: where the log ends within an event, those of its beginning, otherwise 0.
     """
 
     events: int
     bytes: int
     checksums: int
     damaged: tuple[DamagedEvent, ...]
+    rest: int = 0
 
     @property
     def is_right(self) -> bool:
-        """Whether no event is damaged."""
-        return not self.damaged
+        """Whether no event is damaged, and the log doesn't end within one."""
+        return not self.damaged and self.rest == 0
 
 
 def _damaged_event(index: int, fields: tuple) -> DamagedEvent:
@@ -62,7 +64,8 @@ def verify(path: Path) -> Verification:
     """
     count = size = checksums = 0
     damaged: list[DamagedEvent] = []
-    for batch in open(path, verify=True).batches():
+    log = open(path, verify=True)
+    for batch in log.batches():
         for fields in batch:
             if fields[10]:
                 damaged.append(_damaged_event(count + len(damaged), fields))
@@ -70,7 +73,7 @@ def verify(path: Path) -> Verification:
             count += 1
             size += fields[6]
             checksums += fields[12]
-    return Verification(count, size, checksums, tuple(damaged))
+    return Verification(count, size, checksums, tuple(damaged), log.rest)
 
 
 # MariaDB's types of events with GTIDs. In another server's log they have no data.

@@ -120,6 +120,16 @@ class WholeLogs(Files):
         self.assertEqual(found.damaged, (binlog.DamagedEvent(1, start, "ChecksumMismatch", text),))
         self.assertFalse(found.is_right)
 
+    def test_logs_that_end_within_an_event(self):
+        ends = list(itertools.accumulate(map(len, frames(CHECKSUMMED)), initial=len(MAGIC)))
+        for size in range(ends[-4], ends[-1] + 1):
+            rest = size - max(end for end in ends if end <= size)
+            path = self.file(CHECKSUMMED[:size])
+            found = binlog.verify(path)
+            self.assertEqual((binlog.open(path).rest, found.rest, found.damaged), (rest, rest, ()))
+            self.assertEqual(found.is_right, rest == 0)
+        self.assertEqual(binlog.Log(CHECKSUMMED + UNDERSIZED).rest, 0)
+
     def test_gtids(self):
         every = frames(GTIDS)
         whole = MAGIC + b"".join(every[:4] + every[5:])

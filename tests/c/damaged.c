@@ -117,6 +117,12 @@ static void check_without_room(const guarded_log *log, const binlog_cursor *befo
     require(memcmp(before, &cursor, sizeof cursor) == 0, "no room moves nothing");
 }
 
+static void check_rest(const guarded_log *log, const binlog_cursor *cursor) {
+    size_t rest = binlog_rest(log->bytes, log->size, cursor);
+    int is_inside = cursor->ended == 0 && cursor->position <= log->size;
+    require(rest == 0 || (is_inside && rest == log->size - cursor->position), "a rest is all that the log has there");
+}
+
 static void check_text(size_t (*write)(uint8_t, char *, size_t), uint8_t error) {
     char text[128];
     memset(text, 'x', sizeof text);
@@ -139,6 +145,7 @@ int main(int argc, char **argv) {
                 refused++;
             }
             check_without_room(&log, &cursor);
+            check_rest(&log, &cursor);
         }
     }
     for (int error = 0; error < 256; error++) {

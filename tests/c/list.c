@@ -1,8 +1,8 @@
 /* Lists the logs on standard input, which logs.h reads: for each event `index type size log_pos flags data_len
  * checksum`, for each error `index error E<number>`, and behind each log `status N`, where N is binlog_list's exit
  * status. The first argument is how many items a call has room for. With a second one, `verified`, checksums are
- * verified. Checks that each item lies where it says, that a cursor made of it gives it again, and that each checksum is
- * as right or wrong as the library says. */
+ * verified. Checks that each item lies where it says, that a cursor made of it gives it again, that each checksum is
+ * as right or wrong as the library says, and how many bytes lie behind the last item. */
 #define _DEFAULT_SOURCE
 #include "binlog.h"
 #include "logs.h"
@@ -75,12 +75,23 @@ static void check_place(const guarded_log *log, const binlog_item *item) {
 
 static void check_again(const guarded_log *log, const binlog_item *item) {
     binlog_cursor cursor = {item->position, item->description, 0};
+    require(binlog_rest(log->bytes, log->size, &cursor) == 0, "no rest begins where an item is");
     binlog_item same;
     memset(&same, 0, sizeof same);
     uint8_t error = 1;
     size_t count = fill(log->bytes, log->size, &cursor, &same, 1, &error);
     require(count == 1 && error == 0, "the item is given again");
     require(memcmp(&same, item, sizeof same) == 0, "it is the same item");
+}
+
+static void check_rest(const guarded_log *log, const binlog_cursor *cursor) {
+    size_t rest = binlog_rest(log->bytes, log->size, cursor);
+    if (cursor->ended) {
+        require(rest == 0, "an undersized event has its error");
+        return;
+    }
+    require(rest == log->size - cursor->position, "all bytes behind the last item are the rest");
+    require(rest < 19 || number(log->bytes + cursor->position + 9) > rest, "they are the beginning of an event");
 }
 
 static void print_item(uint64_t index, const binlog_item *item) {
@@ -120,6 +131,7 @@ static int list(const guarded_log *log, binlog_item *items, size_t room) {
         }
     }
     require(error == 0, "a cursor of the library is a place");
+    check_rest(log, &cursor);
     return status;
 }
 

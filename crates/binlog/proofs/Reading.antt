@@ -11,8 +11,8 @@ use Rattle.binlog_filters.specs.declared.filtered.Filtered.{Filtered}
 use Rattle.binlog_status.specs.Outputs.{written}
 use Rattle.binlog_status.specs.declared.status.Outcome.{Outcome}
 use Rattle.binlog_status.specs.declared.status.Status.{Status}
-use Rattle.binlog_messages.specs.Reports.{ReportedView, Reports}
-use Rattle.binlog.specs.Reading.{VisitsInput, status_behind, is_last_followed, GoesOn, InOrder, ReadsInput}
+use Rattle.binlog_messages.specs.Reports.{ReportedView, ended_file, Reports}
+use Rattle.binlog.specs.Reading.{VisitsInput, tail_behind, status_behind, is_last_followed, GoesOn, InOrder, ReadsInput}
 
 and_true : (b : Bool) → (b && true) ≡ b
 and_true true = refl
@@ -66,15 +66,16 @@ module _ {V N : Type 0} (step : (behind : List N) (name : N) (old : V) (answer :
 
 -- What is shown of an input whose bytes may be known.
 pub reads_input : {T : Type 0} (visits : VisitRelation T) (refuses : RefusalRelation T) (refused : T → ℕ)
-    (is_verified : Bool) (known : Option (List ℕ)) (old mid new : ReportedView (Filtered T)) (visited : Result (Unit {0}) Error) (answer : Result Status Error)
+    (is_verified : Bool) (known : Option (List ℕ)) (old mid new : ReportedView (Filtered T)) (visited : Result (Option ℕ) Error) (answer : Result Status Error)
     → IfSome known (λ bytes. length bytes < 2 ^ 64 → VisitsInput (Reports (Filters visits) (λ filtered. refused filtered.visitor))
     (λ (before : ReportedView (Filtered T)) maps index item error after. RefusesTaken refuses before.visitor maps index item error after.visitor) is_verified bytes old visited mid)
-    → new ≡ mid → answer ≡ status_behind new.has_errors visited
+    → new ≡ ended_file (tail_behind visited) mid → answer ≡ status_behind new.has_errors visited
     → IfSome known (λ bytes. length bytes < 2 ^ 64 → ReadsInput visits refuses refused is_verified bytes old answer new)
-reads_input visits refuses refused is_verified None old mid new visited answer shown same status = tt
-reads_input {T} visits refuses refused is_verified (Some bytes) old mid new visited answer shown same status = λ small. record {
+reads_input visits refuses refused is_verified None old mid new visited answer shown ends status = tt
+reads_input visits refuses refused is_verified (Some bytes) old mid new visited answer shown ends status = λ small. record {
   visited = visited;
-  does = subst (λ (t : ReportedView (Filtered T)). VisitsInput (Reports (Filters visits) (λ filtered. refused filtered.visitor))
-      (λ (before : ReportedView (Filtered T)) maps index item error after. RefusesTaken refuses before.visitor maps index item error after.visitor) is_verified bytes old visited t) (sym same) (shown small);
+  behind = mid;
+  does = shown small;
+  ends = ends;
   status = status;
 }

@@ -3,10 +3,9 @@ use Rattle.std.specs.Prelude.{◌≡◌, ◌⊎◌, ℕ, Bool, List, [], Option,
 use Rattle.std.specs.declared.io.Error.{Error as IoError}
 use Rattle.binlog_visits.specs.Visits.{VisitRelation, RefusalRelation}
 use Rattle.binlog_ends.specs.Views.{CountedView}
-use Rattle.binlog_gtid_listing.specs.GtidListing.{tracked}
 use Rattle.binlog_filters.specs.declared.filter.Filter.{Filter}
 use Rattle.binlog_filters.specs.declared.filtered.Filtered.{Filtered}
-use Rattle.binlog_commands.specs.Collecting.{Collects, RefusesCollected}
+use Rattle.binlog_commands.specs.Collecting.{collection, Collects, RefusesCollected}
 use Rattle.binlog_commands.specs.Counting.{IsNever}
 use Rattle.binlog_commands.specs.Statistics.{no_items, CountsItem}
 use Rattle.binlog_commands.specs.declared.gtids.GtidCollector.{GtidCollector}
@@ -86,10 +85,11 @@ module _ {B N : Type 0} (contents : B → Option (List ℕ)) (is_verified is_fol
     pub start : GtidCollector (CountedView (Output B))
     pub begins : Begins contents old start.output.inner
     pub empty : start.gtids ≡ []
+    pub none : start.refused ≡ 0
     pub read : Outcome
     pub found : GtidCollector (CountedView (Output B))
-    pub shown : ShowsTaken (λ (before : GtidCollector (CountedView (Output B))) maps index item after. Collects index item (tracked before.gtids (bytes_of contents before.output.inner)) (tracked after.gtids (bytes_of contents after.output.inner)))
-        (λ (before : GtidCollector (CountedView (Output B))) maps index item error after. RefusesCollected index item (tracked before.gtids (bytes_of contents before.output.inner)) error (tracked after.gtids (bytes_of contents after.output.inner)))
+    pub shown : ShowsTaken (λ (before : GtidCollector (CountedView (Output B))) maps index item after. Collects index item (collection before.gtids (bytes_of contents before.output.inner) before.refused) (collection after.gtids (bytes_of contents after.output.inner) after.refused))
+        (λ (before : GtidCollector (CountedView (Output B))) maps index item error after. RefusesCollected index item (collection before.gtids (bytes_of contents before.output.inner) before.refused) error (collection after.gtids (bytes_of contents after.output.inner) after.refused))
         (λ collector. collector.refused) filter is_verified is_followed bytes names start read found
     pub lines : Outcome
     pub output : Output B

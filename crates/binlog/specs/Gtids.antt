@@ -7,10 +7,9 @@ use Rattle.binlog_ends.specs.Views.{CountedView}
 use Rattle.binlog_gtid_sets.specs.declared.gtid_group.GtidGroup.{GtidGroup}
 use Rattle.binlog_gtid_sets.specs.GtidGroups.{Pair, is_tracked}
 use Rattle.binlog_gtid_listing.specs.GroupLines.{WritesGroups}
-use Rattle.binlog_gtid_listing.specs.GtidListing.{tracked}
 use Rattle.binlog_filters.specs.Taking.{HasNoCondition}
 use Rattle.binlog_filters.specs.declared.filter.Filter.{Filter}
-use Rattle.binlog_commands.specs.Collecting.{Collects, RefusesCollected}
+use Rattle.binlog_commands.specs.Collecting.{collection, Collects, RefusesCollected}
 use Rattle.binlog_commands.specs.declared.gtids.GtidCollector.{GtidCollector}
 use Rattle.binlog_status.specs.Statuses.{worse}
 use Rattle.binlog_status.specs.Outputs.{written, unwritten, worse_outcome}
@@ -64,10 +63,11 @@ pub record WritesMissing {N : Type 0} (bytes : N → Option (List ℕ)) (other :
   pub takes_all : HasNoCondition filter
   pub start : GtidCollector (CountedView Sink)
   pub empty : start.gtids ≡ []
+  pub none : start.refused ≡ 0
   pub read : Outcome
   pub found : GtidCollector (CountedView Sink)
-  pub shown : ShowsTaken (λ (before : GtidCollector (CountedView Sink)) maps index item after. Collects index item (tracked before.gtids None) (tracked after.gtids None))
-      (λ (before : GtidCollector (CountedView Sink)) maps index item error after. RefusesCollected index item (tracked before.gtids None) error (tracked after.gtids None))
+  pub shown : ShowsTaken (λ (before : GtidCollector (CountedView Sink)) maps index item after. Collects index item (collection before.gtids None before.refused) (collection after.gtids None after.refused))
+      (λ (before : GtidCollector (CountedView Sink)) maps index item error after. RefusesCollected index item (collection before.gtids None before.refused) error (collection after.gtids None after.refused))
       (λ collector. collector.refused) filter false false bytes (other ∷ []) start read found
   pub writes : WritesUnless (is_unread (status_read read)) (status_read read) groups found.gtids old outcome new
 

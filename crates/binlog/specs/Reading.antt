@@ -1,5 +1,5 @@
 -- What is shown to a visitor of the files that a command reads, and the status behind them.
-use Rattle.std.specs.Prelude.{◌≡◌, ◌⊎◌, ℕ, ◌<◌, ◌^◌, Bool, true, false, List, [], ◌∷◌, length, Option, None, IfSome, Result, Ok, Err}
+use Rattle.std.specs.Prelude.{◌≡◌, ◌⊎◌, ℕ, ◌<◌, ◌^◌, Bool, true, false, List, [], ◌∷◌, length, Option, Some, None, IfSome, Result, Ok, Err}
 use Rattle.binlog_wire.specs.declared.error.Error.{Error}
 use Rattle.binlog_wire.specs.declared.error.Error.TheVariants.{EndOfInput, InvalidFileHeader, Writer}
 use Rattle.crc32_ieee.specs.Checksums.{IsCrc32}
@@ -12,17 +12,22 @@ use Rattle.binlog_status.specs.Outputs.{written, unwritten}
 use Rattle.binlog_status.specs.declared.status.Outcome.{Outcome}
 use Rattle.binlog_status.specs.declared.status.Status.{Status}
 use Rattle.binlog_status.specs.declared.status.Status.TheVariants.{Fine, NotOpened, Damaged, Failed}
-use Rattle.binlog_messages.specs.Reports.{ReportedView, begun_file, Reports}
+use Rattle.binlog_messages.specs.Reports.{ReportedView, begun_file, ended_file, Reports}
 
 -- The results of visiting a file of these bytes, whose checksums are verified by their CRC-32 or not.
-abbrev pub VisitsInput : {T : Type 0} → VisitRelation T → RefusalRelation T → (is_verified : Bool) → List ℕ → T → Result (Unit {0}) Error → T → Type 0
+abbrev pub VisitsInput : {T : Type 0} → VisitRelation T → RefusalRelation T → (is_verified : Bool) → List ℕ → T → Result (Option ℕ) Error → T → Type 0
 VisitsInput visits refuses true = VisitsVerifiedLog IsCrc32 visits refuses
 VisitsInput visits refuses false = VisitsLog visits refuses
 
+-- How many bytes lie behind the last item of a file, by the result of its visit: none unless it was read to its end.
+abbrev pub tail_behind : Result (Option ℕ) Error → ℕ
+tail_behind (Ok (Some tail_len)) = tail_len
+tail_behind visited = 0
+
 -- The status behind a file, by the result of its visit. The only error is that of a failed output.
-abbrev pub status_behind : (has_errors : Bool) → Result (Unit {0}) Error → Result Status Error
-status_behind true (Ok done) = Ok Damaged
-status_behind false (Ok done) = Ok Fine
+abbrev pub status_behind : (has_errors : Bool) → Result (Option ℕ) Error → Result Status Error
+status_behind true (Ok tail_len) = Ok Damaged
+status_behind false (Ok tail_len) = Ok Fine
 status_behind has_errors (Err Writer) = Err Writer
 status_behind has_errors (Err EndOfInput) = Ok NotOpened
 status_behind has_errors (Err InvalidFileHeader) = Ok NotOpened
@@ -54,11 +59,13 @@ module _ {V N : Type 0} (step : (behind : List N) (name : N) (old : V) (answer :
 -- A visitor that is shown what a filter takes, of which `visits` says what a visit makes of it, `refuses` when it refuses one,
 -- and `refused` how many events it has counted as errors.
 module _ {T : Type 0} (visits : VisitRelation T) (refuses : RefusalRelation T) (refused : T → ℕ) where
-  -- It is shown what the filter takes of a file of these bytes.
+  -- It is shown what the filter takes of a file of these bytes, and whether the file ends within an event.
   pub record ReadsInput (is_verified : Bool) (bytes : List ℕ) (old : ReportedView (Filtered T)) (answer : Result Status Error) (new : ReportedView (Filtered T)) : Type 0 where
-    pub visited : Result (Unit {0}) Error
+    pub visited : Result (Option ℕ) Error
+    pub behind : ReportedView (Filtered T)
     pub does : VisitsInput (Reports (Filters visits) (λ filtered. refused filtered.visitor))
-        (λ (before : ReportedView (Filtered T)) maps index item error after. RefusesTaken refuses before.visitor maps index item error after.visitor) is_verified bytes old visited new
+        (λ (before : ReportedView (Filtered T)) maps index item error after. RefusesTaken refuses before.visitor maps index item error after.visitor) is_verified bytes old visited behind
+    pub ends : new ≡ ended_file (tail_behind visited) behind
     pub status : answer ≡ status_behind new.has_errors visited
 
   -- A file can't be opened, or it is shown what the filter takes of it, if its bytes are known.
@@ -78,5 +85,5 @@ module _ {T : Type 0} (visits : VisitRelation T) (refuses : RefusalRelation T) (
     pub filtered : start.filter ≡ filter
     pub shown : start.visitor ≡ old
     pub behind : ReportedView (Filtered T)
-    pub reads : ReadsFiles is_verified is_followed bytes names Fine (record { visitor = start; has_errors = false }) outcome behind
+    pub reads : ReadsFiles is_verified is_followed bytes names Fine (record { visitor = start; has_errors = false; is_cut = false }) outcome behind
     pub ends : new ≡ behind.visitor.visitor

@@ -5,7 +5,7 @@ ghost use Rattle.binlog_wire.specs.declared.error.Error.TheVariants.{Writer};
 ghost use Rattle.crc32_ieee.specs.Checksums.{IsCrc32, GivesCrc32};
 ghost use Rattle.binlog_visits.specs.Visits.{VisitsVerifiedLog};
 ghost use Rattle.binlog_status.specs.declared.status.Status.TheVariants.{Fine};
-ghost use Rattle.binlog.specs.Reading.{VisitsInput, status_behind, unless_followed, ReadsInput, ReadsFile, ReadsFiles};
+ghost use Rattle.binlog.specs.Reading.{VisitsInput, tail_behind, status_behind, unless_followed, ReadsInput, ReadsFile, ReadsFiles};
 
 use crate::following::Following;
 use crate::inputs::Inputs;
@@ -87,7 +87,7 @@ fn read_input<'a, R: Clock + Eprint + AllocGlobal, I: Read + Drop, T: Visitor + 
 {
     let input = Following::new(rt, input, reading.is_followed);
     let visited = visit_input(rt.alloc(), input, reading.is_verified, visitor);
-    visitor.end();
+    visitor.end(tail_behind(&visited));
     if let Err(error) = &visited {
         report(visitor, error);
     }
@@ -103,14 +103,24 @@ fn report<'a, R: Eprint, T>(visitor: &Reported<'a, R, Filtered<T>>, error: &Erro
     }
 }
 
+// How many bytes lie behind the last item of a file, by the result of its visit.
+fn tail_behind(visited: &Result<Option<usize>, Error>) -> usize
+    ensures { result ≡ tail_behind visited.now }
+{
+    match visited {
+        Ok(Some(tail_len)) => *tail_len,
+        Ok(None) | Err(_) => 0,
+    }
+}
+
 // The status behind a file, by the result of its visit.
-fn status_behind(has_errors: bool, visited: Result<(), Error>) -> Result<Status, Error>
+fn status_behind(has_errors: bool, visited: Result<Option<usize>, Error>) -> Result<Status, Error>
     ensures status { result ≡ status_behind has_errors visited }
     ensures err { IfErr result (λ error. error ≡ Writer) }
 {
     match visited {
-        Ok(()) if has_errors => Ok(Status::Damaged),
-        Ok(()) => Ok(Status::Fine),
+        Ok(_) if has_errors => Ok(Status::Damaged),
+        Ok(_) => Ok(Status::Fine),
         Err(Error::Writer) => Err(Error::Writer),
         Err(Error::EndOfInput | Error::InvalidFileHeader) => Ok(Status::NotOpened),
         Err(_) => Ok(Status::Failed),
@@ -123,7 +133,7 @@ fn visit_input<I: Read + Drop, T: Visitor>(
     input: I,
     is_verified: bool,
     visitor: &mut T,
-) -> Result<(), Error>
+) -> Result<Option<usize>, Error>
     ensures { IfSome (I.remaining input) (λ bytes. length bytes < 2 ^ 64 →
         VisitsInput T.visits T.refuses is_verified bytes visitor.old result visitor.new) }
 {
@@ -144,7 +154,7 @@ fn visit_by_crc32<F: Fn(&[u8]) -> u32 + Drop, I: ReadCounted + Drop, T: Visitor>
     checksum: F,
     input: I,
     visitor: &mut T,
-) -> Result<(), Error>
+) -> Result<Option<usize>, Error>
     requires callable { F.IsAlwaysCallable checksum }
     requires gives { GivesCrc32 (λ bytes given. FnReturnsAt F.Fn checksum bytes given) }
     ensures { IfSome (I.remaining input) (λ bytes. length bytes < 2 ^ 64 →

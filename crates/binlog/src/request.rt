@@ -1,5 +1,5 @@
 //! What a command is asked for.
-ghost use Rattle.std.specs.Prelude.{◌≡◌, ◌&&◌, false};
+ghost use Rattle.std.specs.Prelude.{◌≡◌, ◌↔◌, ◌&&◌, false, IsTrue, codes, if◌then◌else◌};
 
 use binlog_status::BUFFER_SIZE;
 use clap::ArgMatches;
@@ -54,7 +54,9 @@ impl Reading {
     }
 
     /// The size of the buffer of the lines, in bytes: none if they have to be seen at once.
-    pub(crate) fn output_capacity(self) -> usize {
+    pub(crate) fn output_capacity(self) -> usize
+        ensures { result ≡ (if self.is_followed then 0 else 65536) }
+    {
         if self.is_followed { 0 } else { BUFFER_SIZE }
     }
 }
@@ -72,7 +74,10 @@ pub(crate) struct Request<'m, 'a> {
 
 impl<'m, 'a> Request<'m, 'a> {
     /// What these options ask of the command of this name.
-    pub(crate) fn new(name: &str, options: &'m ArgMatches<'a>, terminals: Terminals) -> Self {
+    pub(crate) fn new(name: &str, options: &'m ArgMatches<'a>, terminals: Terminals) -> Self
+        ensures verified { IsTrue result.reading.is_verified ↔ name.now ≡ codes "verify" }
+        ensures options { result.options.now ≡ options.now }
+    {
         let is_followed = options.get_flag("follow");
         // A line of progress would stay while a followed file is waited for.
         let has_progress = terminals.has_progress(name) && !is_followed;

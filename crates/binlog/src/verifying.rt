@@ -101,7 +101,8 @@ fn verify_file<'a, S: Inputs, R: Clock + Eprint + AllocGlobal, W: Write>(
     reported.replace_visitor(Tally::new());
     let read = read_file(rt, inputs, file, reading, reported);
     let name = shown_name(file);
-    write_line(name, &reported.visitor().visitor, is_quiet, read, output)
+    let tally = reported.visitor().visitor.with_cut(reported.is_cut());
+    write_line(name, &tally, is_quiet, read, output)
 }
 
 // Writes the line of a file that was read with this result, if it has one.

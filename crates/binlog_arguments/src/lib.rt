@@ -4,11 +4,14 @@
 use clap::{Arg, ArgAction, Command, value_parser};
 use std::alloc::{AllocError, Global};
 
+// The version, and how the program was made.
+const VERSION: &str = "0.1.0 (proved)";
+
 /// The program and its commands.
 pub fn command<'a>(alloc: Global) -> Result<Command<'a>, AllocError> {
     Command::new(alloc, "binlog")
         .bin_name("binlog")?
-        .version("0.1.0")
+        .version(VERSION)
         .about("Lists, checks, counts and copies the events of MySQL binary logs")
         .after_help(
             "Messages go to standard error, as 'binlog: FILE: event INDEX at byte POSITION: ERROR'. All files are read.\n\

@@ -4,6 +4,7 @@ pub mod Steps
 pub mod Places
 pub mod Found
 pub mod Calls
+pub mod Rests
 pub mod FirstItems
 pub mod OneItem
 pub mod PlainEvents

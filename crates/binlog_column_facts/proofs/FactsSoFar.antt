@@ -7,20 +7,21 @@ use Rattle.std.specs.Option.{option_and_then}
 use Rattle.binlog_columns.specs.Metadata.{Typed}
 use Rattle.binlog_columns.specs.RealTypes.{real_type}
 use Rattle.binlog_columns.specs.declared.column_type.ColumnType.TheVariants.{MYSQL_TYPE_NULL}
-use Rattle.binlog_optional_metadata.specs.Classes.{is_in_class, class_count}
+use Rattle.binlog_optional_metadata.specs.Classes.{is_in_class, character_class, class_count}
 use Rattle.binlog_optional_metadata.specs.Counts.{counts_of}
-use Rattle.binlog_optional_metadata.specs.Fields.{Content}
+use Rattle.binlog_optional_metadata.specs.FieldsLeft.{FieldContent}
+use Rattle.binlog_optional_metadata.specs.declared.metadata_error.OptionalMetadataError.{OptionalMetadataError}
 use Rattle.binlog_optional_metadata.specs.Fields as contents
 use Rattle.binlog_optional_metadata.specs.MemberLists.{lists_of}
 use Rattle.binlog_optional_metadata.specs.Names.{names_of}
 use Rattle.binlog_optional_metadata.specs.declared.column_class.ColumnClass.{ColumnClass}
-use Rattle.binlog_optional_metadata.specs.declared.column_class.ColumnClass.TheVariants.{Character, Enum, Set}
+use Rattle.binlog_optional_metadata.specs.declared.column_class.ColumnClass.TheVariants.{Numeric, Enum, Set}
 use Rattle.binlog_optional_metadata.specs.declared.field_type.OptionalMetadataFieldType.TheVariants.{COLUMN_NAME, SET_STR_VALUE, ENUM_STR_VALUE}
 use Rattle.binlog_optional_metadata.specs.declared.member_lists.MemberLists.{MemberLists}
 use Rattle.binlog_optional_metadata.specs.declared.names.Names.{Names}
 use Rattle.binlog_column_facts.specs.Facts.{Facts, texts_of, facts_of}
-use Rattle.binlog_column_facts.specs.Fields.{AreFields}
-use Rattle.binlog_column_facts.specs.Stated.{Stated, stated_in, is_set_in, is_binary_in, names_stated, lists_stated, text_of, numeric_class, is_binary_behind, padded_length, members_in, facts_behind, facts_at, StatesFacts}
+use Rattle.binlog_column_facts.specs.Fields.{AreFields, contents_of, first_refusal}
+use Rattle.binlog_column_facts.specs.Stated.{Stated, stated_in, is_set_in, is_binary_in, names_stated, lists_stated, text_of, is_binary_behind, padded_length, members_in, facts_behind, facts_at, StatesFacts}
 use Rattle.binlog_column_facts.specs.StatedFields.{names_left, lists_left}
 use Rattle.binlog_column_facts.specs.declared.class_index.ClassIndex.{ClassIndex}
 use Rattle.binlog_column_facts.specs.declared.column_facts.ColumnFacts.{ColumnFacts}
@@ -42,15 +43,15 @@ counted class before = record { class = class; next = class_count class before }
 pub record SoFar (is_maria_log : Bool) (stated : Stated) (columns : List Typed) (count : ℕ) (facts : List ColumnFacts) (numeric character : ClassIndex) (names : List (List ℕ)) (enums sets : Lists) : Type 0 where
   pub count_is : length facts ≡ count
   pub each : (index : ℕ) (none : ColumnFacts) → index < count → facts_of (get_or facts index none) ≡ facts_at is_maria_log stated columns index
-  pub numeric_is : numeric ≡ counted (numeric_class is_maria_log) (take count columns)
-  pub character_is : character ≡ counted Character (take count columns)
+  pub numeric_is : numeric ≡ counted Numeric (take count columns)
+  pub character_is : character ≡ counted (character_class is_maria_log) (take count columns)
   pub names_are : names ≡ drop count (names_stated stated.names)
   pub enums_are : enums ≡ drop (class_count Enum (take count columns)) (lists_stated stated.enums)
   pub sets_are : sets ≡ drop (class_count Set (take count columns)) (lists_stated stated.sets)
 
 -- No column yet.
 pub none_so_far : (is_maria_log : Bool) (stated : Stated) (columns : List Typed) (facts : List ColumnFacts) (numeric character : ClassIndex) (names : List (List ℕ)) (enums sets : Lists)
-    → facts ≡ [] → numeric ≡ record { class = numeric_class is_maria_log; next = 0 } → character ≡ record { class = Character; next = 0 } → names ≡ names_stated stated.names
+    → facts ≡ [] → numeric ≡ record { class = Numeric; next = 0 } → character ≡ record { class = character_class is_maria_log; next = 0 } → names ≡ names_stated stated.names
     → enums ≡ lists_stated stated.enums → sets ≡ lists_stated stated.sets → SoFar is_maria_log stated columns 0 facts numeric character names enums sets
 none_so_far is_maria_log stated columns facts numeric character names enums sets none numeric_is character_is names_are enums_are sets_are = record {
   count_is = ap (λ (l : List ColumnFacts). length l) none;
@@ -81,19 +82,21 @@ pub indexes_fit : {is_maria_log : Bool} {stated : Stated} {columns : List Typed}
     → SoFar is_maria_log stated columns count facts numeric character left enums sets → count < length columns → length columns < 2 ^ 64
     → (numeric.next + 1 < 2 ^ 64) × (character.next + 1 < 2 ^ 64)
 indexes_fit {is_maria_log} {stated} {columns} {count} {facts} {numeric} {character} so_far below small =
-    let a = class_index_le (numeric_class is_maria_log) columns count (omega arith) in
-    let b = class_index_le Character columns count (omega arith) in
-    let e : numeric.next ≡ class_count (numeric_class is_maria_log) (take count columns) = ap (λ (i : ClassIndex). i.next) so_far.numeric_is in
-    let f : character.next ≡ class_count Character (take count columns) = ap (λ (i : ClassIndex). i.next) so_far.character_is in
+    let a = class_index_le Numeric columns count (omega arith) in
+    let b = class_index_le (character_class is_maria_log) columns count (omega arith) in
+    let e : numeric.next ≡ class_count Numeric (take count columns) = ap (λ (i : ClassIndex). i.next) so_far.numeric_is in
+    let f : character.next ≡ class_count (character_class is_maria_log) (take count columns) = ap (λ (i : ClassIndex). i.next) so_far.character_is in
     (omega (arith, a, e, below, small), omega (arith, b, f, below, small))
 
 -- All columns.
 pub all_facts : {is_maria_log : Bool} {stated : Stated} {columns : List Typed} {count : ℕ} {facts : List ColumnFacts} {numeric character : ClassIndex} {left : List (List ℕ)} {enums sets : Lists}
-    → (s : List ℕ) (fields : List Content) → SoFar is_maria_log stated columns count facts numeric character left enums sets → count ≡ length columns
-    → AreFields (counts_of is_maria_log columns) s fields → stated ≡ stated_in fields → StatesFacts is_maria_log columns s facts
-all_facts {is_maria_log} {stated} {columns} {count} {facts} s fields so_far all are last = record {
+    → (s : List ℕ) (fields : List FieldContent) (refusal : Option OptionalMetadataError) → SoFar is_maria_log stated columns count facts numeric character left enums sets
+    → count ≡ length columns → AreFields (counts_of is_maria_log columns) s fields → stated ≡ stated_in (contents_of fields) → refusal ≡ first_refusal fields
+    → StatesFacts is_maria_log columns s facts refusal
+all_facts {is_maria_log} {stated} {columns} {count} {facts} s fields refusal so_far all are last first = record {
   fields = fields;
   are = are;
+  refused = first;
   count = so_far.count_is ∙ all;
   each = λ index none below. so_far.each index none (omega (arith, below, all)) ∙ ap (λ (fields : Stated). facts_at is_maria_log fields columns index) last;
 }
@@ -155,14 +158,14 @@ same_facts fact facts name unsigned binary padded members = rw (name, unsigned, 
 -- The facts of the next column are those that are stated of it.
 next_facts : (is_maria_log : Bool) (stated : Stated) (columns : List Typed) (flags : List Bool) (count : ℕ) (numeric character : ClassIndex) (names : List (List ℕ)) (enums sets : Lists) (column : Typed)
     (fact : ColumnFacts) → count < length columns → column ≡ get_or columns count no_column
-    → numeric ≡ counted (numeric_class is_maria_log) (take count columns) → character ≡ counted Character (take count columns) → names ≡ drop count (names_stated stated.names)
+    → numeric ≡ counted Numeric (take count columns) → character ≡ counted (character_class is_maria_log) (take count columns) → names ≡ drop count (names_stated stated.names)
     → enums ≡ drop (class_count Enum (take count columns)) (lists_stated stated.enums) → sets ≡ drop (class_count Set (take count columns)) (lists_stated stated.sets)
     → ((index : ℕ) → index < length columns → get_or flags index false ≡ is_binary_in stated.collations index)
     → ReadsFacts stated flags numeric character names enums sets column fact → facts_of fact ≡ facts_at is_maria_log stated columns count
 next_facts is_maria_log stated columns flags count numeric character names enums sets column fact below here numeric_is character_is names_are enums_are sets_are are_flags reads =
     let before : List Typed = take count columns in
     let len : length before ≡ count = length-take-le count columns (omega arith) in
-    let class = numeric_class is_maria_log in
+    let class = Numeric in
     let name : option_map (λ text. text.now) fact.name ≡ option_and_then text_of (slice_get (names_stated stated.names) (length before)) =
     reads.name ∙ ap (λ (left : List (List ℕ)). option_and_then text_of (slice_get left 0)) names_are
     ∙ ap (λ (name : Option (List ℕ)). option_and_then text_of name) (first_left count (names_stated stated.names))
@@ -170,12 +173,12 @@ next_facts is_maria_log stated columns flags count numeric character names enums
     let unsigned : fact.is_unsigned ≡ is_in_class class (real_type column) && is_set_in stated.signedness (class_count class before) =
     reads.unsigned ∙ ap (λ (index : ClassIndex). fact_in (is_set_in stated.signedness) (next_index index column)) numeric_is
     ∙ in_class (is_set_in stated.signedness) (is_in_class class (real_type column)) (class_count class before) in
-    let small : class_count Character before ≤ count = class_index_le Character columns count (omega arith) in
-    let binary : fact.is_binary ≡ is_binary_behind stated before column =
+    let small : class_count (character_class is_maria_log) before ≤ count = class_index_le (character_class is_maria_log) columns count (omega arith) in
+    let binary : fact.is_binary ≡ is_binary_behind is_maria_log stated before column =
     reads.binary ∙ ap (λ (index : ClassIndex). fact_in (λ (i : ℕ). get_or flags i false) (next_index index column)) character_is
-    ∙ same_in_class (λ (i : ℕ). get_or flags i false) (is_binary_in stated.collations) (is_in_class Character (real_type column)) (class_count Character before)
-    (are_flags (class_count Character before) (omega (arith, small))) in
-    let padded : fact.padded_length ≡ padded_length (is_binary_behind stated before column) column = reads.padded ∙ ap (λ (b : Bool). padded_length b column) binary in
+    ∙ same_in_class (λ (i : ℕ). get_or flags i false) (is_binary_in stated.collations) (is_in_class (character_class is_maria_log) (real_type column)) (class_count (character_class is_maria_log) before)
+    (are_flags (class_count (character_class is_maria_log) before) (omega (arith, small))) in
+    let padded : fact.padded_length ≡ padded_length (is_binary_behind is_maria_log stated before column) column = reads.padded ∙ ap (λ (b : Bool). padded_length b column) binary in
     let members : option_map (λ members. texts_of members.items) fact.members ≡ (facts_behind is_maria_log stated before column).members =
     reads.members
     ∙ ap (λ (first : Option (List (List ℕ))). members_in (real_type column) first (slice_get sets 0))
@@ -209,8 +212,8 @@ one_more is_maria_log stated columns flags count old new numeric numeric' charac
           let length_is : length old ≡ index = so_far.count_is ∙ same in
           ap (λ (f : ColumnFacts). facts_of f) (get_or_push old fact none index length_is) ∙ next ∙ ap (λ (n : ℕ). facts_at is_maria_log stated columns n) same)
           (cases_lt index count));
-      numeric_is = counted_more (numeric_class is_maria_log) columns count column numeric numeric' below here so_far.numeric_is numeric_is;
-      character_is = counted_more Character columns count column character character' below here so_far.character_is character_is;
+      numeric_is = counted_more Numeric columns count column numeric numeric' below here so_far.numeric_is numeric_is;
+      character_is = counted_more (character_class is_maria_log) columns count column character character' below here so_far.character_is character_is;
       names_are = names_are ∙ ap (λ (l : List (List ℕ)). drop 1 l) so_far.names_are ∙ drop-drop 1 count (names_stated stated.names);
       enums_are = lists_more Enum columns count column (lists_stated stated.enums) enums enums' below here so_far.enums_are enums_are;
       sets_are = lists_more Set columns count column (lists_stated stated.sets) sets sets' below here so_far.sets_are sets_are;

@@ -1,15 +1,28 @@
 -- The fields of the optional metadata, as a list.
-use Rattle.std.specs.Prelude.{◌≡◌, ℕ, Bool, true, false, List, [], ◌∷◌, reverse, Option, Ok, is_ok}
+use Rattle.std.specs.Prelude.{◌≡◌, ℕ, Bool, true, false, List, [], ◌∷◌, reverse, Option, Some, None, Ok, Err}
 use Rattle.std.specs.List.{find}
 use Rattle.binlog_optional_metadata.specs.Fields.{Content, bits, numbers, names, charsets, lists}
-use Rattle.binlog_optional_metadata.specs.FieldsLeft.{first_field}
+use Rattle.binlog_optional_metadata.specs.FieldsLeft.{FieldContent, first_field}
 use Rattle.binlog_optional_metadata.specs.declared.class_counts.ClassCounts.{ClassCounts}
 use Rattle.binlog_optional_metadata.specs.declared.field_type.OptionalMetadataFieldType.TheVariants.{SIGNEDNESS, DEFAULT_CHARSET, COLUMN_CHARSET, COLUMN_NAME, SET_STR_VALUE, ENUM_STR_VALUE}
+use Rattle.binlog_optional_metadata.specs.declared.metadata_error.OptionalMetadataError.{OptionalMetadataError}
 
--- These are the fields of the bytes, one after the other, up to the end or to one that is refused.
-abbrev pub AreFields : ClassCounts → List ℕ → List Content → Type 0
-AreFields counts s [] = is_ok (first_field counts s) ≡ false
-AreFields counts s (content ∷ fields) = (r : List ℕ) × (first_field counts s ≡ Ok (content, r)) × AreFields counts r fields
+-- These are the fields of the bytes, one after the other to their end: of each its content, or why it is refused.
+abbrev pub AreFields : ClassCounts → List ℕ → List FieldContent → Type 0
+AreFields counts s [] = s ≡ []
+AreFields counts s (field ∷ fields) = (¬ (s ≡ [])) × (field ≡ (first_field counts s).0) × AreFields counts (first_field counts s).1 fields
+
+-- The contents of the fields that are read.
+abbrev pub contents_of : List FieldContent → List Content
+contents_of [] = []
+contents_of (Ok content ∷ fields) = content ∷ contents_of fields
+contents_of (Err e ∷ fields) = contents_of fields
+
+-- Why the first field is refused that is.
+abbrev pub first_refusal : List FieldContent → Option OptionalMetadataError
+first_refusal [] = None
+first_refusal (Ok content ∷ fields) = first_refusal fields
+first_refusal (Err e ∷ fields) = Some e
 
 -- The field states whether each numeric column is unsigned.
 abbrev pub states_signedness : Content → Bool

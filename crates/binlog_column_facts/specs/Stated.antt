@@ -9,14 +9,15 @@ use Rattle.binlog_columns.specs.RealTypes.{real_type}
 use Rattle.binlog_columns.specs.declared.column_type.ColumnType.{ColumnType}
 use Rattle.binlog_columns.specs.declared.column_type.ColumnType.TheVariants.{MYSQL_TYPE_NULL, MYSQL_TYPE_STRING}
 use Rattle.binlog_optional_metadata.specs.Bits.{first_bit_in}
-use Rattle.binlog_optional_metadata.specs.Classes.{is_in_class, class_count}
+use Rattle.binlog_optional_metadata.specs.Classes.{is_in_class, character_class, class_count}
 use Rattle.binlog_optional_metadata.specs.Counts.{counts_of}
 use Rattle.binlog_optional_metadata.specs.Fields.{Content, bits, numbers, charsets, names_in, lists_in}
-use Rattle.binlog_optional_metadata.specs.declared.column_class.ColumnClass.{ColumnClass}
-use Rattle.binlog_optional_metadata.specs.declared.column_class.ColumnClass.TheVariants.{Numeric, NumericOrYear, Character, Enum, Set}
+use Rattle.binlog_optional_metadata.specs.declared.column_class.ColumnClass.TheVariants.{Numeric, Enum, Set}
 use Rattle.binlog_column_facts.specs.Facts.{Facts, facts_of}
-use Rattle.binlog_column_facts.specs.Fields.{AreFields, states_signedness, states_collations, states_names, states_enums, states_sets, last_field}
+use Rattle.binlog_column_facts.specs.Fields.{AreFields, contents_of, first_refusal, states_signedness, states_collations, states_names, states_enums, states_sets, last_field}
 use Rattle.binlog_column_facts.specs.declared.column_facts.ColumnFacts.{ColumnFacts}
+use Rattle.binlog_optional_metadata.specs.FieldsLeft.{FieldContent}
+use Rattle.binlog_optional_metadata.specs.declared.metadata_error.OptionalMetadataError.{OptionalMetadataError}
 
 -- ---- the fields that count
 
@@ -80,13 +81,9 @@ lists_stated (Some field) = lists_in field
 
 -- ---- columns
 
--- In MariaDB's logs a YEAR is a numeric column.
-abbrev pub numeric_class : Bool → ColumnClass
-numeric_class is_maria_log = if is_maria_log then NumericOrYear else Numeric
-
 -- The column has the character set `binary`.
-abbrev pub is_binary_behind : Stated → List Typed → Typed → Bool
-is_binary_behind stated before column = is_in_class Character (real_type column) && is_binary_in stated.collations (class_count Character before)
+abbrev pub is_binary_behind : Bool → Stated → List Typed → Typed → Bool
+is_binary_behind is_maria_log stated before column = is_in_class (character_class is_maria_log) (real_type column) && is_binary_in stated.collations (class_count (character_class is_maria_log) before)
 
 -- The length of a STRING whose real type is STRING; 0 for any other column.
 abbrev pub string_length_as : ColumnType → ℕ → ℕ
@@ -105,9 +102,9 @@ members_in real_type enumeration set = if is_in_class Enum real_type then enumer
 abbrev pub facts_behind : Bool → Stated → List Typed → Typed → Facts
 facts_behind is_maria_log stated before column = record {
   name = option_and_then text_of (slice_get (names_stated stated.names) (length before));
-  is_unsigned = is_in_class (numeric_class is_maria_log) (real_type column) && is_set_in stated.signedness (class_count (numeric_class is_maria_log) before);
-  is_binary = is_binary_behind stated before column;
-  padded_length = padded_length (is_binary_behind stated before column) column;
+  is_unsigned = is_in_class Numeric (real_type column) && is_set_in stated.signedness (class_count Numeric before);
+  is_binary = is_binary_behind is_maria_log stated before column;
+  padded_length = padded_length (is_binary_behind is_maria_log stated before column) column;
   members = members_in (real_type column) (slice_get (lists_stated stated.enums) (class_count Enum before)) (slice_get (lists_stated stated.sets) (class_count Set before));
 }
 
@@ -115,10 +112,12 @@ facts_behind is_maria_log stated before column = record {
 abbrev pub facts_at : Bool → Stated → List Typed → ℕ → Facts
 facts_at is_maria_log stated columns index = facts_behind is_maria_log stated (take index columns) (slice_index_or columns index (MYSQL_TYPE_NULL, 0))
 
--- These are the facts of columns whose table map has this optional metadata, in order.
-pub record StatesFacts (is_maria_log : Bool) (columns : List Typed) (s : List ℕ) (facts : List ColumnFacts) : Type 0 where
-  pub fields : List Content
+-- These are the facts of columns whose table map has this optional metadata, in order, and why the first field is refused
+-- that is. The fields that are read state the facts.
+pub record StatesFacts (is_maria_log : Bool) (columns : List Typed) (s : List ℕ) (facts : List ColumnFacts) (refusal : Option OptionalMetadataError) : Type 0 where
+  pub fields : List FieldContent
   pub are : AreFields (counts_of is_maria_log columns) s fields
+  pub refused : refusal ≡ first_refusal fields
   pub count : length facts ≡ length columns
   pub each : (index : ℕ) (none : ColumnFacts) → index < length columns
-      → facts_of (slice_index_or facts index none) ≡ facts_at is_maria_log (stated_in fields) columns index
+      → facts_of (slice_index_or facts index none) ≡ facts_at is_maria_log (stated_in (contents_of fields)) columns index

@@ -1,5 +1,5 @@
 -- The fields that count, as contracts see them.
-use Rattle.std.specs.Prelude.{◌≡◌, ℕ, Bool, List, [], Option, Some, None, option_map, if◌then◌else◌}
+use Rattle.std.specs.Prelude.{◌≡◌, ℕ, Bool, List, [], Option, Some, None, Ok, Err, option_map, if◌then◌else◌}
 use Rattle.binlog_optional_metadata.specs.DefaultCharsets.{charsets_of}
 use Rattle.binlog_optional_metadata.specs.Fields.{Content, numbers, names, charsets, lists}
 use Rattle.binlog_optional_metadata.specs.FieldValues.{bits_of}
@@ -10,11 +10,13 @@ use Rattle.binlog_optional_metadata.specs.declared.class_counts.ClassCounts.{Cla
 use Rattle.binlog_optional_metadata.specs.declared.field_type.OptionalMetadataFieldType.TheVariants.{SIGNEDNESS, DEFAULT_CHARSET, COLUMN_CHARSET, COLUMN_NAME, SET_STR_VALUE, ENUM_STR_VALUE}
 use Rattle.binlog_optional_metadata.specs.declared.member_lists.MemberLists.{MemberLists}
 use Rattle.binlog_optional_metadata.specs.declared.names.Names.{Names}
-use Rattle.binlog_column_facts.specs.Fields.{AreFields, states_signedness, states_collations, states_names, states_enums, states_sets}
+use Rattle.binlog_column_facts.specs.Fields.{AreFields, contents_of, first_refusal, states_signedness, states_collations, states_names, states_enums, states_sets}
 use Rattle.binlog_column_facts.specs.Stated.{Stated, stated_in}
 use Rattle.binlog_column_facts.specs.declared.character_sets.CharacterSets.{CharacterSets}
 use Rattle.binlog_column_facts.specs.declared.character_sets.CharacterSets.TheVariants as sets
 use Rattle.binlog_column_facts.specs.declared.stated_fields.StatedFields.{StatedFields}
+use Rattle.binlog_optional_metadata.specs.FieldsLeft.{FieldContent}
+use Rattle.binlog_optional_metadata.specs.declared.metadata_error.OptionalMetadataError.{OptionalMetadataError}
 
 -- The field with these collations.
 abbrev pub sets_content : CharacterSets → Content
@@ -44,11 +46,23 @@ with_field stated field = record {
   sets = newer states_sets field stated.sets;
 }
 
--- The fields of the bytes that count are these.
-pub record LeavesFields (counts : ClassCounts) (s : List ℕ) (stated : Stated) : Type 0 where
-  pub fields : List Content
+-- One more field, which counts if it is read.
+abbrev pub with_content : Stated → FieldContent → Stated
+with_content stated (Ok field) = with_field stated field
+with_content stated (Err error) = stated
+
+-- One more field, whose refusal counts if it is the first one.
+abbrev pub with_refusal : Option OptionalMetadataError → FieldContent → Option OptionalMetadataError
+with_refusal refusal (Ok field) = refusal
+with_refusal None (Err error) = Some error
+with_refusal (Some earlier) (Err error) = Some earlier
+
+-- The fields of the bytes that count are these, and this is why the first of them is refused that is.
+pub record LeavesFields (counts : ClassCounts) (s : List ℕ) (stated : Stated) (refusal : Option OptionalMetadataError) : Type 0 where
+  pub fields : List FieldContent
   pub are : AreFields counts s fields
-  pub last : stated ≡ stated_in fields
+  pub last : stated ≡ stated_in (contents_of fields)
+  pub first : refusal ≡ first_refusal fields
 
 -- The names that are left.
 abbrev pub names_left : Option Names → List (List ℕ)

@@ -16,4 +16,5 @@ mod table_facts;
 mod table_map_columns;
 
 pub use column_facts::ColumnFacts;
+pub use table_facts::TableFacts;
 pub use table_map_columns::TableMapColumns;

@@ -1,10 +1,10 @@
 //! The facts of the columns of a table.
-ghost use Rattle.std.specs.Prelude.{◌≡◌, ◌&&◌, ◌==◌, ◌+◌, ◌<◌, ◌^◌, List, [], ◌∷◌, Some, None, drop, option_map, slice_get, slice_index_or, false, unwrap_or, IfOk, length, if◌then◌else◌};
+ghost use Rattle.std.specs.Prelude.{◌≡◌, ◌&&◌, ◌==◌, ◌+◌, ◌<◌, ◌^◌, List, [], ◌∷◌, Some, None, drop, option_map, slice_get, slice_index_or, false, unwrap_or, IfOk, length};
 ghost use Rattle.std.specs.Option.{option_and_then};
 ghost use Rattle.binlog_columns.specs.TableColumns.{columns_of};
 ghost use Rattle.binlog_optional_metadata.specs.FieldValues.{bits_of};
 ghost use Rattle.binlog_optional_metadata.specs.declared.field_type.OptionalMetadataFieldType.TheVariants.{SIGNEDNESS};
-ghost use Rattle.binlog_column_facts.specs.Stated.{is_set_in, text_of, numeric_class, StatesFacts};
+ghost use Rattle.binlog_column_facts.specs.Stated.{is_set_in, text_of, StatesFacts};
 ghost use Rattle.binlog_column_facts.specs.StatedFields.{names_left};
 
 use crate::binary_columns::binary_columns;
@@ -14,14 +14,25 @@ use crate::column_members::next_members;
 use crate::padding::padded_length;
 use crate::stated_fields::StatedFields;
 use binlog_columns::TableColumns;
-use binlog_optional_metadata::{ColumnClass, MetadataBits, Names, OptionalMetadata};
+use binlog_optional_metadata::{
+    ColumnClass, MetadataBits, Names, OptionalMetadata, OptionalMetadataError,
+};
 use std::alloc::{AllocError, Global};
 
-impl<'a> ColumnFacts<'a> {
-    /// What the optional metadata of a table map states of each of the columns of the table, in their order. In MariaDB's logs
-    /// a YEAR is a numeric column.
+/// What the optional metadata of a table map states of the columns of its table.
+#[derive(Debug, PartialEq, Eq, Drop)]
+pub struct TableFacts<'a> {
+    /// What is stated of each column, in their order.
+    pub columns: Vec<ColumnFacts<'a>>,
+    /// Why the first field of the metadata is refused that is; None if all are read. A refused field states nothing.
+    pub refusal: Option<OptionalMetadataError>,
+}
+
+impl<'a> TableFacts<'a> {
+    /// What this optional metadata states of these columns. Which columns have a collation depends on the server that wrote
+    /// the log ([`ColumnClass::character`]).
     ///
-    /// The fields up to the end of the metadata count, or up to the first that is refused; of two fields of one kind the last.
+    /// Each field that is read counts, also beside others that are refused; of two fields of one kind the last that is read.
     /// What no field states is as in [`ColumnFacts`] without it: a column without a name, not UNSIGNED, not `binary`, without
     /// members. A name that isn't UTF-8 isn't stated. The numbers of columns and of members bound what is allocated; each
     /// member has its own bytes in the metadata.
@@ -29,21 +40,21 @@ impl<'a> ColumnFacts<'a> {
     /// # Errors
     ///
     /// [`AllocError`] if an allocation fails.
-    pub fn of_table(
+    pub fn new(
         alloc: Global,
         columns: TableColumns<'_>,
         optional_metadata: &'a [u8],
         is_maria_log: bool,
-    ) -> Result<Vec<Self>, AllocError>
-        ensures { IfOk result (λ facts. StatesFacts is_maria_log (columns_of columns.entry) optional_metadata.now facts.items) }
+    ) -> Result<Self, AllocError>
+        ensures { IfOk result (λ facts. StatesFacts is_maria_log (columns_of columns.entry) optional_metadata.now facts.columns.items facts.refusal) }
     {
         let fields = OptionalMetadata::new(columns, optional_metadata, is_maria_log);
         let stated = StatedFields::read(fields);
         let count = columns.num_columns();
         let binary = binary_columns(alloc, count, stated.character_sets)?;
         let (mut names, mut enums, mut sets) = (stated.names, stated.enums, stated.sets);
-        let mut numeric = ClassIndex::new(numeric_class(is_maria_log));
-        let mut character = ClassIndex::new(ColumnClass::Character);
+        let mut numeric = ClassIndex::new(ColumnClass::Numeric);
+        let mut character = ClassIndex::new(ColumnClass::character(is_maria_log));
         let mut facts = Vec::with_capacity(alloc, count)?;
         'columns: for column in columns {
             let real_type = column.real_type();
@@ -59,18 +70,10 @@ impl<'a> ColumnFacts<'a> {
                 })
                 .map_err(AllocError::from)?;
         }
-        Ok(facts)
-    }
-}
-
-/// The columns that have a bit in the field of signedness.
-fn numeric_class(is_maria_log: bool) -> ColumnClass
-    ensures { result ≡ numeric_class is_maria_log }
-{
-    if is_maria_log {
-        ColumnClass::NumericOrYear
-    } else {
-        ColumnClass::Numeric
+        Ok(TableFacts {
+            columns: facts,
+            refusal: stated.refusal,
+        })
     }
 }
 

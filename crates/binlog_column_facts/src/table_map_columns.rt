@@ -26,7 +26,8 @@ pub trait TableMapColumns {
             (λ columns. (refusal 0 (types self.now) (metadata self.now) ≡ None) × (columns_of columns ≡ columns_in (types self.now) (metadata self.now)))
             (λ error. refusal 0 (types self.now) (metadata self.now) ≡ Some error) };
 
-    /// The fields of the optional metadata. In MariaDB's logs a YEAR is a numeric column.
+    /// The fields of the optional metadata. Which columns have a collation depends on the server that wrote the log
+    /// ([`ColumnClass::character`](binlog_optional_metadata::ColumnClass::character)).
     ///
     /// # Errors
     ///

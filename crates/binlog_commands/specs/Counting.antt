@@ -21,6 +21,10 @@ counted count more = min (count + more) (2 ^ 64 - 1)
 abbrev pub counted_if : Bool → ℕ → ℕ
 counted_if b count = if b then counted count 1 else count
 
+-- An event that the end of the log cuts counts as an error, if there is one.
+abbrev pub with_cut : Bool → Tally → Tally
+with_cut is_cut tally = record tally { errors = counted_if is_cut tally.errors }
+
 -- The item is counted.
 abbrev pub Counts : Tally → Result EventView Error → Tally → Type 0
 Counts old (Ok event) new = new ≡ record {

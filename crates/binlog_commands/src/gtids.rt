@@ -20,9 +20,10 @@ pub struct GtidCollector<W> {
 }
 
 impl<W> GtidCollector<W> {
-    /// An empty set. Nothing is allocated.
+    /// An empty set, and no event whose GTIDs can't be read. Nothing is allocated.
     pub fn new(alloc: Global, output: W) -> Self
         ensures gtids { result.gtids ≡ [] }
+        ensures refused { result.refused ≡ 0 }
         ensures output { result.output ≡ output }
     {
         GtidCollector {
@@ -36,12 +37,11 @@ impl<W> GtidCollector<W> {
 
 /// A visit adds the GTIDs of the item, or writes its line. It is refused with [`Error::Memory`] or [`Error::Writer`].
 impl<W: WriteCounted> Visitor for GtidCollector<W> {
-    ghost use Rattle.binlog_commands.specs.Collecting.{Collects, RefusesCollected};
-    ghost use Rattle.binlog_gtid_listing.specs.GtidListing.{tracked};
+    ghost use Rattle.binlog_commands.specs.Collecting.{collection, Collects, RefusesCollected};
 
-    ghost visits = { λ old maps index item new. Collects index item (tracked old.gtids (W.contents old.output)) (tracked new.gtids (W.contents new.output)) };
+    ghost visits = { λ old maps index item new. Collects index item (collection old.gtids (W.contents old.output) old.refused) (collection new.gtids (W.contents new.output) new.refused) };
 
-    ghost refuses = { λ old maps index item error new. RefusesCollected index item (tracked old.gtids (W.contents old.output)) error (tracked new.gtids (W.contents new.output)) };
+    ghost refuses = { λ old maps index item error new. RefusesCollected index item (collection old.gtids (W.contents old.output) old.refused) error (collection new.gtids (W.contents new.output) new.refused) };
 
     fn visit_event(
         &mut self,

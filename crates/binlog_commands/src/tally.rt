@@ -1,6 +1,6 @@
 //! A visitor that counts what it is shown.
 ghost use Rattle.std.specs.Prelude.{◌≡◌};
-ghost use Rattle.binlog_commands.specs.Counting.{none_counted};
+ghost use Rattle.binlog_commands.specs.Counting.{none_counted, with_cut};
 
 use binlog_file::{Error, EventRef, EventStreamReader};
 use binlog_visits::Visitor;
@@ -29,6 +29,19 @@ impl Tally {
             bytes: 0,
             checksums: 0,
             errors: 0,
+        }
+    }
+
+    /// The same counts, with one error more if the end of the log cuts an event.
+    pub fn with_cut(self, is_cut: bool) -> Self
+        ensures { result ≡ with_cut is_cut self }
+    {
+        if !is_cut {
+            return self;
+        }
+        Tally {
+            errors: self.errors.saturating_add(1),
+            ..self
         }
     }
 }

@@ -99,11 +99,19 @@ wants_read filter (Ok (Some x)) = wants filter x
 wants_read filter (Ok None) = is_none filter.include_gtids
 wants_read filter (Err error) = is_none filter.include_gtids
 
+-- Whether the transaction is wanted that begins with this event: by the data of the event, or by the error that its bytes give. A
+-- lack of memory says nothing of the data.
+pub record WantsEvent (filter : Filter) (event : EventView) (now : Bool) : Type 0 where
+  pub read : Result (Option EventData) Error
+  pub reads : ReadsEventData event read
+  pub is_read : ¬ (read ≡ Err Memory)
+  pub is : now ≡ wants_read filter read
+
 -- Whether the transaction of an event is wanted, if `was` says so of the event before it.
 abbrev pub FollowsEvent : Filter → Bool → EventView → Result Bool Error → Type 0
 FollowsEvent filter was event (Ok now) =
     ((begins_transaction (header_of event.frame).event_type ≡ false) × (now ≡ was))
-    ⊎ ((begins_transaction (header_of event.frame).event_type ≡ true) × ((read : Result (Option EventData) Error) × ReadsEventData event read × (now ≡ wants_read filter read)))
+    ⊎ ((begins_transaction (header_of event.frame).event_type ≡ true) × WantsEvent filter event now)
 FollowsEvent filter was event (Err error) = error ≡ Memory
 
 -- ---- items

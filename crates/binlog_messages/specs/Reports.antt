@@ -1,5 +1,5 @@
 -- A visitor whose errors are reported.
-use Rattle.std.specs.Prelude.{◌≡◌, ℕ, ◌==◌, Bool, true, false, ◌||◌, not, Result, Ok, Err}
+use Rattle.std.specs.Prelude.{◌≡◌, ℕ, ◌==◌, Bool, true, false, ◌||◌, not, if◌then◌else◌, Result, Ok, Err}
 use Rattle.binlog_wire.specs.declared.error.Error.{Error}
 use Rattle.binlog_events.specs.Events.{EventView}
 use Rattle.binlog_file.specs.TableMapsInForce.{TableMaps}
@@ -7,14 +7,19 @@ use Rattle.binlog_visits.specs.Visits.{VisitRelation}
 use Rattle.binlog_filters.specs.Filtering.{begun}
 use Rattle.binlog_filters.specs.declared.filtered.Filtered.{Filtered}
 
--- What contracts see of it: the visitor, and whether the file has an error.
+-- What contracts see of it: the visitor, whether the file has an error, and whether it ends within an event.
 pub record ReportedView (T : Type 0) : Type 0 where
   pub visitor : T
   pub has_errors : Bool
+  pub is_cut : Bool
 
 -- The same at the start of a file.
 abbrev pub begun_file : {T : Type 0} → ReportedView (Filtered T) → ReportedView (Filtered T)
-begun_file old = record { visitor = begun old.visitor; has_errors = false }
+begun_file old = record { visitor = begun old.visitor; has_errors = false; is_cut = false }
+
+-- The same at the end of a file, behind whose last item so many bytes lie: any make an error of the file.
+abbrev pub ended_file : {T : Type 0} → (tail_len : ℕ) → ReportedView T → ReportedView T
+ended_file tail_len old = if tail_len == 0 then old else record old { has_errors = true; is_cut = true }
 
 -- Whether the file has an error behind an item: one before it, the item, or an event that the visitor refused. It counts
 -- those that it refuses: so many before the item, and so many behind it.
@@ -28,3 +33,4 @@ module _ {T : Type 0} (visits : VisitRelation T) (refused : T → ℕ) where
   pub record Reports (old : ReportedView T) (maps : TableMaps) (index : ℕ) (item : Result EventView Error) (new : ReportedView T) : Type 0 where
     pub does : visits old.visitor maps index item new.visitor
     pub notes : new.has_errors ≡ has_error old.has_errors item (refused old.visitor) (refused new.visitor)
+    pub cut : new.is_cut ≡ old.is_cut

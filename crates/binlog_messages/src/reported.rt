@@ -1,6 +1,6 @@
 //! A visitor that writes messages.
 ghost use Rattle.std.specs.Prelude.{◌≡◌, ◌≢◌, codes, false};
-ghost use Rattle.binlog_messages.specs.Reports.{begun_file};
+ghost use Rattle.binlog_messages.specs.Reports.{begun_file, ended_file};
 
 use crate::progress::Progress;
 use crate::refusing::Refusing;
@@ -20,7 +20,7 @@ pub fn shown_name(name: &str) -> &str
 
 /// Writes a message for each error of a file and the progress in it, and shows everything to another visitor.
 ///
-/// Contracts see the other visitor, and whether the file has an error.
+/// Contracts see the other visitor, whether the file has an error, and whether it ends within an event.
 #[derive(Drop)]
 pub struct Reported<'a, E, T> {
     rt: &'a E,
@@ -31,6 +31,8 @@ pub struct Reported<'a, E, T> {
     progress: Progress,
     // Whether the file has an error.
     has_errors: bool,
+    // Whether the file ends within an event.
+    is_cut: bool,
     visitor: T,
 }
 
@@ -39,7 +41,7 @@ impl<'a, E, T> Model for Reported<'a, E, T> {
 
     ghost Value = { ReportedView T };
 
-    ghost view = { λ reported. record { visitor = reported.visitor; has_errors = reported.has_errors } };
+    ghost view = { λ reported. record { visitor = reported.visitor; has_errors = reported.has_errors; is_cut = reported.is_cut } };
 }
 
 impl<'a, E, T> Reported<'a, E, T> {
@@ -48,6 +50,13 @@ impl<'a, E, T> Reported<'a, E, T> {
         ensures { result ≡ self.now.has_errors }
     {
         self.has_errors
+    }
+
+    /// Whether the file ends within an event. It has an error then.
+    pub fn is_cut(&self) -> bool
+        ensures { result ≡ self.now.is_cut }
+    {
+        self.is_cut
     }
 
     /// The other visitor.
@@ -68,7 +77,7 @@ impl<'a, E, T> Reported<'a, E, T> {
 impl<'a, E: Eprint, T> Reported<'a, E, Filtered<T>> {
     /// Messages go to the standard error of `rt`.
     pub fn new(rt: &'a E, visitor: Filtered<T>) -> Self
-        ensures { result ≡ record { visitor = visitor; has_errors = false } }
+        ensures { result ≡ record { visitor = visitor; has_errors = false; is_cut = false } }
     {
         Reported {
             rt,
@@ -77,6 +86,7 @@ impl<'a, E: Eprint, T> Reported<'a, E, Filtered<T>> {
             place: Place::first(),
             progress: Progress::hidden(),
             has_errors: false,
+            is_cut: false,
             visitor,
         }
     }
@@ -99,14 +109,22 @@ impl<'a, E: Eprint, T> Reported<'a, E, Filtered<T>> {
         self.place = Place::first();
         self.progress = progress;
         self.has_errors = false;
+        self.is_cut = false;
         self.visitor.begin();
     }
 
-    /// Wipes the progress in the file, which is read.
-    pub fn end(&mut self)
-        ensures { self.new ≡ self.old }
+    /// Ends the file, which is read: wipes the progress in it. If bytes lie behind its last item, they are the beginning of an
+    /// event; this is an error of the file, and has its message.
+    pub fn end(&mut self, tail_len: usize)
+        ensures { self.new ≡ ended_file tail_len self.old }
     {
         self.progress.wipe(self.rt);
+        if tail_len == 0 {
+            return;
+        }
+        report_cut(self.rt, self.file, self.place, tail_len);
+        self.has_errors = true;
+        self.is_cut = true;
     }
 
     /// Writes the message of an error of the file as a whole.
@@ -127,6 +145,20 @@ fn report<E: Eprint>(rt: &E, file: &str, index: u64, place: Place, error: &Error
             eprintln!(rt; "binlog: {file}: event {index} at byte {position}: {error}")
         }
         None => eprintln!(rt; "binlog: {file}: event {index}: {error}"),
+    };
+}
+
+// Writes the message of an event that the end of the file cuts: it has this many bytes there, from this place on.
+fn report_cut<E: Eprint>(rt: &E, file: &str, place: Place, tail_len: usize) {
+    let _ = match place.position {
+        Some(position) => {
+            eprintln!(rt;
+                "binlog: {file}: the last {tail_len} bytes, from byte {position} on, are the beginning of an event"
+            )
+        }
+        None => eprintln!(rt;
+            "binlog: {file}: the last {tail_len} bytes are the beginning of an event"
+        ),
     };
 }
 

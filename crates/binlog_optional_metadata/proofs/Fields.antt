@@ -5,10 +5,9 @@ use Rattle.binlog_wire.specs.declared.error.Error.TheVariants as errors
 use Rattle.binlog_wire.specs.Fields.{IsBytes}
 use Rattle.binlog_wire.specs.Reading.{Refusal, Read, ends, invalid, other_type, Refuses}
 use Rattle.binlog_optional_metadata.specs.Fields.{Content, content, field}
-use Rattle.binlog_optional_metadata.specs.FieldsLeft.{whole_content, field_taken}
+use Rattle.binlog_optional_metadata.specs.FieldsLeft.{FieldContent, whole_content, field_taken}
 use Rattle.binlog_optional_metadata.specs.Kinds.{kind_as, kind_of}
 use Rattle.binlog_optional_metadata.specs.declared.class_counts.ClassCounts.{ClassCounts}
-use Rattle.binlog_optional_metadata.specs.declared.metadata_error.OptionalMetadataError.{OptionalMetadataError}
 use Rattle.binlog_optional_metadata.specs.declared.metadata_error.OptionalMetadataErrorKind.TheVariants.{LeftOver}
 
 -- An error is of the kind of its refusal.
@@ -58,19 +57,14 @@ pub content_taken : (number : ℕ) (read : Read Content) (c : Content) (rest : L
     → whole_content number read ≡ Ok c
 content_taken number read c rest is none = rw is (nothing_left number c rest none)
 
--- A field is taken.
-pub field_given : (counts : ClassCounts) (read : Read (ℕ × List ℕ)) (number : ℕ) (bytes rest : List ℕ) (c : Content) → read ≡ Ok ((number, bytes), rest)
-    → Ok c ≡ whole_content number ((content counts number).reads bytes) → field_taken counts read ≡ Ok (c, rest)
-field_given counts read number bytes rest c is same = rw (is, ← same) refl
-
--- The content of a field is refused.
-pub field_content_refused : (counts : ClassCounts) (read : Read (ℕ × List ℕ)) (number : ℕ) (bytes rest : List ℕ) (e : OptionalMetadataError)
-    → read ≡ Ok ((number, bytes), rest) → Err e ≡ whole_content number ((content counts number).reads bytes) → field_taken counts read ≡ Err e
-field_content_refused counts read number bytes rest e is same = rw (is, ← same) refl
+-- A field is taken, and its content is read or refused.
+pub field_given : (counts : ClassCounts) (read : Read (ℕ × List ℕ)) (number : ℕ) (bytes rest : List ℕ) (c : FieldContent) → read ≡ Ok ((number, bytes), rest)
+    → c ≡ whole_content number ((content counts number).reads bytes) → (c, rest) ≡ field_taken counts read
+field_given counts read number bytes rest c is same = rw (is, same) refl
 
 -- The type or the length of a field is refused.
 pub field_refused : (counts : ClassCounts) (read : Read (ℕ × List ℕ)) (e : Error) → Refuses ⊥ e read
-    → field_taken counts read ≡ Err (record { kind = kind_of e; field_type = None })
+    → field_taken counts read ≡ (Err (record { kind = kind_of e; field_type = None }), [])
 field_refused counts read e h =
     let d = kind_is e read h in
     rw (d.1, d.2) refl

@@ -1,5 +1,5 @@
 //! How many columns there are of each class.
-ghost use Rattle.std.specs.Prelude.{◌≡◌, ◌+◌, Bool, if◌then◌else◌, length};
+ghost use Rattle.std.specs.Prelude.{◌≡◌, ◌+◌, Bool, length};
 ghost use Rattle.binlog_columns.specs.TableColumns.{columns_of};
 
 use crate::column_class::ColumnClass;
@@ -22,19 +22,14 @@ pub(crate) struct ClassCounts {
 impl ClassCounts {
     ghost use Rattle.binlog_optional_metadata.specs.Counts.{counts_of};
 
-    /// Counts these columns; in MariaDB's logs a YEAR is a numeric column.
+    /// Counts these columns, of a log that MariaDB wrote or another server.
     pub(crate) fn new(columns: TableColumns<'_>, is_maria_log: bool) -> Self
         ensures { result ≡ counts_of is_maria_log (columns_of columns.entry) }
     {
-        let numeric = if is_maria_log {
-            ColumnClass::NumericOrYear
-        } else {
-            ColumnClass::Numeric
-        };
         ClassCounts {
             columns: columns.num_columns() as u64,
-            numeric: numeric.count_in(columns),
-            character: ColumnClass::Character.count_in(columns),
+            numeric: ColumnClass::Numeric.count_in(columns),
+            character: ColumnClass::character(is_maria_log).count_in(columns),
             enums: ColumnClass::Enum.count_in(columns),
             sets: ColumnClass::Set.count_in(columns),
             listed: ColumnClass::EnumOrSet.count_in(columns),

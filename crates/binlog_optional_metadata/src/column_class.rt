@@ -1,19 +1,20 @@
 //! The classes of columns.
 ghost use Rattle.std.specs.Prelude.{◌≡◌, ◌<◌, ◌^◌, length};
 ghost use Rattle.binlog_columns.specs.TableColumns.{columns_of};
-ghost use Rattle.binlog_optional_metadata.specs.Classes.{is_numeric, is_character, is_in_class, class_count};
+ghost use Rattle.binlog_optional_metadata.specs.Classes.{is_numeric, is_string, is_in_class, character_class, class_count};
 
 use binlog_columns::{ColumnType, TableColumns};
 
 /// The columns that a field of the optional metadata is about, by their real types.
 #[derive(Clone, Copy, Debug, PartialEq, Eq, Hash)]
 pub enum ColumnClass {
-    /// TINY, SHORT, INT24, LONG, LONGLONG, FLOAT, DOUBLE and NEWDECIMAL.
+    /// TINY, SHORT, INT24, LONG, LONGLONG, FLOAT, DOUBLE, NEWDECIMAL and YEAR.
     Numeric,
-    /// The same and YEAR, as MariaDB counts them.
-    NumericOrYear,
-    /// STRING, VARCHAR, VAR_STRING, the four BLOB types, the two compressed types and GEOMETRY.
+    /// The columns with a collation in MySQL's logs: STRING, VARCHAR, VAR_STRING, the four BLOB types, the two compressed
+    /// types and VECTOR.
     Character,
+    /// The columns with a collation in MariaDB's logs: the same, but GEOMETRY in place of VECTOR.
+    MariaCharacter,
     /// ENUM.
     Enum,
     /// SET.
@@ -33,11 +34,14 @@ impl ColumnClass {
     {
         match self {
             ColumnClass::Numeric => is_numeric(real_type),
-            ColumnClass::NumericOrYear => match real_type {
-                ColumnType::MYSQL_TYPE_YEAR => true,
-                other => is_numeric(other),
+            ColumnClass::Character => match real_type {
+                ColumnType::MYSQL_TYPE_VECTOR => true,
+                other => is_string(other),
             },
-            ColumnClass::Character => is_character(real_type),
+            ColumnClass::MariaCharacter => match real_type {
+                ColumnType::MYSQL_TYPE_GEOMETRY => true,
+                other => is_string(other),
+            },
             ColumnClass::Enum => matches!(real_type, ColumnType::MYSQL_TYPE_ENUM),
             ColumnClass::Set => matches!(real_type, ColumnType::MYSQL_TYPE_SET),
             ColumnClass::EnumOrSet => matches!(
@@ -46,6 +50,17 @@ impl ColumnClass {
             ),
             ColumnClass::Geometry => matches!(real_type, ColumnType::MYSQL_TYPE_GEOMETRY),
             ColumnClass::Vector => matches!(real_type, ColumnType::MYSQL_TYPE_VECTOR),
+        }
+    }
+
+    /// The class of the columns with a collation, by the server that wrote the log.
+    pub fn character(is_maria_log: bool) -> Self
+        ensures { result ≡ character_class is_maria_log }
+    {
+        if is_maria_log {
+            ColumnClass::MariaCharacter
+        } else {
+            ColumnClass::Character
         }
     }
 
@@ -65,7 +80,7 @@ impl ColumnClass {
     }
 }
 
-/// Whether columns of this type are numbers; a YEAR isn't.
+/// Whether columns of this type are numbers or years.
 fn is_numeric(column_type: ColumnType) -> bool
     ensures { result ≡ is_numeric column_type }
 {
@@ -79,12 +94,13 @@ fn is_numeric(column_type: ColumnType) -> bool
             | ColumnType::MYSQL_TYPE_LONGLONG
             | ColumnType::MYSQL_TYPE_INT24
             | ColumnType::MYSQL_TYPE_NEWDECIMAL
+            | ColumnType::MYSQL_TYPE_YEAR
     )
 }
 
-/// Whether columns of this real type have a collation.
-fn is_character(real_type: ColumnType) -> bool
-    ensures { result ≡ is_character real_type }
+/// Whether columns of this real type are strings of characters or bytes.
+fn is_string(real_type: ColumnType) -> bool
+    ensures { result ≡ is_string real_type }
 {
     matches!(
         real_type,
@@ -97,6 +113,5 @@ fn is_character(real_type: ColumnType) -> bool
             | ColumnType::MYSQL_TYPE_BLOB
             | ColumnType::MYSQL_TYPE_VAR_STRING
             | ColumnType::MYSQL_TYPE_STRING
-            | ColumnType::MYSQL_TYPE_GEOMETRY
     )
 }

@@ -16,9 +16,9 @@ pub enum OptionalMetadataErrorKind {
     LeftOver,
 }
 
-/// Why the optional metadata is refused: the first fault, in the order of the bytes.
+/// Why a field of the optional metadata is refused: its first fault, in the order of the bytes.
 #[derive(Clone, Copy, Debug, PartialEq, Eq, Hash, ErrorMessage)]
-#[error("the optional metadata is refused: {kind:?}")]
+#[error("a field of the optional metadata is refused: {kind:?}")]
 pub struct OptionalMetadataError {
     /// What is wrong.
     pub kind: OptionalMetadataErrorKind,

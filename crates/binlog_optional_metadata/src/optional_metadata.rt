@@ -1,5 +1,5 @@
 //! The optional metadata of a table map.
-ghost use Rattle.std.specs.Prelude.{◌≡◌, ◌<◌, length, IfOk};
+ghost use Rattle.std.specs.Prelude.{◌≡◌, ◌<◌, length};
 ghost use Rattle.binlog_columns.specs.TableColumns.{columns_of};
 ghost use Rattle.binlog_wire.specs.Reading.{Gives};
 ghost use Rattle.binlog_optional_metadata.specs.Fields.{content, field};
@@ -16,10 +16,12 @@ use binlog_columns::TableColumns;
 use binlog_numbers::LenEncBytes;
 use binlog_wire::{BytesRepr, EofBytes, Error, IntRepr, ParseBuf};
 
-/// The optional metadata of a table map: an iterator over its fields, up to the end or to the first that is refused.
-/// After that it gives None. It borrows the bytes of the table map and allocates nothing.
+/// The optional metadata of a table map: an iterator over its fields. It borrows the bytes of the table map and allocates
+/// nothing.
 ///
-/// A field that is given twice is an item twice; the last one counts.
+/// A field whose content is refused is an error in its place, and the fields after it follow. Where the type or the length of
+/// a field can't be read, it isn't known where the next field begins: its error is the last item. A field that is given twice
+/// is an item twice.
 #[derive(Clone, Copy, Debug)]
 pub struct OptionalMetadata<'a> {
     counts: ClassCounts,
@@ -77,32 +79,36 @@ fn whole_content<'a>(
     })
 }
 
-/// The first field of these bytes, and the bytes after it.
-#[tactic(auto, using(crate::proofs::Fields::field_given, crate::proofs::Fields::field_content_refused, crate::proofs::Fields::field_refused))]
+/// The first field of these bytes or its refusal, and the bytes after it.
+#[tactic(auto, using(crate::proofs::Fields::field_given, crate::proofs::Fields::field_refused))]
 fn first_field<'a>(
     counts: &ClassCounts,
     bytes: &'a [u8],
-) -> Result<(OptionalMetadataField<'a>, &'a [u8]), OptionalMetadataError>
+) -> (
+    Result<OptionalMetadataField<'a>, OptionalMetadataError>,
+    &'a [u8],
+)
     ensures first { answer_first result ≡ first_field counts.now bytes.now }
-    ensures shorter { IfOk result (λ x. length x.1.now < length bytes.now) }
+    ensures shorter { 0 < length bytes.now → length result.1.now < length bytes.now }
 {
     let mut rest = ParseBuf(bytes);
     match read_field(&mut rest) {
-        Ok((number, content)) => match whole_content(number, counts, content) {
-            Ok(field) => Ok((field, rest.0)),
-            Err(error) => Err(error),
-        },
-        Err(error) => Err(OptionalMetadataError {
-            kind: kind_of(error),
-            field_type: None,
-        }),
+        Ok((number, content)) => (whole_content(number, counts, content), rest.0),
+        Err(error) => {
+            let error = OptionalMetadataError {
+                kind: kind_of(error),
+                field_type: None,
+            };
+            (Err(error), &[])
+        }
     }
 }
 
 impl<'a> OptionalMetadata<'a> {
     ghost use Rattle.binlog_optional_metadata.specs.Counts.{counts_of};
 
-    /// The fields in these bytes, of a table with these columns. In MariaDB's logs a YEAR is a numeric column.
+    /// The fields in these bytes, of a table with these columns. Which columns have a collation depends on the server that
+    /// wrote the log ([`ColumnClass::character`](crate::ColumnClass::character)).
     pub fn new(columns: TableColumns<'_>, bytes: &'a [u8], is_maria_log: bool) -> Self
         ensures counts { result.counts ≡ counts_of is_maria_log (columns_of columns.entry) }
         ensures bytes { result.rest.now ≡ bytes.now }
@@ -129,15 +135,8 @@ impl<'a> Iterator for OptionalMetadata<'a> {
         if self.rest.is_empty() {
             return None;
         }
-        match first_field(&self.counts, self.rest) {
-            Ok((field, rest)) => {
-                self.rest = rest;
-                Some(Ok(field))
-            }
-            Err(error) => {
-                self.rest = &[];
-                Some(Err(error))
-            }
-        }
+        let (item, rest) = first_field(&self.counts, self.rest);
+        self.rest = rest;
+        Some(item)
     }
 }

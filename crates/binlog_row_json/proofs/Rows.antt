@@ -1,5 +1,5 @@
 -- The rows of an event as the value of a member.
-use Rattle.std.proofs.Common.{◌≡◌, ℕ, Bool, true, false, cond, List, [], ◌∷◌, ◌++◌, codes, Option, None, Some, Result, Ok, Err, OnOk, refl, sym, append_assoc, append-nil}
+use Rattle.std.proofs.Common.{◌≡◌, ℕ, Bool, true, false, cond, List, [], ◌∷◌, ◌++◌, codes, Option, None, Some, Result, Ok, Err, OnOk, refl, sym, ap, subst, ◌∙◌, append_assoc, append-nil}
 use Rattle.json.specs.Token.{Token, key}
 use Rattle.json_line.specs.Tokens.{text_value, member}
 use Rattle.binlog_events.specs.Events.{EventView}
@@ -17,8 +17,10 @@ use Rattle.binlog_images.specs.Events.{mapped_columns, event_error, columns_erro
 use Rattle.binlog_images.specs.declared.rows.Rows.{Rows}
 use Rattle.binlog_images.specs.declared.rows_error.RowsEventError.{RowsEventError}
 use Rattle.binlog_images.specs.declared.rows_error.RowsEventError.TheVariants.{NoTableMap}
-use Rattle.binlog_row_json.specs.Members.{name_of, rows_error, AreRowsValue, ShowsStatedRows, IsRowsValue, AreMappedMembers, IsFlavour, AreBodyMembers, AreMembersOf}
+use Rattle.binlog_row_json.specs.Members.{name_of, rows_error, AreReadRows, ShowsStatedRows, AreRowsMembers, AreMappedMembers, IsFlavour, AreBodyMembers, AreMembersOf}
+use Rattle.binlog_row_json.specs.Refusals.{metadata_member}
 use Rattle.binlog_row_json.specs.RowEvents.{rows_in}
+use Rattle.binlog_optional_metadata.specs.declared.metadata_error.OptionalMetadataError.{OptionalMetadataError}
 use Rattle.binlog_row_json.specs.Shown.{Appended, Shows}
 
 none_of_columns : (event table : ℕ) (refused : Option ColumnError) → columns_error event table refused ≡ None → refused ≡ None
@@ -32,32 +34,48 @@ none_refused false id event table refused none = absurd cc
 
 -- The rows that are written are those of the event.
 pub rows_value : {A E : Type 0} (result : Result A E) (is_maria_log is_partial : Bool) (map : TableMapEvent) (event : rows_events.RowsEvent) (rows : Rows) (old new : List Token) → AreRowsOf is_partial map event rows
-    → OnOk result (ShowsStatedRows is_maria_log map rows old new) → Shows result old new (AreRowsValue is_maria_log is_partial map event)
+    → OnOk result (ShowsStatedRows is_maria_log map rows old new) → Shows result old new (AreReadRows is_maria_log is_partial map event)
 rows_value (Ok x) is_maria_log is_partial map event rows old new all shows =
     let split = rw (all.shape, all.first, all.bytes) at shows.shown.are in
     record {
-      tokens = shows.shown.shown.tokens;
-      are = record { facts = shows.facts; stated = shows.stated; items = shows.shown.items; split = split; are = shows.shown.shown.are };
-      is = shows.shown.shown.is;
+      tokens = metadata_member shows.refusal ++ member (codes "rows") shows.shown.shown.tokens;
+      are = record {
+        facts = shows.facts;
+        refusal = shows.refusal;
+        stated = shows.stated;
+        items = shows.shown.items;
+        split = split;
+        rows = shows.shown.shown.tokens;
+        rows_are = shows.shown.shown.are;
+        are = refl;
+      };
+      is = rw shows.shown.shown.is (simp append_assoc);
     }
 rows_value (Err e) is_maria_log is_partial map event rows old new all shows = shows
 
 -- The rows with what is stated of their columns.
-pub stated_rows : {A E : Type 0} (result : Result A E) (is_maria_log : Bool) (map : TableMapEvent) (facts : List ColumnFacts) (rows : Rows) (old new : List Token)
-    → StatesFacts is_maria_log (mapped_columns map) map.columns.optional_metadata facts → OnOk result (ShowsRows facts rows old new) → OnOk result (ShowsStatedRows is_maria_log map rows old new)
-stated_rows (Ok x) is_maria_log map facts rows old new stated shown = record { facts = facts; stated = stated; shown = shown }
-stated_rows (Err e) is_maria_log map facts rows old new stated shown = shown
+pub stated_rows : {A E : Type 0} (result : Result A E) (is_maria_log : Bool) (map : TableMapEvent) (facts : List ColumnFacts) (refusal : Option OptionalMetadataError) (rows : Rows)
+    (old stated keyed new : List Token) → StatesFacts is_maria_log (mapped_columns map) map.columns.optional_metadata facts refusal
+    → stated ≡ old ++ metadata_member refusal → keyed ≡ stated ++ key (codes "rows") ∷ []
+    → OnOk result (ShowsRows facts rows keyed new) → OnOk result (ShowsStatedRows is_maria_log map rows old new)
+stated_rows (Ok x) is_maria_log map facts refusal rows old stated keyed new states metadata rows_key shown = record {
+  facts = facts;
+  refusal = refusal;
+  stated = states;
+  shown = subst (λ (front : List Token). ShowsRows facts rows front new) (rows_key ∙ ap (λ (front : List Token). front ++ key (codes "rows") ∷ []) metadata) shown;
+}
+stated_rows (Err e) is_maria_log map facts refusal rows old stated keyed new states metadata rows_key shown = shown
 
 -- The name of the table, and then the rows.
-pub mapped_members : {A E : Type 0} (result : Result A E) (is_maria_log : Bool) (body : RowsEventData) (map : TableMapEvent) (old named first second new : List Token)
-    → named ≡ old ++ key (codes "table") ∷ [] → first ≡ named ++ text_value (name_of map) → second ≡ first ++ key (codes "rows") ∷ []
-    → Shows result second new (IsRowsValue is_maria_log body map (rows_error map body)) → Shows result old new (AreMappedMembers is_maria_log body map)
-mapped_members (Ok x) is_maria_log body map old named first second new name table value shown = record {
-  tokens = member (codes "table") (text_value (name_of map)) ++ member (codes "rows") shown.tokens;
+pub mapped_members : {A E : Type 0} (result : Result A E) (is_maria_log : Bool) (body : RowsEventData) (map : TableMapEvent) (old named first new : List Token)
+    → named ≡ old ++ key (codes "table") ∷ [] → first ≡ named ++ text_value (name_of map)
+    → Shows result first new (AreRowsMembers is_maria_log body map (rows_error map body)) → Shows result old new (AreMappedMembers is_maria_log body map)
+mapped_members (Ok x) is_maria_log body map old named first new name table shown = record {
+  tokens = member (codes "table") (text_value (name_of map)) ++ shown.tokens;
   are = record { rows = shown.tokens; read = shown.are; are = refl };
-  is = rw (shown.is, value, table, name) (simp append_assoc);
+  is = rw (shown.is, table, name) (simp append_assoc);
 }
-mapped_members (Err e) is_maria_log body map old named first second new name table value shown = shown
+mapped_members (Err e) is_maria_log body map old named first new name table shown = shown
 
 -- What isn't a row event has no members.
 pub none_in : (body : EventData) → ((event : RowsEventData) → body ≡ RowsEvent event → ⊥) → rows_in body ≡ None
@@ -88,3 +106,9 @@ members_of (Err e) event is_maria_log map found old new flavour shown = shown
 pub shows_exactly : {A E : Type 0} (result : Result A E) (old new : List Token) (Is : List Token → Type 0) (tokens : List Token) → Is tokens → OnOk result (new ≡ old ++ tokens) → Shows result old new Is
 shows_exactly (Ok x) old new Is tokens are is = record { tokens = tokens; are = are; is = is }
 shows_exactly (Err e) old new Is tokens are is = is
+
+-- The member `rows` with what is in the place of the rows.
+pub refused_rows : {A E : Type 0} (result : Result A E) (tokens old keyed new : List Token) → keyed ≡ old ++ key (codes "rows") ∷ [] → OnOk result (new ≡ keyed ++ tokens)
+    → OnOk result (new ≡ old ++ member (codes "rows") tokens)
+refused_rows (Ok x) tokens old keyed new rows_key is = rw (is, rows_key) (simp append_assoc)
+refused_rows (Err e) tokens old keyed new rows_key is = is

@@ -1,6 +1,6 @@
--- The members `table` and `rows` of the object of a row event.
+-- The members `table`, `metadata` and `rows` of the object of a row event.
 use Rattle.std.specs.Prelude.{◌≡◌, ◌↔◌, ◌==◌, ℕ, Bool, IsTrue, List, [], ◌∷◌, ◌++◌, codes, take, Option, None, Some, Result, if◌then◌else◌}
-use Rattle.json.specs.Token.{Token, null}
+use Rattle.json.specs.Token.{Token, key, null}
 use Rattle.json_line.specs.Tokens.{text_value, member}
 use Rattle.binlog_events.specs.Events.{EventView}
 use Rattle.binlog_rows.specs.RowsData.{event_in}
@@ -20,7 +20,8 @@ use Rattle.binlog_row_lines.specs.Parts.{AreParts}
 use Rattle.binlog_row_lines.specs.Rows.{rows_parts}
 use Rattle.binlog_row_lines.specs.Written.{ShowsRows}
 use Rattle.binlog_mariadb.specs.Flavour.{IsMariaVersion}
-use Rattle.binlog_row_json.specs.Refusals.{refusal_value}
+use Rattle.binlog_row_json.specs.Refusals.{refusal_value, metadata_member}
+use Rattle.binlog_optional_metadata.specs.declared.metadata_error.OptionalMetadataError.{OptionalMetadataError}
 use Rattle.binlog_row_json.specs.RowEvents.{rows_event_of}
 
 -- The name of a table: that of its schema, a dot, and its own.
@@ -36,26 +37,31 @@ map_for event (Some map) = if map.table.id == event.head.table_id then Some map 
 abbrev pub rows_error : TableMapEvent → RowsEventData → Option RowsEventError
 rows_error map body = event_error map (event_in body)
 
--- The tokens are the array of the rows of the event, a row of the table of this table map each. There is exactly one such split
--- of its bytes (`rows_are_split` of `binlog_images`), and the names and the signedness of columns are those that the
--- optional metadata states.
-pub record AreRowsValue (is_maria_log is_partial : Bool) (map : TableMapEvent) (event : RowsEvent) (tokens : List Token) : Type 0 where
+-- The tokens are the member `metadata`, if a field of the optional metadata is refused, and the member `rows` with the array of the
+-- rows of the event, a row of the table of this table map each. There is exactly one such split of its bytes (`rows_are_split` of
+-- `binlog_images`), and the names and the signedness of columns are those that the optional metadata states.
+pub record AreReadRows (is_maria_log is_partial : Bool) (map : TableMapEvent) (event : RowsEvent) (tokens : List Token) : Type 0 where
   pub facts : List ColumnFacts
-  pub stated : StatesFacts is_maria_log (mapped_columns map) map.columns.optional_metadata facts
+  pub refusal : Option OptionalMetadataError
+  pub stated : StatesFacts is_maria_log (mapped_columns map) map.columns.optional_metadata facts refusal
   pub items : List (Result RowCells RowsError)
   pub split : AreRows (shape_as is_partial (event_shape (mapped_columns map) event)) 0 event.rows items
-  pub are : AreParts (rows_parts facts items) tokens
+  pub rows : List Token
+  pub rows_are : AreParts (rows_parts facts items) rows
+  pub are : tokens ≡ metadata_member refusal ++ member (codes "rows") rows
 
--- Such an array is appended for these rows.
+-- Such members are appended for these rows.
 pub record ShowsStatedRows (is_maria_log : Bool) (map : TableMapEvent) (rows : Rows) (old new : List Token) : Type 0 where
   pub facts : List ColumnFacts
-  pub stated : StatesFacts is_maria_log (mapped_columns map) map.columns.optional_metadata facts
-  pub shown : ShowsRows facts rows old new
+  pub refusal : Option OptionalMetadataError
+  pub stated : StatesFacts is_maria_log (mapped_columns map) map.columns.optional_metadata facts refusal
+  pub shown : ShowsRows facts rows (old ++ metadata_member refusal ++ key (codes "rows") ∷ []) new
 
--- The value of `rows`: the rows, or what is in the place of those that can't be read at all.
-abbrev pub IsRowsValue : Bool → RowsEventData → TableMapEvent → Option RowsEventError → List Token → Type 0
-IsRowsValue is_maria_log body map (Some error) tokens = tokens ≡ refusal_value error
-IsRowsValue is_maria_log body map None tokens = AreRowsValue is_maria_log (is_partial body) map (event_in body) tokens
+-- The members behind `table`: the rows and what is refused of the metadata, or what is in the place of rows that can't be read at
+-- all.
+abbrev pub AreRowsMembers : Bool → RowsEventData → TableMapEvent → Option RowsEventError → List Token → Type 0
+AreRowsMembers is_maria_log body map (Some error) tokens = tokens ≡ member (codes "rows") (refusal_value error)
+AreRowsMembers is_maria_log body map None tokens = AreReadRows is_maria_log (is_partial body) map (event_in body) tokens
 
 -- The members of an event without a table map in force.
 abbrev pub unmapped_members : List Token
@@ -64,8 +70,8 @@ unmapped_members = member (codes "table") (null ∷ []) ++ member (codes "rows")
 -- The members of a row event with this table map.
 pub record AreMappedMembers (is_maria_log : Bool) (body : RowsEventData) (map : TableMapEvent) (tokens : List Token) : Type 0 where
   pub rows : List Token
-  pub read : IsRowsValue is_maria_log body map (rows_error map body) rows
-  pub are : tokens ≡ member (codes "table") (text_value (name_of map)) ++ member (codes "rows") rows
+  pub read : AreRowsMembers is_maria_log body map (rows_error map body) rows
+  pub are : tokens ≡ member (codes "table") (text_value (name_of map)) ++ rows
 
 -- The members of a row event, with the table map in force for its table id.
 abbrev pub AreEventMembers : Bool → RowsEventData → Option TableMapEvent → List Token → Type 0
@@ -86,6 +92,6 @@ abbrev pub AreMembersOf : EventView → Option TableMapEvent → Option RowsEven
 AreMembersOf event map None tokens = tokens ≡ []
 AreMembersOf event map (Some body) tokens = (is_maria_log : Bool) × IsFlavour event is_maria_log × AreBodyMembers is_maria_log map (Some body) tokens
 
--- The members `table` and `rows` of an event, with this table map. An event that isn't a row event has none.
+-- The members `table`, `metadata` and `rows` of an event, with this table map. An event that isn't a row event has none.
 abbrev pub AreMembers : EventView → Option TableMapEvent → List Token → Type 0
 AreMembers event map tokens = AreMembersOf event map (rows_event_of event) tokens

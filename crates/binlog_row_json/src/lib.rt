@@ -1,6 +1,6 @@
 //! The rows of row events as members of the object of an event.
 //!
-//! `specs/Members` defines the tokens of the members `table` and `rows`.
+//! `specs/Members` defines the tokens of the members `table`, `metadata` and `rows`.
 #![tactic(auto)]
 
 mod members;

@@ -1,23 +1,26 @@
-//! The members `table` and `rows`.
+//! The members `table`, `metadata` and `rows`.
 #![tactic(auto, using(std::proofs::Common::append_assoc))]
 
-ghost use Rattle.std.specs.Prelude.{◌≡◌, ◌++◌, Bool, None, option_copied, OnOk};
+ghost use Rattle.std.specs.Prelude.{◌≡◌, ◌++◌, [], ◌∷◌, codes, Bool, None, option_copied, OnOk};
+ghost use Rattle.json.specs.Token.{key};
 ghost use Rattle.json_line.specs.Tokens.{Adds, text_value};
 ghost use Rattle.binlog_wire.specs.Fields.{IsBytes};
 ghost use Rattle.binlog_events.specs.EventRefs.{view_of};
 ghost use Rattle.binlog_rows.specs.RowsData.{event_in};
 ghost use Rattle.binlog_columns.specs.Refusals.{refusal};
-ghost use Rattle.binlog_row_json.specs.Members.{name_of, unmapped_members, rows_error, map_for, ShowsStatedRows, IsRowsValue, AreEventMembers, AreBodyMembers, AreMembers};
+ghost use Rattle.binlog_row_json.specs.Members.{name_of, unmapped_members, rows_error, map_for, ShowsStatedRows, AreRowsMembers, AreEventMembers, AreBodyMembers, AreMembers};
+ghost use Rattle.binlog_row_json.specs.Refusals.{metadata_member};
 ghost use Rattle.binlog_row_json.specs.RowEvents.{rows_in};
 ghost use Rattle.binlog_row_json.specs.Shown.{Shows};
 
-use crate::refusals::write_refusal;
+use crate::refusals::{write_metadata_refusal, write_refusal};
 use crate::row_events::is_row_event;
-use binlog_column_facts::{ColumnFacts, TableMapColumns};
+use binlog_column_facts::{TableFacts, TableMapColumns};
 use binlog_event_data::EventData;
 use binlog_events::EventRef;
 use binlog_images::{Rows, RowsEventExt};
 use binlog_mariadb::is_maria_log;
+use binlog_optional_metadata::OptionalMetadataError;
 use binlog_row_lines::ValueWriter;
 use binlog_rows::{RowsEventData, TableMapEvent};
 use json_line::Line;
@@ -45,6 +48,22 @@ fn are_bytes(bytes: &[u8])
     ensures { IsBytes bytes.now }
 {}
 
+// Writes the member for the first field of the optional metadata that is refused, if one is.
+fn write_metadata(
+    line: &mut Line,
+    refusal: &Option<OptionalMetadataError>,
+) -> Result<(), AllocError>
+    ensures { Adds result line.old line.new (metadata_member refusal.now) }
+{
+    match refusal {
+        Some(error) => {
+            line.key("metadata")?;
+            write_metadata_refusal(line, error)
+        }
+        None => Ok(()),
+    }
+}
+
 // The table map, if it is of the table id of the event.
 fn map_for<'a, 'b>(
     event: &RowsEventData<'_>,
@@ -67,9 +86,10 @@ impl RowsWriter {
         }
     }
 
-    /// Writes the members `table` and `rows` of a row event; nothing for an event of another type, or one whose data isn't
-    /// that of a row event. The table map is the one in force for the event's table id; one of another table id counts as
-    /// none. The memory that is taken is that of a value's text, and of the facts of the table's columns.
+    /// Writes the members `table` and `rows` of a row event, and between them `metadata` where a field of the table map's
+    /// optional metadata is refused; nothing for an event of another type, or one whose data isn't that of a row event. The
+    /// table map is the one in force for the event's table id; one of another table id counts as none. The memory that is
+    /// taken is that of a value's text, and of the facts of the table's columns.
     ///
     /// # Errors
     ///
@@ -133,7 +153,6 @@ impl RowsWriter {
         };
         line.key("table")?;
         self.write_name(line, table_map)?;
-        line.key("rows")?;
         self.write_rows(line, alloc, body, table_map, is_maria_log)
     }
 
@@ -152,7 +171,7 @@ impl RowsWriter {
         line.text(&self.name)
     }
 
-    // Writes the rows of an event of this table, or what is in their place.
+    // Writes the members behind the name of the table.
     fn write_rows(
         &mut self,
         line: &mut Line,
@@ -161,16 +180,20 @@ impl RowsWriter {
         table_map: &TableMapEvent<'_>,
         is_maria_log: bool,
     ) -> Result<(), AllocError>
-        ensures { Shows result line.old line.new (IsRowsValue is_maria_log body.now table_map.now (rows_error table_map.now body.now)) }
+        ensures { Shows result line.old line.new (AreRowsMembers is_maria_log body.now table_map.now (rows_error table_map.now body.now)) }
     {
         are_bytes(body.rows_data());
         match body.rows(table_map) {
             Ok(rows) => self.write_split_rows(line, alloc, rows, table_map, is_maria_log),
-            Err(error) => write_refusal(line, &error),
+            Err(error) => {
+                line.key("rows")?;
+                write_refusal(line, &error)
+            }
         }
     }
 
-    // Writes the rows into which the bytes of an event split, with what the table map states of their columns.
+    // Writes what is refused of the table's metadata, and the rows into which the bytes of an event split, with what the table
+    // map states of their columns.
     fn write_split_rows(
         &mut self,
         line: &mut Line,
@@ -184,7 +207,9 @@ impl RowsWriter {
     {
         let columns = table_map.table_columns().unwrap();
         let optional_metadata = table_map.optional_metadata_raw();
-        let facts = ColumnFacts::of_table(alloc, columns, optional_metadata, is_maria_log)?;
-        self.values.write_rows(line, &facts, rows)
+        let facts = TableFacts::new(alloc, columns, optional_metadata, is_maria_log)?;
+        write_metadata(line, &facts.refusal)?;
+        line.key("rows")?;
+        self.values.write_rows(line, &facts.columns, rows)
     }
 }

@@ -1,5 +1,5 @@
 //! Decimal numbers.
-ghost use Rattle.std.specs.Prelude.{◌≡◌, ◌≤◌, ◌^◌, ◌++◌, OnOk, OnErr, MatchOption, IsSome, is_ok, true, length, if◌then◌else◌};
+ghost use Rattle.std.specs.Prelude.{◌≡◌, ◌<◌, ◌≤◌, ◌^◌, ◌++◌, OnOk, OnErr, MatchOption, IsSome, is_ok, true, length, if◌then◌else◌};
 ghost use Rattle.std.specs.String.{string_bytes};
 ghost use Rattle.binlog_values.specs.Contents.{decimal_len, is_decimal_bytes};
 ghost use Rattle.binlog_values.specs.Texts.{StartsWith};
@@ -61,7 +61,7 @@ impl<'a> Decimal<'a> {
     /// None if its digits are 2^127 or more, which those of a precision of at most 38 never are.
     #[tactic(auto, using(crate::specs::DecimalLaws::few_digits))]
     pub fn unscaled(&self) -> Option<i128>
-        ensures number { MatchOption result (2 ^ 127 ≤ decimal_number self.now.precision self.now.scale self.now.bytes.now) (λ number. number ≡ unscaled self.now.precision self.now.scale self.now.bytes.now) }
+        ensures number { MatchOption result (2 ^ 127 ≤ decimal_number self.now.precision self.now.scale self.now.bytes.now) (λ number. (decimal_number self.now.precision self.now.scale self.now.bytes.now < 2 ^ 127) × (number ≡ unscaled self.now.precision self.now.scale self.now.bytes.now)) }
         ensures some { self.now.precision ≤ 38 → IsSome result }
     {
         let number = decimal_number(self.bytes, self.precision, self.scale)?;

@@ -16,9 +16,9 @@ module _ {T : Type 0} (visits : VisitRelation T) (refuses : RefusalRelation T)
   first_other : (start place : Place) (items : List (Result EventView Error)) → AreFirst (LeavesVerified gives) start items place → AreFirst (LeavesVerified other) start items place
   first_other start place items first = first_along (LeavesVerified gives) (LeavesVerified other) (left_other gives other to) (left_other other gives from) start place items first
 
-  all_other : (start : Place) (old new : T) → VisitsAll visits refuses (HandlesVerified gives) (LeavesVerified gives) start old new
-      → VisitsAll visits refuses (HandlesVerified other) (LeavesVerified other) start old new
-  all_other start old new all = record { items = all.items; are = left_other gives other to start all.items all.are; visited = all.visited }
+  all_other : (tail_len : Option ℕ) (start : Place) (old new : T) → VisitsAll visits refuses (HandlesVerified gives) (LeavesVerified gives) tail_len start old new
+      → VisitsAll visits refuses (HandlesVerified other) (LeavesVerified other) tail_len start old new
+  all_other tail_len start old new all = record { items = all.items; are = left_other gives other to start all.items all.are; visited = all.visited; tail = all.tail }
 
   before_other : (error : Error) (start : Place) (old new : T) → VisitsBefore visits refuses (HandlesVerified gives) (LeavesVerified gives) error start old new
       → VisitsBefore visits refuses (HandlesVerified other) (LeavesVerified other) error start old new
@@ -46,26 +46,26 @@ module _ {T : Type 0} (visits : VisitRelation T) (refuses : RefusalRelation T)
     refused = some.refused;
   }
 
-  items_visited_other : (start : Place) (old : T) (answer : Result (Unit {0}) Error) (new : T) → VisitsItems visits refuses (HandlesVerified gives) (LeavesVerified gives) start old answer new
+  items_visited_other : (start : Place) (old : T) (answer : Result (Option ℕ) Error) (new : T) → VisitsItems visits refuses (HandlesVerified gives) (LeavesVerified gives) start old answer new
       → VisitsItems visits refuses (HandlesVerified other) (LeavesVerified other) start old answer new
-  items_visited_other start old (Ok done) new all = all_other start old new all
+  items_visited_other start old (Ok tail_len) new all = all_other tail_len start old new all
   items_visited_other start old (Err error) new (inl some) = inl (before_other error start old new some)
   items_visited_other start old (Err error) new (inr some) = inr (until_other error start old new some)
 
-  file_visited_other : (bytes : List ℕ) (old : T) (answer : Result (Unit {0}) Error) (new : T) → VisitsFile visits refuses (HandlesVerified gives) (LeavesVerified gives) bytes old answer new
+  file_visited_other : (bytes : List ℕ) (old : T) (answer : Result (Option ℕ) Error) (new : T) → VisitsFile visits refuses (HandlesVerified gives) (LeavesVerified gives) bytes old answer new
       → VisitsFile visits refuses (HandlesVerified other) (LeavesVerified other) bytes old answer new
   file_visited_other bytes old answer new file =
       record { stream = file.stream; file = file.file; visited = items_visited_other (first_place file.stream) old answer new file.visited }
 
-  pub visited_other : (bytes : List ℕ) (old : T) (answer : Result (Unit {0}) Error) (new : T) → VisitsVerifiedLog gives visits refuses bytes old answer new
+  pub visited_other : (bytes : List ℕ) (old : T) (answer : Result (Option ℕ) Error) (new : T) → VisitsVerifiedLog gives visits refuses bytes old answer new
       → VisitsVerifiedLog other visits refuses bytes old answer new
-  visited_other bytes old (Ok done) new file = file_visited_other bytes old (Ok done) new file
+  visited_other bytes old (Ok tail_len) new file = file_visited_other bytes old (Ok tail_len) new file
   visited_other bytes old (Err error) new (inl file) = inl (file_visited_other bytes old (Err error) new file)
   visited_other bytes old (Err error) new (inr none) = inr none
 
 -- The same, where the reader tells its bytes.
 pub known_visited_other : {T : Type 0} (visits : VisitRelation T) (refuses : RefusalRelation T)
-    {gives : List ℕ → ℕ → Type 0} (other : List ℕ → ℕ → Type 0) (remaining : Option (List ℕ)) (old : T) (answer : Result (Unit {0}) Error) (new : T)
+    {gives : List ℕ → ℕ → Type 0} (other : List ℕ → ℕ → Type 0) (remaining : Option (List ℕ)) (old : T) (answer : Result (Option ℕ) Error) (new : T)
     → IfSome remaining (λ bytes. length bytes < 2 ^ 64 → VisitsVerifiedLog gives visits refuses bytes old answer new)
     → ((bytes : List ℕ) (checksum : ℕ) → gives bytes checksum → other bytes checksum) → ((bytes : List ℕ) (checksum : ℕ) → other bytes checksum → gives bytes checksum)
     → IfSome remaining (λ bytes. length bytes < 2 ^ 64 → VisitsVerifiedLog other visits refuses bytes old answer new)

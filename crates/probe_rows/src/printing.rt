@@ -1,7 +1,7 @@
 //! The line of a row event.
 ghost use Rattle.json_line.specs.Lines.{IsPlainText};
 
-use binlog_column_facts::ColumnFacts;
+use binlog_column_facts::TableFacts;
 use binlog_columns::TableColumns;
 use binlog_file::{Error, Event, EventData, EventStreamReader, RowsEventData, TableMapEvent};
 use binlog_images::{Rows, RowsEventError, RowsEventExt};
@@ -106,9 +106,9 @@ impl<W: Write> Printer<W> {
             return Ok(());
         };
         let optional = table_map.optional_metadata_raw();
-        let facts = ColumnFacts::of_table(self.alloc, columns, optional, is_maria)?;
+        let facts = TableFacts::new(self.alloc, columns, optional, is_maria)?;
         self.line.key("rows")?;
-        self.values.write_rows(&mut self.line, &facts, rows)
+        self.values.write_rows(&mut self.line, &facts.columns, rows)
     }
 }
 

@@ -5,3 +5,5 @@
 mod facts;
 #[cfg(test)]
 mod members;
+#[cfg(test)]
+mod servers;

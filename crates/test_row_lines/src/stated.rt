@@ -1,5 +1,5 @@
 //! Rows of a table whose map states its columns.
-use binlog_column_facts::TableMapColumns;
+use binlog_column_facts::{TableFacts, TableMapColumns};
 use binlog_images::RowsEventExt;
 use binlog_row_lines::{ColumnFacts, ValueWriter};
 use binlog_rows::{TableMapEvent, WriteRowsEvent};
@@ -21,7 +21,7 @@ fn facts<'a>(
     let Ok(columns) = table_map.table_columns() else {
         return Ok(Vec::new(alloc));
     };
-    ColumnFacts::of_table(alloc, columns, table_map.optional_metadata_raw(), false)
+    Ok(TableFacts::new(alloc, columns, table_map.optional_metadata_raw(), false)?.columns)
 }
 
 /// Writes the rows of the event.

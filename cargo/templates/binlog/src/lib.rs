@@ -4,8 +4,8 @@
 //! without a file header. Each gives events, owned ([`events::Event`]) or borrowed ([`EventRef`]); an event's body is read
 //! as one type by [`EventRef::read_event`], or by its own type by [`EventRef::read_data`].
 //!
-//! The sources of this crate are made from proved ones, module by module: `binlog_file/reader.rs` here is
-//! `binlog_file/src/reader.rt` there. The proofs hold of those; what made these is tested.
+//! The sources of this crate are made from proved ones, module by module. The proofs hold of those; what made these is
+//! tested.
 //!
 //! # Example
 //!
@@ -50,6 +50,9 @@ mod binlog_numbers;
 // Of the counts of columns by their class two are of no use yet.
 #[allow(dead_code)]
 mod binlog_optional_metadata;
+// Of a pattern a proof alone reads a name.
+#[allow(unused_variables)]
+mod binlog_row_writing;
 mod binlog_rows;
 mod binlog_statements;
 mod binlog_values;
@@ -148,7 +151,7 @@ pub mod mariadb {
 ///
 /// [`RowsEventExt::rows`](values::RowsEventExt::rows) gives the rows of an event beside its table map.
 pub mod values {
-    pub use crate::binlog_column_facts::{ColumnFacts, TableMapColumns};
+    pub use crate::binlog_column_facts::{ColumnFacts, TableFacts, TableMapColumns};
     pub use crate::binlog_columns::{Column, ColumnError, ColumnErrorKind, ColumnType, Layout};
     pub use crate::binlog_columns::{TableColumns, UnknownColumnType};
     pub use crate::binlog_images::{ColumnValue, ColumnVisitor, HasWholeRows, Image, ImageKind};
@@ -160,6 +163,12 @@ pub mod values {
     pub use crate::binlog_values::{Timestamp2, Value};
     #[doc(hidden)]
     pub use crate::binlog_values::text;
+}
+
+/// The bytes of the rows of a row event, made of values.
+pub mod row_writing {
+    pub use crate::binlog_row_writing::{NewDate, NewDecimal, NewTime, NewValue};
+    pub use crate::binlog_row_writing::{RowWriteError, RowWriteErrorKind, RowsBuilder};
 }
 
 /// The text of a set of GTIDs, as servers write it.

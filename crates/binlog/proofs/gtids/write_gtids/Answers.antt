@@ -9,6 +9,7 @@ returns-clause-ok g c = record {
     fine = rw (c.new-collector.ensures.output, c.new-2.ensures) c.in_ok-output.ensures.fine;
   };
   empty = c.new-collector.ensures.gtids;
+  none = c.new-collector.ensures.refused;
   read = c.in_ok-read.read;
   found = c.in_ok-read.collector;
   shown = c.in_ok-read.ensures.ok.1;

@@ -6,6 +6,7 @@ returns g c = record {
   takes_all = c.new-all.ensures;
   start = c.new-collector.result;
   empty = c.new-collector.ensures.gtids;
+  none = c.new-collector.ensures.refused;
   read = c.read_taken-found.result.0;
   found = c.read_taken-found.result.1;
   shown = rw c.to_end.ensures at c.read_taken-found.ensures;

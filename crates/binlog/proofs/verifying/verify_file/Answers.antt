@@ -17,5 +17,5 @@ returns g c =
       shown = c.shown_name-name.result.now;
       input = c.shown_name-name.ensures.input;
       file = c.shown_name-name.ensures.file;
-      ends = rw c.visitor.ensures at c.write_line.ensures;
+      ends = rw (c.with_cut-tally.ensures, c.is_cut.ensures, c.visitor.ensures) at c.write_line.ensures;
     }

@@ -3,5 +3,5 @@ use Rattle.binlog_commands.proofs.FilteredCopies.{filtered_copy}
 use Rattle.binlog_commands.proofs.laws.filtered_copies_are_logs.Goals as goal
 
 pub returns : goal.returns
-returns g c bytes old new all visited =
+returns g c bytes old new tail_len all visited =
     filtered_copy (λ copier. g.W.Write.contents copier.output) no_table_maps bytes visited.stream visited.visited.items old new all visited.file visited.visited.are visited.visited.visited

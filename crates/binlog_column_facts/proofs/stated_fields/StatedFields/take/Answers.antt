@@ -5,25 +5,25 @@ use Rattle.binlog_column_facts.specs.StatedFields.{stated_of, with_field}
 use Rattle.binlog_column_facts.proofs.OtherFields.{other_field}
 use Rattle.binlog_column_facts.proofs.stated_fields.StatedFields.take.Goals as goal
 
-pub returns-in-Signedness : goal.returns-in-Signedness
-returns-in-Signedness c = sym (ap (λ (field : OptionalMetadataField). with_field (stated_of c.args.self.now) (content_of field)) c.in-Signedness.is)
+pub returns-in-Signedness-clause-field : goal.returns-in-Signedness-clause-field
+returns-in-Signedness-clause-field c = sym (ap (λ (field : OptionalMetadataField). with_field (stated_of c.args.self.now) (content_of field)) c.in-Signedness.is)
 
-pub returns-in-DefaultCharset : goal.returns-in-DefaultCharset
-returns-in-DefaultCharset c = sym (ap (λ (field : OptionalMetadataField). with_field (stated_of c.args.self.now) (content_of field)) c.in-DefaultCharset.is)
+pub returns-in-DefaultCharset-clause-field : goal.returns-in-DefaultCharset-clause-field
+returns-in-DefaultCharset-clause-field c = sym (ap (λ (field : OptionalMetadataField). with_field (stated_of c.args.self.now) (content_of field)) c.in-DefaultCharset.is)
 
-pub returns-in-ColumnCharset : goal.returns-in-ColumnCharset
-returns-in-ColumnCharset c = sym (ap (λ (field : OptionalMetadataField). with_field (stated_of c.args.self.now) (content_of field)) c.in-ColumnCharset.is)
+pub returns-in-ColumnCharset-clause-field : goal.returns-in-ColumnCharset-clause-field
+returns-in-ColumnCharset-clause-field c = sym (ap (λ (field : OptionalMetadataField). with_field (stated_of c.args.self.now) (content_of field)) c.in-ColumnCharset.is)
 
-pub returns-in-ColumnName : goal.returns-in-ColumnName
-returns-in-ColumnName c = sym (ap (λ (field : OptionalMetadataField). with_field (stated_of c.args.self.now) (content_of field)) c.in-ColumnName.is)
+pub returns-in-ColumnName-clause-field : goal.returns-in-ColumnName-clause-field
+returns-in-ColumnName-clause-field c = sym (ap (λ (field : OptionalMetadataField). with_field (stated_of c.args.self.now) (content_of field)) c.in-ColumnName.is)
 
-pub returns-in-EnumStrValue : goal.returns-in-EnumStrValue
-returns-in-EnumStrValue c = sym (ap (λ (field : OptionalMetadataField). with_field (stated_of c.args.self.now) (content_of field)) c.in-EnumStrValue.is)
+pub returns-in-EnumStrValue-clause-field : goal.returns-in-EnumStrValue-clause-field
+returns-in-EnumStrValue-clause-field c = sym (ap (λ (field : OptionalMetadataField). with_field (stated_of c.args.self.now) (content_of field)) c.in-EnumStrValue.is)
 
-pub returns-in-SetStrValue : goal.returns-in-SetStrValue
-returns-in-SetStrValue c = sym (ap (λ (field : OptionalMetadataField). with_field (stated_of c.args.self.now) (content_of field)) c.in-SetStrValue.is)
+pub returns-in-SetStrValue-clause-field : goal.returns-in-SetStrValue-clause-field
+returns-in-SetStrValue-clause-field c = sym (ap (λ (field : OptionalMetadataField). with_field (stated_of c.args.self.now) (content_of field)) c.in-SetStrValue.is)
 
-pub returns-in_default : goal.returns-in_default
-returns-in_default c =
+pub returns-in_default-clause-field : goal.returns-in_default-clause-field
+returns-in_default-clause-field c =
     other_field (stated_of c.args.self.now) c.args.field c.in_default.not-Signedness c.in_default.not-DefaultCharset c.in_default.not-ColumnCharset c.in_default.not-ColumnName c.in_default.not-EnumStrValue
     c.in_default.not-SetStrValue

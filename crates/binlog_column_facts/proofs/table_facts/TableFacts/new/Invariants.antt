@@ -2,7 +2,7 @@ use Rattle.std.proofs.Common.{length}
 use Rattle.binlog_columns.specs.TableColumns.{columns_of}
 use Rattle.binlog_column_facts.specs.StatedFields.{stated_of, names_left, lists_left}
 use Rattle.binlog_column_facts.proofs.FactsSoFar.{SoFar}
-use Rattle.binlog_column_facts.proofs.column_facts.ColumnFacts.of_table.Given as goal
+use Rattle.binlog_column_facts.proofs.table_facts.TableFacts.new.Given as goal
 
 -- The facts of the columns so far.
 abbrev pub invariant-columns : goal.invariant-columns

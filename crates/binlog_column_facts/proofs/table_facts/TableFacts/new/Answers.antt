@@ -12,7 +12,7 @@ use Rattle.binlog_column_facts.specs.Stated.{is_set_in, members_in}
 use Rattle.binlog_column_facts.specs.StatedFields.{stated_of, names_left, lists_left}
 use Rattle.binlog_column_facts.specs.declared.column_facts.ColumnFacts.{ColumnFacts}
 use Rattle.binlog_column_facts.proofs.FactsSoFar.{no_column, counted, none_so_far, all_names, all_enums, all_sets, indexes_fit, fact_in, next_class, ReadsFacts, one_more, all_facts}
-use Rattle.binlog_column_facts.proofs.column_facts.ColumnFacts.of_table.Goals as goal
+use Rattle.binlog_column_facts.proofs.table_facts.TableFacts.new.Goals as goal
 
 pub take-requires : goal.take-requires
 take-requires c =
@@ -34,7 +34,7 @@ pub columns-init : goal.columns-init
 columns-init c =
     none_so_far c.args.is_maria_log (stated_of c.read-stated.result) (columns_of c.args.columns) c.in_ok-facts.facts.items c.new-numeric.result c.new-character.result
     (names_left c.read-stated.result.names) (lists_left c.read-stated.result.enums) (lists_left c.read-stated.result.sets) c.in_ok-facts.ensures.items
-    (c.new-numeric.ensures ∙ ap (λ (class : ColumnClass). counted class []) c.numeric_class.ensures) c.new-character.ensures (all_names c.read-stated.result.names) (all_enums c.read-stated.result.enums) (all_sets c.read-stated.result.sets)
+    c.new-numeric.ensures (c.new-character.ensures ∙ ap (λ (class : ColumnClass). counted class []) c.character.ensures) (all_names c.read-stated.result.names) (all_enums c.read-stated.result.enums) (all_sets c.read-stated.result.sets)
 
 pub columns-preserved : goal.columns-preserved
 columns-preserved c =
@@ -85,4 +85,4 @@ returns c =
     let ended = YieldsList-end (YieldsList-from_first typed_of columns_of (columns_of c.args.columns) start) c.columns.yielded c.columns.column-iterator c.columns.yielded_by
     None c.next.new.self refl c.in-None.ensures.steps in
     let are = rw (c.new-fields.ensures.counts, c.new-fields.ensures.bytes) at c.read-stated.ensures.are in
-    all_facts c.args.optional_metadata.now c.read-stated.ensures.fields c.columns.invariant ended.1 are c.read-stated.ensures.last
+    all_facts c.args.optional_metadata.now c.read-stated.ensures.fields c.read-stated.result.refusal c.columns.invariant ended.1 are c.read-stated.ensures.last c.read-stated.ensures.first

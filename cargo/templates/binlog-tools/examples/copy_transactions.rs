@@ -1,0 +1,24 @@
+//! Copies the transactions that have one of some GTIDs: `copy_transactions GTIDS FROM TO`
+use binlog::consts::BinlogVersion;
+use binlog::{BinlogFileHeader, gtid_text};
+use binlog_tools::{Copier, Filter, Filtered, visit};
+use std::error::Error;
+use std::fs::File;
+use std::io::{BufReader, BufWriter, Write};
+
+fn main() -> Result<(), Box<dyn Error>> {
+    let words: Vec<String> = std::env::args().collect();
+    let [_, gtids, from, to] = &words[..] else {
+        return Err("usage: copy_transactions GTIDS FROM TO".into());
+    };
+    let mut filter = Filter::new();
+    filter.include_gtids = Some(gtid_text::parse(gtids)?);
+    // The other events are read under the format descriptions.
+    filter.takes_descriptions = true;
+    let mut output = BufWriter::new(File::create(to)?);
+    BinlogFileHeader.write(BinlogVersion::Version4, &mut output)?;
+    let mut copier = Filtered::new(filter, Copier { output });
+    visit(BufReader::new(File::open(from)?), &mut copier)?;
+    copier.visitor.output.flush()?;
+    Ok(())
+}
