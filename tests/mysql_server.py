@@ -44,9 +44,11 @@ from programs import add_flags, parsed
 
 
 class Log(NamedTuple):
-    """A log: its lines of JSON, what `mysqlbinlog` prints, and the events that are printed."""
+    """A log: whether it ends within an event, as that of a killed server may; its lines of JSON, what `mysqlbinlog` prints, and
+    the events that are printed."""
 
     path: Path
+    is_cut: bool
     lines: list
     output: bytes
     printed: list
@@ -58,14 +60,15 @@ class Log(NamedTuple):
 
 def read_log(program, programs, path):
     output = mysql_printed.output_of(programs, path)
-    lines = [json.loads(line) for line in output_of(program, "json", path).splitlines()]
-    return Log(path, lines, output, list(mysql_printed.events(output)))
+    is_cut = listing_model.is_cut(path.read_bytes())
+    lines = [json.loads(line) for line in output_of(program, "json", path, is_cut=is_cut).splitlines()]
+    return Log(path, is_cut, lines, output, list(mysql_printed.events(output)))
 
 
-def output_of(program, *words):
-    """What a command prints; its exit status has to be 0."""
+def output_of(program, *words, is_cut=False):
+    """What a command prints; its exit status has to be 0, or that of a log that ends within an event."""
     finished = subprocess.run([program, *words], capture_output=True)
-    if finished.returncode != 0:
+    if finished.returncode != (listing_model.STATUS_ERRORS if is_cut else listing_model.STATUS_FINE):
         raise ChildProcessError(f"{' '.join(map(str, words))}: status {finished.returncode}, {finished.stderr.decode()[:500]}")
     return finished.stdout
 
@@ -75,7 +78,7 @@ def output_of(program, *words):
 
 def log_failures(program, log, collations, columns, described):
     """For each test of a log, None or what is wrong."""
-    listing = output_of(program, "list", log.path).decode().splitlines()
+    listing = output_of(program, "list", log.path, is_cut=log.is_cut).decode().splitlines()
     yield from event_failures(log, listing, collations)
     yield from printed_failures(columns, log.lines, mysql_printed.rows(log.output))
     yield from metadata_failures(log, described)
@@ -126,12 +129,13 @@ def model_failures(program, path):
 
 
 def verified(program, log):
-    """Whether all events are verified, each by its checksum if it has one; the description always has one."""
+    """Whether all events are verified, each by its checksum if it has one; the description always has one. The beginning of an
+    event at the end of a log is one that is damaged."""
     outer = log.outer()
     checksums = len(outer) if outer[-1].checksum else 1
     size = sum(event.size for event in outer)
-    wanted = f"{log.path}: {len(outer)} events, {size} bytes, {checksums} checksums right, 0 events damaged\n"
-    found = output_of(program, "verify", log.path).decode()
+    wanted = f"{log.path}: {len(outer)} events, {size} bytes, {checksums} checksums right, {int(log.is_cut)} events damaged\n"
+    found = output_of(program, "verify", log.path, is_cut=log.is_cut).decode()
     return None if found == wanted else f"verified as {found!r}, not {wanted!r}"
 
 
