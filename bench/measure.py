@@ -1,7 +1,7 @@
 #!/usr/bin/env python3
 """Measures the programs against the baselines, and reading alone; prints a Markdown table of each.
 
-Usage: measure.py LISTING WRITING_BACK TYPED READING SLICE_LISTING BASELINE SLICE_BASELINE FOLDER
+Usage: measure.py LISTING BENCH SLICE_LISTING BASELINE SLICE_BASELINE FOLDER
 
 FOLDER holds the files of make_binlogs.py. The exit status is 1 if a program
 and the baseline differ on one of them, or if one of them doesn't write back
@@ -229,21 +229,21 @@ def measured_row(program, baseline, lister, folder, kind):
     ]
 
 
-def reading_row(reader, lister, folder, kind):
+def reading_row(bench, lister, folder, kind):
     """Instructions for an event; those of a slice without taking the log into memory."""
     progress(f"{kind}: counting instructions of reading")
     ways = [[], ["slice"], ["memory"]]
-    counted = [counts_per_event([reader, *way], lister, folder, kind, "reading") for way in ways]
+    counted = [counts_per_event([bench, "reading", *way], lister, folder, kind, "reading") for way in ways]
     if None in counted:
         return [kind, "not counted", "not counted"]
     lent, sliced, memory = (one[0] for one in counted)
     return [kind, f"{lent:,.0f}", f"{sliced - memory:,.0f}"]
 
 
-def measure_reading(reader, lister, folder):
+def measure_reading(bench, lister, folder):
     """A row for each kind; the long events are too few to be counted so."""
     kinds = [kind for kind in KINDS if kind != "long"]
-    return [reading_row(reader, lister, folder, kind) for kind in kinds]
+    return [reading_row(bench, lister, folder, kind) for kind in kinds]
 
 
 def slice_row(lister, baseline, counter, folder, kind):
@@ -286,15 +286,14 @@ def print_table(title, columns, rows):
 
 
 def main(arguments):
-    if len(arguments) != 8:
+    if len(arguments) != 6:
         sys.exit(__doc__)
-    paths = (str(Path(it).resolve()) for it in arguments[:7])
-    lister, copier, typed, reader, slice_lister, baseline, slice_baseline = paths
-    folder = Path(arguments[7])
+    lister, bench, slice_lister, baseline, slice_baseline = (str(Path(it).resolve()) for it in arguments[:5])
+    folder = Path(arguments[5])
     works = {
         "Listing": ([lister], [baseline], compare_outputs),
-        "Writing back": ([copier], [baseline, "--write-back"], compare_written_back),
-        "Typed": ([typed], [baseline, "--typed"], compare_outputs),
+        "Writing back": ([bench, "write-back"], [baseline, "--write-back"], compare_written_back),
+        "Typed": ([bench, "typed"], [baseline, "--typed"], compare_outputs),
     }
     try:
         for title, (program, yardstick, compare) in works.items():
@@ -302,7 +301,7 @@ def main(arguments):
             rows = measure(program, yardstick, compare, [baseline], folder)
             print_table(title, COLUMNS, rows)
         progress("Reading")
-        print_table("Reading", READING_COLUMNS, measure_reading(reader, [baseline], folder))
+        print_table("Reading", READING_COLUMNS, measure_reading(bench, [baseline], folder))
         rows = measure_slices(slice_lister, slice_baseline, [baseline], folder)
         print_table("Listing of a slice", SLICE_COLUMNS, rows)
     except Difference as difference:

@@ -1,14 +1,15 @@
 #!/usr/bin/env python3
-"""Measures `binlog_gtids_list` and its hand-written baseline over logs of GTIDs; prints a Markdown table.
+"""Measures `binlog gtids` and its hand-written baseline over logs of GTIDs; prints a Markdown table.
 
 Usage: measure_gtids.py [PROGRAM [FOLDER [EVENTS]]]
 
-PROGRAM is the built binlog_gtids_list if not given. FOLDER, `work` beside this file if not given, holds the logs of
+PROGRAM, words of a command, is that of the built binlog if not given. FOLDER, `work` beside this file if not given, holds the logs of
 make_gtid_logs.py, which are made if they are missing, with EVENTS events. The baseline is built first. Both outputs and exit
 statuses must be equal. Times are processor times, the best of 5, the two in turns, with output to /dev/null; instructions
 are those of the small log, by `valgrind`.
 """
 
+import shlex
 import subprocess
 import sys
 from pathlib import Path
@@ -24,17 +25,17 @@ COLUMNS = [
 ]
 
 
-def outcome(program, path):
+def outcome(words, path):
     with open(path, "rb") as file:
-        run = subprocess.run([program], stdin=file, stdout=subprocess.PIPE)
+        run = subprocess.run(words, stdin=file, stdout=subprocess.PIPE)
     return run.stdout, run.returncode
 
 
-def peak_megabytes(program, path):
+def peak_megabytes(words, path):
     """The greatest resident set of a run, or None if `/usr/bin/time` is missing."""
     try:
         with open(path, "rb") as file:
-            command = ["/usr/bin/time", "-f", "%M", program]
+            command = ["/usr/bin/time", "-f", "%M", *words]
             run = subprocess.run(command, stdin=file, stdout=subprocess.DEVNULL, stderr=subprocess.PIPE, text=True)
     except FileNotFoundError:
         return None
@@ -47,27 +48,27 @@ def shown(number, digits=0):
 
 def row(programs, folder, kind, count):
     path, small = (folder / make_gtid_logs.log_name(kind, is_small) for is_small in (False, True))
-    if len({outcome(program, path) for program in programs}) != 1:
+    if len({outcome(words, path) for words in programs}) != 1:
         sys.exit(f"{path}: the listings differ")
-    times = zip(*([seconds([program], path) for program in programs] for _ in range(ROUNDS)))
+    times = zip(*([seconds(words, path) for words in programs] for _ in range(ROUNDS)))
     ours, theirs = map(min, times)
     few = max(1, count // 100)
-    counted = [instructions([program], small) for program in programs]
+    counted = [instructions(words, small) for words in programs]
     return [
         kind,
         str(count),
         *(f"{time / count * 1e9:.0f}" for time in (ours, theirs)),
         f"{ours / theirs:.2f}",
         *(shown(None if number is None else number / few) for number in counted),
-        *(shown(peak_megabytes(program, path), 1) for program in programs),
+        *(shown(peak_megabytes(words, path), 1) for words in programs),
     ]
 
 
 def main(arguments):
-    program = arguments[0] if arguments else str(HERE.parent / "crates/binlog_gtids_list/out/binlog_gtids_list")
+    words = shlex.split(arguments[0]) if arguments else [str(HERE.parent / "crates/binlog/out/binlog"), "gtids"]
     folder = Path(arguments[1]) if len(arguments) > 1 else HERE / "work"
     count = int(arguments[2]) if len(arguments) > 2 else make_gtid_logs.EVENTS
-    programs = [program, build_baseline("gtids_baseline")]
+    programs = [words, [build_baseline("gtids_baseline")]]
     make_gtid_logs.make_logs(folder, count)
     print("| " + " | ".join(COLUMNS) + " |")
     print("|---" + "|---:" * (len(COLUMNS) - 1) + "|")

@@ -1,11 +1,11 @@
 #!/usr/bin/env python3
 """Counts the instructions that reading a GTID takes, of MariaDB and of MySQL.
 
-Usage: measure_maria_gtids.py [PROGRAM [TYPED [FOLDER]]]
+Usage: measure_maria_gtids.py [PROGRAM [FOLDER]]
 
-PROGRAM is by default the built bench_maria_gtids, and TYPED, which reads MySQL's, the built bench_typed. The logs are put
-into FOLDER (by default bench/work/maria_gtids): MariaDB's GTIDs as a server writes them for a transaction, with a commit
-id, and for an XA transaction; and MySQL's without a tag. Both programs have to count all GTIDs. `valgrind --tool=callgrind`
+PROGRAM is by default the built `bench`, whose mode `maria-gtids` reads MariaDB's, and `typed` MySQL's. The logs are put into
+FOLDER (by default bench/work/maria_gtids): MariaDB's GTIDs as a server writes them for a transaction, with a commit id, and
+for an XA transaction; and MySQL's without a tag. Both modes have to count all GTIDs. `valgrind --tool=callgrind`
 counts, less what it counts for a log without events. Prints a table: the instructions for a GTID, and for the same bytes as
 an event that isn't looked at.
 """
@@ -21,9 +21,7 @@ import make_binlogs
 from make_binlogs import GTID, XID, gtid_times, make_sample, untagged_gtid
 
 BENCH = Path(__file__).resolve().parent
-CRATES = BENCH.parent / "crates"
-PROGRAM = CRATES / "bench_maria_gtids/out/bench_maria_gtids"
-TYPED = CRATES / "bench_typed/out/bench_typed"
+PROGRAM = BENCH.parent / "crates/bench/out/bench"
 FOLDER = BENCH / "work/maria_gtids"
 
 EVENTS = 20_000
@@ -54,12 +52,12 @@ def mysql_gtid(number, generator):
     return untagged_gtid(bytes(range(16)), number, gtid_times(generator), generator.randrange(251, 100_000))
 
 
-# For each kind the type of the event, what makes a body, and whether it is MariaDB's.
+# For each kind the type of the event, what makes a body, and the mode that reads it.
 KINDS = {
-    "MariaDB, a transaction": (162, maria_gtid, True),
-    "MariaDB, with a commit id": (162, maria_commit, True),
-    "MariaDB, with an XA id": (162, maria_xa, True),
-    "MySQL, without a tag": (GTID, mysql_gtid, False),
+    "MariaDB, a transaction": (162, maria_gtid, "maria-gtids"),
+    "MariaDB, with a commit id": (162, maria_commit, "maria-gtids"),
+    "MariaDB, with an XA id": (162, maria_xa, "maria-gtids"),
+    "MySQL, without a tag": (GTID, mysql_gtid, "typed"),
 }
 
 
@@ -69,38 +67,37 @@ def log_of(count, type_number, body_of):
     return make_sample.file_start() + b"".join(events)
 
 
-def counted(program, path):
-    """The instructions of a run over a log, and the words of the program's line."""
-    command = ["valgrind", "--tool=callgrind", "--callgrind-out-file=/dev/null", program]
+def counted(command, path):
+    """The instructions of a run over a log, and the words of the command's line."""
+    command = ["valgrind", "--tool=callgrind", "--callgrind-out-file=/dev/null", *command]
     with open(path, "rb") as log:
         result = subprocess.run(command, stdin=log, capture_output=True, check=True)
     return int(re.search(rb"Collected : (\d+)", result.stderr).group(1)), result.stdout.split()
 
 
-def instructions(program, folder, type_number, body_of):
-    """The instructions for an event, of which the program has to count all GTIDs."""
+def instructions(command, folder, type_number, body_of):
+    """The instructions for an event, of which the command has to count all GTIDs."""
     counts = []
     for events in (0, EVENTS):
         path = folder / "gtids.binlog"
         path.write_bytes(log_of(events, type_number, body_of))
-        count, words = counted(program, path)
+        count, words = counted(command, path)
         gtids = 0 if type_number == XID else events
         if str(gtids).encode() not in words:
-            sys.exit(f"{program} counted {words}, and not {gtids} GTIDs")
+            sys.exit(f"{command} counted {words}, and not {gtids} GTIDs")
         counts.append(count)
     return (counts[1] - counts[0]) / EVENTS
 
 
 def main():
     given = [Path(argument) for argument in sys.argv[1:]]
-    program, typed, folder = given + [PROGRAM, TYPED, FOLDER][len(given) :]
+    program, folder = given + [PROGRAM, FOLDER][len(given) :]
     folder.mkdir(parents=True, exist_ok=True)
     print("| | Bytes | Instructions | Without its body |")
     print("|---|---:|---:|---:|")
-    for name, (type_number, body_of, is_maria) in KINDS.items():
+    for name, (type_number, body_of, mode) in KINDS.items():
         length = len(log_of(1, type_number, body_of)) - len(make_sample.file_start())
-        reader = program if is_maria else typed
-        counts = [instructions(reader, folder, number, body_of) for number in (type_number, XID)]
+        counts = [instructions([program, mode], folder, number, body_of) for number in (type_number, XID)]
         print(f"| {name} | {length} | {counts[0]:,.0f} | {counts[1]:,.0f} |", flush=True)
 
 

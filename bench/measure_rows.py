@@ -1,9 +1,9 @@
 #!/usr/bin/env python3
-"""Measures `bench_rows` beside a hand-written program, and `probe_rows` beside `mariadb-binlog`; prints two Markdown tables.
+"""Measures `bench rows` beside a hand-written program, and `probe_rows` beside `mariadb-binlog`; prints two Markdown tables.
 
 Usage: measure_rows.py [PROGRAM [PRINTER [FOLDER]]]
 
-PROGRAM is the built bench_rows, and PRINTER the built probe_rows, if not given. FOLDER, `work` beside this file if not given,
+PROGRAM is the built bench, and PRINTER the built probe_rows, if not given. FOLDER, `work` beside this file if not given,
 holds the logs of make_row_logs.py, which are made if they are missing. The baseline is built first.
 
 The first table is of values that are added up; the sums of both programs must be equal. The second is of rows as text: lines
@@ -36,13 +36,13 @@ def output_of(command, path):
         return subprocess.run(command, stdin=file, stdout=subprocess.PIPE, check=True).stdout
 
 
-def rows_in(program, path):
+def rows_in(command, path):
     """The number of rows, which is the first of the sums."""
-    return int(output_of([program], path).split()[0])
+    return int(output_of(command, path).split()[0])
 
 
-def compared_sums(program, baseline, path):
-    ours, theirs = (output_of([command], path) for command in (program, baseline))
+def compared_sums(command, baseline, path):
+    ours, theirs = output_of(command, path), output_of([baseline], path)
     if ours != theirs:
         sys.exit(f"{path}: the sums are {ours}, and the baseline's {theirs}")
 
@@ -90,28 +90,28 @@ def print_table(title, other, lines):
     print()
 
 
-def check_rows(program, path):
+def check_rows(command, path):
     """`mariadb-binlog` has to print as many rows."""
     printed = output_of([*MARIADB, path], path)
     rows = sum(line.startswith(CHANGES) for line in printed.splitlines())
-    if rows != rows_in(program, path):
+    if rows != rows_in(command, path):
         sys.exit(f"mariadb-binlog prints {rows} rows of {path}")
 
 
 def main(arguments):
     given = arguments + [None] * (3 - len(arguments))
-    program = given[0] or str(HERE.parent / "crates/bench_rows/out/bench_rows")
+    command = [given[0] or str(HERE.parent / "crates/bench/out/bench"), "rows"]
     printer = given[1] or str(HERE.parent / "crates/probe_rows/out/probe_rows")
     folder = Path(given[2] or HERE / "work")
     folder.mkdir(parents=True, exist_ok=True)
     baseline = build_baseline("rows_baseline")
     for kind in make_row_logs.KINDS:
         make_row_logs.make_kind(folder, kind)
-        compared_sums(program, baseline, folder / f"rows_{kind}.binlog")
-    check_rows(program, folder / "rows_maria_small.binlog")
-    sums = [row(program, folder, kind, lambda path: [program], lambda path: [baseline]) for kind in make_row_logs.KINDS]
+        compared_sums(command, baseline, folder / f"rows_{kind}.binlog")
+    check_rows(command, folder / "rows_maria_small.binlog")
+    sums = [row(command, folder, kind, lambda path: command, lambda path: [baseline]) for kind in make_row_logs.KINDS]
     print_table("Values added up", "Baseline's", sums)
-    printed = row(program, folder, "maria", lambda path: [printer], lambda path: [*MARIADB, path])
+    printed = row(command, folder, "maria", lambda path: [printer], lambda path: [*MARIADB, path])
     print_table("Rows as text", "mariadb-binlog's", [printed])
 
 

@@ -1,13 +1,13 @@
 #!/usr/bin/env python3
-"""Measures `bench_verifying` beside a hand-written program and `mariadb-binlog`; prints two Markdown tables.
+"""Measures `bench verifying` beside a hand-written program and `mariadb-binlog`; prints two Markdown tables.
 
 Usage: measure_verifying.py [PROGRAM [LISTING [FOLDER]]]
 
-PROGRAM is the built bench_verifying, and LISTING the built binlog_list, if not given. FOLDER, `work` beside this file if not
+PROGRAM is the built bench, and LISTING the built binlog_list, if not given. FOLDER, `work` beside this file if not
 given, holds the files of make_binlogs.py; those with checksums are made if they are missing. The baseline is built first.
 
 The first table is of listings that verify each checksum: their outputs and their exit statuses must be equal. Instructions are those of the small log, less those of its first event alone; the cost of
-verifying is what they are more than those of LISTING. The second is of verifying alone: `bench_verifying count`, the
+verifying is what they are more than those of LISTING. The second is of verifying alone: `bench verifying count`, the
 baseline's `--mismatches`, and `mariadb-binlog --verify-binlog-checksum`, of Debian's package `mariadb-client`. Times are
 processor times, the best of 5, in turns, with output to /dev/null.
 """
@@ -55,11 +55,12 @@ def further(command, folder, kind):
 
 def listing_row(program, listing, baseline, folder, kind):
     path, small = folder / f"{kind}.binlog", folder / f"{kind}_small.binlog"
-    compare_outputs([program], [baseline, "--verify"], path)
-    ours, theirs = best_of([[program], [baseline, "--verify"]], path)
+    commands = [program, "verifying"], [baseline, "--verify"]
+    compare_outputs(*commands, path)
+    ours, theirs = best_of(commands, path)
     with open(small, "rb") as file:
         few = subprocess.run([listing], stdin=file, stdout=subprocess.PIPE, check=True).stdout.count(b"\n")
-    counted = [further(command, folder, kind) for command in ([program], [baseline, "--verify"], [listing])]
+    counted = [further(command, folder, kind) for command in (*commands, [listing])]
     if None in counted:
         figures = ["not counted"] * 3
     else:
@@ -72,7 +73,7 @@ def listing_row(program, listing, baseline, folder, kind):
 
 def alone_row(program, baseline, folder, kind):
     path = folder / f"{kind}.binlog"
-    ours, theirs = best_of([[program, "count"], [baseline, "--mismatches"]], path)
+    ours, theirs = best_of([[program, "verifying", "count"], [baseline, "--mismatches"]], path)
     if not has_mariadb(path):
         return [kind, rate(path, ours), rate(path, theirs), "not measured", "not measured"]
     mariadb = min(seconds(["mariadb-binlog", "--verify-binlog-checksum", path]) for _ in range(ROUNDS))
@@ -89,7 +90,7 @@ def print_table(columns, rows):
 
 def main(arguments):
     crates = HERE.parent / "crates"
-    program = arguments[0] if arguments else str(crates / "bench_verifying/out/bench_verifying")
+    program = arguments[0] if arguments else str(crates / "bench/out/bench")
     listing = arguments[1] if len(arguments) > 1 else str(crates / "binlog_list/out/binlog_list")
     folder = Path(arguments[2]) if len(arguments) > 2 else HERE / "work"
     folder.mkdir(parents=True, exist_ok=True)

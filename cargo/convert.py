@@ -71,9 +71,10 @@ def types_with_fallible_clones():
 
 def target(crate, relative):
     """Where the Rust source goes, in the workspace."""
-    if crate in crates.PROGRAMS:
-        return Path("binlog-tools/src/bin", crates.PROGRAMS[crate], relative.with_suffix(".rs"))
     package = next(name for name, members in crates.PACKAGES.items() if crate in members)
+    program = (crates.PROGRAMS | crates.PROBES).get(crate)
+    if program:
+        return Path(package, "src/bin", program, relative.with_suffix(".rs"))
     name = "mod.rs" if relative.name == "lib.rt" else relative.with_suffix(".rs")
     return Path(package, "src", crate, name)
 
@@ -82,8 +83,8 @@ def place_of(crate, public):
     """Where a crate's paths lead."""
     if crate in crates.LIBRARY:
         return Place(crate, None, is_test=False)
-    is_program = crate in crates.PROGRAMS
-    return Place(None if is_program else crate, public, is_test=crate in crates.PACKAGES["binlog-tests"])
+    is_program = crate in crates.PROGRAMS or crate in crates.PROBES
+    return Place(None if is_program else crate, public, is_test=crate in crates.TESTKITS + crates.TESTS)
 
 
 def is_by_hand(source, text, file, found):
@@ -126,7 +127,7 @@ def convert(out):
 def lay_out(out):
     """Lays all sources out, by the roots of their packages."""
     roots = [out / package / "src/lib.rs" for package in crates.PACKAGES]
-    roots += sorted((out / "binlog-tools/src/bin").glob("*/main.rs"))
+    roots += sorted(out.glob("*/src/bin/*/main.rs"))
     subprocess.run(["rustfmt", "--edition", EDITION, *roots], check=True)
 
 

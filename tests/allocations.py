@@ -5,9 +5,9 @@ Usage: allocations.py FLAG
 
 FLAG is --proved or --cargo. With --proved the programs and tests are those that are built in crates/NAME/out, with --cargo the
 commands `list`, `json`, `gtids` and `copy` of the packages' `binlog`. Each further event takes one buffer if it is owned
-(probe_owned_events), and nothing if it is borrowed (binlog_list, binlog_json, bench_write_back, and those commands), even if
-statements and their status variables are read (bench_typed), or MariaDB's GTIDs (bench_maria_gtids), or rows (bench_rows), or
-GTIDs that come in order are kept (binlog_gtids_list). Checksums take nothing. A format description that comes into force, and a
+(`bench reading owned`), and nothing if it is borrowed (binlog_list, `bench write-back`, and those commands), even if
+statements and their status variables are read (`bench typed`), or MariaDB's GTIDs (`bench maria-gtids`), or rows (`bench rows`), or
+GTIDs that come in order are kept (`binlog gtids`). Checksums take nothing. A format description that comes into force, and a
 table map, is copied once: one allocation for each of its texts that isn't empty, and one for the description.
 
 No allocation of a program is larger than the bytes that came and 65,536 more; the vector of table maps may have 12 bytes for
@@ -36,7 +36,7 @@ FEW, MANY = 10, 1010
 TABLE_MAP, MARIA_GTID = 19, 162
 
 # A log of a MariaDB server.
-MARIA_LOG = programs.CRATES / "probe_maria_events/stdin"
+MARIA_LOG = programs.CRATES / "probe_events/stdin"
 
 
 def table_map(table_id):
@@ -106,17 +106,17 @@ WHOLE_LOGS = {
     "MariaDB's events": MARIA_LOG.read_bytes(),
 }
 
-# The number of allocations that each program makes for a further event.
+# The number of allocations that each program, a crate's with its arguments, makes for a further event.
 PROGRAMS = {
     "binlog_list": 0,
-    "binlog_json": 0,
-    "binlog_gtids_list": 0,
-    "bench_write_back": 0,
-    "bench_typed": 0,
-    "bench_maria_gtids": 0,
-    "bench_rows": 0,
-    "bench_verifying": 0,
-    "probe_owned_events": 1,
+    "binlog json": 0,
+    "binlog gtids": 0,
+    "bench write-back": 0,
+    "bench typed": 0,
+    "bench maria-gtids": 0,
+    "bench rows": 0,
+    "bench verifying": 0,
+    "bench reading owned": 1,
 }
 
 # The commands of the packages' program, whose further events take nothing.
@@ -124,7 +124,7 @@ PACKAGED = ("list", "json", "gtids", "write back")
 
 # The programs that hold a whole log, for which a buffer may have twice the bytes, and others.
 HOLDING = {"probe_slice_listing"}
-OTHERS = HOLDING | {"probe_typed_events", "probe_maria_events", "bench_reading"}
+OTHERS = HOLDING | {"probe_events", "bench reading"}
 
 # The bytes that the vector of table maps may take for each byte of a log: an entry of 216 bytes for an event of 37 bytes,
 # and twice as many entries as there are events.
@@ -234,9 +234,9 @@ def total_failure(name, run, came):
 
 def proved_failures(watch):
     for name, for_each in PROGRAMS.items():
-        yield from program_failures(watch, Program(name, programs.proved(name)), for_each)
+        yield from program_failures(watch, Program(name, programs.proved(*name.split())), for_each)
     for name in sorted(OTHERS):
-        program = Program(name, programs.proved(name))
+        program = Program(name, programs.proved(*name.split()))
         yield from log_failures(watch, program, None)
         yield from whole_log_failures(watch, program)
     for path, name in watched.tests():

@@ -32,6 +32,7 @@ import json_model
 import listing_model
 import make_sample
 import maria_events
+import maria_gtids_sample
 import programs
 import results
 from damaged_copies import EVENT, MAGIC, PROCESSES_AT_A_TIME, SIZE_OFFSET, frame_starts, with_byte
@@ -42,6 +43,7 @@ COMMANDS = ("list", "json", "gtids", "verify", "stats", "copy")
 MODELS = (("list", listing_model), ("json", json_model), ("gtids", gtid_model))
 
 FINE, NOT_OPENED, DAMAGED, FAILED, USAGE = 0, 1, 2, 3, 64
+SAMPLES = REPOSITORY / "tests/samples"
 MISSING = "missing.bin"
 NOT_FOUND = rf"binlog: {MISSING}: .+\n"
 # The messages of a log: each has the file, the index, and the byte if that is known, or is about the file as a whole.
@@ -277,6 +279,17 @@ def several(runner):
     yield runner.check(["list", "/", "0.bin"], Result(once, FAILED, folder + " [^\n]+\n"), logs)
 
 
+# The same time, by each form that it may have.
+TIMES_OF_THE_SECOND_EVENT = [
+    "2009-09-24T09:03:57Z",
+    "20090924 090357z",
+    "2009-09-24T11:03:57+02",
+    "2009-09-24T11:03:57+0200",
+    "2009-09-24T03:33:57.999-05:30",
+    "2009-09-25t11:03:56+25:59:59",
+]
+
+
 def filters(runner):
     """What each filter takes."""
     starts = list(frame_starts(SAMPLE))
@@ -290,6 +303,8 @@ def filters(runner):
         (["--start-datetime", "2009-09-24T09:03:57"], [i for i in every if i > 0]),
         (["--stop-datetime", "2009-09-24 09:03:57"], [0]),
         (["--start-datetime", "1960-01-01T00:00:00"], every),
+        *((["--start-datetime", time], [i for i in every if i > 0]) for time in TIMES_OF_THE_SECOND_EVENT),
+        (["--stop-datetime", "2009-09-24T09:03:57-00:00:01"], every),
         (["--server-id", "1"], every),
         (["--server-id", "2"], []),
         (["--type", "XID"], [i for i in every if types[i] == 16]),
@@ -298,6 +313,9 @@ def filters(runner):
     ]
     for words, indexes in cases:
         yield runner.check(["list", *words, "0.bin"], Result(lines(SAMPLE, indexes)), [SAMPLE])
+    for time, why in (("2009-09-24T09:03:57[Europe/Paris]", "brackets"), ("2009-09-24T09:03:57+2", "is no time")):
+        refused = Result(b"", USAGE, f"binlog: --stop-datetime: [^\n]+{why}[^\n]+\n")
+        yield runner.check(["list", "--stop-datetime", time, "0.bin"], refused, [SAMPLE])
 
 
 def gtid_filters(runner):
@@ -334,6 +352,29 @@ def gtids(runner):
     yield runner.check([*missing, "2.bin", "0.bin"], Result(f"{digits} 1,3 gaps 2\n".encode()), logs)
     yield runner.check([*missing, "0.bin", "2.bin"], Result(b""), logs)
     yield runner.check([*missing, MISSING, "0.bin"], Result(b"", NOT_OPENED, NOT_FOUND), logs)
+
+
+def maria_gtids(runner):
+    """MariaDB's last GTIDs of several logs, those that another log lacks, and beside them MySQL's."""
+    start, gtid = maria_gtids_sample.start, maria_gtids_sample.gtid
+    first = MAGIC + start() + gtid(0, 1, 3) + gtid(1, 1, 7) + gtid(0, 2, 5)
+    logs = [first, MAGIC + start() + gtid(0, 1, 5) + gtid(0, 2, 5), transactions(1, 2)]
+    yield runner.check(["gtids", "0.bin"], Result(b"0-1-3\n0-2-5\n1-1-7\n"), logs)
+    yield runner.check(["gtids", "0.bin", "1.bin"], Result(b"0-1-5\n0-2-5\n1-1-7\n"), logs)
+    yield runner.check(["gtids", "--missing-in", "0.bin", "1.bin"], Result(b"0-1-5\n"), logs)
+    yield runner.check(["gtids", "--missing-in", "1.bin", "0.bin"], Result(b"1-1-7\n"), logs)
+    of_mysql = f"{SID.replace('-', '')} 1-2 gaps -\n".encode()
+    yield runner.check(["gtids", "1.bin", "2.bin"], Result(of_mysql + b"0-1-5\n0-2-5\n"), logs)
+    yield runner.check(["gtids", "--missing-in", "2.bin", "1.bin", "2.bin"], Result(b"0-1-5\n0-2-5\n"), logs)
+
+
+def samples(runner):
+    """The stored output for a log with each body, and for one with GTIDs. Both have events that are refused."""
+    for command, model in MODELS[1:]:
+        log = (SAMPLES / f"{command}.binlog").read_bytes()
+        wanted = (SAMPLES / f"{command}.txt").read_bytes()
+        _, status = listing_model.of_command(model.expected)(log)
+        yield runner.check([command, "0.bin"], Result(wanted, status, MESSAGES), [log])
 
 
 def time_of(frame):
@@ -563,8 +604,8 @@ def installs(runner):
     yield from laid_out(runner, runner.folder / "unpacked/usr")
 
 
-PARTS = (models, damaged, cut_logs, cut_ends, reported, several, filters, gtid_filters, gtids, stats, copies, maria)
-PARTS += (words, ends, progress, followed, installs)
+PARTS = (models, damaged, cut_logs, cut_ends, reported, several, filters, gtid_filters, gtids, maria_gtids, samples, stats)
+PARTS += (copies, maria, words, ends, progress, followed, installs)
 
 
 def results_of(build, part):

@@ -377,10 +377,13 @@ MARIA_VERSIONS = [
     b"10.11.6-MariaD",
     b"10.11.6-MariaD-MariaDB",
     b"10.11.6\0-MariaDB",
+    b"10.11.6MariaDB",
+    b"5.1.23-maria-beta",
+    b"5.1.23-maria",
     # The name in the last of the 50 bytes, and cut off by their end.
-    41 * b"1" + b"-MariaDB",
     42 * b"1" + b"-MariaDB",
-    43 * b"1" + b"-MariaD",
+    43 * b"1" + b"MariaDB",
+    44 * b"1" + b"MariaD",
 ]
 
 
@@ -459,7 +462,7 @@ class Compared(NamedTuple):
 COMPARED = {
     "list": Compared(listing_model.expected, listing_model.of_command(listing_model.expected), lambda log: log.listing),
     "json": Compared(json_model.expected, listing_model.of_command(json_model.expected), lambda log: log.lines),
-    "gtids": Compared(gtid_model.expected, listing_model.of_command(gtid_model.expected_of_mysql), lambda _log: None),
+    "gtids": Compared(gtid_model.expected, listing_model.of_command(gtid_model.expected), lambda _log: None),
 }
 
 

@@ -60,10 +60,7 @@ def count_by_type(examples):
 
 def rows(examples):
     examples.write("log", row_lines.content_of(row_lines.VERSIONS[0], [row_lines.FIRST, row_lines.written(1, 7, b"a")]))
-    table, number, note = examples.run("rows", "log").splitlines()
-    yield difference("rows", table, "shop.orders")
-    yield None if number.startswith("+ id: ") and "7" in number else f"rows: {number}"
-    yield None if note.startswith("+ note: ") and str(ord("a")) in note else f"rows: {note}"
+    yield difference("rows", examples.run("rows", "log").splitlines(), ["shop.orders", "+ id: 7", '+ note: "a"'])
 
 
 def copy_transactions(examples):

@@ -5,8 +5,7 @@ Usage: failing_ends.py [--json | --gtids] FLAG
 
 FLAG is one of `programs.py`: each of its programs that list a log, with --json those that print lines of JSON, or with --gtids
 those that list GTIDs. An input that fails is a folder, a closed descriptor, and a terminal that hangs up after a prefix of the
-sample: all events that were whole by then must be listed, or their GTIDs, but binlog_gtids_list lists the errors alone. An output
-that fails is a full device, a closed descriptor and a pipe that nobody reads; the listing is short, so that the failure shows
+sample: all events that were whole by then must be listed, or their GTIDs. An output that fails is a full device, a closed descriptor and a pipe that nobody reads; the listing is short, so that the failure shows
 when it is flushed, or long. For the program `binlog` a pipe that nobody reads is no failure. For a program of Rust's runtime a
 closed descriptor is the null device: its input is empty, and it writes nothing. The last line is `N passed, M failed`; the exit
 status is 1 if something failed.
@@ -52,13 +51,6 @@ LISTINGS = {
 }
 
 
-def listed_before(words, listing, content):
-    """What is listed if the input fails behind this content."""
-    if listing.model == gtid_model and not programs.is_command(words):
-        return gtid_model.error_lines(content)
-    return listing.model.expected(content)[0]
-
-
 def hung_up(content):
     """A descriptor that gives the content and then fails."""
     master, slave = os.openpty()
@@ -89,7 +81,7 @@ def front_failure(words, listing, length):
     return difference(
         f"an input that fails behind {length} bytes",
         listed_until_it_fails(words, front),
-        (listed_before(words, listing, front), FAILED),
+        (listing.model.expected(front)[0], FAILED),
     )
 
 

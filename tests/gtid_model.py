@@ -1,5 +1,4 @@
-"""A plain model of the listing of GTIDs: the output and the exit status of `binlog_gtids_list`, and those of `binlog gtids`, which
-lists MySQL's GTIDs alone.
+"""A plain model of the listing of GTIDs: the output of `binlog gtids`, and a status (`listing_model.of_command` has the command's).
 
 The items of a log, and which of them are errors, come from the model of the listing; the fields of MySQL's GTID events come
 from the model of event data, those of MariaDB's from `maria_gtid_model`. A set is a list of the intervals that were added,
@@ -45,9 +44,8 @@ def gtids_of(type_number, data, lengths):
     return intervals
 
 
-def frame_gtids(frame, in_force, lists_maria):
-    """What the event of a frame adds, MySQL's GTIDs, and MariaDB's if they are listed; a fault if the item is an error, or the
-    event is."""
+def frame_gtids(frame, in_force):
+    """What the event of a frame adds, MySQL's GTIDs, and MariaDB's; a fault if the item is an error, or the event is."""
     parts = listing_model.cut(frame, in_force.algorithm)
     if parts is None:
         raise Fault(4)
@@ -56,7 +54,7 @@ def frame_gtids(frame, in_force, lists_maria):
     if fault is not None:
         raise Fault(fault)
     type_number = listing_model.type_number(frame)
-    if lists_maria and maria_gtid_model.is_maria(in_force.server_version):
+    if maria_gtid_model.is_maria(in_force.server_version):
         return gtids_of(type_number, data, in_force.lengths), maria_gtid_model.gtids_of(
             type_number, data, listing_model.server_id(frame)
         )
@@ -93,13 +91,13 @@ def group_line(sid, tag, intervals):
     return f"{name} {intervals_text(numbers)} gaps {intervals_text(gaps(numbers))}\n"
 
 
-def tracked(content, lists_maria=True):
+def tracked(content):
     """The lines of the errors, for each source and tag the intervals that were added, and MariaDB's last GTIDs."""
     frames, tail = listing_model.split(content[4:])
     lines, groups, last = [], {}, {}
     for index, (frame, in_force) in enumerate(zip(frames, listing_model.in_force_at(frames))):
         try:
-            intervals, gtids = frame_gtids(frame, in_force, lists_maria)
+            intervals, gtids = frame_gtids(frame, in_force)
             for sid, tag, start, end in intervals:
                 groups.setdefault((sid, tag), []).append((start, end))
             for domain, server_id, sequence in gtids:
@@ -111,23 +109,12 @@ def tracked(content, lists_maria=True):
     return lines, groups, last
 
 
-def error_lines(content):
-    """The lines of the errors alone: what is listed if the input fails behind this content."""
-    lines, _, _ = tracked(content)
-    return "".join(lines).encode("ascii")
-
-
-def expected(content, lists_maria=True):
+def expected(content):
     """The standard output and the exit status for a file of this content."""
     if content[:4] != listing_model.FILE_HEADER:
         return b"", listing_model.STATUS_NOT_A_BINLOG
-    lines, groups, last = tracked(content, lists_maria)
+    lines, groups, last = tracked(content)
     group_lines = [group_line(sid, tag, groups[sid, tag]) for sid, tag in sorted(groups)]
     maria_lines = [f"{domain}-{server_id}-{last[domain, server_id]}\n" for domain, server_id in sorted(last)]
     listing = "".join(lines + group_lines + maria_lines)
     return listing.encode("ascii"), listing_model.STATUS_ERRORS if lines else listing_model.STATUS_FINE
-
-
-def expected_of_mysql(content):
-    """The same without MariaDB's GTIDs, as `binlog gtids` has it."""
-    return expected(content, lists_maria=False)

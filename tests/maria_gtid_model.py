@@ -20,7 +20,8 @@ RESERVED_LENGTH = 2
 
 def is_maria(server_version):
     """Whether a server version, the 50 bytes of a description, is MariaDB's."""
-    return b"-MariaDB" in server_version.split(b"\0")[0]
+    text = server_version.split(b"\0")[0]
+    return b"MariaDB" in text or b"-maria-" in text
 
 
 def gtids_of(type_number, data, server_id):

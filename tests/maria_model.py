@@ -1,6 +1,6 @@
-"""A plain model of the lines that `probe_maria_events` prints: one for each of MariaDB's own events of a log.
+"""A plain model of MariaDB's own events of a log, each as words by their keys, and these words of an event's line of JSON.
 
-Written from MariaDB's documentation of its events. Only logs of MariaDB without faults have lines.
+Written from MariaDB's documentation of its events. Only logs of MariaDB without faults have words.
 """
 
 import zlib
@@ -114,9 +114,8 @@ def line(words):
 
 
 def expected(content):
-    """What the program prints of a log."""
+    """The words of each of MariaDB's own events of a log."""
     frames, _ = listing_model.split(content[len(listing_model.FILE_HEADER) :])
-    lines = []
     for frame, in_force in zip(frames, listing_model.in_force_at(frames)):
         data, _ = listing_model.cut(frame, in_force.algorithm)
         number = listing_model.type_number(frame)
@@ -124,5 +123,57 @@ def expected(content):
         if words is not None:
             server = listing_model.number(frame, 5, 4)
             head = {"end": listing_model.log_pos(frame), "size": len(frame), "type": number, "server": server}
-            lines.append(line(head | words))
-    return lines
+            yield head | words
+
+
+# ---- lines of JSON
+
+# The words that lines of JSON have in another form, or not.
+UNSHOWN = {"status_vars", "reserved"}
+
+
+def is_own(shown):
+    """Whether a line of JSON is that of an event of MariaDB's own."""
+    return shown["type"] >= ANNOTATE_ROWS and shown["name"] is not None
+
+
+def shown_words(shown):
+    """The words of an event by its line of JSON, without those that aren't shown."""
+    number, data = shown["type"], shown["data"]
+    head = {"end": shown["log_pos"], "size": shown["event_size"], "type": number, "server": shown["server_id"]}
+    if number in ROWS_COMPRESSED:
+        return head | shown_rows(data)
+    if number == QUERY_COMPRESSED:
+        words = {"thread_id": data["thread_id"], "exec_time": data["execution_time"], "error_code": data["error_code"]}
+        return head | words | {key: shown_text(data[key]) for key in ("schema", "query")}
+    if number == START_ENCRYPTION:
+        return head | data | {"nonce": bytes.fromhex(data["nonce"])}
+    if number == GTID_LIST:
+        return head | {"list_flags": data["flags"], "gtids": "".join(f"{gtid}," for gtid in data["gtids"])}
+    if number == GTID:
+        return head | shown_gtid(data)
+    return head | {key: shown_text(text) for key, text in data.items()}
+
+
+def shown_text(text):
+    return bytes.fromhex(text["hex"]) if isinstance(text, dict) else text.encode()
+
+
+def shown_rows(data):
+    words = {"table": data["table_id"], "flags": data["flags"] & ROWS_FLAGS, "columns": data["num_columns"]}
+    words |= image("before", data["columns_before_image"]) | image("after", data["columns_after_image"])
+    return words | {"rows": bytes.fromhex(data["rows_data"])}
+
+
+def shown_gtid(data):
+    domain, _, sequence = map(int, data["gtid"].split("-"))
+    words = {"sequence": sequence, "domain": domain, "flags": data["flags"]}
+    if data["commit_id"] is not None:
+        words["commit_id"] = data["commit_id"]
+    if found := data["xa_id"]:
+        names = {"xa_gtrid": bytes.fromhex(found["gtrid"]), "xa_bqual": bytes.fromhex(found["bqual"])}
+        words |= {"xa_format": found["format_id"]} | names
+    if found := data["extra"]:
+        words |= {"extra_flags": found["flags"]}
+        words |= {key: found[key] for key in ("engines", "alter_sequence", "thread_id") if found[key] is not None}
+    return words

@@ -5,10 +5,9 @@ Usage: maria_server.py [--logs FOLDER] FLAG
 
 FLAG is one of `programs.py`. A server runs a mixed load in a temporary folder, on a socket there, and is shut down. Then, of
 each log, a test each: that each event is listed with the type, end and checksum that `mariadb-binlog` prints; that the listing
-and the lines of JSON are those of their models; and that the log is written back byte for byte. Where there is a program that
-prints a line for each of MariaDB's own events: that these lines are those of the model, and that there is none under another
-server's version; that each of these events is printed by `mariadb-binlog` as its line says; and that the load has events of each
-kind that the server can write. Another server encrypts its log, of which the start is compared. With --logs the logs in FOLDER
+and the lines of JSON are those of their models; that the log is written back byte for byte; that the lines of MariaDB's own events
+have the words of another model, and that there is none under another server's version; that each of these events is printed by
+`mariadb-binlog` as these words say; and that the load has events of each kind that the server can write. Another server encrypts its log, of which the start is compared. With --logs the logs in FOLDER
 are compared, and no server is started.
 
 Where there is no server that is known (`maria_daemon.py` says where it comes from), or the client's programs `mariadb` and
@@ -18,6 +17,7 @@ something failed.
 """
 
 import argparse
+import json
 import re
 import sys
 import tempfile
@@ -34,9 +34,6 @@ from damaged_copies import failure
 from maria_daemon import SECONDS_TO_RUN, LeftOut, Server, is_within, plugins_of, program_in
 
 LOAD = programs.REPOSITORY / "tests/maria_load.sql"
-
-# The program that prints a line for each of MariaDB's own events.
-OWN_EVENTS = "mariadb"
 
 MIXED = [
     "--server-id=7",
@@ -99,8 +96,8 @@ def log_failures(build, path):
     """For each test of a log, None or what is wrong."""
     content = path.read_bytes()
     events = list(maria_printed.printed(path))
-    for words in build.commands(OWN_EVENTS):
-        yield from own_event_failures(words, content, events)
+    yield from own_event_failures(build.command("json"), content)
+    yield from printed_failures(content, events)
     for words in build.commands("list"):
         yield from listing_failures(words, content, events)
     yield from model_failures(build, path.name, content)
@@ -108,15 +105,19 @@ def log_failures(build, path):
         yield written_back.failure(words, path.name, content)
 
 
-def own_event_failures(words, content, events):
-    """For each line of MariaDB's own events, None or what is wrong, by the model and by what is printed."""
-    lines, status = lines_of(words, content)
-    yield None if status == 0 else f"status {status}"
-    for place, (found, wanted) in enumerate(zip_longest(lines, maria_model.expected(content))):
-        yield None if found == wanted else f"line {place} is {found}, not {wanted}"
+def own_event_failures(words, content):
+    """For each of MariaDB's own events, None or how its line of JSON has other words than the model."""
+    wanted = [{key: event[key] for key in event if key not in maria_model.UNSHOWN} for event in maria_model.expected(content)]
+    for place, (found, event) in enumerate(zip_longest(own_events(words, content), wanted)):
+        yield None if found == event else f"event {place} of MariaDB's own is {found}, not {event}"
     other_server = content.replace(b"-MariaDB", b"-mariadb", 1)
-    yield None if lines_of(words, other_server) == ([], 0) else "lines for a log that isn't MariaDB's"
-    yield from printed_failures(content, lines, events)
+    yield "lines for a log that isn't MariaDB's" if own_events(words, other_server) else None
+
+
+def own_events(words, content):
+    """The words of MariaDB's own events by their lines of JSON."""
+    output, _ = programs.run(words, content)
+    return [maria_model.shown_words(line) for line in map(json.loads, output.splitlines()) if maria_model.is_own(line)]
 
 
 def model_failures(build, name, content):
@@ -125,12 +126,13 @@ def model_failures(build, name, content):
         yield failure(build.commands(purpose), purpose, (name, content))
 
 
-def printed_failures(content, lines, events):
-    """For each line, None or how `mariadb-binlog` prints the event otherwise; and for each event, whether it has a line."""
+def printed_failures(content, events):
+    """For each event of MariaDB's own, None or how `mariadb-binlog` prints it otherwise; and for each printed one, whether the log
+    has it."""
     frames, _ = listing_model.split(content[len(listing_model.FILE_HEADER) :])
     *_, in_force = listing_model.in_force_at(frames)
     session = maria_printed.Session()
-    all_words = {int(words["end"]): words for words in map(maria_printed.split_line, lines)}
+    all_words = {int(words["end"]): words for words in words_as_texts(content)}
     for event, following in zip(events, [*events[1:], None]):
         words = all_words.pop(event.end, None)
         is_own = event.type_number() is None or event.type_number() >= maria_model.ANNOTATE_ROWS
@@ -140,6 +142,11 @@ def printed_failures(content, lines, events):
         wrong = maria_printed.difference(words, event, session, following, in_force.lengths)
         yield wrong and f"the event that ends at {event.end}: {wrong}"
     yield from (f"a line for {end}, where no event ends" for end in all_words)
+
+
+def words_as_texts(content):
+    """The words of MariaDB's own events, each as a text."""
+    return [maria_printed.split_line(maria_model.line(words)) for words in maria_model.expected(content)]
 
 
 def listing_failures(words, content, events):
@@ -172,11 +179,8 @@ WANTED_KINDS = {f"type {number}" for number in (160, 161, 162, 163, 165, 166, 16
 WANTED_KINDS |= {f"flag {1 << bit}" for bit in range(8)} | {f"extra flag {1 << bit}" for bit in range(4)}
 
 
-def kind_failures(words, logs):
-    found = set()
-    for path in logs:
-        lines, _ = lines_of(words, path.read_bytes())
-        found |= set(kinds(map(maria_printed.split_line, lines)))
+def kind_failures(logs):
+    found = {kind for path in logs for kind in kinds(words_as_texts(path.read_bytes()))}
     yield from (None if kind in found else f"no event of {kind}" for kind in sorted(WANTED_KINDS))
 
 
@@ -188,8 +192,7 @@ def server_failures(build):
         with Server(daemon, folder / "mixed", MIXED) as server:
             run_load(server)
         yield from all_failures(build, server.logs())
-        for words in build.commands(OWN_EVENTS):
-            yield from kind_failures(words, server.logs())
+        yield from kind_failures(server.logs())
         try:
             yield from encrypted_failures(build, daemon, folder)
         except LeftOut as reason:
@@ -213,18 +216,16 @@ def encrypted_failures(build, daemon, folder):
     yield None if (len(frames), tail) == (7, b"") else f"an encrypted log of {len(frames)} events"
     start = content[: len(listing_model.FILE_HEADER) + len(frames[0]) + len(frames[1])]
     path.write_bytes(start)
-    for words in build.commands(OWN_EVENTS):
-        yield from encryption_failures(words, path, start)
+    yield from own_event_failures(build.command("json"), start)
+    yield encryption_failure(path, start)
 
 
-def encryption_failures(words, path, start):
-    """Whether the start of encryption is as the model and `mariadb-binlog` have it."""
-    lines, status = lines_of(words, start)
-    yield None if (lines, status) == (maria_model.expected(start), 0) else f"encryption begins: {lines}, status {status}"
-    line = maria_printed.split_line(lines[0])
+def encryption_failure(path, start):
+    """None, or how `mariadb-binlog` prints the start of encryption otherwise than its words say."""
+    (line,) = words_as_texts(start)
     wanted = f"# Encryption scheme: {line['scheme']}, key_version: {line['key_version']}, nonce: {line['nonce']}\n"
     found = re.findall(rb"^# Encryption scheme.*\n", maria_printed.output_of(path), re.MULTILINE)
-    yield None if found == [wanted.encode()] else f"encryption begins: {found}, not {wanted}"
+    return None if found == [wanted.encode()] else f"encryption begins: {found}, not {wanted}"
 
 
 def all_failures(build, logs):
@@ -236,7 +237,7 @@ def main():
     parser = argparse.ArgumentParser(description="Compares what is read of a MariaDB server's logs.")
     programs.add_flags(parser)
     parser.add_argument("--logs", type=Path)
-    arguments = programs.parsed(parser, "list", "json", "write back", OWN_EVENTS)
+    arguments = programs.parsed(parser, "list", "json", "write back")
     try:
         if arguments.logs:
             return results.report(all_failures(arguments.build, sorted(arguments.logs.glob("*-bin.0*"))))

@@ -49,14 +49,15 @@ PROVED = Build(
         "list": [proved("binlog_list"), proved("binlog", "list")],
         # Lists a log that it has in memory as a whole.
         "list a slice": [proved("probe_slice_listing")],
-        "json": [proved("binlog_json"), proved("binlog", "json")],
-        "gtids": [proved("binlog_gtids_list"), proved("binlog", "gtids")],
+        "json": [proved("binlog", "json")],
+        "gtids": [proved("binlog", "gtids")],
         "binlog": [proved("binlog")],
-        "verify": [proved("bench_verifying")],
-        "write back": [proved("bench_write_back"), proved("binlog", "copy", "--output", "-")],
+        "verify": [proved("bench", "verifying")],
+        "write back": [proved("bench", "write-back"), proved("binlog", "copy", "--output", "-")],
+        "benchmark": [proved("bench")],
         "rows": [proved("probe_rows")],
         "texts": [proved("probe_inflate")],
-        "mariadb": [proved("probe_maria_events")],
+        "events": [proved("probe_events")],
     },
     making="proved",
 )
@@ -68,8 +69,9 @@ CARGO = Build(
         "gtids": [packaged("binlog", "gtids")],
         "binlog": [packaged("binlog")],
         "write back": [packaged("write-back"), packaged("binlog", "copy", "--output", "-")],
-        "rows": [packaged("rows")],
+        "rows": [packaged("rows"), packaged("displayed-rows")],
         "texts": [packaged("texts")],
+        "events": [packaged("events")],
     },
     making="made from the proved sources, compiled by rustc, tested",
     has_rusts_runtime=True,
@@ -78,7 +80,7 @@ CARGO = Build(
 
 def is_command(words):
     """Whether this is a command of the program `binlog`."""
-    return len(words) > 1
+    return Path(words[0]).name == "binlog"
 
 
 def given(command):

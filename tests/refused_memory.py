@@ -6,8 +6,9 @@ Usage: refused_memory.py FLAG
 FLAG is --proved or --cargo. Each program runs with its first allocation refused, then with its second one, and so on until a run
 makes fewer.
 
-With --proved the programs and the tests are those that are built in crates/NAME/out. Listings and JSON lines must be a prefix
-of all lines, with status 3; what is written back must be a prefix of the log; and a program must free all its memory. A test
+With --proved the programs and the tests are those that are built in crates/NAME/out. Listings must be a prefix of all lines, with
+status 3, and so must what `binlog json`, `binlog gtids` and `binlog copy` print, unless they do without the allocation; what is
+written back must be a prefix of the log; and a program must free all its memory. A test
 must pass; those are run whose full name contains `memory`. A test whose name ends in `takes_no_memory` or `take_no_memory` must
 make no allocation, not even one whose refusal it would hide. One whose name ends in `makes_one_allocation` or
 `make_two_allocations` must make exactly as many; the names count to nine.
@@ -52,7 +53,7 @@ LOGS = {
     "GTIDs": gtids_sample.sample(),
     "MariaDB's GTIDs": maria_gtids_sample.sample(),
     "long events": make_sample.sample() + 3 * LONG_EVENT,
-    "MariaDB's events": (programs.CRATES / "probe_maria_events/stdin").read_bytes(),
+    "MariaDB's events": (programs.CRATES / "probe_events/stdin").read_bytes(),
 }
 
 
@@ -102,14 +103,6 @@ def listing_fault(content):
     return lines_fault(listing_model, content)
 
 
-def gtids_fault(content):
-    return lines_fault(gtid_model, content)
-
-
-def json_fault(content):
-    return lines_fault(json_model, content)
-
-
 def written_back_fault(content):
     def fault(run):
         if not content.startswith(run.output):
@@ -123,18 +116,16 @@ def failure_fault(_content):
     return lambda run: status_fault(run, FAILURE)
 
 
+# What is wrong with a run of each program, a crate's with its arguments.
 PROGRAMS = {
     "binlog_list": listing_fault,
     "probe_slice_listing": listing_fault,
-    "binlog_json": json_fault,
-    "binlog_gtids_list": gtids_fault,
-    "bench_write_back": written_back_fault,
-    "bench_typed": failure_fault,
-    "probe_owned_events": failure_fault,
-    "probe_typed_events": failure_fault,
-    "probe_maria_events": failure_fault,
-    "bench_maria_gtids": failure_fault,
-    "bench_rows": failure_fault,
+    "bench write-back": written_back_fault,
+    "bench typed": failure_fault,
+    "probe_events": failure_fault,
+    "bench reading owned": failure_fault,
+    "bench maria-gtids": failure_fault,
+    "bench rows": failure_fault,
 }
 
 
@@ -162,14 +153,13 @@ def stated_fault(run, stated):
 def proved_failures(watch):
     for name, fault in PROGRAMS.items():
         for log, content in LOGS.items():
-            command = programs.proved(name)
+            command = programs.proved(*name.split())
             yield from failures(watch, f"{name} over {log}", command, content, fault(content))
     maria = maria_events.sample()
     for title, content, lines in (("MariaDB's events", maria.content, maria.lines), ("rows", *row_lines.sample())):
         command = programs.proved("binlog", "json")
         yield from failures(watch, f"binlog json over {title}", command, content, command_fault(lines))
-        command = programs.proved("binlog_json")
-        yield from failures(watch, f"binlog_json over {title}", command, content, json_fault(content))
+    yield from command_failures(watch, programs.PROVED, {"json": json_model, "gtids": gtid_model}, (OUTSIDE,))
     for program, name in watched.tests():
         stated = stated_allocations(name)
         if stated is not None:
@@ -179,31 +169,36 @@ def proved_failures(watch):
             yield from failures(watch, name, [program, name], b"", test_fault)
 
 
-# ---- the cargo packages' program
+# ---- commands of `binlog`
 
 
-def packaged_fault(run, wanted, status):
-    """What is wrong with a run of the packages' program that would print this and end with this status."""
+def output_fault(run, wanted, status, statuses):
+    """What is wrong with a run of a command that would print this and end with this status, or, refused, with one of those."""
     if not wanted.startswith(run.output):
         return f"{len(run.output)} bytes that are no front of the output"
     is_whole = (run.output, run.status) == (wanted, status)
-    return None if is_whole or run.status in (OUTSIDE, -SIGABRT) else f"status {run.status}"
+    return None if is_whole or run.status in statuses else f"status {run.status}"
 
 
-def packaged_failures(watch):
-    models = {"list": listing_model, "json": json_model}
+def command_failures(watch, build, models, statuses):
+    """For each allocation of each of these commands over each log, None or what is wrong if it is refused."""
     for log, content in LOGS.items():
-        outputs = {purpose: model.expected(content) for purpose, model in models.items()}
-        if outputs["list"][1] == SUCCESS:
+        outputs = {purpose: listing_model.of_command(model.expected)(content) for purpose, model in models.items()}
+        if listing_model.expected(content)[1] == SUCCESS:
             outputs["write back"] = content, SUCCESS
         for purpose, (wanted, status) in outputs.items():
-            words = next(filter(programs.is_command, programs.CARGO.commands(purpose)))
+            words = next(filter(programs.is_command, build.commands(purpose)))
             run = partial(watch.run, words, content, stderr=subprocess.DEVNULL)
             for number in count(1):
                 if not (found := run(refused=number)).is_refused:
                     break
-                wrong = packaged_fault(found, wanted, status)
+                wrong = output_fault(found, wanted, status, statuses)
                 yield wrong and f"{' '.join(words)} over {log}, its allocation {number} refused: {wrong}"
+
+
+def packaged_failures(watch):
+    models = {"list": listing_model, "json": json_model}
+    return command_failures(watch, programs.CARGO, models, (OUTSIDE, -SIGABRT))
 
 
 def main():

@@ -3,9 +3,9 @@
 
 Usage: row_values.py [--count N] FLAG
 
-FLAG is one of `programs.py`: its program prints the rows of each row event of a log. The encoder gives events of every type of
-column, with extremes, and the rows that they have; the model gives those of N damaged events (1,000,000 if not given). The last
-line is `N passed, M failed`; the exit status is 1 if something failed.
+FLAG is one of `programs.py`: its programs print the rows of each row event of a log. The encoder gives events of every type of
+column, with extremes, and the rows that they have, which each program has to print; the model gives those of N damaged events
+(1,000,000 if not given), for the first program. The last line is `N passed, M failed`; the exit status is 1 if something failed.
 """
 
 import argparse
@@ -470,8 +470,8 @@ def main():
     programs.add_flags(parser)
     parser.add_argument("--count", type=int, default=1_000_000)
     arguments = programs.parsed(parser, "rows")
-    words = arguments.build.command("rows")
-    encoded_results = list(encoded_failures(words))
+    words, *others = arguments.build.commands("rows")
+    encoded_results = [result for command in (words, *others) for result in encoded_failures(command)]
     failures = [result for result in encoded_results if result is not None]
     passed = len(encoded_results) - len(failures)
     for part_passed, part_failures in damaged_parts(words, arguments.count):

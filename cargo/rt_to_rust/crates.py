@@ -13,7 +13,6 @@ LIBRARY = [
     "binlog_columns",
     "binlog_values",
     "binlog_optional_metadata",
-    "binlog_column_facts",
     "binlog_images",
     "binlog_row_writing",
     "binlog_event_data",
@@ -21,58 +20,41 @@ LIBRARY = [
     "binlog_gtid_text",
     "binlog_ends",
     "binlog_events",
+    "inflate",
     "binlog_mariadb",
     "binlog_maria_gtids",
     "binlog_file",
+    "json_line",
+    "binlog_row_lines",
 ]
 TOOLS = [
-    "json_line",
     "binlog_lines",
     "binlog_listing",
     "binlog_gtid_listing",
-    "binlog_maria_gtid_listing",
     "binlog_json_lines",
-    "binlog_row_lines",
     "binlog_row_json",
-    "inflate",
-    "binlog_mariadb_compression",
     "binlog_visits",
     "binlog_filters",
     "binlog_commands",
-    "binlog_arguments",
-    "binlog_status",
-    "binlog_filter_arguments",
     "binlog_maria_json",
-    "binlog_messages",
-    "binlog_summaries",
+    "binlog_cli",
 ]
 
-# The crates of programs, and the programs' names.
+# The crates of programs, and the programs' names; and those of programs that the scripts of `tests` run.
 PROGRAMS = {"binlog": "binlog"}
+PROBES = {"probe_events": "events", "probe_inflate": "texts", "probe_rows": "rows"}
 
 # The crates of tests, and their helpers.
 TESTKITS = ["testkit_bodies", "testkit_logs"]
 TESTS = [
-    "test_ends",
-    "test_fields",
+    "test_base",
     "test_bodies",
-    "test_statements",
     "test_gtids",
     "test_rows",
     "test_values",
-    "test_optional_metadata",
-    "test_column_facts",
-    "test_images",
-    "test_gtid_sets",
-    "test_gtid_text",
-    "test_mariadb",
-    "test_maria_gtids",
     "test_files",
     "test_events",
-    "test_failing_ends",
-    "test_state",
     "test_verified",
-    "test_failing_listing",
     "test_gtid_listing",
 ]
 
@@ -90,7 +72,7 @@ BY_HAND = [
 PACKAGES = {
     "binlog": LIBRARY,
     "binlog-tools": [*TOOLS, *PROGRAMS],
-    "binlog-tests": [*TESTKITS, *TESTS],
+    "binlog-tests": [*TESTKITS, *TESTS, *PROBES],
 }
 
 # The packages that may be published.

@@ -11,12 +11,15 @@ def modules(source):
 
 
 def public_names(source):
-    """The path of each name that the root passes on, by the name: `binlog::consts::EventType`."""
+    """The path of each name that the root passes on, `binlog::consts::EventType`: by the name, and by its crate and the name,
+    since two crates may have one name."""
     found = {}
     bodies = list(modules(source))
     for index in source.places("pub", "use"):
         module = next((name for name, first, last in bodies if first < index < last), None)
         for path, _ in leaves(source, index + 2):
             name = path[-1]
-            found.setdefault(name, "::".join(["binlog", *([module] if module else []), name]))
+            public = "::".join(["binlog", *([module] if module else []), name])
+            found.setdefault(name, public)
+            found.setdefault("::".join(path[-2:]), public)
     return found

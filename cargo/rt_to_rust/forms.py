@@ -30,6 +30,17 @@ def made_owner(source, index):
     yield source.span(body, source.partner[body], ")")
 
 
+# Functions of the toolchain's standard library, and Rust's of the same meaning.
+FUNCTIONS = {"f32_from_bits_with_nan": "f32::from_bits", "f64_from_bits_with_nan": "f64::from_bits"}
+
+
+def functions(source):
+    """Calls of such functions."""
+    for name, rusts in FUNCTIONS.items():
+        for index in source.places(name, "("):
+            yield source.span(index, index, rusts)
+
+
 def lossy_texts(source):
     """`bstr`'s lossy text, which may be refused."""
     for index in source.places(".", "to_str_lossy", "(", ")"):
@@ -57,6 +68,15 @@ def buffers(source):
         yield source.span(behind, end)
 
 
+def passed_buffers(source):
+    """`BufReader::with_capacity(..)?`: the buffer isn't refused."""
+    for kind in ("BufReader", "BufWriter"):
+        for index in source.places(kind, "::", "with_capacity", "("):
+            close = source.partner[index + 3]
+            if source.is_at(close + 1, "?"):
+                yield source.span(close + 1, close + 1)
+
+
 def matched_buffers(source):
     """`match BufWriter::with_capacity(..) { Ok(..) => .., Err(_) => .. }`: the buffer isn't refused."""
     for kind in ("BufReader", "BufWriter"):
@@ -75,5 +95,5 @@ def json_writers(source):
 
 def rust_calls(source):
     """The source with Rust's calls."""
-    source = source.changed([*shared_owners(source), *lossy_texts(source)])
-    return source.changed([*buffers(source), *matched_buffers(source)])
+    source = source.changed([*shared_owners(source), *functions(source), *lossy_texts(source)])
+    return source.changed([*buffers(source), *passed_buffers(source), *matched_buffers(source)])

@@ -9,18 +9,21 @@ from rt_to_rust.items import fields
 from rt_to_rust.kinds import base
 from rt_to_rust.source import segments
 
-# Names of the toolchain's std and ports: what stands for them, None where nothing does; `crate` is the crate's root.
+# Names of the toolchain's std and ports: what stands for them, None where nothing does. `crate` is the package's root,
+# `LIBRARY` that of the library, `TOOLS` that of `binlog-tools`.
 STAND_INS = {
     "std::alloc::AllocFailed": None,
     "std::alloc::Global": None,
     "std::marker::Model": None,
+    "std::num::f32_from_bits_with_nan": None,
+    "std::num::f64_from_bits_with_nan": None,
     "std::string::String": None,
     "std::simd::prelude::*": None,
     "std::process::Abort": None,
     "bstr::ByteSlice": None,
     "std::test::Fail": "crate::Fail",
-    "std::alloc::AllocError": "MEMORY::AllocError",
-    "std::fmt::Write": "MEMORY::TryWrite",
+    "std::alloc::AllocError": "LIBRARY::memory::AllocError",
+    "std::fmt::Write": "LIBRARY::memory::TryWrite",
     "std::borrow::CowSlice": "std::borrow::Cow",
     "std::borrow::CowStr": "std::borrow::Cow",
     "std::simd::Simd": "crate::simd::Simd",
@@ -30,7 +33,7 @@ STAND_INS = {
     "std::rt::Files": "TOOLS::host::Files",
     "std::thread": "TOOLS::host::thread",
     "std::time::Clock": "TOOLS::host::Clock",
-    "itoa::write_digits": "crate::digits::write_digits",
+    "itoa::write_digits": "LIBRARY::digits::write_digits",
     "json::Writer": "crate::json::Writer",
     "jiff_core::civil::Date": "crate::calendar::Date",
     "bitflags::Flag": "crate::bitflags::Flag",
@@ -99,7 +102,7 @@ def outside_path(source, index, place, path):
     """A path of the library as another package names it."""
     if len(path) == 1:
         return "binlog"
-    public = place.public.get(path[1])
+    public = place.public.get("::".join(path[:2])) or place.public.get(path[1])
     if public is None:
         raise source.refusal(index, f"{'::'.join(path)} isn't public in the library")
     return "::".join([public, *path[2:]])
@@ -128,7 +131,7 @@ def path_for(source, index, place, path):
         return None
     if text in STAND_INS:
         found = STAND_INS[text]
-        return found and found.replace("MEMORY", memory_path(place)).replace("TOOLS", place.tools())
+        return found and found.replace("LIBRARY", library_path(place)).replace("TOOLS", place.tools())
     own = crate_path(source, index, place, path)
     if own or SAME.fullmatch(text) or path[0] in ("super", "self", "crate") or is_local(source, path[0]):
         return own or text
@@ -143,9 +146,9 @@ def is_local(source, name):
     return any(path[-1] == name and len(path) > 1 for path in imported)
 
 
-def memory_path(place):
-    """The module for memory: each package names that of the library."""
-    return "binlog::memory" if place.public else "crate::memory"
+def library_path(place):
+    """How a source names the root of the library."""
+    return "binlog" if place.public else "crate"
 
 
 def imports(source, place):
@@ -233,7 +236,7 @@ def of_memory(source, place):
     has_cow = any(base(texts) == "Cow" for texts in fields(source).values())
     if has_cow and "try_into_owned" in words:
         names.append("TryIntoOwned")
-    module = memory_path(place)
+    module = f"{library_path(place)}::memory"
     imported = [f"{module}::{name}" for name in names]
     if place.is_test and "as_str" in words:
         imported.append("crate::AsStr")

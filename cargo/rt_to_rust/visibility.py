@@ -22,6 +22,10 @@ OF_TRAITS = {
     "Verification::verify": "only `Unverified` can be made by a caller, and it looks at nothing",
 }
 
+# The module of the library that its documentation hides: `binlog-tools` alone calls what is in it, and that was proved to give
+# what is asked.
+HIDDEN = "binlog::json_lines::"
+
 # Enumerations of the library that may get more variants.
 NON_EXHAUSTIVE = ["Error"]
 
@@ -62,6 +66,8 @@ def guarded(source, public, used):
         if not is_public:
             continue
         name = full_name(source, function)
+        if public.get(name.split("::")[0], "").startswith(HIDDEN):
+            continue
         if name not in CHECKS:
             if name in public:
                 raise source.refusal(function.name, f"`{name}` is public and asks its callers for something")

@@ -11,12 +11,14 @@ PUBLIC = {
     "Held": "binlog::events::Held",
     "Error": "binlog::Error",
     "Kind": "binlog::consts::Kind",
+    "Line": "binlog::json_lines::Line",
+    "inflate::Error": "binlog::zlib::Error",
     "Retrying": "binlog::counted::Retrying",
 }
 LIBRARY = Place("binlog_wire", None, is_test=False)
 TOOL = Place("binlog_lines", PUBLIC, is_test=False)
 PROGRAM = Place(None, PUBLIC, is_test=False)
-TEST = Place("test_fields", PUBLIC, is_test=True)
+TEST = Place("test_base", PUBLIC, is_test=True)
 
 
 def source(text):

@@ -20,6 +20,10 @@ class Imports(Case):
         wanted = "use binlog::Error; use binlog::events::Held; use binlog::consts::Kind; use crate::binlog_lines::a::B;"
         self.gives(text, wanted, place=TOOL)
 
+    def test_a_name_that_two_crates_have_is_that_of_its_crate(self):
+        text = "use inflate::Error;\nfn f() -> binlog_file::Error {}"
+        self.gives(text, "use binlog::zlib::Error; fn f() -> binlog::Error {}", place=TOOL)
+
     def test_programs_name_the_packages_modules(self):
         for place in (PROGRAM, TEST):
             self.gives("use binlog_lines::status;", "use binlog_tools::binlog_lines::status;", place=place)
@@ -31,6 +35,11 @@ class Imports(Case):
     def test_the_toolchain_s_own_names_have_stand_ins(self):
         text = "use std::alloc::{AllocError, Global};\nfn f() -> AllocError {}"
         self.gives(text, "use crate::memory::AllocError; fn f() -> AllocError {}")
+
+    def test_functions_that_rust_has_under_another_name(self):
+        text = "use std::num::{f32_from_bits_with_nan, f64_from_bits_with_nan};\n"
+        text += "fn f() {\n    f32_from_bits_with_nan(a);\n    f64_from_bits_with_nan(b);\n}"
+        self.gives(text, "fn f() { f32::from_bits(a); f64::from_bits(b); }")
 
     def test_another_import_is_refused(self):
         self.assertEqual(refusal("use std::net::TcpStream;"), "sample.rt:1: an import that isn't known: std::net::TcpStream")
@@ -50,8 +59,9 @@ class Imports(Case):
 
 class PublicNames(Case):
     def test_names_have_their_modules(self):
-        text = "pub use crate::a::{B, c};\npub mod events {\n    pub use crate::d::E;\n}\nuse crate::f::G;"
-        wanted = {"B": "binlog::B", "c": "binlog::c", "E": "binlog::events::E"}
+        text = "pub use crate::a::{B, c};\npub mod events {\n    pub use crate::d::{B, E};\n}\nuse crate::f::G;"
+        wanted = {"B": "binlog::B", "a::B": "binlog::B", "d::B": "binlog::events::B"}
+        wanted |= {"c": "binlog::c", "a::c": "binlog::c", "E": "binlog::events::E", "d::E": "binlog::events::E"}
         self.assertEqual(public_names(source(text)), wanted)
 
 

@@ -74,6 +74,10 @@ class Visibility(Case):
         text = "pub trait Kept {\n    fn f(&self)\n        requires { a };\n}"
         self.gives(text, "pub trait Kept { fn f(&self); }")
 
+    def test_a_type_of_the_hidden_module_may_ask(self):
+        text = "impl Line {\n    pub fn f(&self)\n        requires { a }\n    {}\n}"
+        self.gives(text, "impl Line { pub fn f(&self) {} }")
+
     def test_a_method_of_the_table_looks_itself(self):
         text = "impl GnoSet {\n    pub fn contains_all(&self, start: u64, end: u64)\n        requires { start < end }\n    {}\n}"
         self.has(text, "{ assert!(start < end);}")

@@ -8,10 +8,10 @@ use Rattle.binlog_wire.specs.declared.error.Error.{Error}
 use Rattle.binlog_visits.specs.Visits.{VisitRelation, RefusalRelation}
 use Rattle.binlog_filters.specs.Filtering.{Filters, RefusesTaken}
 use Rattle.binlog_filters.specs.declared.filtered.Filtered.{Filtered}
-use Rattle.binlog_status.specs.Outputs.{written}
-use Rattle.binlog_status.specs.declared.status.Outcome.{Outcome}
-use Rattle.binlog_status.specs.declared.status.Status.{Status}
-use Rattle.binlog_messages.specs.Reports.{ReportedView, ended_file, Reports}
+use Rattle.binlog_cli.specs.Outputs.{written}
+use Rattle.binlog_cli.specs.declared.exit_status.Outcome.{Outcome}
+use Rattle.binlog_cli.specs.declared.exit_status.Status.{Status}
+use Rattle.binlog_cli.specs.Reports.{ReportedView, ended_file, Reports}
 use Rattle.binlog.specs.Reading.{VisitsInput, tail_behind, status_behind, is_last_followed, GoesOn, InOrder, ReadsInput}
 
 and_true : (b : Bool) → (b && true) ≡ b

@@ -5,19 +5,20 @@ use Rattle.binlog_visits.specs.Visits.{VisitRelation, RefusalRelation}
 use Rattle.binlog_ends.specs.Views.{CountedView}
 use Rattle.binlog_filters.specs.declared.filter.Filter.{Filter}
 use Rattle.binlog_filters.specs.declared.filtered.Filtered.{Filtered}
-use Rattle.binlog_commands.specs.Collecting.{collection, Collects, RefusesCollected}
+use Rattle.binlog_gtid_listing.specs.LogItems.{log_gtids}
+use Rattle.binlog_commands.specs.Collecting.{collected, Collects, RefusesCollected}
 use Rattle.binlog_commands.specs.Counting.{IsNever}
 use Rattle.binlog_commands.specs.Statistics.{no_items, CountsItem}
 use Rattle.binlog_commands.specs.declared.gtids.GtidCollector.{GtidCollector}
 use Rattle.binlog_commands.specs.declared.stats.Stats.{Stats}
 use Rattle.binlog_commands.specs.declared.tally.Tally.{Tally}
-use Rattle.binlog_messages.specs.Reports.{ReportedView}
-use Rattle.binlog_status.specs.Outputs.{worse_outcome, written, unwritten, Finishes}
-use Rattle.binlog_status.specs.declared.output.Output.{Output}
-use Rattle.binlog_status.specs.declared.status.Outcome.{Outcome}
-use Rattle.binlog_status.specs.declared.status.Status.{Status}
-use Rattle.binlog_status.specs.declared.status.Status.TheVariants.{Fine}
-use Rattle.binlog_summaries.specs.StatsText.{IsStatsText, Writes}
+use Rattle.binlog_cli.specs.Reports.{ReportedView}
+use Rattle.binlog_cli.specs.Outputs.{worse_outcome, written, unwritten, Finishes}
+use Rattle.binlog_cli.specs.declared.output.Output.{Output}
+use Rattle.binlog_cli.specs.declared.exit_status.Outcome.{Outcome}
+use Rattle.binlog_cli.specs.declared.exit_status.Status.{Status}
+use Rattle.binlog_cli.specs.declared.exit_status.Status.TheVariants.{Fine}
+use Rattle.binlog_cli.specs.StatsText.{IsStatsText, Writes}
 use Rattle.binlog.specs.Reading.{ShowsTaken}
 use Rattle.binlog.specs.Copying.{CopiesFiles}
 use Rattle.binlog.specs.Gtids.{WritesWanted}
@@ -84,12 +85,12 @@ module _ {B N : Type 0} (contents : B → Option (List ℕ)) (is_verified is_fol
     pub filter : Filter
     pub start : GtidCollector (CountedView (Output B))
     pub begins : Begins contents old start.output.inner
-    pub empty : start.gtids ≡ []
+    pub empty : start.gtids ≡ log_gtids [] []
     pub none : start.refused ≡ 0
     pub read : Outcome
     pub found : GtidCollector (CountedView (Output B))
-    pub shown : ShowsTaken (λ (before : GtidCollector (CountedView (Output B))) maps index item after. Collects index item (collection before.gtids (bytes_of contents before.output.inner) before.refused) (collection after.gtids (bytes_of contents after.output.inner) after.refused))
-        (λ (before : GtidCollector (CountedView (Output B))) maps index item error after. RefusesCollected index item (collection before.gtids (bytes_of contents before.output.inner) before.refused) error (collection after.gtids (bytes_of contents after.output.inner) after.refused))
+    pub shown : ShowsTaken (λ before maps index item after. Collects index item (collected (λ output. bytes_of contents output.inner) before) (collected (λ output. bytes_of contents output.inner) after))
+        (λ before maps index item error after. RefusesCollected index item (collected (λ output. bytes_of contents output.inner) before) error (collected (λ output. bytes_of contents output.inner) after))
         (λ collector. collector.refused) filter is_verified is_followed bytes names start read found
     pub lines : Outcome
     pub output : Output B

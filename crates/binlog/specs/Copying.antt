@@ -4,7 +4,7 @@ use Rattle.std.specs.Io.KnownBytes.{Appends}
 use Rattle.binlog_visits.specs.Visits.{VisitRelation, RefusalRelation}
 use Rattle.binlog_events.specs.FileHeader.{file_header}
 use Rattle.binlog_filters.specs.declared.filter.Filter.{Filter}
-use Rattle.binlog_status.specs.declared.status.Outcome.{Outcome}
+use Rattle.binlog_cli.specs.declared.exit_status.Outcome.{Outcome}
 use Rattle.binlog_commands.specs.Copying.{CopiesItem, CopiesNoItem}
 use Rattle.binlog_commands.specs.declared.copying.Copier.{Copier}
 use Rattle.binlog.specs.Reading.{ShowsTaken}

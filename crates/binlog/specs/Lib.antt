@@ -3,3 +3,4 @@ pub mod Copying
 pub mod Gtids
 pub mod Verifying
 pub mod Commands
+pub mod Requests

@@ -7,12 +7,12 @@ use Rattle.binlog_visits.specs.Visits.{VisitRelation, RefusalRelation, VisitsLog
 use Rattle.binlog_filters.specs.Filtering.{Filters, RefusesTaken}
 use Rattle.binlog_filters.specs.declared.filter.Filter.{Filter}
 use Rattle.binlog_filters.specs.declared.filtered.Filtered.{Filtered}
-use Rattle.binlog_status.specs.Statuses.{worse}
-use Rattle.binlog_status.specs.Outputs.{written, unwritten}
-use Rattle.binlog_status.specs.declared.status.Outcome.{Outcome}
-use Rattle.binlog_status.specs.declared.status.Status.{Status}
-use Rattle.binlog_status.specs.declared.status.Status.TheVariants.{Fine, NotOpened, Damaged, Failed}
-use Rattle.binlog_messages.specs.Reports.{ReportedView, begun_file, ended_file, Reports}
+use Rattle.binlog_cli.specs.Statuses.{worse}
+use Rattle.binlog_cli.specs.Outputs.{written, unwritten}
+use Rattle.binlog_cli.specs.declared.exit_status.Outcome.{Outcome}
+use Rattle.binlog_cli.specs.declared.exit_status.Status.{Status}
+use Rattle.binlog_cli.specs.declared.exit_status.Status.TheVariants.{Fine, NotOpened, Damaged, Failed}
+use Rattle.binlog_cli.specs.Reports.{ReportedView, begun_file, ended_file, Reports}
 
 -- The results of visiting a file of these bytes, whose checksums are verified by their CRC-32 or not.
 abbrev pub VisitsInput : {T : Type 0} → VisitRelation T → RefusalRelation T → (is_verified : Bool) → List ℕ → T → Result (Option ℕ) Error → T → Type 0

@@ -2,23 +2,20 @@
 //! writer, which it gives back with its status. A status in place of a result is that of a command that can't begin.
 ghost use Rattle.std.specs.Prelude.{◌≡◌, ◌⊎◌, IfErr, IfOk};
 ghost use Rattle.binlog_filters.specs.declared.filter.Filter.{Filter};
-ghost use Rattle.binlog_status.specs.declared.status.Status.TheVariants.{Failed, Usage};
+ghost use Rattle.binlog_cli.specs.declared.exit_status.Status.TheVariants.{Failed, Usage};
 ghost use Rattle.binlog.specs.Commands.{outcome_of_text, WritesShown, WritesCounts};
 ghost use Rattle.binlog.specs.Reading.{ShowsTaken};
 
 use crate::files::read_files;
 use crate::inputs::Inputs;
 use crate::request::{Reading, Request};
+use binlog_cli::{BUFFER_SIZE, Outcome, Output, Refusing, Reported, Status, filter, write_stats};
 use binlog_commands::Stats;
 use binlog_file::Retrying;
-use binlog_filter_arguments::filter;
 use binlog_filters::{Filter, Filtered};
 use binlog_lines::ItemLines;
 use binlog_listing::TextLines;
 use binlog_maria_json::MariaJsonWriter;
-use binlog_messages::{Refusing, Reported};
-use binlog_status::{BUFFER_SIZE, Outcome, Output, Status};
-use binlog_summaries::write_stats;
 use binlog_visits::{LineWriter, Visitor};
 use std::io;
 use std::io::{BufWriter, Write};

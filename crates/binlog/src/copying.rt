@@ -1,17 +1,16 @@
 //! The command that copies logs.
 ghost use Rattle.std.specs.Prelude.{◌≡◌, ◌⊎◌, IfErr, IfOk};
-ghost use Rattle.binlog_status.specs.declared.status.Status.TheVariants.{Failed, Usage};
+ghost use Rattle.binlog_cli.specs.declared.exit_status.Status.TheVariants.{Failed, Usage};
 ghost use Rattle.binlog.specs.Commands.{CopiesOr};
 ghost use Rattle.binlog.specs.Copying.{CopiesFiles};
 
 use crate::commands::read_taken;
 use crate::inputs::Inputs;
 use crate::request::Request;
+use binlog_cli::{BUFFER_SIZE, Outcome, Output, Status, filter};
 use binlog_commands::Copier;
 use binlog_file::{BinlogFileHeader, BinlogVersion, Retrying};
-use binlog_filter_arguments::filter;
 use binlog_filters::Filter;
-use binlog_status::{BUFFER_SIZE, Outcome, Output, Status};
 use std::fs;
 use std::io::{BufWriter, Write};
 use std::rt::Files;
@@ -23,17 +22,24 @@ pub(crate) fn copy<'a, S: Inputs, R: Files + Clock + Eprint + AllocGlobal, W: Wr
     inputs: &S,
     request: &Request<'_, 'a>,
     writer: W,
-) -> Result<Status, Status> {
-    let name = request.options.get_str("output").unwrap_or("-");
-    if name == "-" {
-        return Ok(copy_to(rt, inputs, request, writer)?.0);
+) -> Result<Status, Status>
+    ensures err { IfErr result (λ status. (status ≡ Usage) ⊎ (status ≡ Failed)) }
+{
+    if request.output == "-" {
+        return match copy_to(rt, inputs, request, writer) {
+            Ok((status, _)) => Ok(status),
+            Err(status) => Err(status),
+        };
     }
     // Wrong usage leaves the output as it is.
     filter(rt, request.options)?;
-    match fs::create(rt, name) {
-        Ok(file) => Ok(copy_to(rt, inputs, request, file)?.0),
+    match fs::create(rt, request.output) {
+        Ok(file) => match copy_to(rt, inputs, request, file) {
+            Ok((status, _)) => Ok(status),
+            Err(status) => Err(status),
+        },
         Err(error) => {
-            let _ = eprintln!(rt; "binlog: {name}: {error}");
+            let _ = eprintln!(rt; "binlog: {}: {error}", request.output);
             Err(Status::Failed)
         }
     }

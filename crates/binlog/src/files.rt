@@ -4,16 +4,15 @@ ghost use Rattle.std.specs.Prelude.{◌≡◌, ◌<◌, ◌^◌, length, IfErr, 
 ghost use Rattle.binlog_wire.specs.declared.error.Error.TheVariants.{Writer};
 ghost use Rattle.crc32_ieee.specs.Checksums.{IsCrc32, GivesCrc32};
 ghost use Rattle.binlog_visits.specs.Visits.{VisitsVerifiedLog};
-ghost use Rattle.binlog_status.specs.declared.status.Status.TheVariants.{Fine};
+ghost use Rattle.binlog_cli.specs.declared.exit_status.Status.TheVariants.{Fine};
 ghost use Rattle.binlog.specs.Reading.{VisitsInput, tail_behind, status_behind, unless_followed, ReadsInput, ReadsFile, ReadsFiles};
 
 use crate::following::Following;
 use crate::inputs::Inputs;
 use crate::request::Reading;
+use binlog_cli::{Outcome, Progress, Refusing, Reported, Status, shown_name};
 use binlog_file::{Counted, Error, ReadCounted, Retrying};
 use binlog_filters::Filtered;
-use binlog_messages::{Progress, Refusing, Reported, shown_name};
-use binlog_status::{Outcome, Status};
 use binlog_visits::{Visitor, visit_counted, visit_verified_counted};
 use crc32_ieee::Crc32;
 use std::alloc::Global;

@@ -1,17 +1,18 @@
 //! The command that prints the GTIDs of logs.
 ghost use Rattle.std.specs.Prelude.{◌≡◌, ◌⊎◌, IfErr, IfOk};
-ghost use Rattle.binlog_status.specs.declared.status.Status.TheVariants.{Failed, Usage};
+ghost use Rattle.binlog_cli.specs.declared.exit_status.Status.TheVariants.{Failed, Usage};
 ghost use Rattle.binlog.specs.Commands.{WritesGtids};
 ghost use Rattle.binlog.specs.Gtids.{outcome_of_lines, is_unread, status_read, WritesSet, WritesDifference, WritesUnless, WritesMissing, WritesWanted};
 
 use crate::commands::{read_all, read_taken};
 use crate::inputs::Inputs;
 use crate::request::{Reading, Request};
+use binlog_cli::{BUFFER_SIZE, Outcome, Output, Status, out_of_memory};
 use binlog_commands::GtidCollector;
 use binlog_file::{Counted, CountedRef, Error, GtidTracker, Retrying};
 use binlog_filters::Filter;
-use binlog_gtid_listing::write_groups;
-use binlog_status::{BUFFER_SIZE, Outcome, Output, Status, out_of_memory};
+use binlog_gtid_listing::{LogGtids, write_log_gtids};
+use binlog_maria_gtids::MariaGtidTracker;
 use std::io;
 use std::io::{BufWriter, Write};
 use std::time::Clock;
@@ -22,33 +23,22 @@ pub(crate) fn gtids<'a, S: Inputs, R: Clock + Eprint + AllocGlobal, W: Write + D
     inputs: &S,
     request: &Request<'_, 'a>,
     writer: W,
-) -> Result<(Status, W), Status> {
-    write_gtids(
-        rt,
-        inputs,
-        request,
-        request.options.get_str("missing-in"),
-        writer,
-    )
-}
-
-// Writes the lines of the GTIDs that the filter takes, or of those that the log `missing_in` lacks.
-fn write_gtids<'a, S: Inputs, R: Clock + Eprint + AllocGlobal, W: Write + Drop>(
-    rt: &'a R,
-    inputs: &S,
-    request: &Request<'_, 'a>,
-    missing_in: Option<&'a str>,
-    writer: W,
 ) -> Result<(Status, W), Status>
     ensures ok { IfOk result (λ ended. WritesGtids ⟦<BufWriter<Retrying<W>> as Write>⟧.contents request.now.reading.is_verified request.now.reading.is_followed
-        (λ name. S.bytes inputs.now name.now) request.now.files.now missing_in.entry (W.contents writer) ended.0 (W.contents ended.1)) }
+        (λ name. S.bytes inputs.now name.now) request.now.files.now request.now.missing_in (W.contents writer) ended.0 (W.contents ended.1)) }
     ensures err { IfErr result (λ status. (status ≡ Usage) ⊎ (status ≡ Failed)) }
 {
     let output = Output::new(rt, BUFFER_SIZE, writer)?;
     let collector = GtidCollector::new(rt.alloc(), Counted::new(output));
     let (read, collector) = read_all(rt, inputs, request, collector)?;
     let mut output = collector.output.into_inner();
-    let lines = write_wanted(rt, inputs, &collector.gtids, missing_in, &mut output);
+    let lines = write_wanted(
+        rt,
+        inputs,
+        &collector.gtids,
+        request.missing_in,
+        &mut output,
+    );
     Ok(output.finish(rt, read.worse(lines)))
 }
 
@@ -56,14 +46,17 @@ fn write_gtids<'a, S: Inputs, R: Clock + Eprint + AllocGlobal, W: Write + Drop>(
 fn write_wanted<'a, S: Inputs, R: Clock + Eprint + AllocGlobal, W: Write>(
     rt: &'a R,
     inputs: &S,
-    gtids: &GtidTracker,
+    gtids: &LogGtids,
     missing_in: Option<&'a str>,
     output: &mut W,
 ) -> Outcome
     ensures { WritesWanted (λ name. S.bytes inputs.now name.now) missing_in.entry gtids.now (W.contents output.old) result (W.contents output.new) }
 {
     match missing_in {
-        None => write_set(rt, gtids, output),
+        None => {
+            let none = MariaGtidTracker::new(rt.alloc());
+            write_set(rt, &gtids.mysql, &gtids.maria, &none, output)
+        }
         Some(other) => write_missing(rt, inputs, gtids, other, output),
     }
 }
@@ -72,7 +65,7 @@ fn write_wanted<'a, S: Inputs, R: Clock + Eprint + AllocGlobal, W: Write>(
 fn write_missing<'a, S: Inputs, R: Clock + Eprint + AllocGlobal, W: Write>(
     rt: &'a R,
     inputs: &S,
-    gtids: &GtidTracker,
+    gtids: &LogGtids,
     other: &'a str,
     output: &mut W,
 ) -> Outcome
@@ -108,8 +101,8 @@ fn write_unless<E: Eprint, W: Write>(
     rt: &E,
     is_unread: bool,
     status: Status,
-    gtids: &GtidTracker,
-    others: &GtidTracker,
+    gtids: &LogGtids,
+    others: &LogGtids,
     output: &mut W,
 ) -> Outcome
     ensures { WritesUnless is_unread status gtids.now others.now (W.contents output.old) result (W.contents output.new) }
@@ -123,24 +116,31 @@ fn write_unless<E: Eprint, W: Write>(
 // Writes the lines of the GTIDs of a set that another one doesn't have.
 fn write_difference<E: Eprint, W: Write>(
     rt: &E,
-    gtids: &GtidTracker,
-    others: &GtidTracker,
+    gtids: &LogGtids,
+    others: &LogGtids,
     output: &mut W,
 ) -> Outcome
     ensures { WritesDifference gtids.now others.now (W.contents output.old) result (W.contents output.new) }
 {
-    match gtids.subtract(others) {
-        Ok(difference) => write_set(rt, &difference, output),
+    match gtids.mysql.subtract(&others.mysql) {
+        Ok(difference) => write_set(rt, &difference, &gtids.maria, &others.maria, output),
         Err(_) => Outcome::written(out_of_memory(rt)),
     }
 }
 
-// Writes the lines of a set of GTIDs. Why the output fails is kept by the output.
-fn write_set<E: Eprint, W: Write>(rt: &E, gtids: &GtidTracker, output: &mut W) -> Outcome
-    ensures { WritesSet gtids.now (W.contents output.old) result (W.contents output.new) }
+// Writes the lines of a set of MySQL's GTIDs, and of the last of MariaDB's that others lack. Why the output fails is kept by the
+// output.
+fn write_set<E: Eprint, W: Write>(
+    rt: &E,
+    mysql: &GtidTracker,
+    maria: &MariaGtidTracker,
+    others: &MariaGtidTracker,
+    output: &mut W,
+) -> Outcome
+    ensures { WritesSet mysql.now maria.now others.now (W.contents output.old) result (W.contents output.new) }
 {
     let mut output = CountedRef::new(&mut *output);
-    outcome_of_lines(rt, write_groups(gtids, &mut output))
+    outcome_of_lines(rt, write_log_gtids(mysql, maria, others, &mut output))
 }
 
 // The outcome of writing the lines.

@@ -1,6 +1,10 @@
 //! Lists, checks, counts and copies the events of binary logs: one program with a command for each.
 #![tactic(auto)]
 
+ghost use Rattle.std.specs.Prelude.{◌≡◌};
+ghost use Rattle.binlog_cli.specs.declared.exit_status.Status.TheVariants.{Usage};
+ghost use Rattle.binlog.specs.Requests.{IsNoCommand};
+
 mod commands;
 mod copying;
 mod files;
@@ -10,8 +14,7 @@ mod inputs;
 mod request;
 mod verifying;
 
-use binlog_arguments::command;
-use binlog_status::{Status, out_of_memory};
+use binlog_cli::{Status, command, out_of_memory};
 use clap::ArgMatches;
 use clap::error::ErrorKind;
 use inputs::HostInputs;
@@ -84,7 +87,9 @@ fn run_command<'a, R: Files + Clock + Input + Print + Eprint + AllocGlobal>(
     name: &str,
     matches: &ArgMatches<'a>,
     terminals: Terminals,
-) -> Status {
+) -> Status
+    ensures other { IsNoCommand name.now → result ≡ Usage }
+{
     let request = Request::new(name, matches, terminals);
     let (inputs, output) = (HostInputs::new(rt), io::writer(rt));
     match name {

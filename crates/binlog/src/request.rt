@@ -1,7 +1,9 @@
 //! What a command is asked for.
-ghost use Rattle.std.specs.Prelude.{◌≡◌, ◌↔◌, ◌&&◌, false, IsTrue, codes, if◌then◌else◌};
+ghost use Rattle.std.specs.Prelude.{◌≡◌, ◌↔◌, ◌&&◌, false, [], IsTrue, map, option_map, unwrap_or, codes, if◌then◌else◌};
+ghost use Rattle.clap.specs.Matches.{found_of, matched_of, one_text, first_value, raw_values};
+ghost use Rattle.binlog.specs.Requests.{Flags};
 
-use binlog_status::BUFFER_SIZE;
+use binlog_cli::BUFFER_SIZE;
 use clap::ArgMatches;
 
 /// Which of the standard streams are terminals.
@@ -70,6 +72,12 @@ pub(crate) struct Request<'m, 'a> {
     pub(crate) files: &'m [&'a str],
     /// How they are read.
     pub(crate) reading: Reading,
+    /// Whether no lines are written.
+    pub(crate) is_quiet: bool,
+    /// The log whose GTIDs aren't written.
+    pub(crate) missing_in: Option<&'a str>,
+    /// The name of the file that is written; `-` is standard output.
+    pub(crate) output: &'a str,
 }
 
 impl<'m, 'a> Request<'m, 'a> {
@@ -77,6 +85,11 @@ impl<'m, 'a> Request<'m, 'a> {
     pub(crate) fn new(name: &str, options: &'m ArgMatches<'a>, terminals: Terminals) -> Self
         ensures verified { IsTrue result.reading.is_verified ↔ name.now ≡ codes "verify" }
         ensures options { result.options.now ≡ options.now }
+        ensures files { map (λ file. file.now) result.files.now ≡ unwrap_or (option_map raw_values (matched_of (found_of options.now) (codes "FILE"))) [] }
+        ensures followed { Flags (one_text (found_of options.now) (codes "follow")) result.reading.is_followed }
+        ensures quiet { Flags (one_text (found_of options.now) (codes "quiet")) result.is_quiet }
+        ensures missing { option_map (λ file. file.now) result.missing_in ≡ first_value (found_of options.now) (codes "missing-in") }
+        ensures output { result.output.now ≡ unwrap_or (first_value (found_of options.now) (codes "output")) (codes "-") }
     {
         let is_followed = options.get_flag("follow");
         // A line of progress would stay while a followed file is waited for.
@@ -89,6 +102,9 @@ impl<'m, 'a> Request<'m, 'a> {
                 shows_progress: has_progress && !options.get_flag("no-progress"),
                 is_followed,
             },
+            is_quiet: options.get_flag("quiet"),
+            missing_in: options.get_str("missing-in"),
+            output: options.get_str("output").unwrap_or("-"),
         }
     }
 }

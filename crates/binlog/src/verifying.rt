@@ -1,6 +1,6 @@
 //! The command that verifies checksums.
 ghost use Rattle.std.specs.Prelude.{◌≡◌, ◌⊎◌, IfErr, IfOk};
-ghost use Rattle.binlog_status.specs.declared.status.Status.TheVariants.{Fine, Failed, Usage};
+ghost use Rattle.binlog_cli.specs.declared.exit_status.Status.TheVariants.{Fine, Failed, Usage};
 ghost use Rattle.binlog.specs.Commands.{WritesTallies};
 ghost use Rattle.binlog.specs.Reading.{unless_followed};
 ghost use Rattle.binlog.specs.Verifying.{verifying, has_line, WritesLine, VerifiesFile, VerifiesFiles};
@@ -8,42 +8,22 @@ ghost use Rattle.binlog.specs.Verifying.{verifying, has_line, WritesLine, Verifi
 use crate::files::read_file;
 use crate::inputs::Inputs;
 use crate::request::{Reading, Request};
+use binlog_cli::{BUFFER_SIZE, Outcome, Output, Reported, Status, filter, shown_name, write_tally};
 use binlog_commands::Tally;
 use binlog_file::{Error, Retrying};
-use binlog_filter_arguments::filter;
 use binlog_filters::Filtered;
-use binlog_messages::{Reported, shown_name};
-use binlog_status::{BUFFER_SIZE, Outcome, Output, Status};
-use binlog_summaries::write_tally;
 use std::io::{BufWriter, Write};
 use std::time::Clock;
 
-/// `binlog verify`: verifies each file, and writes its line.
+/// `binlog verify`: verifies each file, and writes its line unless the command is quiet.
 pub(crate) fn verify<'a, S: Inputs, R: Clock + Eprint + AllocGlobal, W: Write + Drop>(
     rt: &'a R,
     inputs: &S,
     request: &Request<'_, 'a>,
     writer: W,
-) -> Result<(Status, W), Status> {
-    write_tallies(
-        rt,
-        inputs,
-        request,
-        request.options.get_flag("quiet"),
-        writer,
-    )
-}
-
-// Verifies each file, and writes its line unless the command is quiet.
-fn write_tallies<'a, S: Inputs, R: Clock + Eprint + AllocGlobal, W: Write + Drop>(
-    rt: &'a R,
-    inputs: &S,
-    request: &Request<'_, 'a>,
-    is_quiet: bool,
-    writer: W,
 ) -> Result<(Status, W), Status>
     ensures ok { IfOk result (λ ended. WritesTallies ⟦<BufWriter<Retrying<W>> as Write>⟧.contents request.now.reading.is_verified request.now.reading.is_followed
-        (λ name. S.bytes inputs.now name.now) request.now.files.now is_quiet (λ name. name.now) (W.contents writer) ended.0 (W.contents ended.1)) }
+        (λ name. S.bytes inputs.now name.now) request.now.files.now request.now.is_quiet (λ name. name.now) (W.contents writer) ended.0 (W.contents ended.1)) }
     ensures err { IfErr result (λ status. (status ≡ Usage) ⊎ (status ≡ Failed)) }
 {
     let filter = filter(rt, request.options)?;
@@ -55,7 +35,7 @@ fn write_tallies<'a, S: Inputs, R: Clock + Eprint + AllocGlobal, W: Write + Drop
         inputs,
         files,
         reading,
-        is_quiet,
+        request.is_quiet,
         &mut reported,
         &mut output,
     );

@@ -1,2 +1,4 @@
 pub mod CopiedLogs
 pub mod FilteredCopies
+pub mod CollectedGtids
+pub mod WholeCounts

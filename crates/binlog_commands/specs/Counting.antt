@@ -13,9 +13,13 @@ none_counted = record { events = 0; bytes = 0; checksums = 0; errors = 0 }
 abbrev pub IsNever : Type 0
 IsNever = ⊥
 
+-- The number; 2^64 - 1 if it is larger.
+abbrev pub saturated : ℕ → ℕ
+saturated n = min n (2 ^ 64 - 1)
+
 -- The count after so many more; it stays at the largest number of 64 bits.
 abbrev pub counted : ℕ → ℕ → ℕ
-counted count more = min (count + more) (2 ^ 64 - 1)
+counted count more = saturated (count + more)
 
 -- The count, with one more if this holds.
 abbrev pub counted_if : Bool → ℕ → ℕ

@@ -3,4 +3,5 @@ pub mod Collecting
 pub mod Copying
 pub mod Parts
 pub mod Statistics
+pub mod WholeCounts
 pub mod FilteredCopies

@@ -1,17 +1,17 @@
 -- Counting the events of a log by type.
-use Rattle.std.specs.Prelude.{◌≡◌, ℕ, ◌-◌, ◌^◌, min, List, ◌==◌, Bool, ◌||◌, length, slice_set, slice_index_or, replicate, Option, Some, None, unwrap_or, Result, Ok, Err, nat_lt, if◌then◌else◌}
+use Rattle.std.specs.Prelude.{◌≡◌, ℕ, List, length, slice_set, slice_index_or, replicate, Option, Some, None, unwrap_or, Result, Ok, Err, nat_lt, if◌then◌else◌}
 use Rattle.std.specs.List.{sum}
 use Rattle.binlog_wire.specs.declared.error.Error.{Error}
 use Rattle.binlog_description.specs.Headers.{header_of}
 use Rattle.binlog_events.specs.Events.{EventView}
 use Rattle.binlog_filters.specs.Taking.{begins_transaction}
-use Rattle.binlog_commands.specs.Counting.{counted, counted_if}
+use Rattle.binlog_commands.specs.Counting.{saturated, counted, counted_if}
 use Rattle.binlog_commands.specs.declared.stats.Stats.{Stats}
 use Rattle.binlog_commands.specs.declared.stats.Largest.{Largest}
 
 -- The sum of the counts; 2^64 - 1 if it is larger.
 abbrev pub total : List ℕ → ℕ
-total counts = min (sum counts) (2 ^ 64 - 1)
+total counts = saturated (sum counts)
 
 -- Nothing is counted yet.
 abbrev pub no_items : Stats

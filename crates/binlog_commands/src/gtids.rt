@@ -1,18 +1,19 @@
 //! A visitor that collects the GTIDs of a log.
 ghost use Rattle.std.specs.Prelude.{◌≡◌, []};
+ghost use Rattle.binlog_gtid_listing.specs.LogItems.{log_gtids};
 
-use binlog_file::{Error, EventRef, EventStreamReader, GtidTracker, WriteCounted};
-use binlog_gtid_listing::{list_refused, track_event};
+use binlog_file::{Error, EventRef, EventStreamReader, WriteCounted};
+use binlog_gtid_listing::{LogGtids, list_refused, track_log_event};
 use binlog_visits::Visitor;
 use std::alloc::Global;
 
-/// Adds the GTIDs of each event to a set, and writes the line of each error, as `binlog_gtid_listing` does: of an item, and
-/// of an event whose GTIDs can't be read. The output isn't flushed.
+/// Adds the GTIDs of each event, MySQL's or MariaDB's, to their sets, and writes the line of each error: of an item, and of an
+/// event whose GTIDs can't be read. The output isn't flushed.
 #[derive(Drop)]
 pub struct GtidCollector<W> {
     alloc: Global,
     /// The GTIDs of the events so far.
-    pub gtids: GtidTracker,
+    pub gtids: LogGtids,
     /// The number of events whose GTIDs can't be read, at most 2^64 - 1.
     pub refused: u64,
     /// The output.
@@ -20,15 +21,15 @@ pub struct GtidCollector<W> {
 }
 
 impl<W> GtidCollector<W> {
-    /// An empty set, and no event whose GTIDs can't be read. Nothing is allocated.
+    /// Empty sets, and no event whose GTIDs can't be read. Nothing is allocated.
     pub fn new(alloc: Global, output: W) -> Self
-        ensures gtids { result.gtids ≡ [] }
+        ensures gtids { result.gtids ≡ log_gtids [] [] }
         ensures refused { result.refused ≡ 0 }
         ensures output { result.output ≡ output }
     {
         GtidCollector {
             alloc,
-            gtids: GtidTracker::new(alloc),
+            gtids: LogGtids::new(alloc),
             refused: 0,
             output,
         }
@@ -37,11 +38,11 @@ impl<W> GtidCollector<W> {
 
 /// A visit adds the GTIDs of the item, or writes its line. It is refused with [`Error::Memory`] or [`Error::Writer`].
 impl<W: WriteCounted> Visitor for GtidCollector<W> {
-    ghost use Rattle.binlog_commands.specs.Collecting.{collection, Collects, RefusesCollected};
+    ghost use Rattle.binlog_commands.specs.Collecting.{collected, Collects, RefusesCollected};
 
-    ghost visits = { λ old maps index item new. Collects index item (collection old.gtids (W.contents old.output) old.refused) (collection new.gtids (W.contents new.output) new.refused) };
+    ghost visits = { λ old maps index item new. Collects index item (collected W.contents old) (collected W.contents new) };
 
-    ghost refuses = { λ old maps index item error new. RefusesCollected index item (collection old.gtids (W.contents old.output) old.refused) error (collection new.gtids (W.contents new.output) new.refused) };
+    ghost refuses = { λ old maps index item error new. RefusesCollected index item (collected W.contents old) error (collected W.contents new) };
 
     fn visit_event(
         &mut self,
@@ -49,7 +50,7 @@ impl<W: WriteCounted> Visitor for GtidCollector<W> {
         event: &EventRef<'_>,
         _reader: &EventStreamReader,
     ) -> Result<(), Error> {
-        match track_event(self.alloc, index, event, &mut self.gtids, &mut self.output) {
+        match track_log_event(self.alloc, index, event, &mut self.gtids, &mut self.output) {
             Ok(Some(true)) => {
                 self.refused = self.refused.saturating_add(1);
                 Ok(())

@@ -1,19 +1,57 @@
-//! Laws of copying. Each is a function without effect whose contract states it.
-ghost use Rattle.std.specs.Prelude.{◌≡◌, ℕ, List, All, map, Option, Ok, true};
+//! Laws of collecting, counting and copying. Each is a function without effect whose contract states it.
+ghost use Rattle.std.specs.Prelude.{◌≡◌, ℕ, List, [], All, map, Option, Result, Ok, true};
+ghost use Rattle.binlog_wire.specs.declared.error.Error.{Error};
 ghost use Rattle.binlog_description.specs.declared.format_description.FormatDescriptionEvent.{FormatDescriptionEvent};
 ghost use Rattle.binlog_events.specs.Frames.{IsFrame};
 ghost use Rattle.binlog_events.specs.Events.{EventView};
 ghost use Rattle.binlog_file.specs.StreamItems.{AreItems};
-ghost use Rattle.binlog_visits.specs.Visits.{VisitsLog};
+ghost use Rattle.binlog_file.specs.TableMapsInForce.{TableMaps};
+ghost use Rattle.binlog_visits.specs.Visits.{Visits, VisitsLog};
+ghost use Rattle.binlog_gtid_listing.specs.LogItems.{log_gtids};
 ghost use Rattle.binlog_filters.specs.declared.filtered.Filtered.{Filtered};
 ghost use Rattle.binlog_commands.specs.declared.copying.Copier.{Copier};
+ghost use Rattle.binlog_commands.specs.declared.gtids.GtidCollector.{GtidCollector};
+ghost use Rattle.binlog_commands.specs.declared.stats.Stats.{Stats};
+ghost use Rattle.binlog_commands.specs.declared.tally.Tally.{Tally};
+ghost use Rattle.binlog_commands.specs.Collecting.{collected, CollectsAll};
+ghost use Rattle.binlog_commands.specs.Counting.{none_counted};
+ghost use Rattle.binlog_commands.specs.Statistics.{no_items};
+ghost use Rattle.binlog_commands.specs.WholeCounts.{AreCounted, AreTallied};
 ghost use Rattle.binlog_commands.specs.Parts.{ArePart, event_bytes};
 ghost use Rattle.binlog_commands.specs.FilteredCopies.{IsFilteredCopy};
 
 use crate::copying::Copier;
+use crate::gtids::GtidCollector;
+use crate::stats::Stats;
+use crate::tally::Tally;
+use binlog_file::WriteCounted;
 use binlog_filters::Filtered;
 use binlog_visits::Visitor;
 use std::io::Write;
+
+/// The GTIDs that are collected of the items of a log are those that its events add, and no others: of MySQL's the union of all, of
+/// MariaDB's the last of each domain and server. The output grew by the lines of the items that are errors, or whose GTIDs are
+/// refused, in order, and each refused event is counted.
+pub fn gtids_are_collected<W: WriteCounted>()
+    ensures { (maps : TableMaps) (items : List (Result EventView Error)) (old new : GtidCollector W) → old.gtids ≡ log_gtids [] [] → old.refused ≡ 0
+        → Visits ⟦<GtidCollector<W> as Visitor>⟧.visits maps 0 items old new
+        → CollectsAll items (collected W.contents old) (collected W.contents new) }
+{}
+
+/// The statistics are those of all items that were shown: of each raw type the number of its events and of their bytes; the
+/// number of errors, and of transactions; the times of the first and of the last event; and the first of the largest events,
+/// if there is one. A number above 2^64 - 1 is kept as 2^64 - 1.
+pub fn counts_are_of_all_items()
+    ensures { (maps : TableMaps) (items : List (Result EventView Error)) (new : Stats)
+        → Visits ⟦<Stats as Visitor>⟧.visits maps 0 items no_items new → AreCounted items new }
+{}
+
+/// The tally is that of all items that were shown: the number of events, of their bytes, of those with a checksum, and of
+/// errors, each at most 2^64 - 1.
+pub fn tallies_are_of_all_items()
+    ensures { (maps : TableMaps) (items : List (Result EventView Error)) (new : Tally)
+        → Visits ⟦<Tally as Visitor>⟧.visits maps 0 items none_counted new → AreTallied items new }
+{}
 
 /// The copy of a log is a log. If no frame is left out that brings another description into force, the bytes of the events
 /// that are taken, one after another, are a stream whose items are exactly these events, in order, each under the

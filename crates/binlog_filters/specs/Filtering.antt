@@ -1,5 +1,5 @@
 -- A visitor that is shown the events that a filter takes.
-use Rattle.std.specs.Prelude.{◌≡◌, ◌⊎◌, ℕ, Bool, true, false, Some, is_none, Result, Ok, Err}
+use Rattle.std.specs.Prelude.{◌≡◌, ◌⊎◌, ℕ, Bool, true, false, Some, is_none, Result}
 use Rattle.binlog_wire.specs.declared.error.Error.{Error}
 use Rattle.binlog_wire.specs.declared.error.Error.TheVariants.{Memory}
 use Rattle.binlog_events.specs.Events.{EventView}
@@ -27,6 +27,13 @@ module _ {T : Type 0} where
     pub same : new.filter ≡ old.filter
     pub place : new.place.position ≡ behind old.place.position item
 
-  -- Memory ran out for the item's GTID, or the visitor refused the item.
+  -- The visitor refused an item that the filter takes. The filter has gone on behind the item.
+  pub record RefusesItem (refuses : RefusalRelation T) (old : Filtered T) (maps : TableMaps) (index : ℕ) (item : Result EventView Error) (error : Error) (new : Filtered T) : Type 0 where
+    pub takes : Takes old.filter old.place.position old.is_wanted item new.is_wanted true
+    pub refused : refuses old.visitor maps index item error new.visitor
+    pub same : new.filter ≡ old.filter
+    pub place : new.place.position ≡ behind old.place.position item
+
+  -- Memory ran out for the item's GTID, and nothing has changed; or the visitor refused the item.
   abbrev pub RefusesTaken : RefusalRelation T → RefusalRelation (Filtered T)
-  RefusesTaken refuses old maps index item error new = ((error ≡ Memory) × (new ≡ old)) ⊎ refuses old.visitor maps index item error new.visitor
+  RefusesTaken refuses old maps index item error new = ((error ≡ Memory) × (new ≡ old)) ⊎ RefusesItem refuses old maps index item error new

@@ -12,17 +12,17 @@ use Rattle.binlog_gtids.specs.GnoSets.{AreApart, is_held, is_missing}
 use Rattle.binlog_gtid_sets.specs.declared.gtid_group.GtidGroup.{GtidGroup}
 use Rattle.binlog_gtid_sets.specs.GtidGroups.{Pair, pair_of, pair_in, compare_pairs, intervals_of, AreGroups}
 use Rattle.binlog_gtid_sets.proofs.GtidGroups.{pairs_total, found_at}
-use Rattle.binlog_gtid_listing.specs.GroupLines.{group_line, IsGroupLine, AreGroupLines, Writes, WritesGroup, WritesSomeGroups}
+use Rattle.binlog_gtid_listing.specs.GroupLines.{HasTag, group_line, IsGroupLine, AreGroupLines, Writes, WritesGroup, WritesSomeGroups}
 use Rattle.binlog_gtid_listing.proofs.Writing.{front_later}
 
 -- ---- one group
 
 -- the line of these intervals and gaps is written, or a front of it
 pub line_written : (sid : List ℕ) (tag : Option (List ℕ)) (intervals gaps : List GnoInterval) (old new : Option (List ℕ)) (answer : Result (Unit {0}) Error)
-    → AreApart 0 intervals → AreApart 0 gaps → ((n : ℕ) → is_held gaps n ≡ is_missing intervals n)
+    → HasTag tag → AreApart 0 intervals → AreApart 0 gaps → ((n : ℕ) → is_held gaps n ≡ is_missing intervals n)
     → Writes (group_line sid tag intervals gaps) old answer new → WritesGroup sid tag intervals old answer new
-line_written sid tag intervals gaps old new answer apart gaps_apart missing wrote =
-    inr (group_line sid tag intervals gaps, record { apart = apart; gaps = gaps; gaps_apart = gaps_apart; missing = missing; text = refl }, wrote)
+line_written sid tag intervals gaps old new answer tagged apart gaps_apart missing wrote =
+    inr (group_line sid tag intervals gaps, record { tagged = tagged; apart = apart; gaps = gaps; gaps_apart = gaps_apart; missing = missing; text = refl }, wrote)
 
 not_memory : (x : Unit {0}) (answer : Result (Unit {0}) Error) → answer ≡ Ok x → answer ≡ Err Memory → ⊥
 not_memory x answer is memory = cc

@@ -7,7 +7,7 @@ use Rattle.binlog_gtids.specs.GnoSets.{is_within, is_held, is_missing, AreApart}
 use Rattle.binlog_gtids.proofs.GnoSets.{interval, held_above}
 use Rattle.binlog_gtid_listing.specs.GroupLines.{group_line, IsGroupLine}
 
-within_first : (i : GnoInterval) (is : List GnoInterval) (n : ℕ) → i.start ≤ n → n < i.end → is_held (i ∷ is) n ≡ true
+pub within_first : (i : GnoInterval) (is : List GnoInterval) (n : ℕ) → i.start ≤ n → n < i.end → is_held (i ∷ is) n ≡ true
 within_first i is n from to = rw (le-leb i.start n from, lt-ltb n i.end to) refl
 
 end_out : (i : GnoInterval) (is : List GnoInterval) (low : ℕ) → AreApart low (i ∷ is) → is_held (i ∷ is) i.end ≡ false

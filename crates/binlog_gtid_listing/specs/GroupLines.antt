@@ -1,9 +1,10 @@
 -- The lines of the groups of a set of GTIDs.
-use Rattle.std.specs.Prelude.{◌≡◌, ◌⊎◌, ℕ, ◌-◌, ◌==◌, List, [], ◌∷◌, ◌++◌, take, Option, Some, None, Result, Ok, Err, decimal, codes, if◌then◌else◌}
+use Rattle.std.specs.Prelude.{◌≡◌, ◌⊎◌, ℕ, ◌-◌, ◌==◌, true, List, [], ◌∷◌, ◌++◌, take, Option, Some, None, Result, Ok, Err, decimal, codes, if◌then◌else◌}
 use Rattle.std.specs.Io.KnownBytes.{Appends}
 use Rattle.hex.specs.Hex.{encode_lower}
 use Rattle.binlog_wire.specs.declared.error.Error.{Error}
 use Rattle.binlog_wire.specs.declared.error.Error.TheVariants.{Memory, Writer}
+use Rattle.binlog_numbers.specs.Tags.{is_tag}
 use Rattle.binlog_numbers.specs.declared.gno_interval.GnoInterval.{GnoInterval}
 use Rattle.binlog_gtids.specs.GnoSets.{AreApart, is_held, is_missing}
 use Rattle.binlog_gtid_sets.specs.declared.gtid_group.GtidGroup.{GtidGroup}
@@ -37,8 +38,14 @@ group_line sid tag intervals gaps =
 
 -- ---- lines
 
+-- No tag, or one: a letter or an underscore, and letters, digits and underscores, at most 32 in all.
+abbrev pub HasTag : Option (List ℕ) → Type 0
+HasTag None = Unit {0}
+HasTag (Some tag) = is_tag tag ≡ true
+
 -- The line of a source and a tag: their numbers, and those that are missing, as ascending intervals that don't touch.
 pub record IsGroupLine (sid : List ℕ) (tag : Option (List ℕ)) (intervals : List GnoInterval) (line : List ℕ) : Type 0 where
+  pub tagged : HasTag tag
   pub apart : AreApart 0 intervals
   pub gaps : List GnoInterval
   pub gaps_apart : AreApart 0 gaps

@@ -1,3 +1,8 @@
 pub mod GtidItems
 pub mod GroupLines
 pub mod GtidListing
+pub mod MariaVersions
+pub mod MariaItems
+pub mod MariaLines
+pub mod LogItems
+pub mod LogLines

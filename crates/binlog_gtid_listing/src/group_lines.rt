@@ -5,7 +5,7 @@ ghost use Rattle.binlog_gtids.specs.GnoSets.{AreApart};
 ghost use Rattle.binlog_gtid_sets.specs.GtidGroups.{AreGroups, pair_of, intervals_of};
 ghost use Rattle.binlog_gtid_listing.specs.GroupLines.{Writes, WritesGroup, WritesGroups, group_line};
 
-use crate::parts::{write_intervals, write_part, write_sid, write_tag};
+use crate::parts::{tag_text, write_intervals, write_part, write_sid, write_tag};
 use binlog_file::{Error, GnoInterval, GtidTracker, Tag, WriteCounted};
 
 /// Writes the line of each group of a set, in their order.
@@ -39,14 +39,15 @@ fn write_group<W: WriteCounted>(
         (W.contents output.old) result (W.contents output.new) }
     ensures writer { CountsWriter result (W.count output.old) (W.count output.new) }
 {
+    let text = tag_text(tag);
     let gaps = gtids.gaps(sid, tag)?;
-    write_parts(sid, tag, gtids.intervals(sid, tag), &gaps, output)
+    write_parts(sid, text, gtids.intervals(sid, tag), &gaps, output)
 }
 
 // Writes a line of these parts.
 fn write_parts<W: WriteCounted>(
     sid: [u8; 16],
-    tag: Option<&Tag<'_>>,
+    tag: Option<&[u8]>,
     intervals: &[GnoInterval],
     gaps: &[GnoInterval],
     output: &mut W,

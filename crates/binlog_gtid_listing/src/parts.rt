@@ -4,7 +4,7 @@ ghost use Rattle.hex.specs.Hex.{encode_lower};
 ghost use Rattle.binlog_gtids.specs.GnoSets.{AreApart};
 ghost use Rattle.binlog_events.specs.Writing.{CountsWriter};
 ghost use Rattle.binlog_listing.specs.Listing.{error_line};
-ghost use Rattle.binlog_gtid_listing.specs.GroupLines.{Writes, tag_suffix, interval_text, intervals_text};
+ghost use Rattle.binlog_gtid_listing.specs.GroupLines.{HasTag, Writes, tag_suffix, interval_text, intervals_text};
 
 use binlog_file::{Error, GnoInterval, Tag, WriteCounted};
 use binlog_lines::{ItemLines, write_line};
@@ -53,16 +53,27 @@ pub(crate) fn write_sid<W: WriteCounted>(sid: &[u8], output: &mut W) -> Result<(
     }
 }
 
-/// Writes a colon and the tag; nothing for no tag.
-pub(crate) fn write_tag<W: WriteCounted>(tag: Option<&Tag<'_>>, output: &mut W) -> Result<(), Error>
+/// The text of a tag.
+pub(crate) fn tag_text<'a>(tag: Option<&'a Tag<'_>>) -> Option<&'a [u8]>
+    ensures same { option_copied result ≡ option_copied tag.entry }
+    ensures tagged { HasTag (option_copied tag.entry) }
+{
+    match tag {
+        None => None,
+        Some(tag) => Some(tag.as_str().as_bytes()),
+    }
+}
+
+/// Writes a colon and the text of a tag; nothing for no tag.
+pub(crate) fn write_tag<W: WriteCounted>(tag: Option<&[u8]>, output: &mut W) -> Result<(), Error>
     ensures writes { Writes (tag_suffix (option_copied tag.entry)) (W.contents output.old) result (W.contents output.new) }
     ensures writer { CountsWriter result (W.count output.old) (W.count output.new) }
 {
     match tag {
         None => Ok(()),
-        Some(tag) => {
+        Some(text) => {
             write_part(b":", output)?;
-            write_part(tag.as_str().as_bytes(), output)
+            write_part(text, output)
         }
     }
 }

@@ -1,6 +1,7 @@
 pub mod Agreement
 pub mod Counts
 pub mod Events
+pub mod Placing
 pub mod Reading
 pub mod Splits
 pub mod Steps

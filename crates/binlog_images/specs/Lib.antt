@@ -14,6 +14,7 @@ pub mod ImageCells
 pub mod ImageShapes
 pub mod Images
 pub mod Kinds
+pub mod Placing
 pub mod RowCells
 pub mod RowsLeft
 pub mod Splits

@@ -6,7 +6,11 @@ ghost use Rattle.binlog_wire.specs.Laws.{KeepsTo};
 ghost use Rattle.binlog_wire.specs.Formats.{IsCanonicalIn};
 ghost use Rattle.binlog_images.specs.Agreement.{Agrees};
 ghost use Rattle.binlog_rows.specs.Columns.{Bitmap};
-ghost use Rattle.binlog_images.specs.Cells.{Cell, ImageShape, RowShape, RowsShape, whole, partial, StoredRow, StoredPartialRow, RowCells, image, row, partial_image, partial_row, cells_in_row, cells_in_partial_row};
+ghost use Rattle.binlog_columns.specs.Metadata.{Typed};
+ghost use Rattle.binlog_images.specs.Bits.{first_bits};
+ghost use Rattle.binlog_images.specs.Diffs.{first_diffs};
+ghost use Rattle.binlog_images.specs.Placing.{HasDiffBits, AreCellsBy};
+ghost use Rattle.binlog_images.specs.Cells.{cells_with, Cell, ImageShape, RowShape, RowsShape, whole, partial, StoredRow, StoredPartialRow, RowCells, image, row, partial_image, partial_row, cells_in_row, cells_in_partial_row};
 ghost use Rattle.binlog_images.specs.Images.{image_at, partial_image_at};
 ghost use Rattle.binlog_images.specs.RowCells.{answer_row};
 ghost use Rattle.binlog_images.specs.RowsLeft.{row_shape, GivesRow};
@@ -48,4 +52,10 @@ pub fn rows_are_split()
         → AreRows (row_shape rows) rows.row rows.rest.now (map answer_row items) }
     ensures some_way { (shape : RowsShape) (index : ℕ) (s : List ℕ) → IsBytes s → (items : List (Result RowCells RowsError)) × AreRows shape index s items }
     ensures one_way { (shape : RowsShape) (index : ℕ) (s : List ℕ) (xs ys : List (Result RowCells RowsError)) → AreRows shape index s xs → AreRows shape index s ys → xs ≡ ys }
+{}
+
+/// Each column of an image is what its bits say (`AreCellsBy`): it is present by the bit of its index, NULL by the bit of its
+/// number among the columns that are present, and a list of diffs by the bit of its number among the JSON columns of the table.
+pub fn bits_have_columns()
+    ensures { (diffs : Option Bitmap) (columns : List Typed) (present nulls : Bitmap) (s r : List ℕ) (cells : List Cell) → HasDiffBits diffs columns → (cells_with (first_diffs diffs) columns (first_bits present nulls)).spells s cells r → AreCellsBy diffs present nulls columns cells }
 {}

@@ -8,9 +8,9 @@ use Rattle.binlog_wire.specs.declared.error.Error.TheVariants as errors
 use Rattle.binlog_description.specs.Bodies.{GivesWhole}
 use Rattle.binlog_json_lines.specs.Data.{error_object}
 use Rattle.binlog_mariadb.specs.declared.event_data.MariaEventData.{MariaEventData}
-use Rattle.binlog_mariadb_compression.specs.Compressed.{IsCompressed, Denies}
-use Rattle.binlog_mariadb_compression.specs.declared.error.CompressionError.{CompressionError}
-use Rattle.binlog_mariadb_compression.specs.declared.error.CompressionError.TheVariants as compression
+use Rattle.binlog_mariadb.specs.Compressed.{IsCompressed, Denies}
+use Rattle.binlog_mariadb.specs.declared.compression_error.CompressionError.{CompressionError}
+use Rattle.binlog_mariadb.specs.declared.compression_error.CompressionError.TheVariants as compression
 use Rattle.binlog_row_json.specs.Shown.{Shows}
 use Rattle.binlog_maria_json.specs.Data.{IsObject, IsValue}
 

@@ -9,7 +9,7 @@ use Rattle.binlog_json_lines.specs.Statements.{statement_head, statement_texts}
 use Rattle.binlog_json_lines.specs.Rows.{rows_table, rows_columns}
 use Rattle.binlog_json_lines.specs.Data.{error_object}
 use Rattle.binlog_mariadb.specs.declared.compressed_rows.RowsCompressedEvent.{RowsCompressedEvent}
-use Rattle.binlog_mariadb_compression.specs.Compressed.{IsCompressed}
+use Rattle.binlog_mariadb.specs.Compressed.{IsCompressed}
 
 -- The greatest size of a text in bytes: that of a packet of the server.
 abbrev pub most_bytes : ℕ

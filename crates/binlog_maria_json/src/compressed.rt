@@ -9,14 +9,13 @@ ghost use Rattle.binlog_json_lines.specs.Bits.{bits_value};
 ghost use Rattle.binlog_json_lines.specs.Data.{error_object};
 ghost use Rattle.binlog_json_lines.specs.Rows.{rows_table, rows_columns, extra_data_member};
 ghost use Rattle.binlog_json_lines.specs.Statements.{statement_head, statement_texts};
-ghost use Rattle.binlog_mariadb_compression.specs.Compressed.{IsCompressed};
+ghost use Rattle.binlog_mariadb.specs.Compressed.{IsCompressed};
 ghost use Rattle.binlog_row_json.specs.Shown.{Shows};
 ghost use Rattle.binlog_maria_json.specs.Compressed.{most_bytes, compressed_member, query_object, rows_object, IsOfText};
 
 use binlog_file::{BitView, QueryEvent};
 use binlog_json_lines::{write_bits, write_query_head, write_query_texts};
-use binlog_mariadb::RowsCompressedEvent;
-use binlog_mariadb_compression::{CompressionError, uncompress};
+use binlog_mariadb::{CompressionError, RowsCompressedEvent, uncompress};
 use json_line::Line;
 use std::alloc::{AllocError, Global};
 use std::borrow::CowSlice;

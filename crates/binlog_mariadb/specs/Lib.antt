@@ -5,6 +5,7 @@ pub mod Flavour
 pub mod AnnotateRows
 pub mod BinlogCheckpoint
 pub mod StartEncryption
+pub mod Compressed
 pub mod Gtids
 pub mod GtidLengths
 pub mod GtidLists

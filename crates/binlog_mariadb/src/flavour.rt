@@ -2,7 +2,7 @@
 ghost use Rattle.std.specs.Prelude.{◌≡◌, ◌↔◌, IsTrue, take};
 ghost use Rattle.std.specs.List.{prefix_len};
 ghost use Rattle.binlog_description.specs.DescriptionRefs.{description_of};
-ghost use Rattle.binlog_mariadb.specs.Flavour.{is_text_byte, version_text, IsMariaVersion};
+ghost use Rattle.binlog_mariadb.specs.Flavour.{is_text_byte, version_text, Contains, IsMariaVersion};
 
 use binlog_description::DescriptionRef;
 use memchr::memmem;
@@ -32,12 +32,20 @@ fn version_text(version: &[u8]) -> &[u8]
     text
 }
 
-/// Whether a server version, such as `10.11.6-MariaDB-log`, is MariaDB's: `-MariaDB`, in this case, is in the bytes
-/// before the first zero byte.
+/// Whether these bytes are in the text.
+fn contains(text: &[u8], part: &[u8]) -> bool
+    ensures { IsTrue result ↔ Contains text.now part.now }
+{
+    memmem::find(text, part).is_some()
+}
+
+/// Whether a server version is MariaDB's, such as `10.11.6-MariaDB-log`: `MariaDB` or, as in versions 5.1, `-maria-` is in the
+/// bytes before the first zero byte. So MariaDB's server knows its own logs.
 pub fn is_maria_version(version: &[u8]) -> bool
     ensures { IsTrue result ↔ IsMariaVersion version.now }
 {
-    memmem::find(version_text(version), b"-MariaDB").is_some()
+    let text = version_text(version);
+    contains(text, b"MariaDB") || contains(text, b"-maria-")
 }
 
 /// Whether a log is MariaDB's, by the server version of its format description. Only in such a log do events of the

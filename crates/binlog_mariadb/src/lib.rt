@@ -4,12 +4,17 @@
 //! [`is_maria_version`] and [`is_maria_log`] state whether MariaDB wrote a log, by the server version of its
 //! description. The other crates of this library don't read these types: their `read_data` returns `Ok(None)`.
 //!
+//! A compressed statement (165) has what is stored in place of a text as its query, and the compressed row events 166 to
+//! 171 as their `compressed_data`. [`uncompress`] gives the text.
+//!
 //! The formats are defined in `specs/`, in a module for each body.
 #![tactic(auto)]
 
 mod annotate_rows;
 mod binlog_checkpoint;
 mod compressed_rows;
+mod compression;
+mod compression_error;
 mod event_data;
 mod event_type;
 mod flavour;
@@ -26,6 +31,8 @@ mod xa_id;
 pub use annotate_rows::AnnotateRowsEvent;
 pub use binlog_checkpoint::BinlogCheckpointEvent;
 pub use compressed_rows::RowsCompressedEvent;
+pub use compression::uncompress;
+pub use compression_error::CompressionError;
 pub use event_data::{MariaEventData, read_maria_data};
 pub use event_type::{MariaEventType, UnknownMariaEventType};
 pub use flavour::{is_maria_log, is_maria_version};

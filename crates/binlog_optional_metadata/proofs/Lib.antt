@@ -1,5 +1,14 @@
+pub mod BinaryFlags
+pub mod ClassCounts
 pub mod Classes
 pub mod Columns
+pub mod FactsSoFar
+pub mod FieldItems
 pub mod Fields
+mod MembersLeft
+pub mod NameTexts
+pub mod OneWay
+mod OtherFields
 pub mod Sequences
+mod StringLengths
 pub mod ToEnd

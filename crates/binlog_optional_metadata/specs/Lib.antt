@@ -1,9 +1,11 @@
+pub mod AllFields
 pub mod BitAnswers
 pub mod Bits
 pub mod Classes
 pub mod Columns
 pub mod Counts
 pub mod DefaultCharsets
+pub mod Facts
 pub mod FieldStates
 pub mod FieldTypes
 pub mod FieldValues
@@ -16,4 +18,7 @@ pub mod MemberLists
 pub mod Names
 pub mod Numbers
 pub mod Sequences
+pub mod Stated
+pub mod StatedFields
+pub mod StringLengths
 pub mod ToEnd

@@ -6,8 +6,8 @@ use Rattle.binlog_events.specs.Events.{EventView}
 use Rattle.binlog_event_data.specs.declared.event_data.EventData.{EventData}
 use Rattle.binlog_event_data.specs.declared.event_data.EventData.TheVariants.{RowsEvent}
 use Rattle.binlog_rows.specs.declared.rows_event_data.RowsEventData.{RowsEventData}
-use Rattle.binlog_column_facts.specs.Stated.{StatesFacts}
-use Rattle.binlog_column_facts.specs.declared.column_facts.ColumnFacts.{ColumnFacts}
+use Rattle.binlog_optional_metadata.specs.Stated.{StatesFacts}
+use Rattle.binlog_optional_metadata.specs.declared.column_facts.ColumnFacts.{ColumnFacts}
 use Rattle.binlog_row_lines.specs.Written.{ShowsRows}
 use Rattle.binlog_rows.specs.declared.rows_event.RowsEvent as rows_events
 use Rattle.binlog_rows.specs.declared.table_map_event.TableMapEvent.{TableMapEvent}

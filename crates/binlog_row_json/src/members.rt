@@ -15,12 +15,11 @@ ghost use Rattle.binlog_row_json.specs.Shown.{Shows};
 
 use crate::refusals::{write_metadata_refusal, write_refusal};
 use crate::row_events::is_row_event;
-use binlog_column_facts::{TableFacts, TableMapColumns};
 use binlog_event_data::EventData;
 use binlog_events::EventRef;
 use binlog_images::{Rows, RowsEventExt};
 use binlog_mariadb::is_maria_log;
-use binlog_optional_metadata::OptionalMetadataError;
+use binlog_optional_metadata::{OptionalMetadataError, TableFacts, TableMapColumns};
 use binlog_row_lines::ValueWriter;
 use binlog_rows::{RowsEventData, TableMapEvent};
 use json_line::Line;

@@ -5,7 +5,7 @@ use Rattle.std.specs.Borrow.{Bor}
 use Rattle.std.specs.Option.{option_copied, option_map}
 use Rattle.std.specs.Prelude.{slice_get}
 use Rattle.std.specs.Slice.{IsItemAt}
-use Rattle.binlog_column_facts.specs.Facts.{texts_of}
+use Rattle.binlog_optional_metadata.specs.Facts.{texts_of}
 use Rattle.binlog_row_lines.specs.Members.{enum_text}
 
 -- What is at an index, if anything.

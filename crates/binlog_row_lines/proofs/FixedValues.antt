@@ -3,17 +3,19 @@ use Rattle.std.proofs.Common.{◌≡◌, ℕ, refl}
 use Rattle.binlog_values.specs.Values.{meaning_of, content_of}
 use Rattle.binlog_values.specs.declared.value.Value.{Value}
 use Rattle.binlog_values.specs.declared.value.Value.TheVariants as values
+use Rattle.binlog_values.specs.declared.floats.Float.{Float}
+use Rattle.binlog_values.specs.declared.floats.Double.{Double}
 use Rattle.binlog_values.specs.declared.times.Timestamp2.{Timestamp2}
-use Rattle.binlog_column_facts.specs.Facts.{Facts}
+use Rattle.binlog_optional_metadata.specs.Facts.{Facts}
 use Rattle.binlog_row_lines.specs.Parts.{exact}
 use Rattle.binlog_row_lines.specs.Values.{value_tokens, value_parts}
 
 -- The parts of a value of none of the other types are its tokens.
 pub fixed_parts : (facts : Facts) (value : Value)
-    → ((n : ℕ) → value ≡ values.Float n → ⊥) → ((n : ℕ) → value ≡ values.Double n → ⊥) → ((n : ℕ) → value ≡ values.Timestamp n → ⊥) → ((t : Timestamp2) → value ≡ values.Timestamp2 t → ⊥)
+    → ((x : Float) → value ≡ values.Float x → ⊥) → ((x : Double) → value ≡ values.Double x → ⊥) → ((n : ℕ) → value ≡ values.Timestamp n → ⊥) → ((t : Timestamp2) → value ≡ values.Timestamp2 t → ⊥)
     → value_parts facts (meaning_of value) (content_of value) ≡ exact (value_tokens facts (meaning_of value) (content_of value))
-fixed_parts facts (values.Float n) a b c d = absurd (a n refl)
-fixed_parts facts (values.Double n) a b c d = absurd (b n refl)
+fixed_parts facts (values.Float x) a b c d = absurd (a x refl)
+fixed_parts facts (values.Double x) a b c d = absurd (b x refl)
 fixed_parts facts (values.Timestamp n) a b c d = absurd (c n refl)
 fixed_parts facts (values.Timestamp2 t) a b c d = absurd (d t refl)
 fixed_parts facts values.Null a b c d = refl

@@ -9,8 +9,8 @@ use Rattle.binlog_images.specs.Splits.{AreRows}
 use Rattle.binlog_images.specs.declared.row.Row.{Row}
 use Rattle.binlog_images.specs.declared.rows.Rows.{Rows}
 use Rattle.binlog_images.specs.declared.rows_error.RowsError.{RowsError}
-use Rattle.binlog_column_facts.specs.declared.column_facts.ColumnFacts.{ColumnFacts}
-use Rattle.binlog_column_facts.specs.Facts.{facts_of}
+use Rattle.binlog_optional_metadata.specs.declared.column_facts.ColumnFacts.{ColumnFacts}
+use Rattle.binlog_optional_metadata.specs.Facts.{facts_of}
 use Rattle.binlog_row_lines.specs.Parts.{Part, exactly, Shows}
 use Rattle.binlog_row_lines.specs.Rows.{first_parts, members_from, item_parts}
 use Rattle.binlog_row_lines.specs.Written.{ShowsRows}

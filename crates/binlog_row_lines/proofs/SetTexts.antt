@@ -4,7 +4,7 @@ use Rattle.std.proofs.Math.Nat.{pow-le-pow_right}
 use Rattle.std.proofs.lemmas.Bool.{lt-leb}
 use Rattle.std.proofs.lemmas.List.{drop_all}
 use Rattle.std.specs.Borrow.{Bor}
-use Rattle.binlog_column_facts.specs.Facts.{texts_of}
+use Rattle.binlog_optional_metadata.specs.Facts.{texts_of}
 use Rattle.binlog_row_lines.specs.Members.{chosen, after_commas, joined}
 
 -- Texts that are appended: each behind a comma, except the first of all.

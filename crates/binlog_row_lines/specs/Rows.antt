@@ -10,8 +10,8 @@ use Rattle.binlog_images.specs.declared.rows_error.ImageKind.TheVariants.{Before
 use Rattle.binlog_images.specs.declared.rows_error.RowsError.{RowsError}
 use Rattle.binlog_images.specs.declared.rows_error.RowsErrorKind.{RowsErrorKind}
 use Rattle.binlog_images.specs.declared.rows_error.RowsErrorKind.TheVariants.{Truncated, BadValue, LeftOver}
-use Rattle.binlog_column_facts.specs.declared.column_facts.ColumnFacts.{ColumnFacts}
-use Rattle.binlog_column_facts.specs.Facts.{Facts, facts_of}
+use Rattle.binlog_optional_metadata.specs.declared.column_facts.ColumnFacts.{ColumnFacts}
+use Rattle.binlog_optional_metadata.specs.Facts.{Facts, facts_of}
 use Rattle.binlog_row_lines.specs.Parts.{Part, exactly, exact}
 use Rattle.binlog_row_lines.specs.Values.{encoded_value, value_parts}
 

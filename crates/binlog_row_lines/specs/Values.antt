@@ -5,18 +5,14 @@ use Rattle.json_line.specs.Tokens.{number_value, bytes_value, text_value, member
 use Rattle.binlog_values.specs.Contents.{Content, number_in, bytes_in, before_fraction, time2_zero, time2_distance}
 use Rattle.binlog_values.specs.Decimals.{decimal_text}
 use Rattle.binlog_values.specs.Texts.{sign_text}
-use Rattle.binlog_values.specs.Times.{microseconds_of, date_time_of, time_distance}
+use Rattle.binlog_values.specs.Times.{microseconds_of, date_time_of, time_distance, year_of}
 use Rattle.binlog_values.specs.Values.{Meaning}
 use Rattle.binlog_values.specs.Values as meanings
-use Rattle.binlog_column_facts.specs.Facts.{Facts}
+use Rattle.binlog_optional_metadata.specs.Facts.{Facts}
 use Rattle.binlog_row_lines.specs.Parts.{Part, exactly, utc, exact}
 use Rattle.binlog_row_lines.specs.Numbers.{integer_value, single_parts, double_parts}
 use Rattle.binlog_row_lines.specs.Members.{enum_value, set_value}
 use Rattle.binlog_row_lines.specs.Times.{date_text, clock_text, fraction_text}
-
--- The year of a YEAR: 0, or years since 1900.
-abbrev pub year_of : ℕ → ℕ
-year_of n = if n == 0 then 0 else 1900 + n % 256
 
 -- A DATE.
 abbrev pub date_of : ℕ → List ℕ

@@ -6,7 +6,7 @@ use Rattle.binlog_images.specs.RowsLeft.{row_shape}
 use Rattle.binlog_images.specs.Splits.{AreRows}
 use Rattle.binlog_images.specs.declared.rows.Rows.{Rows}
 use Rattle.binlog_images.specs.declared.rows_error.RowsError.{RowsError}
-use Rattle.binlog_column_facts.specs.declared.column_facts.ColumnFacts.{ColumnFacts}
+use Rattle.binlog_optional_metadata.specs.declared.column_facts.ColumnFacts.{ColumnFacts}
 use Rattle.binlog_row_lines.specs.Parts.{Shows}
 use Rattle.binlog_row_lines.specs.Rows.{rows_parts}
 

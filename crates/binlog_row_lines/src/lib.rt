@@ -15,5 +15,5 @@ mod times;
 mod timestamps;
 mod values;
 
-pub use binlog_column_facts::ColumnFacts;
+pub use binlog_optional_metadata::ColumnFacts;
 pub use values::ValueWriter;

@@ -2,7 +2,7 @@
 
 ghost use Rattle.std.specs.Prelude.{◌≡◌, ◌++◌, ◌∷◌, ◌^◌, length, nat_le, option_map, OnOk, if◌then◌else◌};
 ghost use Rattle.json_line.specs.Tokens.{Adds};
-ghost use Rattle.binlog_column_facts.specs.Facts.{texts_of};
+ghost use Rattle.binlog_optional_metadata.specs.Facts.{texts_of};
 ghost use Rattle.binlog_row_lines.specs.Members.{text_or_number, enum_text, enum_value, chosen, joined, set_text, set_value};
 
 use json_line::Line;

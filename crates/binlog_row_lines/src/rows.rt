@@ -10,14 +10,14 @@ ghost use Rattle.binlog_wire.specs.Fields.{IsBytes};
 ghost use Rattle.binlog_images.specs.ColumnValues.{cell_of};
 ghost use Rattle.binlog_images.specs.ImageCells.{cells_of};
 ghost use Rattle.binlog_images.specs.RowCells.{row_cells, answer_row};
-ghost use Rattle.binlog_column_facts.specs.Facts.{facts_of};
+ghost use Rattle.binlog_optional_metadata.specs.Facts.{facts_of};
 ghost use Rattle.binlog_row_lines.specs.Parts.{Writes};
 ghost use Rattle.binlog_row_lines.specs.Rows.{column_name, cell_parts, first_parts, image_parts, image_member, row_parts, kind_name, image_name, fault_image, fault_column, refusal_tokens, item_parts};
 ghost use Rattle.binlog_row_lines.specs.Written.{ShowsRows};
 
 use crate::values::{ValueWriter, write_encoded};
-use binlog_column_facts::ColumnFacts;
 use binlog_images::{ColumnValue, Image, ImageKind, Row, Rows, RowsError, RowsErrorKind};
+use binlog_optional_metadata::ColumnFacts;
 use json_line::Line;
 use std::alloc::AllocError;
 

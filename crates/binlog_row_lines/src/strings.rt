@@ -2,10 +2,10 @@
 
 ghost use Rattle.std.specs.Prelude.{◌≡◌};
 ghost use Rattle.json_line.specs.Tokens.{Adds, bytes_value};
-ghost use Rattle.binlog_column_facts.specs.Facts.{facts_of};
+ghost use Rattle.binlog_optional_metadata.specs.Facts.{facts_of};
 ghost use Rattle.binlog_row_lines.specs.Values.{padded, string_value};
 
-use binlog_column_facts::ColumnFacts;
+use binlog_optional_metadata::ColumnFacts;
 use json_line::Line;
 use std::alloc::AllocError;
 

@@ -7,9 +7,9 @@ ghost use Rattle.json_line.specs.Lines.{IsPlainText};
 ghost use Rattle.json_line.specs.Tokens.{Adds};
 ghost use Rattle.binlog_values.specs.Decimals.{decimal_text};
 ghost use Rattle.binlog_values.specs.Values.{meaning_of, content_of};
-ghost use Rattle.binlog_column_facts.specs.Facts.{facts_of};
+ghost use Rattle.binlog_optional_metadata.specs.Facts.{facts_of};
 ghost use Rattle.binlog_row_lines.specs.Parts.{Writes};
-ghost use Rattle.binlog_row_lines.specs.Values.{year_of, date_of, time_of, datetime_of, datetime2_of, time2_of, encoded_value, value_tokens, value_parts};
+ghost use Rattle.binlog_row_lines.specs.Values.{date_of, time_of, datetime_of, datetime2_of, time2_of, encoded_value, value_tokens, value_parts};
 
 use crate::members::{write_enum, write_set};
 use crate::names::NumberedNames;
@@ -17,7 +17,7 @@ use crate::numbers::{write_double, write_integer, write_single};
 use crate::strings::write_string;
 use crate::times::{push_clock, push_date, push_fraction};
 use crate::timestamps::write_timestamp;
-use binlog_column_facts::ColumnFacts;
+use binlog_optional_metadata::ColumnFacts;
 use binlog_values::text::push_sign;
 use binlog_values::{Date, DateTime, DateTime2, Decimal, Time, Time2, Value};
 use json_line::Line;
@@ -55,8 +55,8 @@ impl ValueWriter {
         ensures { Writes result line.old line.new (value_parts (facts_of facts.now) (meaning_of value.now) (content_of value.now)) }
     {
         match value {
-            Value::Float(bits) => write_single(line, *bits),
-            Value::Double(bits) => write_double(line, *bits),
+            Value::Float(float) => write_single(line, *float),
+            Value::Double(double) => write_double(line, *double),
             Value::Timestamp(seconds) => write_timestamp(line, &mut self.text, 0, *seconds, 0),
             Value::Timestamp2(time) => write_timestamp(
                 line,
@@ -88,7 +88,7 @@ impl ValueWriter {
             Value::Integer(integer) => write_integer(line, facts.is_unsigned, integer),
             Value::Decimal(decimal) => write_decimal(line, text, decimal),
             Value::Date(date) => write_date(line, text, date),
-            Value::Year(year) => line.number(year_of(*year)),
+            Value::Year(year) => line.number(u64::from(year.year())),
             Value::Time(time) => write_time(line, text, time),
             Value::DateTime(time) => write_datetime(line, text, time),
             Value::DateTime2(time) => write_datetime2(line, text, time),
@@ -102,13 +102,6 @@ impl ValueWriter {
             Value::Compressed(bytes) => write_encoded(line, "stored", bytes),
         }
     }
-}
-
-/// The year of a YEAR, which is 0 or the number of years since 1900.
-fn year_of(year: u64) -> u64
-    ensures { result ≡ year_of year }
-{
-    if year == 0 { 0 } else { 1_900 + year % 256 }
 }
 
 /// Writes a decimal number.

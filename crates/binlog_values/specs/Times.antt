@@ -1,5 +1,5 @@
 -- The parts of dates and times.
-use Rattle.std.specs.Prelude.{ℕ, ◌-◌, ◌*◌, ◌^◌, nat_le, if◌then◌else◌}
+use Rattle.std.specs.Prelude.{ℕ, ◌+◌, ◌-◌, ◌*◌, ◌^◌, ◌==◌, nat_le, if◌then◌else◌}
 use Rattle.binlog_values.specs.Contents.{fraction_len, fraction_of, before_fraction}
 
 -- The fraction at the end of a number, in microseconds.
@@ -15,3 +15,7 @@ date_time_of digits n = before_fraction digits n - 2 ^ 39
 -- and seconds.
 abbrev pub time_distance : ℕ → ℕ
 time_distance n = if nat_le (2 ^ 23) n then 2 ^ 24 - n else n
+
+-- The year of a YEAR, which is a byte: 0, or the years since 1900.
+abbrev pub year_of : ℕ → ℕ
+year_of n = if n == 0 then 0 else 1900 + n

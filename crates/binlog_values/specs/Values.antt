@@ -15,11 +15,11 @@ use Rattle.binlog_values.specs.declared.value.Value.TheVariants as values
 abbrev pub content_of : Value → Content
 content_of values.Null = nothing
 content_of (values.Integer i) = of_number i.bits
-content_of (values.Float bits) = of_number bits
-content_of (values.Double bits) = of_number bits
+content_of (values.Float f) = of_number f.bits
+content_of (values.Double f) = of_number f.bits
 content_of (values.Decimal d) = of_bytes d.bytes.now
 content_of (values.Date d) = of_number d.bits
-content_of (values.Year byte) = of_number byte
+content_of (values.Year y) = of_number y.byte
 content_of (values.Timestamp seconds) = of_number seconds
 content_of (values.Time t) = of_number t.bits
 content_of (values.DateTime t) = of_number t.digits
@@ -68,11 +68,11 @@ pub data Meaning : Type 0 where
 abbrev pub meaning_of : Value → Meaning
 meaning_of values.Null = null
 meaning_of (values.Integer i) = integer i.size
-meaning_of (values.Float bits) = float
-meaning_of (values.Double bits) = double
+meaning_of (values.Float f) = float
+meaning_of (values.Double f) = double
 meaning_of (values.Decimal d) = decimal d.precision d.scale
 meaning_of (values.Date d) = date
-meaning_of (values.Year byte) = year
+meaning_of (values.Year y) = year
 meaning_of (values.Timestamp seconds) = timestamp
 meaning_of (values.Time t) = time
 meaning_of (values.DateTime t) = datetime

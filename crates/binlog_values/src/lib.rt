@@ -9,6 +9,7 @@ mod decimal;
 mod decimal_number;
 mod decimal_text;
 mod digits;
+mod floats;
 pub mod laws;
 mod numbers;
 pub mod text;
@@ -16,6 +17,7 @@ mod times;
 mod value;
 
 pub use decimal::Decimal;
+pub use floats::{Double, Float};
 pub use numbers::{Bit, Integer};
-pub use times::{Date, DateTime, DateTime2, Time, Time2, Timestamp2};
+pub use times::{Date, DateTime, DateTime2, Time, Time2, Timestamp2, Year};
 pub use value::Value;

@@ -1,7 +1,7 @@
 //! Dates and times. No calendar is checked: a value is what its bits say.
 ghost use Rattle.std.specs.Prelude.{◌≡◌, ◌≤◌, ◌<◌, ◌+◌, ◌-◌, ◌*◌, ◌/◌, ◌%◌, ◌^◌, nat_le, nat_lt};
 ghost use Rattle.binlog_values.specs.Contents.{fraction_len, fraction_of, before_fraction, time2_zero, time2_distance};
-ghost use Rattle.binlog_values.specs.Times.{microseconds_of, date_time_of, time_distance};
+ghost use Rattle.binlog_values.specs.Times.{microseconds_of, date_time_of, time_distance, year_of};
 
 use crate::content::{fraction_len, pow_256, time2_distance, time2_zero};
 
@@ -31,6 +31,25 @@ impl Date {
         ensures { result ≡ self.now.bits % 32 }
     {
         (self.bits % 32) as u8
+    }
+}
+
+/// The value of a YEAR column.
+#[derive(Clone, Copy, Debug, PartialEq, Eq, Hash)]
+pub struct Year {
+    pub(crate) byte: u8,
+}
+
+impl Year {
+    /// The year: 0, or 1901 to 2155.
+    pub fn year(&self) -> u16
+        ensures { result ≡ year_of self.now.byte }
+    {
+        if self.byte == 0 {
+            0
+        } else {
+            1_900 + u16::from(self.byte)
+        }
     }
 }
 

@@ -12,8 +12,9 @@ use crate::content::{
     read_timestamp2, read_vector,
 };
 use crate::decimal::Decimal;
+use crate::floats::{Double, Float};
 use crate::numbers::{Bit, Integer};
-use crate::times::{Date, DateTime, DateTime2, Time, Time2, Timestamp2};
+use crate::times::{Date, DateTime, DateTime2, Time, Time2, Timestamp2, Year};
 use binlog_columns::{Column, ColumnType, Layout};
 use binlog_wire::{Error, ParseBuf};
 
@@ -24,16 +25,16 @@ pub enum Value<'a> {
     Null,
     /// An integer.
     Integer(Integer),
-    /// The bits of a floating-point number of four bytes (IEEE 754, binary32), below 2^32; any of them is a value.
-    Float(u64),
-    /// The bits of a floating-point number of eight bytes (IEEE 754, binary64); any of them is a value.
-    Double(u64),
+    /// A floating-point number of four bytes.
+    Float(Float),
+    /// A floating-point number of eight bytes.
+    Double(Double),
     /// A decimal number.
     Decimal(Decimal<'a>),
     /// A date.
     Date(Date),
-    /// A year, below 256: 0 is the year 0, and any other number is the years since 1900.
-    Year(u64),
+    /// A year.
+    Year(Year),
     /// Seconds since 1970 UTC, below 2^32; 0 is the zero timestamp.
     Timestamp(u64),
     /// A time without a fraction, as decimal digits.
@@ -122,6 +123,7 @@ impl<'a> Value<'a> {
 /// The value of a column that is a number of `len` bytes.
 #[inline(always)]
 fn number_value<'a>(column: &Column, len: u8, number: u64) -> Value<'a>
+    requires layout { layout_of (typed_of column.now) ≡ Number len }
     requires some { 1 ≤ len }
     requires most { len ≤ 8 }
     requires fits { number < 256 ^ len }
@@ -129,12 +131,14 @@ fn number_value<'a>(column: &Column, len: u8, number: u64) -> Value<'a>
     ensures meaning { meaning_of result ≡ number_meaning len (typed_of column.now).0 (typed_of column.now).1 }
 {
     match column.column_type() {
-        ColumnType::MYSQL_TYPE_FLOAT => Value::Float(number),
-        ColumnType::MYSQL_TYPE_DOUBLE => Value::Double(number),
+        ColumnType::MYSQL_TYPE_FLOAT => Value::Float(Float {
+            bits: number as u32,
+        }),
+        ColumnType::MYSQL_TYPE_DOUBLE => Value::Double(Double { bits: number }),
         ColumnType::MYSQL_TYPE_DATE | ColumnType::MYSQL_TYPE_NEWDATE => {
             Value::Date(Date { bits: number })
         }
-        ColumnType::MYSQL_TYPE_YEAR => Value::Year(number),
+        ColumnType::MYSQL_TYPE_YEAR => Value::Year(Year { byte: number as u8 }),
         ColumnType::MYSQL_TYPE_TIMESTAMP => Value::Timestamp(number),
         ColumnType::MYSQL_TYPE_TIME => Value::Time(Time { bits: number }),
         ColumnType::MYSQL_TYPE_DATETIME => Value::DateTime(DateTime { digits: number }),

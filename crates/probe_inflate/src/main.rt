@@ -19,7 +19,7 @@ enum Outcome {
     Failed,
 }
 
-fn read_stream(rt: &(impl Input + AllocGlobal)) -> io::Result<Vec<u8>> {
+fn read_stream<R: Input + AllocGlobal>(rt: &R) -> io::Result<Vec<u8>> {
     let mut input = BufReader::with_capacity(rt.alloc(), BUFFER_SIZE, rt.reader())?;
     let mut stream = Vec::new(rt.alloc());
     input.read_to_end(&mut stream)?;

@@ -1,11 +1,11 @@
 //! The line of a row event.
 ghost use Rattle.json_line.specs.Lines.{IsPlainText};
 
-use binlog_column_facts::TableFacts;
 use binlog_columns::TableColumns;
 use binlog_file::{Error, Event, EventData, EventStreamReader, RowsEventData, TableMapEvent};
 use binlog_images::{Rows, RowsEventError, RowsEventExt};
 use binlog_mariadb::is_maria_log;
+use binlog_optional_metadata::TableFacts;
 use binlog_row_lines::ValueWriter;
 use json_line::Line;
 use std::alloc::{AllocError, Global};
@@ -33,7 +33,10 @@ impl<W: Write> Printer<W> {
 
     /// Flushes the output.
     pub fn end(&mut self) -> Result<(), Error> {
-        self.output.flush().map_err(|_| Error::Writer)
+        match self.output.flush() {
+            Ok(()) => Ok(()),
+            Err(_) => Err(Error::Writer),
+        }
     }
 
     /// Prints the line of an event, if it is a row event that can be read. The reader has the table maps before it.
@@ -76,7 +79,10 @@ impl<W: Write> Printer<W> {
         }
         self.line.end_object()?;
         let text = self.line.end()?;
-        self.output.write_all(text).map_err(|_| Error::Writer)
+        match self.output.write_all(text) {
+            Ok(()) => Ok(()),
+            Err(_) => Err(Error::Writer),
+        }
     }
 
     // Writes the rows of an event of this table, or why they are refused.

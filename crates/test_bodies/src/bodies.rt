@@ -1,30 +1,19 @@
 //! Reading and writing of event bodies. The expected bytes and values don't come from this code. Owned values are
 //! compared in functions that take no runtime, which keeps the proofs short.
 use binlog_bodies::{
-    BeginLoadQueryEvent, Error, IncidentEvent, IntvarEvent, Invalid, RandEvent, RotateEvent,
-    RowsQueryEvent, XidEvent, laws,
+    BeginLoadQueryEvent, Error, IncidentEvent, IntvarEvent, RotateEvent, RowsQueryEvent, XidEvent,
+    laws,
 };
 use binlog_consts::{IncidentType, IntvarEventType, UnknownIncidentType};
 use binlog_description::laws as description_laws;
-use binlog_wire::RawInt;
 use std::alloc::Global;
 use std::borrow::{CowSlice, CowStr};
 use testkit_bodies::{
-    by_default, is_copied, is_read_as, is_rewritten, is_same, is_text, is_written, read, refusal,
-    refusal_under, stating, told_len,
+    by_default, is_copied, is_read_as, is_rewritten, is_same, is_text, is_written, read, told_len,
 };
 
 /// The number 11 in eight bytes.
 pub(crate) const ELEVEN: &[u8] = b"\x0b\0\0\0\0\0\0\0";
-
-/// A ROTATE to the start of a second file.
-const ROTATE: &[u8] = b"\x04\0\0\0\0\0\0\0master-bin.000002";
-
-/// Seeds of 11 and 2^63.
-const SEEDS: &[u8] = b"\x0b\0\0\0\0\0\0\0\0\0\0\0\0\0\0\x80";
-
-/// The statement that row events come from.
-const STATEMENT: &[u8] = b"\0insert into t1 values (1)";
 
 /// A block of the first five bytes of a file.
 const BLOCK: &[u8] = b"\x01\x02\0\0block";
@@ -53,24 +42,6 @@ fn is_named(alloc: Global, event: RotateEvent<'_>, name: &str) -> Result<bool, E
     let is_text = is_text(event.name(alloc), name);
     drop(event);
     is_text
-}
-
-#[test]
-fn rotate_of_the_sample_is_read(rt: HostRuntime) {
-    assert!(rt; is_read_as(rt.alloc(), by_default(), ROTATE, rotate()));
-    assert!(rt; goes_to(rotate(), 4, b"master-bin.000002", false));
-    assert!(rt; is_named(rt.alloc(), rotate(), "master-bin.000002") == Ok(true));
-}
-
-#[test]
-fn rotate_is_written(rt: HostRuntime) {
-    assert!(rt; told_len(rotate()) == 25);
-    assert!(rt; is_rewritten::<RotateEvent>(rt.alloc(), ROTATE, ROTATE) == Ok(true));
-}
-
-#[test]
-fn rotate_is_copied(rt: HostRuntime) {
-    assert!(rt; is_copied(rt.alloc(), rotate()) == Ok(true));
 }
 
 // An artificial ROTATE, with position 0. Its name isn't UTF-8.
@@ -104,84 +75,6 @@ fn rotate_is_shown_by_its_parts(rt: HostRuntime) {
     assert!(rt; is_rotate_shown(rt.alloc(), wanted) == Ok(true));
 }
 
-#[test]
-fn short_bodies_are_refused(rt: HostRuntime) {
-    let alloc = rt.alloc();
-    let ends = Some(Error::EndOfBody);
-    assert!(rt; refusal::<RotateEvent>(alloc, b"\x04\0\0\0\0\0\0") == ends);
-    assert!(rt; refusal::<RandEvent>(alloc, b"\x0b\0\0\0\0\0\0\0\0\0\0\0\0\0\0") == ends);
-    assert!(rt; refusal::<IncidentEvent>(alloc, b"\x01\0\x02m") == ends);
-    assert!(rt; refusal::<RowsQueryEvent>(alloc, b"") == ends);
-    assert!(rt; refusal::<BeginLoadQueryEvent>(alloc, b"\x01\x02\0") == ends);
-}
-
-#[test]
-fn bytes_left_over_are_refused(rt: HostRuntime) {
-    let alloc = rt.alloc();
-    let long = b"\xff\xff\x0b\0\0\0\0\0\0\0";
-    assert!(rt; refusal::<XidEvent>(alloc, long) == Some(Error::RemainingBytes(2)));
-    assert!(rt; refusal::<IncidentEvent>(alloc, b"\x01\0\x01mm") == Some(Error::RemainingBytes(1)));
-}
-
-#[test]
-fn xid_is_read_and_written(rt: HostRuntime) {
-    assert!(rt; is_read_as(rt.alloc(), by_default(), ELEVEN, XidEvent { xid: 11 }));
-    assert!(rt; is_rewritten::<XidEvent>(rt.alloc(), ELEVEN, ELEVEN) == Ok(true));
-    assert!(rt; told_len(XidEvent { xid: 11 }) == 8);
-}
-
-/// Post-header lengths: 2 for XID (type 16), and 0 for the types before it.
-const XID_OF_TWO: &[u8] = &[0, 0, 0, 0, 0, 0, 0, 0, 0, 0, 0, 0, 0, 0, 0, 2];
-
-// Whether a body is read as XID 11 under a description with these lengths.
-fn is_eleven_behind_two(alloc: Global, body: &[u8]) -> bool {
-    let fde = stating(XID_OF_TWO);
-    let is_eleven = is_read_as(alloc, fde.as_ref(), body, XidEvent { xid: 11 });
-    drop(fde);
-    is_eleven
-}
-
-// The error of a body under such a description.
-fn refusal_behind_two(alloc: Global, body: &[u8]) -> Option<Error> {
-    let fde = stating(XID_OF_TWO);
-    let refusal = refusal_under::<XidEvent>(alloc, fde.as_ref(), body);
-    drop(fde);
-    refusal
-}
-
-#[test]
-fn xid_stands_behind_its_post_header(rt: HostRuntime) {
-    assert!(rt; is_eleven_behind_two(rt.alloc(), b"\xff\xff\x0b\0\0\0\0\0\0\0"));
-    assert!(rt; refusal_behind_two(rt.alloc(), b"\xff") == Some(Error::EndOfBody));
-    assert!(rt; refusal_behind_two(rt.alloc(), ELEVEN) == Some(Error::EndOfBody));
-}
-
-#[test]
-fn integer_variables_are_read(rt: HostRuntime) {
-    let rows: [(&[u8], Result<IntvarEvent, Error>); 5] = [
-        (
-            b"\x02\x0b\0\0\0\0\0\0\0",
-            Ok(IntvarEvent::new(IntvarEventType::INSERT_ID_EVENT, 11)),
-        ),
-        (
-            b"\0\xff\xff\xff\xff\xff\xff\xff\xff",
-            Ok(IntvarEvent::new(IntvarEventType::INVALID_INT_EVENT, u64::MAX)),
-        ),
-        (
-            b"\x03\x0b\0\0\0\0\0\0\0",
-            Err(Error::InvalidData(Invalid::Subtype(3))),
-        ),
-        (b"\x02\x0b\0\0\0\0\0\0", Err(Error::EndOfBody)),
-        (b"\x03\x0b\0\0\0\0\0\0", Err(Error::EndOfBody)),
-    ];
-    for (body, wanted) in rows {
-        assert!(rt;
-            read::<IntvarEvent>(rt.alloc(), body) == wanted,
-            "of {body:?}"
-        );
-    }
-}
-
 // An INTVAR event that is set field by field.
 fn last_insert_id() -> IntvarEvent {
     IntvarEvent::new(IntvarEventType::INVALID_INT_EVENT, 0)
@@ -201,30 +94,6 @@ fn integer_variable_is_written(rt: HostRuntime) {
     let body = b"\x01\x02\x01\0\0\0\0\0\0";
     assert!(rt; is_written(rt.alloc(), &last_insert_id(), body) == Ok(true));
     assert!(rt; is_rewritten::<IntvarEvent>(rt.alloc(), body, body) == Ok(true));
-}
-
-// The event of `SEEDS`.
-fn seeds() -> RandEvent {
-    RandEvent {
-        seed1: RawInt::new(11),
-        seed2: RawInt::new(1 << 63),
-    }
-}
-
-// Whether the event is equal to its copy.
-fn are_seeds_copied() -> Result<bool, Error> {
-    let copy = seeds().clone()?;
-    let is_copied = copy == seeds();
-    drop(copy);
-    Ok(is_copied)
-}
-
-#[test]
-fn random_seeds(rt: HostRuntime) {
-    assert!(rt; is_read_as(rt.alloc(), by_default(), SEEDS, seeds()));
-    assert!(rt; is_rewritten::<RandEvent>(rt.alloc(), SEEDS, SEEDS) == Ok(true));
-    assert!(rt; are_seeds_copied() == Ok(true));
-    assert!(rt; told_len(seeds()) == 16);
 }
 
 // An INCIDENT with the message that is too long.
@@ -318,18 +187,6 @@ fn statement_of_rows_is_read(rt: HostRuntime) {
     assert!(rt; is_statement(rt.alloc(), "insert into t1 values (1)") == Ok(true));
 }
 
-#[test]
-fn statement_of_rows_is_written(rt: HostRuntime) {
-    let body = b"\xffinsert into t1 values (1)".as_slice();
-    assert!(rt; is_rewritten::<RowsQueryEvent>(rt.alloc(), body, STATEMENT) == Ok(true));
-    assert!(rt; told_len(statement()) == 26);
-}
-
-#[test]
-fn statement_of_rows_is_copied(rt: HostRuntime) {
-    assert!(rt; is_copied(rt.alloc(), statement()) == Ok(true));
-}
-
 // The event of `BLOCK`.
 fn block() -> BeginLoadQueryEvent<'static> {
     BeginLoadQueryEvent::new(0)
@@ -348,17 +205,6 @@ fn has_its_parts(event: BeginLoadQueryEvent<'_>) -> bool {
 fn first_block_of_a_file_is_read(rt: HostRuntime) {
     assert!(rt; is_read_as(rt.alloc(), by_default(), BLOCK, block()));
     assert!(rt; has_its_parts(block()));
-}
-
-#[test]
-fn first_block_of_a_file_is_written(rt: HostRuntime) {
-    assert!(rt; is_rewritten::<BeginLoadQueryEvent>(rt.alloc(), BLOCK, BLOCK) == Ok(true));
-    assert!(rt; told_len(block()) == 9);
-}
-
-#[test]
-fn first_block_of_a_file_is_copied(rt: HostRuntime) {
-    assert!(rt; is_copied(rt.alloc(), block()) == Ok(true));
 }
 
 #[test]

@@ -1,5 +1,5 @@
-//! Tests of `binlog_description` and `binlog_bodies`: reading and writing of headers, footers, format descriptions and
-//! the bodies of smaller events.
+//! Tests of `binlog_description`, `binlog_bodies` and `binlog_statements`: reading and writing of headers, footers, format
+//! descriptions, the bodies of smaller events, statements and status variables.
 #![tactic(auto)]
 
 #[cfg(test)]
@@ -8,3 +8,5 @@ mod bodies;
 mod descriptions;
 #[cfg(test)]
 mod memory;
+#[cfg(test)]
+mod statements;

@@ -1,7 +1,9 @@
-//! Tests of `binlog_file`: where events begin and end, which description is in force, the README's example, large
-//! values, and failed allocations.
+//! Tests of `binlog_file`: where events begin and end, which description is in force, the README's example, large values,
+//! readers and writers that fail, and failed allocations.
 #![tactic(auto)]
 
+#[cfg(test)]
+mod boundless;
 #[cfg(test)]
 mod calling;
 #[cfg(test)]
@@ -10,6 +12,8 @@ mod closed_logs;
 mod describing;
 #[cfg(test)]
 mod exact_reading;
+#[cfg(test)]
+mod failing_ends;
 #[cfg(test)]
 mod framing;
 #[cfg(test)]

@@ -1,6 +1,6 @@
 //! The listing of a log that is shown a byte at a time, and a writer that fails at each of its calls.
 use binlog_file::{Counted, Error};
-use binlog_gtid_listing::list_gtids;
+use binlog_gtid_listing::{list_gtids, list_gtids_counted};
 use std::alloc::Global;
 use std::io::BufReader;
 use testkit_logs::FailingWriter;
@@ -33,7 +33,7 @@ fn is_told(alloc: Global, calls_before: usize) -> bool {
         return false;
     };
     let mut output = Counted::new(FailingWriter::new(alloc, calls_before));
-    let answer = list_gtids(alloc, &mut Counted::new(input), &mut output);
+    let answer = list_gtids_counted(alloc, &mut Counted::new(input), &mut output);
     let wanted = if calls_before < LINES.len() {
         Err(Error::Writer)
     } else {
@@ -47,4 +47,11 @@ fn each_failure_of_the_writer_is_returned(rt: HostRuntime) {
     for calls_before in 0..LINES.len() + 1 {
         assert!(rt; is_told(rt.alloc(), calls_before));
     }
+}
+
+#[test]
+fn a_reader_and_a_writer_that_count_nothing(rt: HostRuntime) {
+    let mut output = Vec::new(rt.alloc());
+    assert!(rt; list_gtids(rt.alloc(), LOG, &mut output) == Ok(true));
+    assert!(rt; output.as_slice() == LINES);
 }

@@ -1,5 +1,8 @@
-//! Tests of `binlog_gtid_listing`: a log that is shown in pieces, and a writer that fails.
+//! Tests of `binlog_gtid_listing` and `binlog_maria_gtids`: what events add, what a failed allocation leaves, and listings by readers
+//! that show a byte at a time and writers that fail.
 #![tactic(auto)]
 
 #[cfg(test)]
 mod ends;
+#[cfg(test)]
+mod maria_gtids;

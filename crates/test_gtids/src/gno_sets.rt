@@ -34,14 +34,6 @@ fn are(intervals: &[GnoInterval], wanted: &[(u64, u64)]) -> bool {
         ) == *wanted)
 }
 
-// Whether the set of some intervals has the wanted ones.
-fn keeps(alloc: Global, intervals: &[(u64, u64)], wanted: &[(u64, u64)]) -> Result<bool, Error> {
-    let set = set_of(alloc, intervals)?;
-    let keeps = are(set.intervals(), wanted);
-    drop(set);
-    Ok(keeps)
-}
-
 // Whether the set of these intervals has these gaps.
 fn lacks(alloc: Global, intervals: &[(u64, u64)], wanted: &[(u64, u64)]) -> Result<bool, Error> {
     let set = set_of(alloc, intervals)?;
@@ -51,38 +43,6 @@ fn lacks(alloc: Global, intervals: &[(u64, u64)], wanted: &[(u64, u64)]) -> Resu
     let lacks = are(gaps.as_slice(), wanted);
     drop(gaps);
     Ok(lacks)
-}
-
-#[test]
-fn touching_intervals_are_one(rt: HostRuntime) {
-    assert!(rt; keeps(rt.alloc(), &[(1, 6), (6, 8)], &[(1, 8)]) == Ok(true));
-}
-
-#[test]
-fn numbers_are_kept_in_order(rt: HostRuntime) {
-    let numbers: &[(u64, u64)] = &[(5, 6), (1, 2), (2, 3)];
-    assert!(rt; keeps(rt.alloc(), numbers, &[(1, 3), (5, 6)]) == Ok(true));
-}
-
-#[test]
-fn gap_between_intervals(rt: HostRuntime) {
-    assert!(rt; lacks(rt.alloc(), &[(1, 2), (2, 3), (5, 6)], &[(3, 5)]) == Ok(true));
-}
-
-#[test]
-fn gap_begins_at_1(rt: HostRuntime) {
-    assert!(rt; lacks(rt.alloc(), &[(4, 6)], &[(1, 4)]) == Ok(true));
-}
-
-#[test]
-fn all_numbers_are_taken(rt: HostRuntime) {
-    assert!(rt; keeps(rt.alloc(), &[(1, END)], &[(1, END)]) == Ok(true));
-}
-
-#[test]
-fn three_intervals_are_swallowed(rt: HostRuntime) {
-    let intervals: &[(u64, u64)] = &[(2, 3), (5, 6), (8, 9), (11, 12), (4, 10)];
-    assert!(rt; keeps(rt.alloc(), intervals, &[(2, 3), (4, 10), (11, 12)]) == Ok(true));
 }
 
 // Whether these are the intervals of the union of two sets.

@@ -1,20 +1,13 @@
 //! Previous GTIDs.
 use crate::gtids::{TAGGED_SID, UUID};
-use crate::memory::are_previous_copied;
 use binlog_gtids::{PreviousGtidsEvent, PreviousGtidsSid};
 use binlog_numbers::{GnoInterval, Tag};
-use binlog_wire::{Error, Invalid};
+use binlog_wire::Error;
 use std::alloc::{AllocError, Global};
-use testkit_bodies::{
-    are_fronts_refused, is_rewritten, is_same, is_written, joined, read, refusal, told_len, written,
-};
+use testkit_bodies::{is_rewritten, is_same, is_written, joined, read, told_len, written};
 
 /// An entry without a tag, after its SID: the GNOs 1 to 5.
 const ONE_TO_FIVE: &[u8] = b"\x01\0\0\0\0\0\0\0\x01\0\0\0\0\0\0\0\x06\0\0\0\0\0\0\0";
-
-/// One entry in the form with tags, without a tag and without intervals. Any top byte other than 0 states that form.
-const NO_TAG: &[u8] =
-    b"\x05\x01\0\0\0\0\0\x07\xab\xab\xab\xab\xab\xab\xab\xab\xab\xab\xab\xab\xab\xab\xab\xab\0\0\0\0\0\0\0\0\0";
 
 // One entry with this tag and the GNOs 1 to 5.
 fn one_sid(alloc: Global, tag: Option<Tag<'static>>) -> Result<PreviousGtidsEvent<'static>, Error> {
@@ -46,22 +39,6 @@ fn goes_round(
     Ok(is_written? && is_read?)
 }
 
-// Whether the body of these parts is refused with this error.
-fn are_refused(alloc: Global, parts: &[&[u8]], why: Error) -> Result<bool, Error> {
-    let body = joined(alloc, parts)?;
-    let refusal = refusal::<PreviousGtidsEvent>(alloc, body.as_slice());
-    drop(body);
-    Ok(refusal == Some(why))
-}
-
-// Whether a body is read, and written as these parts.
-fn is_rewritten_as(alloc: Global, body: &[u8], parts: &[&[u8]]) -> Result<bool, Error> {
-    let wanted = joined(alloc, parts)?;
-    let is_rewritten = is_rewritten::<PreviousGtidsEvent>(alloc, body, wanted.as_slice());
-    drop(wanted);
-    is_rewritten
-}
-
 #[test]
 fn no_previous_gtids_are_eight_zeros(rt: HostRuntime) {
     let none = PreviousGtidsEvent::new(Vec::new(rt.alloc()));
@@ -88,31 +65,6 @@ fn untagged_goes_round(alloc: Global) -> Result<bool, Error> {
 #[test]
 fn previous_gtids_without_a_tag(rt: HostRuntime) {
     assert!(rt; untagged_goes_round(rt.alloc()) == Ok(true));
-}
-
-// Whether an event has one entry, with the SID `UUID` and nothing else.
-fn is_source_alone(event: PreviousGtidsEvent<'_>) -> bool {
-    let is_source_alone = match event.sids() {
-        [sid] => sid.uuid() == UUID && sid.tag().is_none() && sid.intervals().is_empty(),
-        _ => false,
-    };
-    drop(event);
-    is_source_alone
-}
-
-fn is_read_as_source_alone(alloc: Global, body: &[u8]) -> Result<bool, Error> {
-    Ok(is_source_alone(read(alloc, body)?))
-}
-
-#[test]
-fn tagged_form_without_a_tag_is_read(rt: HostRuntime) {
-    assert!(rt; is_read_as_source_alone(rt.alloc(), NO_TAG) == Ok(true));
-}
-
-#[test]
-fn tagged_form_is_written_for_a_tag_alone(rt: HostRuntime) {
-    let parts: &[&[u8]] = &[b"\x01\0\0\0\0\0\0\0", &UUID, &[0; 8]];
-    assert!(rt; is_rewritten_as(rt.alloc(), NO_TAG, parts) == Ok(true));
 }
 
 /// A number of intervals that take more than 64 KiB, at 16 bytes each.
@@ -151,24 +103,4 @@ fn is_read_back(
 #[test]
 fn more_than_64_kib_of_intervals_are_written_and_read(rt: HostRuntime) {
     assert!(rt; is_read_back(rt.alloc(), many_intervals(rt.alloc()), 80_032) == Ok(true));
-}
-
-#[test]
-fn cut_previous_gtids_are_refused(rt: HostRuntime) {
-    let len = TAGGED_SID.len();
-    assert!(rt; are_fronts_refused::<PreviousGtidsEvent>(rt.alloc(), TAGGED_SID, len));
-    let longer = are_refused(rt.alloc(), &[TAGGED_SID, &[0]], Error::RemainingBytes(1));
-    assert!(rt; longer == Ok(true));
-}
-
-#[test]
-fn tag_that_is_none_is_refused(rt: HostRuntime) {
-    let parts: &[&[u8]] = &[b"\x01\x01\0\0\0\0\0\x01", &UUID, b"\x049a", &[0; 8]];
-    let refused = are_refused(rt.alloc(), parts, Error::InvalidData(Invalid::Tag));
-    assert!(rt; refused == Ok(true));
-}
-
-#[test]
-fn previous_gtids_are_copied(rt: HostRuntime) {
-    assert!(rt; are_previous_copied(rt.alloc()) == Ok(true));
 }

@@ -4,19 +4,13 @@ use binlog_consts::{BinlogVersion, EventType};
 use binlog_description::BinlogStruct;
 use binlog_gtids::{AnonymousGtidEvent, GtidEvent};
 use binlog_numbers::Tag;
-use binlog_wire::{Error, Field, IntoOwned, Invalid, MySerialize};
+use binlog_wire::{Error, Field, IntoOwned, MySerialize};
 use std::alloc::Global;
-use testkit_bodies::{
-    is_copied, is_same, is_unwritable, is_written, is_written_as, is_written_with, joined, told_len,
-};
+use testkit_bodies::{is_same, is_unwritable, is_written_as, is_written_with, told_len};
 
 /// The body of `long_event` with the sequence number 2^34, after its payload size.
 const LONG_FIELDS: &[u8] =
     b"\0\0\0\x02\xad\x02\xad\x02\xad\x02\xad\x02\xad\x02\xad\x02\xad\x02\xad\x02\xad\x02\xad\x02\xad\x02\xad\x02\xad\x02\xad\x02\xad\x02\xad\x02\x04\x04\x06\x40abcdefghijklmnopqrstuvwxyz012345\x08\xff\xfe\xff\xff\xff\xff\xff\xff\xff\x0a\x1f\0\0\0\0\x02\x0c\xff\xff\xff\xff\xff\xff\xff\xff\xff\x0e\0\x10\xff\xff\xff\xff\xff\xff\xff\xff\xff\x12\xfb\x11\x7a\x16\xff\xff\xff\xff\xff\xff\xff\xff\xff";
-
-/// A tagged body of 42 bytes: the tag `test`, and zeros otherwise.
-const TEST: &[u8] =
-    b"\x02\x54\0\0\0\x02\0\0\0\0\0\0\0\0\0\0\0\0\0\0\0\0\x04\0\x06\x08test\x08\0\x0a\0\x0c\0\x10\0\x12\xfb\x11\x7a";
 
 // The GTID with this tag, the SID `UUID`, and GNO 1.
 fn tagged(alloc: Global, tag: &'static [u8]) -> Result<GtidEvent, Error> {
@@ -45,25 +39,6 @@ fn long_event(alloc: Global, sequence_number: u64) -> Result<GtidEvent, Error> {
             .with_tx_length(u64::MAX)
             .with_commit_group_ticket(u64::MAX),
     )
-}
-
-// The error of a body.
-fn why(alloc: Global, body: &[u8]) -> Option<Error> {
-    match read_tagged(alloc, body) {
-        Ok(event) => {
-            drop(event);
-            None
-        }
-        Err(error) => Some(error),
-    }
-}
-
-// Whether a body is read, and written as these bytes.
-fn is_rewritten(alloc: Global, body: &[u8], wanted: &[u8]) -> Result<bool, Error> {
-    let event = read_tagged(alloc, body)?;
-    let is_written = is_written(alloc, &event, wanted);
-    drop(event);
-    is_written
 }
 
 // Whether an event is written as these parts.
@@ -95,11 +70,6 @@ fn tagged_gtid_is_written(rt: HostRuntime) {
     assert!(rt; is_made_of(rt.alloc(), backup(rt.alloc()), &[BACKUP]) == Ok(true));
 }
 
-#[test]
-fn tagged_gtid_is_read(rt: HostRuntime) {
-    assert!(rt; are_read_as(rt.alloc(), &[BACKUP], backup(rt.alloc())) == Ok(true));
-}
-
 // The event type under which a GTID is written, and its `len`.
 fn told(event: Result<GtidEvent, Error>) -> Result<(EventType, usize), Error> {
     let event = event?;
@@ -111,17 +81,6 @@ fn told(event: Result<GtidEvent, Error>) -> Result<(EventType, usize), Error> {
 fn tagged_gtid_tells_its_length_and_its_type(rt: HostRuntime) {
     let told = told(backup(rt.alloc()));
     assert!(rt; told == Ok((EventType::GTID_TAGGED_LOG_EVENT, 68)));
-}
-
-// Whether a GTID is equal to an owned copy.
-fn is_gtid_copied(alloc: Global, event: Result<GtidEvent, Error>) -> Result<bool, Error> {
-    let event = event?;
-    is_copied(alloc, event)
-}
-
-#[test]
-fn tagged_gtid_is_copied(rt: HostRuntime) {
-    assert!(rt; is_gtid_copied(rt.alloc(), backup(rt.alloc())) == Ok(true));
 }
 
 #[test]
@@ -161,95 +120,12 @@ fn payload_size_may_take_two_bytes(rt: HostRuntime) {
     assert!(rt; longer == Ok(true));
 }
 
-// A payload size of 128 in two bytes, though 127 in one byte would do.
-#[test]
-fn payload_size_is_not_the_least(rt: HostRuntime) {
-    let parts: &[&[u8]] = &[b"\x02\x01\x02", LONG_FIELDS];
-    assert!(rt; LONG_FIELDS.len() == 125);
-    assert!(rt; are_read_as(rt.alloc(), parts, long_event(rt.alloc(), 1 << 34)) == Ok(true));
-}
-
-#[test]
-fn tagged_bodies_that_end_are_refused(rt: HostRuntime) {
-    for body in [b"".as_slice(), b"\x02\xff\x01\x02", b"\x02\x08\0"] {
-        assert!(rt; why(rt.alloc(), body) == Some(Error::EndOfBody));
-    }
-}
-
-#[test]
-fn tagged_bodies_are_refused(rt: HostRuntime) {
-    let rows: [(&[u8], Invalid); 8] = [
-        (b"\0\x14\0", Invalid::SerializationVersion(0)),
-        (b"\x02\x02\0", Invalid::PayloadSize(1)),
-        (b"\x02\x06\0", Invalid::MissingTag),
-        (b"\x02\x16\0\x06\x08test\x04\x02", Invalid::Negative(2)),
-        (b"\x02\x0e\xc8\0\0\xc6\0", Invalid::UnknownField(99)),
-        // Flags 256, a SID byte 256, and a server version 2^32.
-        (b"\x02\x0c\0\0\x01\x04", Invalid::FieldRange(0)),
-        (b"\x02\x0c\0\x02\x01\x04", Invalid::FieldRange(1)),
-        (b"\x02\x12\0\x12\x0f\0\0\0\x20", Invalid::FieldRange(9)),
-    ];
-    for (body, invalid) in rows {
-        assert!(rt; why(rt.alloc(), body) == Some(Error::InvalidData(invalid)));
-    }
-}
-
-#[test]
-fn tagged_fields_end_at_an_unknown_one(rt: HostRuntime) {
-    let ended = b"\x02\x18\x12\x06\x08test\xc6\xff\xff";
-    assert!(rt; is_rewritten(rt.alloc(), ended, TEST) == Ok(true));
-    let over = b"\x02\x18\x12\x06\x08test\xc6\xff\xff\0";
-    assert!(rt; why(rt.alloc(), over) == Some(Error::RemainingBytes(1)));
-}
-
-#[test]
-fn tagged_numbers_may_be_spelled_long(rt: HostRuntime) {
-    assert!(rt; is_rewritten(rt.alloc(), b"\x02\x29\0\0\x06\x08test", TEST) == Ok(true));
-}
-
 // The GNO of a GTID with a tag.
 fn gno_of(alloc: Global, body: &[u8]) -> Result<u64, Error> {
     let event = read_tagged(alloc, body)?;
     let gno = event.gno();
     drop(event);
     Ok(gno)
-}
-
-#[test]
-fn last_of_repeated_fields_counts(rt: HostRuntime) {
-    let body = b"\x02\x1a\0\x06\x08test\x04\x04\x04\x08";
-    assert!(rt; gno_of(rt.alloc(), body) == Ok(2));
-}
-
-#[test]
-fn tagged_bodies_are_written_as_they_were(rt: HostRuntime) {
-    assert!(rt; is_rewritten(rt.alloc(), BACKUP, BACKUP) == Ok(true));
-    assert!(rt; is_rewritten(rt.alloc(), TEST, TEST) == Ok(true));
-}
-
-// Whether each proper prefix of a body is refused as `EndOfBody`.
-fn are_fronts_refused(alloc: Global, body: &[u8]) -> bool {
-    for len in 0..body.len() {
-        let front = body.get(..len).unwrap_or(body);
-        if why(alloc, front) != Some(Error::EndOfBody) {
-            return false;
-        }
-    }
-    true
-}
-
-// The error of a body with one byte more.
-fn why_longer(alloc: Global, body: &[u8]) -> Result<Option<Error>, Error> {
-    let longer = joined(alloc, &[body, &[0]])?;
-    let why = why(alloc, longer.as_slice());
-    drop(longer);
-    Ok(why)
-}
-
-#[test]
-fn cut_tagged_bodies_are_refused(rt: HostRuntime) {
-    assert!(rt; are_fronts_refused(rt.alloc(), BACKUP));
-    assert!(rt; why_longer(rt.alloc(), BACKUP) == Ok(Some(Error::RemainingBytes(1))));
 }
 
 /// A tagged body whose GNO, `last_committed` and `sequence_number` are 2^63 - 1.

@@ -3,15 +3,11 @@ use crate::gtids::{HEAD, read_gtid, written_len};
 use binlog_consts::{BinlogVersion, EventType};
 use binlog_description::BinlogStruct;
 use binlog_gtids::{AnonymousGtidEvent, GtidEvent, GtidFlags};
-use binlog_wire::{Error, Field, Invalid};
+use binlog_wire::{Error, Field};
 use std::alloc::Global;
 use testkit_bodies::{
-    by_default, is_copied, is_rewritten, is_same, is_unwritable, is_written_as, read, read_typed,
-    told_len, written,
+    by_default, is_same, is_unwritable, is_written_as, read, read_typed, told_len, written,
 };
-
-/// [`HEAD`] without its last byte.
-const SHORT_HEAD: &[u8] = b"\0\0\0\0\0\0\0\0\0\0\0\0\0\0\0\0\0\x01\0\0\0\0\0\0";
 
 /// The rest of a new GTID after its head: a clock code, and zeros.
 const NO_TIMES: &[u8] = b"\x02\0\0\0\0\0\0\0\0\0\0\0\0\0\0\0\0\0\0\0\0\0\0\0\0\0\0\0\0";
@@ -40,17 +36,6 @@ fn other_gtid() -> GtidEvent {
         .with_lc_typecode()
 }
 
-// Whether the concatenated parts are refused with this error.
-fn is_refused(alloc: Global, parts: &[&[u8]], why: Error) -> bool {
-    match read_gtid(alloc, 33, parts) {
-        Ok(event) => {
-            drop(event);
-            false
-        }
-        Err(error) => error == why,
-    }
-}
-
 // Whether an event is written as these parts, which are read as the same event.
 fn goes_round(alloc: Global, event: GtidEvent, parts: &[&[u8]]) -> Result<bool, Error> {
     let is_written = is_written_as(alloc, &event, parts);
@@ -68,72 +53,6 @@ fn new_gtid_is_written_whole(rt: HostRuntime) {
 fn new_gtid_tells_its_length_and_its_type(rt: HostRuntime) {
     assert!(rt; told_len(new_gtid()) == 54);
     assert!(rt; new_gtid().event_type() == EventType::GTID_EVENT);
-}
-
-/// The clock code, the GNO, the immediate timestamp, the transaction length, and both versions, as the getters return
-/// them.
-type Says = (Option<u8>, u64, u64, u64, u32, u32);
-
-// These values of a body of this raw type.
-fn says(alloc: Global, raw_type: u8, parts: &[&[u8]]) -> Result<Says, Error> {
-    let event = read_gtid(alloc, raw_type, parts)?;
-    let says = (
-        event.lc_typecode(),
-        event.gno(),
-        event.immediate_commit_timestamp(),
-        event.tx_length(),
-        event.immediate_server_version(),
-        event.original_server_version(),
-    );
-    drop(event);
-    Ok(says)
-}
-
-#[test]
-fn gtid_without_a_clock_is_read(rt: HostRuntime) {
-    for raw_type in [33, 34] {
-        let says = says(rt.alloc(), raw_type, &[HEAD]);
-        assert!(rt; says == Ok((None, 1, 0, 0, 999_999, 999_999)));
-    }
-}
-
-#[test]
-fn gtid_without_a_clock_is_written(rt: HostRuntime) {
-    assert!(rt; is_rewritten::<GtidEvent>(rt.alloc(), HEAD, HEAD) == Ok(true));
-    assert!(rt; is_rewritten::<AnonymousGtidEvent>(rt.alloc(), HEAD, HEAD) == Ok(true));
-}
-
-#[test]
-fn other_lengths_are_no_gtid_without_a_clock(rt: HostRuntime) {
-    assert!(rt; is_refused(rt.alloc(), &[HEAD, b"\x01"], Error::RemainingBytes(1)));
-    assert!(rt; is_refused(rt.alloc(), &[SHORT_HEAD], Error::EndOfBody));
-}
-
-#[test]
-fn length_and_versions_stand_behind_no_times(rt: HostRuntime) {
-    let says = says(rt.alloc(), 33, &[HEAD, CLOCK, b"\x05\x40\x5f\x01\0"]);
-    assert!(rt; says == Ok((Some(2), 1, 0, 5, 89_920, 89_920)));
-}
-
-#[test]
-fn clock_may_stand_alone(rt: HostRuntime) {
-    let says = says(rt.alloc(), 33, &[HEAD, CLOCK]);
-    assert!(rt; says == Ok((Some(2), 1, 0, 0, 999_999, 999_999)));
-}
-
-#[test]
-fn cut_parts_are_refused(rt: HostRuntime) {
-    let cut_clock = b"\x02\0\0\0\0\0\0\0\0\0\0\0\0\0\0\0";
-    let no_length = Error::InvalidData(Invalid::LenEnc(0xfb));
-    assert!(rt;
-        is_refused(
-            rt.alloc(),
-            &[HEAD, CLOCK, b"\0\0"],
-            Error::RemainingBytes(1)
-        )
-    );
-    assert!(rt; is_refused(rt.alloc(), &[HEAD, CLOCK, b"\xfb"], no_length));
-    assert!(rt; is_refused(rt.alloc(), &[HEAD, cut_clock], Error::EndOfBody));
 }
 
 // Whether a GTID is unwritable because of this field.
@@ -235,16 +154,6 @@ fn has_its_parts(event: GtidEvent) -> bool {
 #[test]
 fn gtid_has_the_parts_that_it_was_given(rt: HostRuntime) {
     assert!(rt; has_its_parts(other_gtid()));
-}
-
-#[test]
-fn gtid_is_copied(rt: HostRuntime) {
-    assert!(rt; is_copied(rt.alloc(), other_gtid()) == Ok(true));
-}
-
-#[test]
-fn anonymous_gtid_is_copied(rt: HostRuntime) {
-    assert!(rt; is_copied(rt.alloc(), AnonymousGtidEvent(other_gtid())) == Ok(true));
 }
 
 // Whether an anonymous GTID is written with the length of its `len`, and read back as the same event.

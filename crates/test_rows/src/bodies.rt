@@ -2,7 +2,6 @@
 //! getters of an event are compared in one function that takes no runtime, which keeps the proofs short.
 use binlog_wire::BitView;
 
-mod copies;
 mod memory;
 mod rows;
 mod table_maps;
@@ -30,12 +29,6 @@ const UPDATE_V1: &[u8] = b"\x05\0\0\0\0\0\x01\0\x02\x03\x01\xff";
 
 /// A row of table 5 in an older event type: one column, in the only image.
 const OF_ONE_IMAGE: &[u8] = b"\x05\0\0\0\0\0\x01\0\x01\x01\xfe\x07";
-
-/// Post-header lengths of all event types up to the last row event, each 6.
-const OF_SIX: &[u8] = &[6; 39];
-
-/// The same, each 10.
-const OF_TEN: &[u8] = &[10; 39];
 
 // Whether each bit is the wanted one: `1`, `0`, or `-` if there is none.
 fn has_bits(view: BitView<'_>, wanted: &[u8]) -> bool {

@@ -1,8 +1,7 @@
 //! Which bytes are decimal numbers, and which numbers they are.
 use binlog_columns::Column;
 use binlog_values::{Decimal, Value};
-use binlog_wire::{Error, ParseBuf};
-use std::alloc::{AllocError, Global};
+use binlog_wire::ParseBuf;
 
 /// The decimal number at the start of these bytes, for this precision and scale.
 fn decimal(precision: u8, scale: u8, bytes: &[u8]) -> Option<Decimal<'_>> {
@@ -14,59 +13,10 @@ fn decimal(precision: u8, scale: u8, bytes: &[u8]) -> Option<Decimal<'_>> {
     }
 }
 
-/// The number of bytes of the decimal number at the start of these bytes.
-fn decimal_len(precision: u8, scale: u8, bytes: &[u8]) -> Option<usize> {
-    Some(decimal(precision, scale, bytes)?.as_bytes().len())
-}
-
 /// The exact integer of a decimal number, and whether it has a minus sign.
 fn unscaled(precision: u8, scale: u8, bytes: &[u8]) -> Option<(i128, bool)> {
     let decimal = decimal(precision, scale, bytes)?;
     Some((decimal.unscaled()?, decimal.is_negative()))
-}
-
-/// Whether a decimal number has this text.
-fn has_text(
-    alloc: Global,
-    precision: u8,
-    scale: u8,
-    bytes: &[u8],
-    expected: &str,
-) -> Result<bool, AllocError> {
-    let Some(decimal) = decimal(precision, scale, bytes) else {
-        return Ok(false);
-    };
-    let mut text = String::new(alloc);
-    text.push_str("=")?;
-    decimal.push_to(&mut text)?;
-    Ok(text.as_str().strip_prefix("=") == Some(expected))
-}
-
-#[test]
-fn a_negative_number_is_complemented(rt: HostRuntime) {
-    assert!(rt; decimal_len(14, 4, b"\x81\x0d\xfb\x38\xd2\x04\xd2") == Some(7));
-    assert!(rt; decimal_len(14, 4, b"\x7e\xf2\x04\xc7\x2d\xfb\x2d") == Some(7));
-    assert!(rt; decimal_len(14, 4, b"\x7e\xf2\x04\xc7\x2d\x04\xd2") == None);
-}
-
-#[test]
-fn a_group_has_as_many_digits_as_it_states(rt: HostRuntime) {
-    assert!(rt; decimal_len(1, 1, b"\x89") == Some(1));
-    assert!(rt; decimal_len(1, 1, b"\x8a") == None);
-    assert!(rt; decimal_len(1, 1, b"\x76") == Some(1));
-    assert!(rt; decimal_len(1, 1, b"\x75") == None);
-}
-
-#[test]
-fn the_greatest_precision_takes_30_bytes(rt: HostRuntime) {
-    assert!(rt; decimal_len(65, 30, &[0x80; 30]) == None);
-    assert!(rt;
-        decimal_len(
-            65,
-            30,
-            b"\x80\0\0\0\0\0\0\0\0\0\0\0\0\0\0\0\0\0\0\0\0\0\0\0\0\0\0\0\0\0"
-        ) == Some(30)
-    );
 }
 
 /// 1234567890.1234, as a DECIMAL(14,4), and its negative.
@@ -101,25 +51,4 @@ fn an_exact_integer_is_below_2_to_the_127(rt: HostRuntime) {
     assert!(rt; unscaled(39, 0, LEAST) == Some((-i128::MAX, true)));
     assert!(rt; unscaled(39, 0, TOO_GREAT) == None);
     assert!(rt; unscaled(65, 30, NINES) == None);
-}
-
-#[test]
-fn the_text_has_all_digits_after_the_point(rt: HostRuntime) -> Result<(), AllocError> {
-    let alloc = rt.alloc();
-    assert!(rt; has_text(alloc, 14, 4, POSITIVE, "1234567890.1234")?);
-    assert!(rt; has_text(alloc, 14, 4, NEGATIVE, "-1234567890.1234")?);
-    assert!(rt; has_text(alloc, 1, 1, b"\x89", "0.9")?);
-    assert!(rt; has_text(alloc, 5, 2, b"\x80\x03\x32", "3.50")?);
-    assert!(rt; has_text(alloc, 5, 0, b"\x80\0\0", "0")?);
-    assert!(rt; has_text(alloc, 1, 1, b"\x7f", "-0.0")?);
-    assert!(rt;
-        has_text(
-            alloc,
-            65,
-            30,
-            NINES,
-            "99999999999999999999999999999999999.999999999999999999999999999999"
-        )?
-    );
-    Ok(())
 }

@@ -1,4 +1,5 @@
-//! Tests of `binlog_columns` and `binlog_values`: the metadata of columns, and the values of columns.
+//! Tests of `binlog_columns`, `binlog_values`, `binlog_optional_metadata` and `binlog_row_writing`: the metadata of columns, what is
+//! stated of them, exact integers, and the bytes of values and rows that are made.
 #![tactic(auto)]
 
 #[cfg(test)]
@@ -6,4 +7,6 @@ mod columns;
 #[cfg(test)]
 mod decimals;
 #[cfg(test)]
-mod values;
+mod optional_metadata;
+#[cfg(test)]
+mod row_writing;

@@ -9,12 +9,10 @@ mod reading;
 mod writing;
 
 pub use copies::{copied, is_copied, is_same, is_text};
-pub use descriptions::{by_default, stating};
+pub use descriptions::by_default;
 pub use memory::{is_granted, is_rewritten_behind, is_written_behind};
-pub use reading::{
-    are_fronts_refused, is_read, is_read_as, read, read_typed, read_under, refusal, refusal_under,
-};
+pub use reading::{is_read, is_read_as, read, read_typed, read_under, refusal};
 pub use writing::{
-    is_rewritten, is_rewritten_under, is_unwritable, is_written, is_written_as, is_written_with,
-    joined, told_len, written,
+    is_rewritten, is_unwritable, is_written, is_written_as, is_written_with, joined, told_len,
+    written,
 };

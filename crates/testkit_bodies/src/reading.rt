@@ -29,18 +29,9 @@ pub fn read<'a, T: BinlogEvent<'a> + Drop>(alloc: Global, body: &'a [u8]) -> Res
     read_under(alloc, by_default(), body)
 }
 
-/// The error of a body under this description, if it has one.
-pub fn refusal_under<'a, T: BinlogEvent<'a> + Drop>(
-    alloc: Global,
-    fde: DescriptionRef<'a>,
-    body: &'a [u8],
-) -> Option<Error> {
-    read_under::<T>(alloc, fde, body).err()
-}
-
 /// The error of a body under the default description, if it has one.
 pub fn refusal<'a, T: BinlogEvent<'a> + Drop>(alloc: Global, body: &'a [u8]) -> Option<Error> {
-    refusal_under::<T>(alloc, by_default(), body)
+    read::<T>(alloc, body).err()
 }
 
 /// Whether a body is read without an error under the default description.
@@ -64,19 +55,4 @@ pub fn is_read_as<'a, T: BinlogEvent<'a> + PartialEq + Drop>(
         }
         Err(_) => false,
     }
-}
-
-/// Whether each prefix of a body that is shorter than this is refused as `EndOfBody`.
-pub fn are_fronts_refused<'a, T: BinlogEvent<'a> + Drop>(
-    alloc: Global,
-    body: &'a [u8],
-    len: usize,
-) -> bool {
-    for end in 0..len {
-        let front = body.get(..end).unwrap_or(body);
-        if refusal::<T>(alloc, front) != Some(Error::EndOfBody) {
-            return false;
-        }
-    }
-    true
 }

@@ -1,8 +1,7 @@
 //! Writing of values.
-use crate::descriptions::by_default;
-use crate::reading::read_under;
+use crate::reading::read;
 use binlog_consts::BinlogVersion;
-use binlog_description::{BinlogEvent, BinlogStruct, DescriptionRef};
+use binlog_description::{BinlogEvent, BinlogStruct};
 use binlog_wire::{Error, Field, MySerialize};
 use std::alloc::Global;
 
@@ -79,25 +78,15 @@ pub fn told_len<'a, T: BinlogStruct<'a> + Drop>(value: T) -> usize {
     value.len(BinlogVersion::Version4)
 }
 
-/// Whether a body is read under this description, and written as these bytes, of which `len` is the number.
-pub fn is_rewritten_under<'a, T: BinlogEvent<'a> + Drop>(
-    alloc: Global,
-    fde: DescriptionRef<'a>,
-    body: &'a [u8],
-    wanted: &[u8],
-) -> Result<bool, Error> {
-    let event: T = read_under(alloc, fde, body)?;
-    let is_told = event.len(BinlogVersion::Version4) == wanted.len();
-    let is_written = is_written(alloc, &event, wanted);
-    drop(event);
-    Ok(is_written? && is_told)
-}
-
-/// The same under the default description.
+/// Whether a body is read under the default description, and written as these bytes, of which `len` is the number.
 pub fn is_rewritten<'a, T: BinlogEvent<'a> + Drop>(
     alloc: Global,
     body: &'a [u8],
     wanted: &[u8],
 ) -> Result<bool, Error> {
-    is_rewritten_under::<T>(alloc, by_default(), body, wanted)
+    let event: T = read(alloc, body)?;
+    let is_told = event.len(BinlogVersion::Version4) == wanted.len();
+    let is_written = is_written(alloc, &event, wanted);
+    drop(event);
+    Ok(is_written? && is_told)
 }

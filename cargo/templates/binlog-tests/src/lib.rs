@@ -25,25 +25,13 @@ impl AsStr for Cow<'_, str> {
     }
 }
 
+pub mod test_base;
 pub mod test_bodies;
-pub mod test_column_facts;
-pub mod test_ends;
 pub mod test_events;
-pub mod test_failing_ends;
-pub mod test_failing_listing;
-pub mod test_fields;
 pub mod test_files;
 pub mod test_gtid_listing;
-pub mod test_gtid_sets;
-pub mod test_gtid_text;
 pub mod test_gtids;
-pub mod test_images;
-pub mod test_maria_gtids;
-pub mod test_mariadb;
-pub mod test_optional_metadata;
 pub mod test_rows;
-pub mod test_state;
-pub mod test_statements;
 pub mod test_values;
 pub mod test_verified;
 pub mod testkit_bodies;

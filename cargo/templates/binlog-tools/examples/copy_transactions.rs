@@ -1,6 +1,6 @@
 //! Copies the transactions that have one of some GTIDs: `copy_transactions GTIDS FROM TO`
+use binlog::BinlogFileHeader;
 use binlog::consts::BinlogVersion;
-use binlog::{BinlogFileHeader, gtid_text};
 use binlog_tools::{Copier, Filter, Filtered, visit};
 use std::error::Error;
 use std::fs::File;
@@ -12,7 +12,7 @@ fn main() -> Result<(), Box<dyn Error>> {
         return Err("usage: copy_transactions GTIDS FROM TO".into());
     };
     let mut filter = Filter::new();
-    filter.include_gtids = Some(gtid_text::parse(gtids)?);
+    filter.include_gtids = Some(gtids.parse()?);
     // The other events are read under the format descriptions.
     filter.takes_descriptions = true;
     let mut output = BufWriter::new(File::create(to)?);

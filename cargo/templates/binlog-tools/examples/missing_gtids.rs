@@ -1,6 +1,6 @@
 //! Prints the GTIDs of a log that another log lacks: `missing_gtids LOG OTHER`
+use binlog::GtidTracker;
 use binlog::counted::Counted;
-use binlog::{GtidTracker, gtid_text};
 use binlog_tools::{GtidCollector, visit};
 use std::error::Error;
 use std::fs::File;
@@ -13,7 +13,7 @@ fn main() -> Result<(), Box<dyn Error>> {
         return Err("usage: missing_gtids LOG OTHER".into());
     };
     let missing = gtids(log)?.subtract(&gtids(other)?)?;
-    println!("{}", gtid_text::to_text(&missing)?);
+    println!("{missing}");
     Ok(())
 }
 
@@ -21,5 +21,5 @@ fn gtids(name: &str) -> Result<GtidTracker, Box<dyn Error>> {
     // It writes a line for each damaged event.
     let mut collector = GtidCollector::new(Counted::new(io::stderr()));
     visit(BufReader::new(File::open(name)?), &mut collector)?;
-    Ok(collector.gtids)
+    Ok(collector.gtids.mysql)
 }

@@ -2,7 +2,7 @@
 use binlog::BinlogFile;
 use binlog::consts::BinlogVersion;
 use binlog::events::EventData;
-use binlog::values::{ColumnFacts, Image, RowsEventExt, TableFacts, TableMapColumns};
+use binlog::values::{ColumnFacts, ColumnValue, Image, RowsEventExt, TableFacts, TableMapColumns};
 use std::error::Error;
 use std::fs::File;
 use std::io::BufReader;
@@ -19,12 +19,11 @@ fn main() -> Result<(), Box<dyn Error>> {
             continue;
         };
         println!("{}.{}", map.database_name(), map.table_name());
-        let metadata = map.optional_metadata_raw();
-        let facts = TableFacts::new(map.table_columns()?, metadata, false)?.columns;
+        let facts = TableFacts::new(map.table_columns()?, map.optional_metadata_raw(), false)?;
         for row in rows.rows(map)? {
             let row = row?;
-            row.before().into_iter().for_each(|image| print("-", &facts, image));
-            row.after().into_iter().for_each(|image| print("+", &facts, image));
+            row.before().into_iter().for_each(|image| print("-", &facts.columns, image));
+            row.after().into_iter().for_each(|image| print("+", &facts.columns, image));
         }
     }
     Ok(())
@@ -33,6 +32,9 @@ fn main() -> Result<(), Box<dyn Error>> {
 fn print(sign: &str, facts: &[ColumnFacts<'_>], image: Image<'_>) {
     for (place, (column, value)) in facts.iter().zip(image).enumerate() {
         let name = column.name.map_or_else(|| place.to_string(), String::from);
-        println!("{sign} {name}: {value:?}");
+        match value {
+            ColumnValue::Value(value) => println!("{sign} {name}: {}", value.display(column)),
+            _ => println!("{sign} {name}: {value:?}"),
+        }
     }
 }

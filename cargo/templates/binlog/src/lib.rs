@@ -32,7 +32,6 @@
 #![forbid(unsafe_code)]
 
 mod binlog_bodies;
-mod binlog_column_facts;
 mod binlog_columns;
 mod binlog_consts;
 mod binlog_description;
@@ -50,6 +49,7 @@ mod binlog_numbers;
 // Of the counts of columns by their class two are of no use yet.
 #[allow(dead_code)]
 mod binlog_optional_metadata;
+mod binlog_row_lines;
 // Of a pattern a proof alone reads a name.
 #[allow(unused_variables)]
 mod binlog_row_writing;
@@ -58,11 +58,20 @@ mod binlog_statements;
 mod binlog_values;
 mod binlog_wire;
 mod bitflags;
+mod calendar;
 mod checksums;
 mod crc32_ieee;
 #[doc(hidden)]
+pub mod digits;
+mod display;
+mod gtids;
+mod inflate;
+mod json;
+mod json_line;
+#[doc(hidden)]
 pub mod memory;
 mod reading;
+mod simd;
 
 pub use crate::binlog_description::{BinlogCtx, BinlogEvent, BinlogStruct, DescriptionRef, read_body};
 pub use crate::binlog_ends::DeviceError;
@@ -98,6 +107,7 @@ pub mod events {
     pub use crate::binlog_description::split_version;
     pub use crate::binlog_event_data::EventData;
     pub use crate::binlog_events::Event;
+    pub use crate::binlog_file::{LogEventData, read_log_data};
     pub use crate::binlog_gtids::field_id;
     pub use crate::binlog_gtids::{AnonymousGtidEvent, GtidEvent, PreviousGtidsEvent, PreviousGtidsSid};
     pub use crate::binlog_numbers::{GnoInterval, Tag};
@@ -136,33 +146,46 @@ pub mod counted {
     pub use crate::binlog_ends::{Retrying, SliceReader, WriteCounted};
 }
 
-/// MariaDB's own events, and the last of its GTIDs.
+/// MariaDB's own events, the texts of compressed ones, and the last of its GTIDs.
 pub mod mariadb {
     pub use crate::binlog_maria_gtids::MariaGtidTracker;
     pub use crate::binlog_mariadb::{AnnotateRowsEvent, BinlogCheckpointEvent, GtidExtra, GtidHead};
     pub use crate::binlog_mariadb::{GtidListEvent, MariaEvent, MariaEventData, MariaEventType};
     pub use crate::binlog_mariadb::{MariaGtid, MariaGtidEvent, MariaGtidFlags, RowsCompressedEvent};
     pub use crate::binlog_mariadb::{StartEncryptionEvent, UnknownMariaEventType, XaId};
-    pub use crate::binlog_mariadb::{is_maria_log, is_maria_version};
+    pub use crate::binlog_mariadb::{CompressionError, is_maria_log, is_maria_version, uncompress};
     pub use crate::binlog_mariadb::{read_maria_body, read_maria_data};
+}
+
+/// The texts of zlib streams in memory.
+pub mod zlib {
+    pub use crate::inflate::{Error, adler32, decompress_zlib};
 }
 
 /// The columns of a table map, the rows of row events, and their values.
 ///
-/// [`RowsEventExt::rows`](values::RowsEventExt::rows) gives the rows of an event beside its table map.
+/// [`RowsEventExt::rows`](values::RowsEventExt::rows) gives the rows of an event beside its table map, and
+/// [`Value::display`](values::Value::display) shows a value.
 pub mod values {
-    pub use crate::binlog_column_facts::{ColumnFacts, TableFacts, TableMapColumns};
     pub use crate::binlog_columns::{Column, ColumnError, ColumnErrorKind, ColumnType, Layout};
     pub use crate::binlog_columns::{TableColumns, UnknownColumnType};
     pub use crate::binlog_images::{ColumnValue, ColumnVisitor, HasWholeRows, Image, ImageKind};
     pub use crate::binlog_images::{Row, Rows, RowsError, RowsErrorKind, RowsEventError, RowsEventExt};
     pub use crate::binlog_optional_metadata::{ColumnClass, DefaultCharset, IndexedNumbers};
     pub use crate::binlog_optional_metadata::{MemberLists, MetadataBits, Names, Numbers};
+    pub use crate::binlog_optional_metadata::{ColumnFacts, TableFacts, TableMapColumns};
     pub use crate::binlog_optional_metadata::{OptionalMetadataError, OptionalMetadataErrorKind};
-    pub use crate::binlog_values::{Bit, Date, DateTime, DateTime2, Decimal, Integer, Time, Time2};
-    pub use crate::binlog_values::{Timestamp2, Value};
+    pub use crate::binlog_values::{Bit, Date, DateTime, DateTime2, Decimal, Double, Float, Integer};
+    pub use crate::binlog_values::{Time, Time2, Timestamp2, Value, Year};
     #[doc(hidden)]
     pub use crate::binlog_values::text;
+}
+
+/// Lines of JSON in memory that is reused, for `binlog-tools`.
+#[doc(hidden)]
+pub mod json_lines {
+    pub use crate::binlog_row_lines::ValueWriter;
+    pub use crate::json_line::Line;
 }
 
 /// The bytes of the rows of a row event, made of values.
@@ -171,7 +194,7 @@ pub mod row_writing {
     pub use crate::binlog_row_writing::{RowWriteError, RowWriteErrorKind, RowsBuilder};
 }
 
-/// The text of a set of GTIDs, as servers write it.
+/// The text of a set of GTIDs, as servers write it: what [`GtidTracker`] has as `Display` and `FromStr`.
 pub mod gtid_text {
     pub use crate::binlog_gtid_text::{GtidTextError, GtidTextFault, parse, to_text};
 }

@@ -1,5 +1,5 @@
 use Rattle.std.proofs.Common.{ℕ, ◌+◌, List, Bor, refl, arith}
-use Rattle.binlog_status.specs.Outputs.{written, unwritten}
+use Rattle.binlog_cli.specs.Outputs.{written, unwritten}
 use Rattle.binlog.specs.Reading.{unless_followed, is_last_followed, ReadsFile}
 use Rattle.binlog.proofs.Reading.{last_is_followed, taken_at, none_left}
 use Rattle.binlog.proofs.files.read_files.Goals as goal

@@ -1,8 +1,8 @@
 use Rattle.std.proofs.Common.{drop}
 use Rattle.binlog_filters.specs.declared.filtered.Filtered.{Filtered}
-use Rattle.binlog_status.specs.declared.status.Outcome.{Outcome}
-use Rattle.binlog_status.specs.declared.status.Status.TheVariants.{Fine}
-use Rattle.binlog_messages.specs.Reports.{ReportedView}
+use Rattle.binlog_cli.specs.declared.exit_status.Outcome.{Outcome}
+use Rattle.binlog_cli.specs.declared.exit_status.Status.TheVariants.{Fine}
+use Rattle.binlog_cli.specs.Reports.{ReportedView}
 use Rattle.binlog.specs.Reading.{ReadsFiles}
 use Rattle.binlog.proofs.files.read_files.Given as goal
 

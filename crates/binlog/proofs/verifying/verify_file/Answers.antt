@@ -2,7 +2,7 @@ use Rattle.std.proofs.Common.{◌≡◌, subst}
 use Rattle.binlog_filters.specs.declared.filtered.Filtered.{Filtered}
 use Rattle.binlog_commands.specs.Counting.{Counts, IsNever}
 use Rattle.binlog_commands.specs.declared.tally.Tally.{Tally}
-use Rattle.binlog_messages.specs.Reports.{ReportedView}
+use Rattle.binlog_cli.specs.Reports.{ReportedView}
 use Rattle.binlog.specs.Reading.{unless_followed, ReadsFile}
 use Rattle.binlog.specs.Verifying.{counting}
 use Rattle.binlog.proofs.verifying.verify_file.Goals as goal

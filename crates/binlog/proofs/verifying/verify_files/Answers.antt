@@ -1,5 +1,5 @@
 use Rattle.std.proofs.Common.{List, Bor, ℕ, refl}
-use Rattle.binlog_status.specs.Outputs.{written, unwritten}
+use Rattle.binlog_cli.specs.Outputs.{written, unwritten}
 use Rattle.binlog.specs.Reading.{unless_followed}
 use Rattle.binlog.specs.Verifying.{verifying, VerifiesFile}
 use Rattle.binlog.proofs.Reading.{taken_at, none_left}

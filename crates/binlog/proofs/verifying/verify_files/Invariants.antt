@@ -1,6 +1,6 @@
 use Rattle.std.proofs.Common.{drop}
-use Rattle.binlog_status.specs.declared.status.Outcome.{Outcome}
-use Rattle.binlog_status.specs.declared.status.Status.TheVariants.{Fine}
+use Rattle.binlog_cli.specs.declared.exit_status.Outcome.{Outcome}
+use Rattle.binlog_cli.specs.declared.exit_status.Status.TheVariants.{Fine}
 use Rattle.binlog.specs.Verifying.{Verifying, verifying, VerifiesFiles}
 use Rattle.binlog.proofs.verifying.verify_files.Given as goal
 

@@ -11,5 +11,5 @@ returns-in_err-gaps-clause-written g c =
 
 pub returns-clause-written : goal.returns-clause-written
 returns-clause-written g c =
-    line_written _ _ _ c.in_ok-gaps.gaps.items _ _ c.write_parts.result (subst (AreApart 0) c.intervals.ensures.list c.intervals.ensures.apart) c.in_ok-gaps.ensures.apart c.in_ok-gaps.ensures.missing
-    (rw (c.intervals.ensures.list, c.deref.ensures.value) at c.write_parts.ensures.writes)
+    line_written _ _ _ c.in_ok-gaps.gaps.items _ _ c.write_parts.result c.tag_text-text.ensures.tagged (subst (AreApart 0) c.intervals.ensures.list c.intervals.ensures.apart) c.in_ok-gaps.ensures.apart c.in_ok-gaps.ensures.missing
+    (rw (c.tag_text-text.ensures.same, c.intervals.ensures.list, c.deref.ensures.value) at c.write_parts.ensures.writes)

@@ -11,5 +11,4 @@ returns-in_err-write_part-in-Some-clause-writes g c =
 pub returns-in_ok-write_part-in-Some-clause-writes : goal.returns-in_ok-write_part-in-Some-clause-writes
 returns-in_ok-write_part-in-Some-clause-writes g c =
     rw c.in-Some.is
-    (behind (codes ":") _ _ _ _ c.write_part-in-Some.result c.in_ok-write_part-in-Some.ensures.writes
-    (rw (c.as_bytes.ensures.value, c.as_str.ensures.text) at c.write_part-in-Some.ensures.writes))
+    (behind (codes ":") _ _ _ _ c.write_part-in-Some.result c.in_ok-write_part-in-Some.ensures.writes c.write_part-in-Some.ensures.writes)

@@ -1,4 +1,4 @@
-use Rattle.std.proofs.Common.{◌≡◌, refl, sym, ap, subst, ◌∙◌, take}
+use Rattle.std.proofs.Common.{◌≡◌, true, refl, sym, ap, subst, ◌∙◌, take}
 use Rattle.binlog_description.specs.Headers.{header_of}
 use Rattle.binlog_description.specs.declared.header.BinlogEventHeader.{BinlogEventHeader}
 use Rattle.binlog_description.specs.declared.format_description.FormatDescriptionEvent.{FormatDescriptionEvent}
@@ -14,3 +14,10 @@ returns-then-is_maria_log c =
       subst (λ (d : FormatDescriptionEvent). IsMariaVersion (take 50 d.server_version)) c.fde.ensures (c.if-is_maria_log.ensures.0 refl),
       ap maria_event_type_of (sym number) ∙ sym c.in-Ok.ensures,
     )
+
+pub returns-else-is_maria_log : goal.returns-else-is_maria_log
+returns-else-is_maria_log c = λ type is maria.
+    let of_log = subst (λ (d : FormatDescriptionEvent). IsMariaVersion (take 50 d.server_version)) (sym c.fde.ensures) maria in
+    let yes : c.is_maria_log.result ≡ true = c.is_maria_log.ensures.1 of_log in
+    let no = c.if-is_maria_log.false in
+    absurd cc

@@ -1,5 +1,5 @@
 use Rattle.std.proofs.Common.{◌≡◌, ◌++◌}
-use Rattle.binlog_column_facts.specs.Facts.{texts_of}
+use Rattle.binlog_optional_metadata.specs.Facts.{texts_of}
 use Rattle.binlog_row_lines.specs.Members.{chosen, joined}
 use Rattle.binlog_row_lines.proofs.SetTexts.{appended, chosen_from}
 use Rattle.binlog_row_lines.proofs.members.push_members.Given as goal

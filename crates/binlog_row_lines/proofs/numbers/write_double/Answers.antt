@@ -1,9 +1,5 @@
-use Rattle.std.proofs.lemmas.Float.{not_nan_f64_bits}
 use Rattle.json.proofs.Printed.Floats.{IsNumber-plain}
 use Rattle.binlog_row_lines.proofs.numbers.write_double.Goals as goal
-
-pub float_from_bits-number : goal.float_from_bits-number
-float_from_bits-number c = not_nan_f64_bits _ c.if-bits-gt-DOUBLE_INFINITY.false
 
 pub number_text-requires : goal.number_text-requires
 number_text-requires c = IsNumber-plain _ c.format_finite.ensures.plain

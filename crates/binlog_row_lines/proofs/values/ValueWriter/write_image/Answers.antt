@@ -1,8 +1,8 @@
 use Rattle.std.proofs.Common.{◌∷◌, [], subst, arith}
 use Rattle.json.specs.Token.{end_object}
 use Rattle.binlog_images.specs.ImageCells.{cells_of}
-use Rattle.binlog_column_facts.specs.Facts.{facts_of}
-use Rattle.binlog_column_facts.specs.declared.column_facts.ColumnFacts.{ColumnFacts}
+use Rattle.binlog_optional_metadata.specs.Facts.{facts_of}
+use Rattle.binlog_optional_metadata.specs.declared.column_facts.ColumnFacts.{ColumnFacts}
 use Rattle.binlog_row_lines.specs.Parts.{Shows}
 use Rattle.binlog_row_lines.specs.Rows.{first_parts, image_parts}
 use Rattle.binlog_row_lines.proofs.Parts.{then_exactly}

@@ -1,0 +1,143 @@
+//! Prints the rows of each row event of the binary log on standard input, as `rows` does. It panics if the values that a line has
+//! aren't those that their `Display` shows.
+use binlog::consts::BinlogVersion;
+use binlog::events::{EventData, RowsEventData, TableMapEvent};
+use binlog::mariadb::is_maria_log;
+use binlog::json_lines::{Line, ValueWriter};
+use binlog::memory::AllocError;
+use binlog::values::{ColumnFacts, ColumnValue, Image, Row, Rows, RowsEventError, RowsEventExt};
+use binlog::values::{TableColumns, TableFacts, Value};
+use binlog::{BinlogFile, Error};
+use std::io::{self, BufWriter, Write};
+
+/// The line of an event with these rows, of a table with this map.
+struct Printer {
+    line: Line,
+    values: ValueWriter,
+}
+
+impl Printer {
+    fn write(
+        &mut self,
+        index: u64,
+        rows: &RowsEventData<'_>,
+        table_map: Option<&TableMapEvent<'_>>,
+        is_maria: bool,
+    ) -> Result<&[u8], AllocError> {
+        self.line.clear();
+        self.line.begin_object()?;
+        self.line.number_member("index", index)?;
+        match table_map {
+            Some(table_map) => self.write_rows(rows, table_map, is_maria)?,
+            None => {
+                self.line.key("rows")?;
+                self.line.null()?;
+            }
+        }
+        self.line.end_object()?;
+        self.line.end()
+    }
+
+    fn write_rows(
+        &mut self,
+        event: &RowsEventData<'_>,
+        table_map: &TableMapEvent<'_>,
+        is_maria: bool,
+    ) -> Result<(), AllocError> {
+        let rows = match event.rows(table_map) {
+            Ok(rows) => rows,
+            Err(error) => {
+                self.line.key("error")?;
+                return self.line.plain_string(name_of(&error));
+            }
+        };
+        let metadata = table_map.columns_metadata_raw();
+        let columns = TableColumns::new(table_map.columns_type_raw(), metadata)
+            .expect("the columns of a table whose rows are read");
+        let facts = TableFacts::new(columns, table_map.optional_metadata_raw(), is_maria)?;
+        self.line.key("rows")?;
+        let begun = self.line.end()?.len() - 1;
+        self.values.write_rows(&mut self.line, &facts.columns, rows.clone())?;
+        let shown = displayed_rows(&facts.columns, rows);
+        let rest = self.line.end()?[begun..].strip_prefix(shown.as_bytes());
+        let ends: [&[u8]; 3] = [b"]\n", b"{\"error\":", b",{\"error\":"];
+        let is_end = |rest: &[u8]| ends.iter().any(|end| rest.starts_with(end));
+        assert!(rest.is_some_and(is_end), "not {shown}");
+        Ok(())
+    }
+}
+
+/// The rows in front of the first refused one, by the `Display` of their values: JSON, without the bracket at the end.
+fn displayed_rows(columns: &[ColumnFacts<'_>], rows: Rows<'_>) -> String {
+    let rows: Vec<String> =
+        rows.map_while(Result::ok).map(|row| displayed_row(columns, &row)).collect();
+    format!("[{}", rows.join(","))
+}
+
+fn displayed_row(columns: &[ColumnFacts<'_>], row: &Row<'_>) -> String {
+    let images = [("before", row.before()), ("after", row.after())].into_iter();
+    let members: Vec<String> = images
+        .filter_map(|(name, image)| Some(format!("\"{name}\":{}", displayed_image(columns, image?))))
+        .collect();
+    format!("{{{}}}", members.join(","))
+}
+
+fn displayed_image(columns: &[ColumnFacts<'_>], image: Image<'_>) -> String {
+    let members: Vec<String> = columns
+        .iter()
+        .zip(image)
+        .enumerate()
+        .filter_map(|(place, (facts, value))| {
+            let name = match facts.name {
+                Some(name) => name.to_owned(),
+                None => format!("@{}", place + 1),
+            };
+            Some(format!("{}:{}", Value::Bytes(name.as_bytes()), displayed(facts, value)?))
+        })
+        .collect();
+    format!("{{{}}}", members.join(","))
+}
+
+fn displayed(facts: &ColumnFacts<'_>, value: ColumnValue<'_>) -> Option<String> {
+    match value {
+        ColumnValue::Absent => None,
+        ColumnValue::Null => Some(Value::Null.to_string()),
+        ColumnValue::Value(value) => Some(value.display(facts).to_string()),
+        ColumnValue::Diffs(bytes) => Some(format!("{{\"diffs\":{}}}", Value::Geometry(bytes))),
+    }
+}
+
+/// The name of a refusal.
+fn name_of(error: &RowsEventError) -> &'static str {
+    match error {
+        RowsEventError::NoTableMap(_) => "NoTableMap",
+        RowsEventError::Columns(_) => "Columns",
+        _ => "ColumnCount",
+    }
+}
+
+fn main() -> Result<(), Error> {
+    let mut file = BinlogFile::new(BinlogVersion::Version4, io::stdin().lock())?;
+    let mut output = BufWriter::new(io::stdout().lock());
+    let mut printer = Printer {
+        line: Line::new(),
+        values: ValueWriter::new(),
+    };
+    let mut index = 0;
+    while let Some(item) = file.next() {
+        match item {
+            Ok(event) => {
+                let is_maria = is_maria_log(&event.as_ref().fde());
+                if let Ok(Some(EventData::RowsEvent(rows))) = event.read_data() {
+                    let table_map = file.reader().get_tme(rows.table_id());
+                    let line = printer.write(index, &rows, table_map, is_maria)?;
+                    output.write_all(line).map_err(|error| Error::Writer(error.into()))?;
+                }
+            }
+            Err(error) if error.is_environment_error() => return Err(error),
+            Err(_) => {}
+        }
+        index += 1;
+    }
+    output.flush().map_err(|error| Error::Writer(error.into()))
+}

@@ -1,0 +1,51 @@
+//! Texts, members' names and signed numbers as JSON.
+use crate::memory::{AllocError, TryGrow};
+
+/// Writes JSON behind the bytes of a vector.
+pub struct Writer(Vec<u8>);
+
+impl Writer {
+    /// A writer behind these bytes.
+    pub fn new(bytes: Vec<u8>) -> Self {
+        Writer(bytes)
+    }
+
+    /// Writes a string: quotation marks, backslashes and control characters are escaped.
+    pub fn string(&mut self, text: &str) -> Result<(), AllocError> {
+        self.0.try_push(b'"')?;
+        for byte in text.bytes() {
+            match byte {
+                b'"' | b'\\' => self.0.try_extend_from_slice(&[b'\\', byte])?,
+                0x08 => self.0.try_extend_from_slice(b"\\b")?,
+                0x0c => self.0.try_extend_from_slice(b"\\f")?,
+                b'\n' => self.0.try_extend_from_slice(b"\\n")?,
+                b'\r' => self.0.try_extend_from_slice(b"\\r")?,
+                b'\t' => self.0.try_extend_from_slice(b"\\t")?,
+                0..0x20 => {
+                    let digit = |number| b"0123456789abcdef"[usize::from(number)];
+                    let escape = [b'\\', b'u', b'0', b'0', digit(byte / 16), digit(byte % 16)];
+                    self.0.try_extend_from_slice(&escape)?;
+                }
+                _ => self.0.try_push(byte)?,
+            }
+        }
+        self.0.try_push(b'"')
+    }
+
+    /// Writes a member's name, and the colon behind it.
+    pub fn key(&mut self, name: &str) -> Result<(), AllocError> {
+        self.string(name)?;
+        self.0.try_push(b':')
+    }
+
+    /// Writes a signed number.
+    pub fn i64(&mut self, number: i64) -> Result<(), AllocError> {
+        let mut buffer = itoa::Buffer::new();
+        self.0.try_extend_from_slice(buffer.format(number).as_bytes())
+    }
+
+    /// The bytes.
+    pub fn into_inner(self) -> Vec<u8> {
+        self.0
+    }
+}

@@ -1,0 +1,123 @@
+//! Sums over the rows of a log.
+mod table;
+mod values;
+
+use binlog_file::{
+    BinlogFileOf, BinlogVersion, Counted, Error, EventRef, EventStreamReader, EventType,
+    ReadCounted, Retrying, RowsEventOf,
+};
+use binlog_images::{HasWholeRows, Rows, RowsEventError, RowsEventExt};
+use binlog_rows::{DeleteRows, DeleteRowsV1, UpdateRows, UpdateRowsV1, WriteRows, WriteRowsV1};
+use std::alloc::Global;
+use std::fmt;
+use table::Table;
+use values::ValueSums;
+
+/// Prints the sums over the log on standard input.
+pub(crate) fn run(rt: &(impl Input + Print + AllocGlobal)) -> Result<(), Error> {
+    let input = Counted::new(Retrying::new(rt.reader()));
+    let sums = sums_of(rt.alloc(), input)?;
+    println!(rt; "{sums}").map_err(|_| Error::Writer)
+}
+
+/// Sums over the rows of a log, modulo 2^64. They are displayed in order, separated by spaces.
+#[derive(Debug, Default, Drop)]
+struct Sums {
+    /// The number of rows.
+    rows: u64,
+    /// The number of events whose rows can't be read, and of rows that are refused.
+    refused: u64,
+    /// The sums over their values.
+    values: ValueSums,
+}
+
+impl fmt::Display for Sums {
+    fn fmt<W: fmt::Write>(&self, f: &mut fmt::Formatter<W>) -> fmt::Result {
+        write!(f, "{} {} {}", self.rows, self.refused, self.values)
+    }
+}
+
+impl Sums {
+    // Counts the rows of an event if it is a row event. The reader has the table maps before it.
+    fn count_event(
+        &mut self,
+        alloc: Global,
+        event: EventRef<'_>,
+        table: &mut Table,
+        reader: &EventStreamReader,
+    ) -> Result<(), Error> {
+        match event.header().event_type() {
+            Ok(EventType::TABLE_MAP_EVENT) => table.keep(&event.read_event(alloc)?)?,
+            Ok(EventType::WRITE_ROWS_EVENT) => {
+                self.count_rows::<WriteRows>(&event.read_event(alloc)?, table, reader);
+            }
+            Ok(EventType::UPDATE_ROWS_EVENT) => {
+                self.count_rows::<UpdateRows>(&event.read_event(alloc)?, table, reader);
+            }
+            Ok(EventType::DELETE_ROWS_EVENT) => {
+                self.count_rows::<DeleteRows>(&event.read_event(alloc)?, table, reader);
+            }
+            Ok(EventType::WRITE_ROWS_EVENT_V1) => {
+                self.count_rows::<WriteRowsV1>(&event.read_event(alloc)?, table, reader);
+            }
+            Ok(EventType::UPDATE_ROWS_EVENT_V1) => {
+                self.count_rows::<UpdateRowsV1>(&event.read_event(alloc)?, table, reader);
+            }
+            Ok(EventType::DELETE_ROWS_EVENT_V1) => {
+                self.count_rows::<DeleteRowsV1>(&event.read_event(alloc)?, table, reader);
+            }
+            _ => {}
+        }
+        Ok(())
+    }
+
+    // Counts the rows of an event. The columns of its table are read again only if the last table map is of another one.
+    fn count_rows<K: HasWholeRows>(
+        &mut self,
+        event: &RowsEventOf<'_, K>,
+        table: &Table,
+        reader: &EventStreamReader,
+    ) {
+        if let Some(columns) = table.columns_of(event.table_id()) {
+            return self.count_each(event.rows_of_table(columns));
+        }
+        match reader.get_tme(event.table_id()) {
+            Some(table_map) => self.count_each(event.rows(table_map)),
+            None => self.refused = self.refused.wrapping_add(1),
+        }
+    }
+
+    fn count_each(&mut self, rows: Result<Rows<'_>, RowsEventError>) {
+        let Ok(mut rest) = rows else {
+            self.refused = self.refused.wrapping_add(1);
+            return;
+        };
+        // Bounded, so that the loop is proved to end.
+        for _ in 0..u64::MAX {
+            match rest.visit_next(&mut self.values) {
+                None => return,
+                Some(Ok(())) => self.rows = self.rows.wrapping_add(1),
+                Some(Err(_)) => self.refused = self.refused.wrapping_add(1),
+            }
+        }
+    }
+}
+
+// The sums over a binlog file with a file header. The error is that of the first item that is one, or of a row event that can't be
+// read.
+fn sums_of<R: ReadCounted + Drop>(alloc: Global, input: R) -> Result<Sums, Error> {
+    let mut file = BinlogFileOf::new_counted(alloc, BinlogVersion::Version4, input)?;
+    let mut sums = Sums::default();
+    let mut table = Table::new(alloc);
+    // Bounded, so that the loop is proved to end.
+    'items: for _ in 0..u64::MAX {
+        let Some(item) = file.advance() else {
+            return Ok(sums);
+        };
+        item?;
+        if let Some(event) = file.event() {
+            sums.count_event(alloc, event, &mut table, file.reader())?;
+        }
+    }
+    Ok(sums)
+}

@@ -1,0 +1,10 @@
+-- What the words of the command line ask for.
+use Rattle.std.specs.Prelude.{◌≡◌, ◌≢◌, ℕ, Bool, true, false, List, Option, Some, None, codes}
+
+-- A flag that has this text, if it is there, is set or not.
+abbrev pub Flags : Option (List ℕ) → Bool → Type 0
+Flags text is_set = (text ≡ None → is_set ≡ false) × (text ≡ Some (codes "true") → is_set ≡ true) × (text ≡ Some (codes "false") → is_set ≡ false)
+
+-- No command has this name.
+abbrev pub IsNoCommand : List ℕ → Type 0
+IsNoCommand name = (name ≢ codes "list") × (name ≢ codes "json") × (name ≢ codes "gtids") × (name ≢ codes "verify") × (name ≢ codes "stats") × (name ≢ codes "copy")

@@ -1,0 +1,5 @@
+pub mod Reporting
+mod StatsRows
+mod StatsTimes
+mod WholeStats
+mod WrittenTexts

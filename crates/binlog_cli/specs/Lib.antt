@@ -1,0 +1,5 @@
+pub mod Statuses
+pub mod Outputs
+pub mod Reports
+pub mod TallyText
+pub mod StatsText

@@ -1,0 +1,21 @@
+//! The parts of the program `binlog`: the words of its command line and the filter that they state, its exit statuses and its
+//! output, what it writes to standard error, and the texts of the commands that count.
+#![tactic(auto)]
+
+mod arguments;
+mod exit_status;
+mod filters;
+mod output;
+mod progress;
+mod refusing;
+mod reported;
+mod summaries;
+
+pub use arguments::command;
+pub use exit_status::{Outcome, Status, out_of_memory};
+pub use filters::filter;
+pub use output::{BUFFER_SIZE, Output};
+pub use progress::Progress;
+pub use refusing::Refusing;
+pub use reported::{Reported, shown_name};
+pub use summaries::{write_stats, write_tally};

@@ -1,0 +1,115 @@
+//! The output of a command.
+ghost use Rattle.std.specs.Prelude.{◌≡◌, Some, None, IfErr, IfOk, IfSome, IsSome};
+ghost use Rattle.std.specs.Io.KnownBytes.{Keeps};
+ghost use Rattle.binlog_cli.specs.declared.exit_status.Status.TheVariants.{Failed};
+ghost use Rattle.binlog_cli.specs.Statuses.{EndsBehind};
+ghost use Rattle.binlog_cli.specs.Outputs.{EndsWith, Finishes, HasBytes};
+
+use crate::exit_status::{Outcome, Status, out_of_memory};
+use binlog_ends::Retrying;
+use std::io;
+use std::io::{BufWriter, ErrorKind, Write};
+
+/// The size of an output's buffer, in bytes.
+pub const BUFFER_SIZE: usize = 65_536;
+
+/// A writer that keeps why it failed.
+#[derive(Drop)]
+pub struct Output<B> {
+    inner: B,
+    failure: Option<io::Error>,
+}
+
+impl<W: Write + Drop> Output<BufWriter<Retrying<W>>> {
+    /// Writes to this writer by a buffer of its own, of this capacity in bytes. An interrupted call is retried.
+    pub fn new<R: Eprint + AllocGlobal>(rt: &R, capacity: usize, inner: W) -> Result<Self, Status>
+        ensures bytes { IfOk result (λ output. ⟦<BufWriter<Retrying<W>> as Write>⟧.contents output.inner ≡ W.contents inner) }
+        ensures fine { IfOk result (λ output. output.failure ≡ None) }
+        ensures err { IfErr result (λ status. status ≡ Failed) }
+    {
+        match BufWriter::with_capacity(rt.alloc(), capacity, Retrying::new(inner)) {
+            Ok(inner) => Ok(Output {
+                inner,
+                failure: None,
+            }),
+            Err(_) => Err(out_of_memory(rt)),
+        }
+    }
+
+    /// Flushes the output, and gives back its writer with the status of the run: that of its outcome, and at least
+    /// [`Status::Failed`] if the output failed. A pipe that nobody reads any more ends a run quietly.
+    ///
+    /// The writer has all bytes of the output, or a front of them if the output failed.
+    pub fn finish<E: Eprint>(self, rt: &E, outcome: Outcome) -> (Status, W)
+        ensures { Finishes self.failure (⟦<BufWriter<Retrying<W>> as Write>⟧.contents self.inner) outcome result.0 (W.contents result.1) }
+    {
+        let (failure, writer) = self.close();
+        (end(rt, failure, outcome), writer)
+    }
+
+    // Flushes the output. Why it failed, if it did, and its writer.
+    fn close(mut self) -> (Option<io::Error>, W)
+        ensures first { IfSome self.failure (λ failure. result.0 ≡ Some failure) }
+        ensures written { HasBytes result.0 (⟦<BufWriter<Retrying<W>> as Write>⟧.contents self.inner) (W.contents result.1) }
+    {
+        let flushed = self.inner.flush();
+        self.note(&flushed);
+        let Output { inner, failure } = self;
+        let (inner, _unwritten) = inner.into_parts();
+        (failure, inner.into_inner())
+    }
+}
+
+impl<B: Write> Output<B> {
+    // Keeps why a call failed if it is the first failure.
+    fn note<T>(&mut self, answer: &io::Result<T>)
+        ensures inner { self.new.inner ≡ self.old.inner }
+        ensures err { IfErr answer.now (λ error. IsSome self.new.failure) }
+        ensures first { IfSome self.old.failure (λ failure. self.new.failure ≡ Some failure) }
+    {
+        if let Err(error) = answer
+            && self.failure.is_none()
+        {
+            self.failure = Some(*error);
+        }
+    }
+}
+
+// The status of a run, whose output may have failed.
+fn end<E: Eprint>(rt: &E, failure: Option<io::Error>, outcome: Outcome) -> Status
+    ensures { EndsWith failure outcome result }
+{
+    match failure {
+        Some(failure) => end_behind(rt, &failure, outcome.status),
+        None if outcome.is_written => outcome.status,
+        None => outcome.status.max(Status::Failed),
+    }
+}
+
+// The status of a run behind a failure of its output.
+fn end_behind<E: Eprint>(rt: &E, failure: &io::Error, status: Status) -> Status
+    ensures { EndsBehind failure.now status result }
+{
+    if failure.kind() == ErrorKind::BrokenPipe {
+        return status;
+    }
+    let _ = eprintln!(rt; "binlog: the output: {failure}");
+    status.max(Status::Failed)
+}
+
+/// Its bytes are those of the writer.
+impl<B: Write> Write for Output<B> {
+    ghost contents = { λ output. B.contents output.inner };
+
+    fn write(&mut self, buf: &[u8]) -> io::Result<usize> {
+        let written = self.inner.write(buf);
+        self.note(&written);
+        written
+    }
+
+    fn flush(&mut self) -> io::Result<()> {
+        let flushed = self.inner.flush();
+        self.note(&flushed);
+        flushed
+    }
+}

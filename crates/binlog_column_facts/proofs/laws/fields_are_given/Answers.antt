@@ -1,8 +1,0 @@
-use Rattle.binlog_column_facts.proofs.OneWay.{some_way, one_way}
-use Rattle.binlog_column_facts.proofs.laws.fields_are_given.Goals as goal
-
-pub returns : goal.returns
-returns c = record {
-  some_way = λ counts s bytes. some_way counts s bytes;
-  one_way = λ counts s xs ys p q. one_way xs ys counts s p q;
-}

@@ -1,7 +1,0 @@
-use Rattle.binlog_column_facts.specs.StatedFields.{stated_of}
-use Rattle.binlog_column_facts.proofs.FieldItems.{Taken}
-use Rattle.binlog_column_facts.proofs.stated_fields.StatedFields.read.Given as goal
-
--- The last fields so far.
-abbrev pub invariant-fields : goal.invariant-fields
-invariant-fields l = Taken l.yielded (stated_of l.stated) l.stated.refusal

@@ -1,5 +1,0 @@
-pub mod Versions
-pub mod MariaAdded
-pub mod Lines
-pub mod Logged
-pub mod LogCounts

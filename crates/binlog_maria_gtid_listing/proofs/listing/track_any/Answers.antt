@@ -1,4 +1,0 @@
-use Rattle.binlog_maria_gtid_listing.proofs.listing.track_any.Goals as goal
-
-pub returns-then-has_maria_gtids-clause-tracks : goal.returns-then-has_maria_gtids-clause-tracks
-returns-then-has_maria_gtids-clause-tracks g c = c.track_maria.ensures.tracks c.args.gtids.now

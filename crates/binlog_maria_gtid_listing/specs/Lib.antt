@@ -1,4 +1,0 @@
-pub mod MariaVersions
-pub mod MariaItems
-pub mod MariaLines
-pub mod AllGtids

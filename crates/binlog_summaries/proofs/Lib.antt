@@ -1,4 +1,0 @@
-mod Rows
-mod Times
-mod Written
-mod Whole

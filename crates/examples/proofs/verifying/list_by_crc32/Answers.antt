@@ -1,0 +1,9 @@
+use Rattle.std.proofs.Common.{refl, subst, List, ℕ}
+use Rattle.crc32_ieee.specs.Checksums.{IsCrc32}
+use Rattle.examples.proofs.verifying.list_by_crc32.Goals as goal
+
+pub list_by-requires-clause-gives : goal.list_by-requires-clause-gives
+list_by-requires-clause-gives g c = λ bytes given. (
+  λ returns. subst (λ (shown : List ℕ). IsCrc32 shown given) returns.shows returns.says.met,
+  λ is. record { shown = record { ref_ptr = (0, 0); now = bytes }; shows = refl; says = record { met = is } },
+)

@@ -1,0 +1,3 @@
+//! Tests of `crc32_ieee`.
+
+mod checksums;

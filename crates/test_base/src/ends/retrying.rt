@@ -1,0 +1,94 @@
+//! Calls that are interrupted.
+use crate::ends::devices::{ByteReader, ByteWriter, Plan};
+use binlog_ends::{ATTEMPTS, Counted, CountsFailures, Failed, ReadCounted, Retrying, WriteCounted};
+use std::alloc::Global;
+use std::io::{ErrorKind, Read};
+
+// After this many calls, this many in a row are interrupted.
+fn interrupted(calls_before: usize, failures: usize) -> Plan {
+    Plan {
+        calls_before,
+        failures,
+        kind: ErrorKind::Interrupted,
+    }
+}
+
+// The number of bytes that are read of three up to the end, the number of failures, and the kind of the last one, under
+// this plan.
+fn reads(plan: Plan) -> (usize, u64, Option<ErrorKind>) {
+    let mut input = Counted::new(Retrying::new(ByteReader::new(b"abc", plan)));
+    let mut len: usize = 0;
+    for _ in 0..10 {
+        if let Ok(count) = input.read_some(&mut [0; 4]) {
+            len = len.saturating_add(count);
+        }
+    }
+    let (failures, last) = (input.failures(), input.last_failure());
+    drop(input);
+    (len, failures, last)
+}
+
+#[test]
+fn interrupted_reads_are_tried_again(rt: HostRuntime) {
+    for calls_before in 0..4 {
+        assert!(rt; reads(interrupted(calls_before, ATTEMPTS - 1)) == (3, 0, None));
+    }
+}
+
+#[test]
+fn too_many_interruptions_in_a_row_are_a_failure(rt: HostRuntime) {
+    let last = Some(ErrorKind::Interrupted);
+    for calls_before in 0..4 {
+        assert!(rt; reads(interrupted(calls_before, ATTEMPTS)) == (3, 1, last));
+    }
+}
+
+#[test]
+fn another_failure_is_not_tried_again(rt: HostRuntime) {
+    let plan = Plan {
+        calls_before: 1,
+        failures: 2,
+        kind: ErrorKind::BrokenPipe,
+    };
+    assert!(rt; reads(plan) == (3, 2, Some(ErrorKind::BrokenPipe)));
+}
+
+#[test]
+fn a_read_without_a_buffer_is_tried_again(rt: HostRuntime) {
+    let plan = interrupted(0, ATTEMPTS - 1);
+    let mut input = Retrying::new(ByteReader::new(b"abc", plan));
+    let mut piece = [0; 2];
+    let count = input.read(&mut piece).unwrap_or(9);
+    drop(input);
+    assert!(rt; count == 1 && piece == *b"a\0");
+}
+
+// Whether four bytes are written and flushed under this plan.
+fn is_written(alloc: Global, plan: Plan) -> bool {
+    let mut output = Counted::new(Retrying::new(ByteWriter::new(alloc, 4, plan)));
+    let is_whole = output.write_whole(b"abcd") == Ok(());
+    let is_flushed = output.flush_counted() == Ok(());
+    let device = output.into_inner().into_inner();
+    let is_written = device.written.as_slice() == b"abcd".as_slice();
+    drop(device);
+    is_whole && is_flushed && is_written
+}
+
+#[test]
+fn interrupted_writes_are_tried_again(rt: HostRuntime) {
+    for calls_before in 0..5 {
+        assert!(rt; is_written(rt.alloc(), interrupted(calls_before, ATTEMPTS - 1)));
+        assert!(rt; !is_written(rt.alloc(), interrupted(calls_before, ATTEMPTS)));
+    }
+}
+
+#[test]
+fn an_interruption_within_the_bytes_is_a_failure(rt: HostRuntime) {
+    let plan = interrupted(2, ATTEMPTS);
+    let mut output = Counted::new(Retrying::new(ByteWriter::new(rt.alloc(), 4, plan)));
+    let answer = output.write_whole(b"abcd");
+    let failures = output.failures();
+    let len = output.get_ref().get_ref().written.len();
+    drop(output);
+    assert!(rt; answer == Err(Failed) && failures == 1 && len == 2);
+}

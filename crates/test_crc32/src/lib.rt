@@ -1,5 +1,0 @@
-//! Tests of `crc32_ieee`.
-#![tactic(auto)]
-
-#[cfg(test)]
-mod checksums;

@@ -1,7 +1,0 @@
-//! Tests of reading and writing with readers and writers that count their failures.
-#![tactic(auto)]
-
-#[cfg(test)]
-mod reading;
-#[cfg(test)]
-mod writing;
