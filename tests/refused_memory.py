@@ -7,8 +7,8 @@ FLAG is --proved or --cargo. Each program runs with its first allocation refused
 makes fewer.
 
 With --proved the programs and the tests are those that are built in crates/NAME/out. Listings must be a prefix of all lines, with
-status 3, and so must what `binlog json`, `binlog gtids` and `binlog copy` print, unless they do without the allocation; what is
-written back must be a prefix of the log; and a program must free all its memory. A test
+status 3, and so must what `binlog json` and `binlog copy` print, unless they do without the allocation, and `binlog gtids` of the
+events in front of a refused one; what is written back must be a prefix of the log; and a program must free all its memory. A test
 must pass; those are run whose full name contains `memory`. A test whose name ends in `takes_no_memory` or `take_no_memory` must
 make no allocation, not even one whose refusal it would hide. One whose name ends in `makes_one_allocation` or
 `make_two_allocations` must make exactly as many; the names count to nine.
@@ -26,7 +26,7 @@ import re
 import subprocess
 import sys
 from functools import partial
-from itertools import count
+from itertools import accumulate, count
 from signal import SIGABRT
 
 import checksummed_sample
@@ -41,6 +41,7 @@ import maria_gtids_sample
 import programs
 import row_lines
 import watched
+from damaged_copies import MAGIC
 
 SUCCESS, FAILURE, OUTSIDE = 0, 1, 3
 
@@ -172,12 +173,21 @@ def proved_failures(watch):
 # ---- commands of `binlog`
 
 
-def output_fault(run, wanted, status, statuses):
-    """What is wrong with a run of a command that would print this and end with this status, or, refused, with one of those."""
-    if not wanted.startswith(run.output):
+def output_fault(run, fronts, whole, statuses):
+    """What is wrong with a run of a command that would print the whole output with its status, or, refused, a front of one of these
+    outputs with one of those statuses."""
+    if not any(front.startswith(run.output) for front in fronts):
         return f"{len(run.output)} bytes that are no front of the output"
-    is_whole = (run.output, run.status) == (wanted, status)
-    return None if is_whole or run.status in statuses else f"status {run.status}"
+    return None if (run.output, run.status) == whole or run.status in statuses else f"status {run.status}"
+
+
+def fronts_of(purpose, content, output):
+    """The outputs of a command of which a refused run prints a front: of `gtids` those of the log up to each of its events."""
+    if purpose != "gtids":
+        return [output]
+    frames, _ = listing_model.split(content[len(MAGIC) :])
+    ends = accumulate(map(len, frames), initial=len(MAGIC))
+    return [gtid_model.expected(content[:end])[0] for end in ends] + [output]
 
 
 def command_failures(watch, build, models, statuses):
@@ -186,13 +196,14 @@ def command_failures(watch, build, models, statuses):
         outputs = {purpose: listing_model.of_command(model.expected)(content) for purpose, model in models.items()}
         if listing_model.expected(content)[1] == SUCCESS:
             outputs["write back"] = content, SUCCESS
-        for purpose, (wanted, status) in outputs.items():
+        for purpose, whole in outputs.items():
             words = next(filter(programs.is_command, build.commands(purpose)))
+            fronts = fronts_of(purpose, content, whole[0])
             run = partial(watch.run, words, content, stderr=subprocess.DEVNULL)
             for number in count(1):
                 if not (found := run(refused=number)).is_refused:
                     break
-                wrong = output_fault(found, wanted, status, statuses)
+                wrong = output_fault(found, fronts, whole, statuses)
                 yield wrong and f"{' '.join(words)} over {log}, its allocation {number} refused: {wrong}"
 
 
