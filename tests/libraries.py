@@ -142,7 +142,7 @@ def program_failures(folder, cases):
     else:
         print("no c++: the C++ program isn't run")
     yield from damaged_failures("damaged cursors", cursors, DAMAGED_CURSORS)
-    yield from json_failures(folder, names, contents, flags)
+    yield from json_failures(folder, names, contents, flags, [status for _, status in wanted])
 
 
 def verified_failures(plain, checked, names, contents):
@@ -153,13 +153,15 @@ def verified_failures(plain, checked, names, contents):
     yield from listing_failures("C, verified", listings(checked, contents, "64", "verified"), names, wanted)
 
 
-def json_failures(folder, names, contents, flags):
-    """For each log, None or what is wrong with the programs' lines of JSON of it."""
+def json_failures(folder, names, contents, flags, statuses):
+    """For each log, None or what is wrong with the programs' lines of JSON of it. The statuses are those of its listing: `binlog json`
+    has another one for a log that ends within an event."""
     plain = build(folder, "json", "json.c")
     checked = build(folder, "json_checked", "json.c", flags)
     if Path(JSON[0]).exists():
         with ThreadPoolExecutor(PROCESSES_AT_A_TIME) as pool:
-            wanted = list(pool.map(lambda content: programs.run(JSON, content), contents))
+            lines = pool.map(lambda content: programs.run(JSON, content)[0], contents)
+            wanted = list(zip(lines, statuses))
         yield from listing_failures("C, JSON", listings(plain, contents), names, wanted)
         yield from listing_failures("C with sanitizers, JSON", listings(checked, contents), names, wanted)
         if shutil.which("c++"):
