@@ -5,11 +5,12 @@ Usage: convert.py [--debian] [--repository URL] OUT
 
 OUT gets a workspace of three packages, `binlog`, `binlog-tools` and `binlog-tests`; what it has of an earlier run is
 replaced, and a folder that has anything else is refused. With --debian cargo takes the crates that they depend on from
-Debian's packages there, without network. With --repository the manifests name the repository of the sources. A form that the
-converter doesn't know stops it with file and line, and status 1.
+Debian's packages there, without network. The manifests name the repository of the sources: that of --repository, or else the
+address of git's remote `origin`. A form that the converter doesn't know stops it with file and line, and status 1.
 """
 
 import argparse
+import re
 import shutil
 import subprocess
 import sys
@@ -155,6 +156,18 @@ def set_crates(out, is_debian):
         settings.unlink(missing_ok=True)
 
 
+def origin():
+    """The public address of git's remote `origin`: of https, or of ssh as the same by https. None where there is none."""
+    asked = ["git", "-C", str(REPOSITORY), "remote", "get-url", "origin"]
+    try:
+        answer = subprocess.run(asked, capture_output=True, text=True)
+    except FileNotFoundError:
+        return None
+    by_ssh = re.fullmatch(r"(?:ssh://)?git@([\w.-]+)[:/](.+)", answer.stdout.strip())
+    url = f"https://{by_ssh[1]}/{by_ssh[2]}" if by_ssh else answer.stdout.strip()
+    return url.removesuffix(".git") if url.startswith("https://") else None
+
+
 def name_repository(out, url):
     """Has the manifests name the repository of the sources."""
     for package in crates.PUBLISHED:
@@ -166,7 +179,9 @@ def name_repository(out, url):
 def read_arguments():
     parser = argparse.ArgumentParser(description="Makes cargo packages of the proved sources.")
     parser.add_argument("--debian", action="store_true", help="cargo takes crates from Debian's packages")
-    parser.add_argument("--repository", metavar="URL", help="the repository of the sources, for the manifests")
+    parser.add_argument(
+        "--repository", metavar="URL", default=origin(), help="the repository of the sources, for the manifests"
+    )
     parser.add_argument("out", metavar="OUT", type=Path)
     return parser.parse_args()
 
