@@ -1,16 +1,17 @@
 #!/usr/bin/env python3
-"""Measures `binlog_json` and `mariadb-binlog`, which prints the same statements; prints a Markdown table.
+"""Measures `binlog json` and `mariadb-binlog`, which prints the same statements; prints a Markdown table.
 
 Usage: measure_json.py [PROGRAM [FOLDER]]
 
-PROGRAM is the built binlog_json if not given. FOLDER, `work` beside this file if not given, holds the files of
-make_binlogs.py; those of statements are made if they are missing. `mariadb-binlog` is part of Debian's package
+PROGRAM, words of a command, is that of the built binlog if not given. FOLDER, `work` beside this file if not given, holds the
+files of make_binlogs.py; those of statements are made if they are missing. `mariadb-binlog` is part of Debian's package
 `mariadb-client`; it refuses the other kinds, which are events of MySQL. Times are processor times, the best of 5, the two
 in turns, with output to /dev/null.
 """
 
 import os
 import re
+import shlex
 import subprocess
 import sys
 from pathlib import Path
@@ -47,18 +48,18 @@ def instructions(command, path):
     return int(re.search(r"Collected : (\d+)", run.stderr)[1])
 
 
-def printed(program, path):
+def printed(words, path):
     with open(path, "rb") as file:
-        output = subprocess.run([program], stdin=file, stdout=subprocess.PIPE, check=True).stdout
+        output = subprocess.run(words, stdin=file, stdout=subprocess.PIPE, check=True).stdout
     return output.count(b"\n"), len(output)
 
 
-def row(program, folder, kind):
+def row(words, folder, kind):
     path, small = folder / f"{kind}.binlog", folder / f"{kind}_small.binlog"
-    ours, theirs = zip(*((seconds([program], path), seconds(["mariadb-binlog", path])) for _ in range(ROUNDS)))
-    events, size = printed(program, path)
-    few, _ = printed(program, small)
-    counted = [instructions(command, small) for command in ([program], ["mariadb-binlog", small])]
+    ours, theirs = zip(*((seconds(words, path), seconds(["mariadb-binlog", path])) for _ in range(ROUNDS)))
+    events, size = printed(words, path)
+    few, _ = printed(words, small)
+    counted = [instructions(command, small) for command in (words, ["mariadb-binlog", small])]
     return [
         kind,
         str(events),
@@ -71,7 +72,7 @@ def row(program, folder, kind):
 
 
 def main(arguments):
-    program = arguments[0] if arguments else str(HERE.parent / "crates/binlog_json/out/binlog_json")
+    words = shlex.split(arguments[0]) if arguments else [str(HERE.parent / "crates/binlog/out/binlog"), "json"]
     folder = Path(arguments[1]) if len(arguments) > 1 else HERE / "work"
     folder.mkdir(parents=True, exist_ok=True)
     for kind in KINDS:
@@ -80,7 +81,7 @@ def main(arguments):
     print("| " + " | ".join(COLUMNS) + " |")
     print("|---" + "|---:" * (len(COLUMNS) - 1) + "|")
     for kind in KINDS:
-        print("| " + " | ".join(row(program, folder, kind)) + " |", flush=True)
+        print("| " + " | ".join(row(words, folder, kind)) + " |", flush=True)
 
 
 if __name__ == "__main__":
