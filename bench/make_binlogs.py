@@ -20,6 +20,7 @@ from pathlib import Path
 HERE = Path(__file__).resolve().parent
 sys.path.insert(0, str(HERE.parent / "tests"))
 
+from arguments import arguments
 import make_sample  # noqa: E402  (found by way of the line above)
 
 LARGE, SMALL = 500_000_000, 5_000_000
@@ -366,4 +367,4 @@ def main(arguments):
 
 
 if __name__ == "__main__":
-    main(sys.argv[1:])
+    main(arguments(__doc__))

@@ -12,6 +12,7 @@ import random
 import sys
 from pathlib import Path
 
+from arguments import arguments
 from make_binlogs import GTID, event, gtid_times, untagged_gtid
 
 import make_sample  # found by way of make_binlogs
@@ -89,4 +90,4 @@ def main(arguments):
 
 
 if __name__ == "__main__":
-    main(sys.argv[1:])
+    main(arguments(__doc__))

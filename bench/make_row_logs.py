@@ -17,6 +17,7 @@ import sys
 from itertools import islice
 from pathlib import Path
 
+from arguments import arguments
 import make_binlogs
 from make_binlogs import GTID, QUERY, TABLE_MAP, XID, event, event_ends, gtid_times, set_positions, untagged_gtid, used_length
 
@@ -208,4 +209,4 @@ def main(arguments):
 
 
 if __name__ == "__main__":
-    main(sys.argv[1:])
+    main(arguments(__doc__))

@@ -17,6 +17,7 @@ import time
 from collections import Counter
 from pathlib import Path
 
+from arguments import arguments
 import make_binlogs
 
 BASELINE = Path(__file__).resolve().parent / "baseline"
@@ -309,4 +310,4 @@ def main(arguments):
 
 
 if __name__ == "__main__":
-    main(sys.argv[1:])
+    main(arguments(__doc__))

@@ -13,6 +13,7 @@ import random
 import sys
 from pathlib import Path
 
+from arguments import arguments
 import make_binlogs
 import measure
 
@@ -60,4 +61,4 @@ def main(arguments):
 
 
 if __name__ == "__main__":
-    main(sys.argv[1:])
+    main(arguments(__doc__))

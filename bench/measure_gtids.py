@@ -14,6 +14,7 @@ import subprocess
 import sys
 from pathlib import Path
 
+from arguments import arguments
 import make_gtid_logs
 from measure import build_baseline
 from measure_json import instructions, seconds
@@ -77,4 +78,4 @@ def main(arguments):
 
 
 if __name__ == "__main__":
-    main(sys.argv[1:])
+    main(arguments(__doc__))

@@ -19,6 +19,8 @@ import sys
 import zlib
 from pathlib import Path
 
+from arguments import arguments
+
 BENCH = Path(__file__).resolve().parent
 PROGRAM = BENCH.parent / "crates/probe_inflate/out/probe_inflate"
 FOLDER = BENCH / "work/inflate"
@@ -106,8 +108,8 @@ def instructions(program, stream, text):
 
 
 def main():
-    program = Path(sys.argv[1]) if len(sys.argv) > 1 else PROGRAM
-    folder = Path(sys.argv[2]) if len(sys.argv) > 2 else FOLDER
+    given = [Path(word) for word in arguments(__doc__)]
+    program, folder = given + [PROGRAM, FOLDER][len(given) :]
     folder.mkdir(parents=True, exist_ok=True)
     programs = [program, build_baseline(folder)]
     starts = [instructions(each, zlib.compress(b"", 0), b"") for each in programs]

@@ -16,6 +16,7 @@ import subprocess
 import sys
 from pathlib import Path
 
+from arguments import arguments
 import make_binlogs
 
 KINDS = ("statements", "statements_crc32")
@@ -85,4 +86,4 @@ def main(arguments):
 
 
 if __name__ == "__main__":
-    main(sys.argv[1:])
+    main(arguments(__doc__))

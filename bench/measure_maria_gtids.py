@@ -17,6 +17,7 @@ import subprocess
 import sys
 from pathlib import Path
 
+from arguments import arguments
 import make_binlogs
 from make_binlogs import GTID, XID, gtid_times, make_sample, untagged_gtid
 
@@ -90,7 +91,7 @@ def instructions(command, folder, type_number, body_of):
 
 
 def main():
-    given = [Path(argument) for argument in sys.argv[1:]]
+    given = [Path(word) for word in arguments(__doc__)]
     program, folder = given + [PROGRAM, FOLDER][len(given) :]
     folder.mkdir(parents=True, exist_ok=True)
     print("| | Bytes | Instructions | Without its body |")

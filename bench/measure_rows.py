@@ -16,6 +16,7 @@ import subprocess
 import sys
 from pathlib import Path
 
+from arguments import arguments
 import make_row_logs
 from measure import build_baseline, counts
 from measure_json import seconds
@@ -116,4 +117,4 @@ def main(arguments):
 
 
 if __name__ == "__main__":
-    main(sys.argv[1:])
+    main(arguments(__doc__))

@@ -13,9 +13,9 @@ processor times, the best of 5, in turns, with output to /dev/null.
 """
 
 import subprocess
-import sys
 from pathlib import Path
 
+from arguments import arguments
 import make_binlogs
 from measure import build_baseline, compare_outputs
 from measure_json import instructions, seconds
@@ -103,4 +103,4 @@ def main(arguments):
 
 
 if __name__ == "__main__":
-    main(sys.argv[1:])
+    main(arguments(__doc__))

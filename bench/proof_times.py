@@ -16,6 +16,8 @@ import sys
 from collections import defaultdict
 from pathlib import Path
 
+from arguments import arguments
+
 CRATES = Path(__file__).resolve().parent.parent / "crates"
 
 # The modules that rattle makes of a function, below its path.
@@ -45,10 +47,11 @@ def table(folder):
 
 
 def main():
-    if len(sys.argv) not in (2, 3) or sys.argv[1].startswith("-"):
-        print(__doc__)
+    given = arguments(__doc__)
+    if len(given) not in (1, 2):
+        print(__doc__, file=sys.stderr)
         return 64
-    crate, count = sys.argv[1], int(sys.argv[2]) if len(sys.argv) == 3 else 40
+    crate, count = given[0], int(given[1]) if len(given) == 2 else 40
     kept = CRATES / crate / "out/incremental"
     folders = [folder for folder in kept.glob("*") if folder.is_dir()]
     if not folders:
