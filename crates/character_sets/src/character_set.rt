@@ -1,0 +1,88 @@
+//! The character sets of MySQL and MariaDB.
+
+/// A character set of MySQL or MariaDB. Each server of today has all of them, but MariaDB has no `gb18030`.
+#[derive(Clone, Copy, Debug, PartialEq, Eq)]
+pub enum CharacterSet {
+    /// ARMSCII-8, Armenian.
+    Armscii8,
+    /// US-ASCII.
+    Ascii,
+    /// Big5, traditional Chinese; not decoded.
+    Big5,
+    /// Bytes that are no text.
+    Binary,
+    /// Windows code page 1250, Central European.
+    Cp1250,
+    /// Windows code page 1251, Cyrillic.
+    Cp1251,
+    /// Windows code page 1256, Arabic, without the letters of Persian and Urdu.
+    Cp1256,
+    /// Windows code page 1257, Baltic.
+    Cp1257,
+    /// DOS code page 850, Western European.
+    Cp850,
+    /// DOS code page 852, Central European.
+    Cp852,
+    /// DOS code page 866, Cyrillic.
+    Cp866,
+    /// Windows code page 932, Japanese; not decoded.
+    Cp932,
+    /// DEC's Multinational Character Set, Western European.
+    Dec8,
+    /// EUC-JP of Windows, Japanese; not decoded.
+    Eucjpms,
+    /// EUC-KR, Korean; not decoded.
+    Euckr,
+    /// GB18030, Chinese; not decoded.
+    Gb18030,
+    /// GB2312, simplified Chinese; not decoded.
+    Gb2312,
+    /// GBK, simplified Chinese; not decoded.
+    Gbk,
+    /// GEOSTD8, Georgian.
+    Geostd8,
+    /// ISO 8859-7 of 1987, Greek.
+    Greek,
+    /// ISO 8859-8, Hebrew.
+    Hebrew,
+    /// HP's Roman-8, Western European.
+    Hp8,
+    /// KEYBCS2, the Kamenicky encoding of Czech and Slovak.
+    Keybcs2,
+    /// KOI8-R, Russian.
+    Koi8r,
+    /// KOI8-U, Ukrainian.
+    Koi8u,
+    /// Windows code page 1252, Western European, with control characters for the five bytes that it leaves out. It isn't ISO 8859-1.
+    Latin1,
+    /// ISO 8859-2, Central European.
+    Latin2,
+    /// ISO 8859-9, Turkish.
+    Latin5,
+    /// ISO 8859-13, Baltic.
+    Latin7,
+    /// Mac OS Central European.
+    Macce,
+    /// Mac OS Roman.
+    Macroman,
+    /// Shift-JIS, Japanese; not decoded.
+    Sjis,
+    /// The Swedish variant of ISO 646, of seven bits.
+    Swe7,
+    /// TIS-620, Thai.
+    Tis620,
+    /// UTF-16, big-endian, of characters below U+10000 only.
+    Ucs2,
+    /// EUC-JP, Japanese; not decoded.
+    Ujis,
+    /// UTF-16, big-endian.
+    Utf16,
+    /// UTF-16, little-endian.
+    Utf16le,
+    /// UTF-32, big-endian.
+    Utf32,
+    /// UTF-8, of characters below U+10000 only.
+    Utf8mb3,
+    /// UTF-8.
+    Utf8mb4,
+}
