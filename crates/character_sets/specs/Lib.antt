@@ -1,2 +1,4 @@
 pub mod Coding
 pub mod SingleByte
+pub mod Spellings
+pub mod Decoding

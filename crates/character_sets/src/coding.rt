@@ -51,3 +51,12 @@ pub(crate) fn coding_of(set: CharacterSet) -> Coding
         _ => Coding::SingleByte,
     }
 }
+
+/// Which of the two bytes of a unit is first.
+#[derive(Clone, Copy)]
+pub(crate) enum ByteOrder {
+    /// The high one.
+    BigEndian,
+    /// The low one.
+    LittleEndian,
+}

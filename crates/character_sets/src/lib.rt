@@ -5,6 +5,7 @@
 
 mod character_set;
 mod coding;
+mod first;
 
 mod single_byte;
 mod tables;
