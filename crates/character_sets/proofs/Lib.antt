@@ -1,1 +1,4 @@
 pub mod ScalarEntries
+pub mod Scalars
+pub mod Units
+pub mod FirstSpelled

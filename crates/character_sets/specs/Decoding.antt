@@ -29,9 +29,13 @@ unfoldable pub first_byte : CharacterSet → List ℕ → First
 first_byte set [] = None
 first_byte set (byte ∷ rest) = option_map (λ c. (c, rest)) (byte_character set byte)
 
--- A unit as a character, with what is behind it.
+-- The character of a unit that is in no pair: a unit has 16 bits, and is no surrogate.
+abbrev pub unit_char : ℕ → Option ℕ
+unit_char u = if nat_lt u 0x1_0000 then lone_unit_char u else None
+
+-- The same, with what is behind it.
 abbrev pub lone_unit : ℕ × List ℕ → First
-lone_unit x = option_map (λ c. (c, x.1)) (lone_unit_char x.0)
+lone_unit x = option_map (λ c. (c, x.1)) (unit_char x.0)
 
 -- The first character of units that are no pairs.
 unfoldable pub first_of_ucs2 : List ℕ → First
@@ -56,6 +60,12 @@ number_char n = if nat_lt n 0x11_0000 then lone_unit_char n else None
 -- The first character of UTF-32.
 unfoldable pub first_of_utf32 : List ℕ → First
 first_of_utf32 bytes = if nat_lt (length bytes) 4 then None else option_map (λ c. (c, drop 4 bytes)) (number_char (from_be_bytes w32 (take 4 bytes)))
+
+-- The coding isn't UTF-8, which std decodes.
+abbrev pub IsNotUtf8 : Coding → Type 0
+IsNotUtf8 BasicUtf8 = ⊥
+IsNotUtf8 Utf8 = ⊥
+IsNotUtf8 _ = Unit {0}
 
 -- The first character in a set of this coding, but for UTF-8.
 abbrev pub first_in : Coding → CharacterSet → List ℕ → First

@@ -26,7 +26,7 @@ abbrev pub SpellsIn : Coding → CharacterSet → List ℕ → ℕ → Type 0
 SpellsIn SingleByte set bytes c = (byte : ℕ) × (bytes ≡ byte ∷ []) × (byte_character set byte ≡ Some c)
 SpellsIn BasicUtf8 set bytes c = (c < 0x1_0000) × (bytes ≡ encode_utf8 c)
 SpellsIn Utf8 set bytes c = bytes ≡ encode_utf8 c
-SpellsIn Ucs2 set bytes c = AreUnits BigEndian bytes (c ∷ [])
+SpellsIn Ucs2 set bytes c = (c < 0x1_0000) × AreUnits BigEndian bytes (c ∷ [])
 SpellsIn Utf16 set bytes c = AreUnits BigEndian bytes (encode_utf16 c)
 SpellsIn Utf16le set bytes c = AreUnits LittleEndian bytes (encode_utf16 c)
 SpellsIn Utf32 set bytes c = (length bytes ≡ 4) × (from_be_bytes w32 bytes ≡ c)

@@ -1,9 +1,9 @@
 //! The first character of some bytes, and the bytes behind it.
 ghost use Rattle.std.specs.Prelude.{◌≡◌, true, Some};
 ghost use Rattle.std.specs.Option.{option_and_then};
-ghost use Rattle.std.specs.Char.Utf16.{lone_unit_char, is_high_surrogate, is_low_surrogate, surrogate_pair_char};
+ghost use Rattle.std.specs.Char.Utf16.{is_high_surrogate, is_low_surrogate, surrogate_pair_char};
 ghost use Rattle.character_sets.specs.Spellings.{unit};
-ghost use Rattle.character_sets.specs.Decoding.{Gives, first_unit, first_byte, first_of_ucs2, surrogate_pair, first_of_utf16, first_of_utf32, first_character, number_char};
+ghost use Rattle.character_sets.specs.Decoding.{Gives, first_unit, first_byte, first_of_ucs2, surrogate_pair, first_of_utf16, first_of_utf32, first_character, unit_char, number_char};
 
 use crate::character_set::CharacterSet;
 use crate::coding::{ByteOrder, Coding, coding_of};
@@ -35,9 +35,9 @@ fn first_byte(set: CharacterSet, bytes: &[u8]) -> Option<(char, &[u8])>
     Some((character, rest))
 }
 
-// A unit as a character, which a surrogate isn't.
-fn lone_unit_char(unit: u16) -> Option<char>
-    ensures { result ≡ lone_unit_char unit }
+// The character of a unit that is in no pair.
+fn unit_char(unit: u16) -> Option<char>
+    ensures { result ≡ unit_char unit }
 {
     char::from_u32(u32::from(unit))
 }
@@ -47,7 +47,7 @@ fn first_of_ucs2(bytes: &[u8]) -> Option<(char, &[u8])>
     ensures { Gives (λ x. (x.0, x.1.now)) result (first_of_ucs2 bytes.now) }
 {
     let (unit, rest) = first_unit(ByteOrder::BigEndian, bytes)?;
-    let character = lone_unit_char(unit)?;
+    let character = unit_char(unit)?;
     Some((character, rest))
 }
 
@@ -96,7 +96,7 @@ fn first_of_utf16(order: ByteOrder, bytes: &[u8]) -> Option<(char, &[u8])>
     if is_high_surrogate(unit) {
         return first_of_pair(order, unit, rest);
     }
-    let character = lone_unit_char(unit)?;
+    let character = unit_char(unit)?;
     Some((character, rest))
 }
 
