@@ -2,3 +2,4 @@ pub mod ScalarEntries
 pub mod Scalars
 pub mod Units
 pub mod FirstSpelled
+pub mod SpelledFirst
