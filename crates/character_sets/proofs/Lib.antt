@@ -3,3 +3,4 @@ pub mod Scalars
 pub mod Units
 pub mod FirstSpelled
 pub mod SpelledFirst
+pub mod Decoded

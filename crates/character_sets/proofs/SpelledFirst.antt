@@ -31,11 +31,11 @@ record BeginsIn (coding : Coding) (set : CharacterSet) (bytes : List ℕ) (c : �
 -- ---- Options
 
 -- What an option is made of, where it is Some.
-then_some : {A B : Type 0} (f : A → Option B) (o : Option A) (y : B) → option_and_then f o ≡ Some y → (x : A) × (o ≡ Some x) × (f x ≡ Some y)
+pub then_some : {A B : Type 0} (f : A → Option B) (o : Option A) (y : B) → option_and_then f o ≡ Some y → (x : A) × (o ≡ Some x) × (f x ≡ Some y)
 then_some f None y is = absurd cc
 then_some f (Some x) y is = (x, refl, is)
 
-mapped_some : {A B : Type 0} (f : A → B) (o : Option A) (y : B) → option_map f o ≡ Some y → (x : A) × (o ≡ Some x) × (f x ≡ y)
+pub mapped_some : {A B : Type 0} (f : A → B) (o : Option A) (y : B) → option_map f o ≡ Some y → (x : A) × (o ≡ Some x) × (f x ≡ y)
 mapped_some f None y is = absurd cc
 mapped_some f (Some x) y is = (x, refl, cc)
 
