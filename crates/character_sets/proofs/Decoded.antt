@@ -123,3 +123,28 @@ pub decoded-nothing : (set : CharacterSet) (bytes : List ℕ) → length bytes �
 unfolding decoded_within
 decoded-nothing set [] none = refl
 decoded-nothing set (b ∷ bs) none = absurd (omega (arith, none))
+
+-- ---- What is left of a text
+
+pub left_is_text : (set : CharacterSet) (bytes : List ℕ) (c : ℕ) (rest : List ℕ) → first_character set bytes ≡ Some (c, rest) → is_some (decoded set rest) ≡ is_some (decoded set bytes)
+left_is_text set bytes c rest is = by_text (decoded set rest) ∙ sym (ap is_some (decoded-first set bytes c rest is))
+  where
+    by_text : (text : Option (List ℕ)) → is_some text ≡ is_some (with_front c text)
+    by_text None = refl
+    by_text (Some cs) = refl
+
+-- The first character of a text comes before what is left.
+pub text-first : (set : CharacterSet) (bytes : List ℕ) (c : ℕ) (rest : List ℕ) → is_some (decoded set bytes) ≡ true → first_character set bytes ≡ Some (c, rest)
+    → unwrap_or (decoded set bytes) [] ≡ c ∷ unwrap_or (decoded set rest) []
+text-first set bytes c rest text is = ap (λ o. unwrap_or o []) step ∙ by_text (decoded set rest) (ap is_some (sym step) ∙ text)
+  where
+    step : decoded set bytes ≡ with_front c (decoded set rest)
+    step = decoded-first set bytes c rest is
+    by_text : (behind : Option (List ℕ)) → is_some (with_front c behind) ≡ true → unwrap_or (with_front c behind) [] ≡ c ∷ unwrap_or behind []
+    by_text None some = absurd cc
+    by_text (Some cs) some = refl
+
+-- A text without a first character is empty.
+pub text-no_first : (set : CharacterSet) (bytes : List ℕ) → is_some (decoded set bytes) ≡ true → first_character set bytes ≡ None → unwrap_or (decoded set bytes) [] ≡ []
+text-no_first set [] text is = ap (λ o. unwrap_or o []) (decoded-nothing set [] refl)
+text-no_first set (b ∷ bs) text is = let none = decoded-no_first set (b ∷ bs) is (omega arith) in absurd cc

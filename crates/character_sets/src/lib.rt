@@ -4,6 +4,7 @@
 #![tactic(auto)]
 
 mod character_set;
+mod characters;
 mod coding;
 mod first;
 
@@ -11,3 +12,4 @@ mod single_byte;
 mod tables;
 
 pub use character_set::CharacterSet;
+pub use characters::Characters;
