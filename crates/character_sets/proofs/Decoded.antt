@@ -148,3 +148,11 @@ text-first set bytes c rest text is = ap (λ o. unwrap_or o []) step ∙ by_text
 pub text-no_first : (set : CharacterSet) (bytes : List ℕ) → is_some (decoded set bytes) ≡ true → first_character set bytes ≡ None → unwrap_or (decoded set bytes) [] ≡ []
 text-no_first set [] text is = ap (λ o. unwrap_or o []) (decoded-nothing set [] refl)
 text-no_first set (b ∷ bs) text is = let none = decoded-no_first set (b ∷ bs) is (omega arith) in absurd cc
+
+-- What is known to be a text is that of its characters.
+pub text-left : (set : CharacterSet) (bytes : List ℕ) → is_some (decoded set bytes) ≡ true → IsText set bytes (unwrap_or (decoded set bytes) [])
+text-left set bytes text = text-decoded set bytes _ (by_text (decoded set bytes) text)
+  where
+    by_text : (o : Option (List ℕ)) → is_some o ≡ true → o ≡ Some (unwrap_or o [])
+    by_text None some = absurd cc
+    by_text (Some cs) some = refl

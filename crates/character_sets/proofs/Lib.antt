@@ -4,3 +4,4 @@ pub mod Units
 pub mod FirstSpelled
 pub mod SpelledFirst
 pub mod Decoded
+pub mod Utf8Lemmas

@@ -1,4 +1,6 @@
 //! The character sets of MySQL and MariaDB.
+ghost use Rattle.std.specs.Prelude.{◌≡◌};
+ghost use Rattle.character_sets.specs.Names.{name_of};
 
 /// A character set of MySQL or MariaDB. Each server of today has all of them, but MariaDB has no `gb18030`.
 #[derive(Clone, Copy, Debug, PartialEq, Eq)]
@@ -85,4 +87,101 @@ pub enum CharacterSet {
     Utf8mb3,
     /// UTF-8.
     Utf8mb4,
+}
+
+impl CharacterSet {
+    /// All character sets, by their names.
+    pub const ALL: [CharacterSet; 41] = [
+        CharacterSet::Armscii8,
+        CharacterSet::Ascii,
+        CharacterSet::Big5,
+        CharacterSet::Binary,
+        CharacterSet::Cp1250,
+        CharacterSet::Cp1251,
+        CharacterSet::Cp1256,
+        CharacterSet::Cp1257,
+        CharacterSet::Cp850,
+        CharacterSet::Cp852,
+        CharacterSet::Cp866,
+        CharacterSet::Cp932,
+        CharacterSet::Dec8,
+        CharacterSet::Eucjpms,
+        CharacterSet::Euckr,
+        CharacterSet::Gb18030,
+        CharacterSet::Gb2312,
+        CharacterSet::Gbk,
+        CharacterSet::Geostd8,
+        CharacterSet::Greek,
+        CharacterSet::Hebrew,
+        CharacterSet::Hp8,
+        CharacterSet::Keybcs2,
+        CharacterSet::Koi8r,
+        CharacterSet::Koi8u,
+        CharacterSet::Latin1,
+        CharacterSet::Latin2,
+        CharacterSet::Latin5,
+        CharacterSet::Latin7,
+        CharacterSet::Macce,
+        CharacterSet::Macroman,
+        CharacterSet::Sjis,
+        CharacterSet::Swe7,
+        CharacterSet::Tis620,
+        CharacterSet::Ucs2,
+        CharacterSet::Ujis,
+        CharacterSet::Utf16,
+        CharacterSet::Utf16le,
+        CharacterSet::Utf32,
+        CharacterSet::Utf8mb3,
+        CharacterSet::Utf8mb4,
+    ];
+
+    /// Its name in `information_schema.CHARACTER_SETS`, of lower-case letters and digits.
+    #[tactic(auto, unfolding(crate::specs::Names::name_of))]
+    pub fn name(self) -> &'static str
+        ensures { result.now ≡ name_of self }
+    {
+        match self {
+            CharacterSet::Armscii8 => "armscii8",
+            CharacterSet::Ascii => "ascii",
+            CharacterSet::Big5 => "big5",
+            CharacterSet::Binary => "binary",
+            CharacterSet::Cp1250 => "cp1250",
+            CharacterSet::Cp1251 => "cp1251",
+            CharacterSet::Cp1256 => "cp1256",
+            CharacterSet::Cp1257 => "cp1257",
+            CharacterSet::Cp850 => "cp850",
+            CharacterSet::Cp852 => "cp852",
+            CharacterSet::Cp866 => "cp866",
+            CharacterSet::Cp932 => "cp932",
+            CharacterSet::Dec8 => "dec8",
+            CharacterSet::Eucjpms => "eucjpms",
+            CharacterSet::Euckr => "euckr",
+            CharacterSet::Gb18030 => "gb18030",
+            CharacterSet::Gb2312 => "gb2312",
+            CharacterSet::Gbk => "gbk",
+            CharacterSet::Geostd8 => "geostd8",
+            CharacterSet::Greek => "greek",
+            CharacterSet::Hebrew => "hebrew",
+            CharacterSet::Hp8 => "hp8",
+            CharacterSet::Keybcs2 => "keybcs2",
+            CharacterSet::Koi8r => "koi8r",
+            CharacterSet::Koi8u => "koi8u",
+            CharacterSet::Latin1 => "latin1",
+            CharacterSet::Latin2 => "latin2",
+            CharacterSet::Latin5 => "latin5",
+            CharacterSet::Latin7 => "latin7",
+            CharacterSet::Macce => "macce",
+            CharacterSet::Macroman => "macroman",
+            CharacterSet::Sjis => "sjis",
+            CharacterSet::Swe7 => "swe7",
+            CharacterSet::Tis620 => "tis620",
+            CharacterSet::Ucs2 => "ucs2",
+            CharacterSet::Ujis => "ujis",
+            CharacterSet::Utf16 => "utf16",
+            CharacterSet::Utf16le => "utf16le",
+            CharacterSet::Utf32 => "utf32",
+            CharacterSet::Utf8mb3 => "utf8mb3",
+            CharacterSet::Utf8mb4 => "utf8mb4",
+        }
+    }
 }

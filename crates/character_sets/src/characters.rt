@@ -1,10 +1,21 @@
 //! The characters of a text.
-ghost use Rattle.std.specs.Prelude.{◌≡◌, [], ◌∷◌, is_some, chars, MatchOption};
-ghost use Rattle.character_sets.specs.Decoding.{decoded};
+ghost use Rattle.std.specs.Prelude.{◌≡◌, [], ◌∷◌, true, false, List, ℕ, is_some, chars, MatchOption, IfSome, IfNone, IsUtf8};
+ghost use Rattle.std.specs.List.{list_all};
+ghost use Rattle.character_sets.specs.Coding.{coding_of};
+ghost use Rattle.character_sets.specs.Spellings.{IsText};
+ghost use Rattle.character_sets.specs.Decoding.{decoded, IsNotUtf8};
+ghost use Rattle.character_sets.specs.Utf8Texts.{is_basic, are_in_utf8, IsUtf8Coding};
+ghost use Rattle.character_sets.specs.Texts.{HasCharacters};
 
 use crate::character_set::CharacterSet;
+use crate::coding::{Coding, coding_of};
 use crate::first::first_character;
+use std::alloc::AllocError;
+use std::fmt;
+use std::fmt::Write;
+use std::iter::FusedIterator;
 use std::marker::Model;
+use std::str;
 
 /// Where the characters are read from.
 #[derive(Clone, Copy)]
@@ -31,6 +42,74 @@ impl<'a> Model for Characters<'a> {
     ghost view = { λ characters. text_of characters.form };
 
     ghost invariant = { λ characters. IsSound characters.form };
+}
+
+impl CharacterSet {
+    /// The characters of a text in this character set. `None` where the bytes aren't a text in it: where some byte is no part of a
+    /// character, where a character is cut short, where the set isn't decoded, or is [`CharacterSet::Binary`]. The bytes are
+    /// tested once, and nothing is allocated.
+    ///
+    /// Characters are Unicode scalar values. So surrogates are none, although MariaDB takes them in `utf8mb3`, `utf8mb4`, `ucs2` and
+    /// `utf32`. A byte order mark is a character. Nothing is replaced or normalized.
+    pub fn decode(self, bytes: &[u8]) -> Option<Characters<'_>>
+        ensures text { IfSome result (λ characters. IsText self bytes.now characters) }
+        ensures none { IfNone result ((characters : List ℕ) → ¬ (IsText self bytes.now characters)) }
+    {
+        let form = form_of(self, bytes)?;
+        Some(Characters { form })
+    }
+}
+
+// The form of the characters, if the bytes are a text of this set.
+fn form_of(set: CharacterSet, bytes: &[u8]) -> Option<Form<'_>>
+    ensures text { IfSome result (λ form. HasCharacters set bytes.now form) }
+    ensures none { IfNone result ((characters : List ℕ) → ¬ (IsText set bytes.now characters)) }
+{
+    match coding_of(set) {
+        Coding::Utf8 | Coding::BasicUtf8 => utf8_form(set, bytes),
+        _ => coded_form(set, bytes),
+    }
+}
+
+fn utf8_form(set: CharacterSet, bytes: &[u8]) -> Option<Form<'_>>
+    requires { IsUtf8Coding (coding_of set) }
+    ensures text { IfSome result (λ form. HasCharacters set bytes.now form) }
+    ensures none { IfNone result ((characters : List ℕ) → ¬ (IsText set bytes.now characters)) }
+{
+    let text = utf8_text(coding_of(set), bytes)?;
+    Some(Form::Utf8(text))
+}
+
+fn coded_form(set: CharacterSet, bytes: &[u8]) -> Option<Form<'_>>
+    requires { IsNotUtf8 (coding_of set) }
+    ensures text { IfSome result (λ form. HasCharacters set bytes.now form) }
+    ensures none { IfNone result ((characters : List ℕ) → ¬ (IsText set bytes.now characters)) }
+{
+    if is_text(set, bytes) {
+        Some(Form::Coded(set, bytes))
+    } else {
+        None
+    }
+}
+
+// The bytes as UTF-8, if they are a text of a set of this coding.
+fn utf8_text(coding: Coding, bytes: &[u8]) -> Option<&str>
+    requires { IsUtf8Coding coding }
+    ensures some { IfSome result (λ text. (text.now ≡ bytes.now) × IsUtf8 bytes.now × (are_in_utf8 coding (chars bytes.now) ≡ true)) }
+    ensures none { IfNone result (IsUtf8 bytes.now → are_in_utf8 coding (chars bytes.now) ≡ false) }
+{
+    let text = str::from_utf8(bytes).ok()?;
+    match coding {
+        Coding::BasicUtf8 if !is_basic(text) => None,
+        _ => Some(text),
+    }
+}
+
+// Whether all characters are below U+10000.
+fn is_basic(text: &str) -> bool
+    ensures { result ≡ list_all is_basic (chars text.now) }
+{
+    text.chars().all(|character| character < '\u{10000}')
 }
 
 // Whether the bytes are a text of a set that isn't UTF-8.
@@ -79,5 +158,42 @@ impl<'a> Iterator for Characters<'a> {
                 Some(first)
             }
         }
+    }
+}
+
+impl<'a> FusedIterator for Characters<'a> {}
+
+impl<'a> Clone for Characters<'a> {
+    ghost use Rattle.std.specs.Prelude.{⊤};
+
+    ghost is_clone = { λ characters copy. copy ≡ characters };
+
+    ghost is_infallible = { λ _. ⊤ };
+
+    fn clone(&self) -> Result<Self, AllocError> {
+        Ok(self.copy())
+    }
+}
+
+impl<'a> Characters<'a> {
+    fn copy(&self) -> Characters<'a>
+        ensures { result ≡ self.now }
+    {
+        Characters { form: self.form }
+    }
+}
+
+/// Writes the characters that are left, as UTF-8. Nothing is allocated but by the writer.
+impl<'a> fmt::Display for Characters<'a> {
+    ghost use Rattle.std.specs.Prelude.{Some, encode_utf8_all};
+
+    ghost output = { λ characters. Some (encode_utf8_all characters) };
+
+    fn fmt<W: Write>(&self, f: &mut fmt::Formatter<W>) -> fmt::Result {
+        let mut rest = self.copy();
+        while let Some(character) = rest.next() {
+            f.write_char(character)?;
+        }
+        Ok(())
     }
 }

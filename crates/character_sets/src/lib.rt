@@ -6,6 +6,7 @@
 mod character_set;
 mod characters;
 mod coding;
+mod collations;
 mod first;
 
 mod single_byte;
