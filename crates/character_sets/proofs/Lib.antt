@@ -5,3 +5,4 @@ pub mod FirstSpelled
 pub mod SpelledFirst
 pub mod Decoded
 pub mod Utf8Lemmas
+pub mod LawsOfTexts

@@ -52,7 +52,7 @@ guard_true false x y is = absurd cc
 
 -- ---- Each coding
 
-char-byte : (set : CharacterSet) (byte c : ℕ) → byte_character set byte ≡ Some c → IsScalar c
+pub char-byte : (set : CharacterSet) (byte c : ℕ) → byte_character set byte ≡ Some c → IsScalar c
 unfolding byte_character
 char-byte set byte c is = by_entry (entry_of set byte) (scalar_entry set byte) is
   where

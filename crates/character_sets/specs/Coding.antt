@@ -1,4 +1,5 @@
 -- How the characters of a set are coded.
+use Rattle.std.specs.Prelude.{Bool, true, false}
 use Rattle.character_sets.specs.declared.character_set.CharacterSet.{CharacterSet}
 use Rattle.character_sets.specs.declared.character_set.CharacterSet.TheVariants.{Big5, Binary, Cp932, Eucjpms, Euckr, Gb18030, Gb2312, Gbk, Sjis, Ujis, Ucs2, Utf16, Utf16le, Utf32, Utf8mb3, Utf8mb4}
 use Rattle.character_sets.specs.declared.coding.Coding.{Coding}
@@ -23,3 +24,8 @@ coding_of Gbk = codings.Unknown
 coding_of Sjis = codings.Unknown
 coding_of Ujis = codings.Unknown
 coding_of _ = codings.SingleByte
+
+-- The characters of such a set are decoded.
+abbrev pub is_decoded : Coding → Bool
+is_decoded codings.Unknown = false
+is_decoded _ = true

@@ -1,5 +1,6 @@
 -- The character sets of collations, by their numbers.
-use Rattle.std.specs.Prelude.{◌≡◌, ◌&&◌, ℕ, Bool, List, [], ◌∷◌, Option, Some, None, MatchOption, nat_le, nat_lt, if◌then◌else◌}
+use Rattle.std.specs.Prelude.{◌&&◌, ℕ, Bool, List, Option, Some, None, nat_le, find}
+use Rattle.std.specs.Option.{option_map}
 use Rattle.character_sets.specs.declared.character_set.CharacterSet.{CharacterSet}
 use Rattle.character_sets.specs.declared.collations.TheConstants.{COLLATIONS, MARIADB_COLLATIONS}
 
@@ -7,10 +8,13 @@ use Rattle.character_sets.specs.declared.collations.TheConstants.{COLLATIONS, MA
 abbrev pub Numbers : Type 0
 Numbers = ℕ × ℕ × CharacterSet
 
+-- The number is among those.
+abbrev pub are_with : ℕ → Numbers → Bool
+are_with number numbers = nat_le numbers.0 number && nat_le number numbers.1
+
 -- The set of a number: that of the first of such numbers that it is among.
 abbrev pub set_in : List Numbers → ℕ → Option CharacterSet
-set_in [] number = None
-set_in (numbers ∷ table) number = if nat_le numbers.0 number && nat_le number numbers.1 then Some numbers.2 else set_in table number
+set_in table number = option_map (λ numbers. numbers.2) (find (are_with number) table)
 
 unfoldable pub collations : List Numbers
 collations = COLLATIONS

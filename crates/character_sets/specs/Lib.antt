@@ -6,3 +6,4 @@ pub mod Utf8Texts
 pub mod Texts
 pub mod Collations
 pub mod Names
+pub mod Laws

@@ -1,8 +1,10 @@
 -- The names of the character sets.
-use Rattle.std.specs.Prelude.{ℕ, List, codes}
+use Rattle.std.specs.Prelude.{ℕ, List, Option, Some, codes, find, bytes_eq, if◌then◌else◌}
 use Rattle.character_sets.specs.declared.character_set.CharacterSet.{CharacterSet}
 use Rattle.character_sets.specs.declared.character_set.CharacterSet.TheVariants.{Armscii8, Ascii, Big5, Binary, Cp1250, Cp1251, Cp1256, Cp1257, Cp850, Cp852, Cp866, Cp932, Dec8, Eucjpms, Euckr, Gb18030, Gb2312, Gbk, Geostd8, Greek, Hebrew, Hp8, Keybcs2, Koi8r, Koi8u, Latin1, Latin2, Latin5, Latin7, Macce, Macroman, Sjis, Swe7, Tis620, Ucs2, Ujis, Utf16, Utf16le, Utf32, Utf8mb3, Utf8mb4}
+use Rattle.character_sets.specs.declared.character_set.TheConstants.{CHARACTER_SETS}
 
+-- The name of a set.
 unfoldable pub name_of : CharacterSet → List ℕ
 name_of Armscii8 = codes "armscii8"
 name_of Ascii = codes "ascii"
@@ -45,3 +47,15 @@ name_of Utf16le = codes "utf16le"
 name_of Utf32 = codes "utf32"
 name_of Utf8mb3 = codes "utf8mb3"
 name_of Utf8mb4 = codes "utf8mb4"
+
+-- All sets.
+unfoldable pub all_sets : List CharacterSet
+all_sets = CHARACTER_SETS
+
+-- The name that utf8mb3 had.
+abbrev pub old_utf8 : List ℕ
+old_utf8 = codes "utf8"
+
+-- The set of a name, if one has it.
+abbrev pub set_named : List ℕ → Option CharacterSet
+set_named name = if bytes_eq name old_utf8 then Some Utf8mb3 else find (λ set. bytes_eq (name_of set) name) all_sets

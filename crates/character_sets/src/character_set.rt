@@ -1,6 +1,9 @@
 //! The character sets of MySQL and MariaDB.
-ghost use Rattle.std.specs.Prelude.{◌≡◌};
-ghost use Rattle.character_sets.specs.Names.{name_of};
+ghost use Rattle.std.specs.Prelude.{◌≡◌, bytes_eq, find};
+ghost use Rattle.character_sets.specs.Coding.{coding_of, is_decoded};
+ghost use Rattle.character_sets.specs.Names.{name_of, all_sets, old_utf8, set_named};
+
+use crate::coding::{Coding, coding_of};
 
 /// A character set of MySQL or MariaDB. Each server of today has all of them, but MariaDB has no `gb18030`.
 #[derive(Clone, Copy, Debug, PartialEq, Eq)]
@@ -89,52 +92,52 @@ pub enum CharacterSet {
     Utf8mb4,
 }
 
-impl CharacterSet {
-    /// All character sets, by their names.
-    pub const ALL: [CharacterSet; 41] = [
-        CharacterSet::Armscii8,
-        CharacterSet::Ascii,
-        CharacterSet::Big5,
-        CharacterSet::Binary,
-        CharacterSet::Cp1250,
-        CharacterSet::Cp1251,
-        CharacterSet::Cp1256,
-        CharacterSet::Cp1257,
-        CharacterSet::Cp850,
-        CharacterSet::Cp852,
-        CharacterSet::Cp866,
-        CharacterSet::Cp932,
-        CharacterSet::Dec8,
-        CharacterSet::Eucjpms,
-        CharacterSet::Euckr,
-        CharacterSet::Gb18030,
-        CharacterSet::Gb2312,
-        CharacterSet::Gbk,
-        CharacterSet::Geostd8,
-        CharacterSet::Greek,
-        CharacterSet::Hebrew,
-        CharacterSet::Hp8,
-        CharacterSet::Keybcs2,
-        CharacterSet::Koi8r,
-        CharacterSet::Koi8u,
-        CharacterSet::Latin1,
-        CharacterSet::Latin2,
-        CharacterSet::Latin5,
-        CharacterSet::Latin7,
-        CharacterSet::Macce,
-        CharacterSet::Macroman,
-        CharacterSet::Sjis,
-        CharacterSet::Swe7,
-        CharacterSet::Tis620,
-        CharacterSet::Ucs2,
-        CharacterSet::Ujis,
-        CharacterSet::Utf16,
-        CharacterSet::Utf16le,
-        CharacterSet::Utf32,
-        CharacterSet::Utf8mb3,
-        CharacterSet::Utf8mb4,
-    ];
+/// All character sets, in the order of their names.
+pub const CHARACTER_SETS: [CharacterSet; 41] = [
+    CharacterSet::Armscii8,
+    CharacterSet::Ascii,
+    CharacterSet::Big5,
+    CharacterSet::Binary,
+    CharacterSet::Cp1250,
+    CharacterSet::Cp1251,
+    CharacterSet::Cp1256,
+    CharacterSet::Cp1257,
+    CharacterSet::Cp850,
+    CharacterSet::Cp852,
+    CharacterSet::Cp866,
+    CharacterSet::Cp932,
+    CharacterSet::Dec8,
+    CharacterSet::Eucjpms,
+    CharacterSet::Euckr,
+    CharacterSet::Gb18030,
+    CharacterSet::Gb2312,
+    CharacterSet::Gbk,
+    CharacterSet::Geostd8,
+    CharacterSet::Greek,
+    CharacterSet::Hebrew,
+    CharacterSet::Hp8,
+    CharacterSet::Keybcs2,
+    CharacterSet::Koi8r,
+    CharacterSet::Koi8u,
+    CharacterSet::Latin1,
+    CharacterSet::Latin2,
+    CharacterSet::Latin5,
+    CharacterSet::Latin7,
+    CharacterSet::Macce,
+    CharacterSet::Macroman,
+    CharacterSet::Sjis,
+    CharacterSet::Swe7,
+    CharacterSet::Tis620,
+    CharacterSet::Ucs2,
+    CharacterSet::Ujis,
+    CharacterSet::Utf16,
+    CharacterSet::Utf16le,
+    CharacterSet::Utf32,
+    CharacterSet::Utf8mb3,
+    CharacterSet::Utf8mb4,
+];
 
+impl CharacterSet {
     /// Its name in `information_schema.CHARACTER_SETS`, of lower-case letters and digits.
     #[tactic(auto, unfolding(crate::specs::Names::name_of))]
     pub fn name(self) -> &'static str
@@ -184,4 +187,37 @@ impl CharacterSet {
             CharacterSet::Utf8mb4 => "utf8mb4",
         }
     }
+
+    /// The character set of this name, as [`CharacterSet::name`] gives it, and [`CharacterSet::Utf8mb3`] for `utf8`, its name
+    /// before MySQL 8.0.29 and MariaDB 10.6.
+    pub fn from_name(name: &str) -> Option<CharacterSet>
+        ensures { result ≡ set_named name.now }
+    {
+        if is_old_utf8(name) {
+            return Some(CharacterSet::Utf8mb3);
+        }
+        set_with_name(name)
+    }
+
+    /// Whether [`CharacterSet::decode`] knows the characters of this set. It doesn't know those of Chinese, Japanese and Korean
+    /// sets that aren't Unicode, and [`CharacterSet::Binary`] has none.
+    pub fn is_decoded(self) -> bool
+        ensures { result ≡ is_decoded (coding_of self) }
+    {
+        !matches!(coding_of(self), Coding::Unknown)
+    }
+}
+
+// Whether this is the name that `utf8mb3` had.
+fn is_old_utf8(name: &str) -> bool
+    ensures { result ≡ bytes_eq name.now old_utf8 }
+{
+    name == "utf8"
+}
+
+#[tactic(auto, unfolding(crate::specs::Names::all_sets))]
+fn set_with_name(name: &str) -> Option<CharacterSet>
+    ensures { result ≡ find (λ set. bytes_eq (name_of set) name.now) all_sets }
+{
+    CHARACTER_SETS.iter().copied().find(|set| set.name() == name)
 }

@@ -231,12 +231,10 @@ fn mariadb_collations() -> &'static [Collations]
 fn set_in(table: &[Collations], number: u16) -> Option<CharacterSet>
     ensures { result ≡ set_in table.now number }
 {
-    for (first, last, set) in table {
-        if *first <= number && number <= *last {
-            return Some(*set);
-        }
-    }
-    None
+    let found = table
+        .iter()
+        .find(|numbers| numbers.0 <= number && number <= numbers.1)?;
+    Some(found.2)
 }
 
 impl CharacterSet {

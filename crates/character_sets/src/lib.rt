@@ -8,9 +8,9 @@ mod characters;
 mod coding;
 mod collations;
 mod first;
-
+pub mod laws;
 mod single_byte;
 mod tables;
 
-pub use character_set::CharacterSet;
+pub use character_set::{CHARACTER_SETS, CharacterSet};
 pub use characters::Characters;
