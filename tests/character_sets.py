@@ -259,8 +259,8 @@ def print_tables():
     halves["SWE7_LOWER"] = sets["swe7"][:128]
     for name, entries in sorted(halves.items()):
         print(f"pub(crate) static {name}: [u16; HALF] = [")
-        for first in range(0, 128, 8):
-            codes = (f"0x{0xFFFF if point is None else point:04x}" for point in entries[first : first + 8])
+        for first in range(0, 128, 12):
+            codes = (f"0x{0xFFFF if point is None else point:04x}" for point in entries[first : first + 12])
             print(f"    {', '.join(codes)},")
         print("];")
 

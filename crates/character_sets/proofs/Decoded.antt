@@ -57,7 +57,7 @@ text-decoded_within (suc most) set (b ∷ bs) cs is =
     let (x, first, then) = then_some (λ (x : ℕ × List ℕ). with_front x.0 (decoded_within most set x.1)) (first_character set (b ∷ bs)) cs is in
     let (others, behind, same) = mapped_some (λ (ds : List ℕ). x.0 ∷ ds) (decoded_within most set x.1) cs then in
     subst (IsText set (b ∷ bs)) same
-      (x.1, begins-first_character set (b ∷ bs) x.0 x.1 first, text-decoded_within most set x.1 others behind)
+    (x.1, begins-first_character set (b ∷ bs) x.0 x.1 first, text-decoded_within most set x.1 others behind)
 
 pub text-decoded : (set : CharacterSet) (bytes cs : List ℕ) → decoded set bytes ≡ Some cs → IsText set bytes cs
 text-decoded set bytes cs is = text-decoded_within (length bytes) set bytes cs is
@@ -98,11 +98,12 @@ within_room (suc most) zero set (b ∷ bs) fits also = absurd (omega (arith, als
 within_room (suc most) (suc more) set [] fits also = refl
 within_room (suc most) (suc more) set (b ∷ bs) fits also =
     elim (first_character set (b ∷ bs)) as (λ first. (first_character set (b ∷ bs) ≡ first) → option_and_then (λ (x : ℕ × List ℕ). with_front x.0 (decoded_within most set x.1)) first
-        ≡ option_and_then (λ (x : ℕ × List ℕ). with_front x.0 (decoded_within more set x.1)) first)
-      [ None ↦ λ is. refl
+    ≡ option_and_then (λ (x : ℕ × List ℕ). with_front x.0 (decoded_within more set x.1)) first) [
+      | None ↦ λ is. refl
       | Some x ↦ λ is. let shorter = first_shorter set (b ∷ bs) x.0 x.1 is in
-          ap (with_front x.0) (within_room most more set x.1 (omega (arith, fits, shorter)) (omega (arith, also, shorter))) ]
-      refl
+          ap (with_front x.0) (within_room most more set x.1 (omega (arith, fits, shorter)) (omega (arith, also, shorter)))
+    ]
+    refl
 
 -- The text is the first character and the text behind it.
 pub decoded-first : (set : CharacterSet) (bytes : List ℕ) (c : ℕ) (rest : List ℕ) → first_character set bytes ≡ Some (c, rest) → decoded set bytes ≡ with_front c (decoded set rest)
@@ -140,6 +141,7 @@ text-first set bytes c rest text is = ap (λ o. unwrap_or o []) step ∙ by_text
   where
     step : decoded set bytes ≡ with_front c (decoded set rest)
     step = decoded-first set bytes c rest is
+
     by_text : (behind : Option (List ℕ)) → is_some (with_front c behind) ≡ true → unwrap_or (with_front c behind) [] ≡ c ∷ unwrap_or behind []
     by_text None some = absurd cc
     by_text (Some cs) some = refl

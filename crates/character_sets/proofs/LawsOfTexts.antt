@@ -1,5 +1,5 @@
 -- The laws of texts.
-use Rattle.std.proofs.Common.{◌≡◌, ◌≢◌, ◌↔◌, ℕ, zero, suc, ◌+◌, ◌<◌, ◌≤◌, ◌⊎◌, inl, inr, Bool, true, false, ◌&&◌, nat_lt, cond, Option, Some, None, List, [], ◌∷◌, ◌++◌, map, length, take, drop, get_or, refl, ap, sym, ◌∙◌, subst, append_assoc, arith}
+use Rattle.std.proofs.Common.{◌≡◌, ◌≢◌, ◌↔◌, ℕ, zero, suc, ◌+◌, ◌-◌, ◌<◌, ◌≤◌, ◌⊎◌, inl, inr, Bool, true, false, ◌&&◌, nat_lt, cond, Option, Some, None, List, [], ◌∷◌, ◌++◌, map, length, take, drop, get_or, refl, ap, sym, ◌∙◌, subst, append_assoc, arith}
 use Rattle.std.specs.Prelude.{◌==◌, flat_map, encode_utf8_all}
 use Rattle.std.specs.Char.{IsScalar}
 use Rattle.std.specs.Char.Escape.{encode_utf16}
@@ -36,16 +36,18 @@ either codings.Unknown = inr tt
 
 pub one_text : OneText
 one_text set bytes cs ds is also =
-    elim (either (coding_of set))
-      [ inl utf8 ↦ encodes_same cs ds ((Encodes-text set bytes cs utf8 is).encoded ∙ sym (Encodes-text set bytes ds utf8 also).encoded)
-      | inr other ↦ let same : Some cs ≡ Some ds = sym (decoded-text set bytes cs other is) ∙ decoded-text set bytes ds other also in cc ]
+    elim (either (coding_of set)) [
+      | inl utf8 ↦ encodes_same cs ds ((Encodes-text set bytes cs utf8 is).encoded ∙ sym (Encodes-text set bytes ds utf8 also).encoded)
+      | inr other ↦ let same : Some cs ≡ Some ds = sym (decoded-text set bytes cs other is) ∙ decoded-text set bytes ds other also in cc
+    ]
 
 pub texts_join : TextsJoin
 texts_join set a b [] ds is also = subst (λ l. IsText set (l ++ b) ds) (sym is) also
-texts_join set a b (c ∷ cs) ds (rest, begins, behind) also =
-    (rest ++ b,
-      record { front = begins.front; spells = begins.spells; split = ap (λ l. l ++ b) begins.split ∙ append_assoc begins.front rest b },
-      texts_join set rest b cs ds behind also)
+texts_join set a b (c ∷ cs) ds (rest, begins, behind) also = (
+  rest ++ b,
+  record { front = begins.front; spells = begins.spells; split = ap (λ l. l ++ b) begins.split ∙ append_assoc begins.front rest b },
+  texts_join set rest b cs ds behind also,
+)
 
 -- ---- Single bytes
 
@@ -64,10 +66,11 @@ by_table_from set (byte ∷ bytes) [] single is = absurd cc
 by_table_from set (byte ∷ bytes) (c ∷ cs) single is =
     let found : byte_character set byte ≡ Some c = cc in
     let others : map (byte_character set) bytes ≡ map Some cs = cc in
-    let coded : SpellsIn codings.SingleByte set (byte ∷ []) c = (byte, refl, found) in
-    (bytes,
+    let coded : SpellsIn codings.SingleByte set (byte ∷ []) c = (byte, refl, found) in (
+      bytes,
       record { front = byte ∷ []; spells = record { scalar = char-byte set byte c found; coded = subst (λ k. SpellsIn k set (byte ∷ []) c) (sym single) coded }; split = refl },
-      by_table_from set bytes cs single others)
+      by_table_from set bytes cs single others,
+    )
 
 pub by_table : ByTable
 by_table set bytes cs single = (by_table_to set bytes cs single, by_table_from set bytes cs single)
@@ -111,18 +114,19 @@ pub keeps_ascii : KeepsAscii
 unfolding byte_character
 keeps_ascii set byte other low =
     known (entry_of set byte) byte
-      (ap (λ b. cond b (get_or (lower_half set) byte 0) (get_or (upper_half set) (byte - 128) 0)) (lt-ltb byte 128 low)
-      ∙ ap (λ half. get_or half byte 0) (ascii_half set other)
-      ∙ entry_from 0 ASCII byte ascii_entries (omega (arith, low, ascii_length)) ∙ omega arith)
-      low
+    (ap (λ b. cond b (get_or (lower_half set) byte 0) (get_or (upper_half set) (byte - 128) 0)) (lt-ltb byte 128 low)
+    ∙ ap (λ half. get_or half byte 0) (ascii_half set other)
+    ∙ entry_from 0 ASCII byte ascii_entries (omega (arith, low, ascii_length)) ∙ omega arith)
+    low
 
 -- ---- Unicode
 
 pub is_std_utf8 : IsStdUtf8
 unfolding coding_of
-is_std_utf8 bytes cs =
-    (λ is. let found = Encodes-text Utf8mb4 bytes cs tt is in (found.scalars, found.encoded),
-     λ are. text-Encodes Utf8mb4 bytes cs tt (record { scalars = are.0; within = refl; encoded = are.1 }))
+is_std_utf8 bytes cs = (
+  λ is. let found = Encodes-text Utf8mb4 bytes cs tt is in (found.scalars, found.encoded),
+  λ are. text-Encodes Utf8mb4 bytes cs tt (record { scalars = are.0; within = refl; encoded = are.1 }),
+)
 
 units_join : (order : ByteOrder) (front rest us vs : List ℕ) → AreUnits order front us → AreUnits order rest vs → AreUnits order (front ++ rest) (us ++ vs)
 units_join order front rest [] vs is also = subst (λ l. AreUnits order (l ++ rest) vs) (sym is) also
@@ -135,10 +139,11 @@ utf16_units : (order : ByteOrder) (set : CharacterSet) (bytes cs : List ℕ) →
 utf16_units order set bytes [] each is = is
 utf16_units order set bytes (c ∷ cs) each (rest, begins, behind) =
     subst (λ l. AreUnits order l (encode_utf16 c ++ flat_map encode_utf16 cs)) (sym begins.split)
-      (units_join order begins.front rest (encode_utf16 c) _ (each begins.front c begins.spells.coded) (utf16_units order set rest cs each behind))
+    (units_join order begins.front rest (encode_utf16 c) _ (each begins.front c begins.spells.coded) (utf16_units order set rest cs each behind))
 
 pub is_std_utf16 : IsStdUtf16
 unfolding coding_of
-is_std_utf16 bytes cs =
-    (λ is. utf16_units BigEndian Utf16 bytes cs (λ front c coded. coded) is,
-     λ is. utf16_units LittleEndian Utf16le bytes cs (λ front c coded. coded) is)
+is_std_utf16 bytes cs = (
+  λ is. utf16_units BigEndian Utf16 bytes cs (λ front c coded. coded) is,
+  λ is. utf16_units LittleEndian Utf16le bytes cs (λ front c coded. coded) is,
+)

@@ -29,6 +29,7 @@ scalar_at (x ∷ xs) (suc i) are = scalar_at xs i (both _ _ are).1
 
 pub scalar_entry : (set : CharacterSet) (byte : ℕ) → IsScalar (entry_of set byte)
 scalar_entry set byte =
-    elim (nat_lt byte 128) as (λ low. IsScalar (cond low (get_or (lower_half set) byte 0) (get_or (upper_half set) (byte - 128) 0)))
-      [ true ↦ scalar_at (lower_half set) byte (lower_are_scalars set)
-      | false ↦ scalar_at (upper_half set) (byte - 128) (upper_are_scalars set) ]
+    elim (nat_lt byte 128) as (λ low. IsScalar (cond low (get_or (lower_half set) byte 0) (get_or (upper_half set) (byte - 128) 0))) [
+      | true ↦ scalar_at (lower_half set) byte (lower_are_scalars set)
+      | false ↦ scalar_at (upper_half set) (byte - 128) (upper_are_scalars set)
+    ]

@@ -127,7 +127,7 @@ pair_begins order bytes high left c rest high_is at is =
     let pair = pair_units high y.0 high_is low_is in
     let (front, are, split) = two_units order bytes high y.0 left y.1 at (front-first_unit order left y.0 y.1 read) in
     let made : Utf16Front order bytes (surrogate_pair_char high y.0) y.1
-            = record { front = front; scalar = pair.scalar; are = subst (AreUnits order front) (sym pair.units) are; split = split } in
+    = record { front = front; scalar = pair.scalar; are = subst (AreUnits order front) (sym pair.units) are; split = split } in
     subst (λ (p : ℕ × List ℕ). Utf16Front order bytes p.0 p.1) same made
 
 behind_unit_begins : (order : ByteOrder) (bytes : List ℕ) (u : ℕ) (left : List ℕ) (c : ℕ) (rest : List ℕ) (high : Bool) → is_high_surrogate u ≡ high → FrontUnit order bytes u left

@@ -28,13 +28,15 @@ both false b is = absurd cc
 one : (coding : Coding) (set : CharacterSet) (front rest : List ℕ) (c : ℕ) (cs : List ℕ) → IsUtf8Coding coding → IsScalar c → SpellsIn coding set front c → Encodes coding rest cs
     → Encodes coding (front ++ rest) (c ∷ cs)
 one BasicUtf8 set front rest c cs utf8 scalar (basic, is) behind = record {
-    scalars = ap (λ b. b && all_scalars cs) scalar ∙ behind.scalars;
-    within = ap (λ b. b && list_all is_basic cs) (lt-ltb c 0x1_0000 basic) ∙ behind.within;
-    encoded = ap (λ f. f ++ encode_utf8_all cs) (sym is) ∙ ap (λ r. front ++ r) behind.encoded }
+  scalars = ap (λ b. b && all_scalars cs) scalar ∙ behind.scalars;
+  within = ap (λ b. b && list_all is_basic cs) (lt-ltb c 0x1_0000 basic) ∙ behind.within;
+  encoded = ap (λ f. f ++ encode_utf8_all cs) (sym is) ∙ ap (λ r. front ++ r) behind.encoded;
+}
 one Utf8 set front rest c cs utf8 scalar is behind = record {
-    scalars = ap (λ b. b && all_scalars cs) scalar ∙ behind.scalars;
-    within = refl;
-    encoded = ap (λ f. f ++ encode_utf8_all cs) (sym is) ∙ ap (λ r. front ++ r) behind.encoded }
+  scalars = ap (λ b. b && all_scalars cs) scalar ∙ behind.scalars;
+  within = refl;
+  encoded = ap (λ f. f ++ encode_utf8_all cs) (sym is) ∙ ap (λ r. front ++ r) behind.encoded;
+}
 one SingleByte set front rest c cs utf8 scalar is behind = absurd utf8
 one Ucs2 set front rest c cs utf8 scalar is behind = absurd utf8
 one Utf16 set front rest c cs utf8 scalar is behind = absurd utf8
@@ -57,7 +59,7 @@ pub Encodes-text : (set : CharacterSet) (bytes cs : List ℕ) → IsUtf8Coding (
 Encodes-text set bytes [] utf8 is = subst (λ bs. Encodes (coding_of set) bs []) (sym is) (nothing (coding_of set) utf8)
 Encodes-text set bytes (c ∷ cs) utf8 (rest, begins, behind) =
     subst (λ bs. Encodes (coding_of set) bs (c ∷ cs)) (sym begins.split)
-      (one (coding_of set) set begins.front rest c cs utf8 begins.spells.scalar begins.spells.coded (Encodes-text set rest cs utf8 behind))
+    (one (coding_of set) set begins.front rest c cs utf8 begins.spells.scalar begins.spells.coded (Encodes-text set rest cs utf8 behind))
 
 spelled : (coding : Coding) (set : CharacterSet) (c : ℕ) (cs : List ℕ) → IsUtf8Coding coding → are_in_utf8 coding (c ∷ cs) ≡ true → SpellsIn coding set (encode_utf8 c) c × (are_in_utf8 coding cs ≡ true)
 spelled BasicUtf8 set c cs utf8 are = let parts = both (is_basic c) (list_all is_basic cs) are in let basic : c < 0x1_0000 = grind (arith, nat_tests, parts.0) in ((basic, refl), parts.1)

@@ -219,5 +219,8 @@ fn is_old_utf8(name: &str) -> bool
 fn set_with_name(name: &str) -> Option<CharacterSet>
     ensures { result ≡ find (λ set. bytes_eq (name_of set) name.now) all_sets }
 {
-    CHARACTER_SETS.iter().copied().find(|set| set.name() == name)
+    CHARACTER_SETS
+        .iter()
+        .copied()
+        .find(|set| set.name() == name)
 }

@@ -11,11 +11,10 @@ use crate::character_set::CharacterSet;
 use crate::coding::{Coding, coding_of};
 use crate::first::first_character;
 use std::alloc::AllocError;
-use std::fmt;
 use std::fmt::Write;
 use std::iter::FusedIterator;
 use std::marker::Model;
-use std::str;
+use std::{fmt, str};
 
 /// Where the characters are read from.
 #[derive(Clone, Copy)]

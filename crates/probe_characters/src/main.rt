@@ -18,7 +18,9 @@ use std::process::ExitCode;
 const BUFFER_SIZE: usize = 65_536;
 
 const NONE: &str = "none";
+
 const UNKNOWN: &str = "unknown";
+
 const NOTHING: &str = "-";
 
 // The bytes of hexadecimal digits, if they are such.

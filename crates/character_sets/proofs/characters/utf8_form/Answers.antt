@@ -9,10 +9,10 @@ use Rattle.character_sets.proofs.characters.utf8_form.Goals as goal
 pub returns-in_err-text-clause-none : goal.returns-in_err-text-clause-none
 returns-in_err-text-clause-none c =
     let refused : (characters : List ℕ) → IsText c.args.set c.args.bytes.now characters → ⊥ = λ characters is.
-        let found = utf8-text c.args.set c.args.bytes.now characters c.requires is in
-        let outside = c.in_err-text.ensures.none found.0 in
-        let within = subst (λ k. are_in_utf8 k (chars c.args.bytes.now) ≡ true) (sym c.coding_of.ensures) found.1 in
-        cc
+    let found = utf8-text c.args.set c.args.bytes.now characters c.requires is in
+    let outside = c.in_err-text.ensures.none found.0 in
+    let within = subst (λ k. are_in_utf8 k (chars c.args.bytes.now) ≡ true) (sym c.coding_of.ensures) found.1 in
+    cc
     in search rules
 
 pub returns-clause-text : goal.returns-clause-text

@@ -20,5 +20,5 @@ returns-in_ok-first-in-Coded-clause-steps c =
 pub returns-in_ok-first-in-Coded-clause-goes : goal.returns-in_ok-first-in-Coded-clause-goes
 returns-in_ok-first-in-Coded-clause-goes c =
     let split : c.args.self.now ≡ c.in_ok-first-in-Coded.first ∷ unwrap_or (decoded c.in-Coded.set c.in_ok-first-in-Coded.rest.now) []
-            = sym c.self.view_is ∙ ap text_of c.in-Coded.is ∙ text-first _ _ _ _ (subst IsSound c.in-Coded.is c.self.invariant) c.in_ok-first-in-Coded.ensures in
+    = sym c.self.view_is ∙ ap text_of c.in-Coded.is ∙ text-first _ _ _ _ (subst IsSound c.in-Coded.is c.self.invariant) c.in_ok-first-in-Coded.ensures in
     search rules
