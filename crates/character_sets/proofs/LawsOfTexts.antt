@@ -59,7 +59,7 @@ by_table_to set bytes (c ∷ cs) single (rest, begins, behind) =
     ∙ ap (λ o. o ∷ map (byte_character set) rest) found
     ∙ ap (λ l. Some c ∷ l) (by_table_to set rest cs single behind)
 
-by_table_from : (set : CharacterSet) (bytes cs : List ℕ) → coding_of set ≡ codings.SingleByte → map (byte_character set) bytes ≡ map Some cs → IsText set bytes cs
+pub by_table_from : (set : CharacterSet) (bytes cs : List ℕ) → coding_of set ≡ codings.SingleByte → map (byte_character set) bytes ≡ map Some cs → IsText set bytes cs
 by_table_from set [] [] single is = refl
 by_table_from set [] (c ∷ cs) single is = absurd cc
 by_table_from set (byte ∷ bytes) [] single is = absurd cc

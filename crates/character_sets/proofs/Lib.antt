@@ -6,3 +6,4 @@ pub mod SpelledFirst
 pub mod Decoded
 pub mod Utf8Lemmas
 pub mod LawsOfTexts
+pub mod AsciiTexts

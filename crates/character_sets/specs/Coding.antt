@@ -1,7 +1,7 @@
 -- How the characters of a set are coded.
 use Rattle.std.specs.Prelude.{Bool, true, false}
 use Rattle.character_sets.specs.declared.character_set.CharacterSet.{CharacterSet}
-use Rattle.character_sets.specs.declared.character_set.CharacterSet.TheVariants.{Big5, Binary, Cp932, Eucjpms, Euckr, Gb18030, Gb2312, Gbk, Sjis, Ujis, Ucs2, Utf16, Utf16le, Utf32, Utf8mb3, Utf8mb4}
+use Rattle.character_sets.specs.declared.character_set.CharacterSet.TheVariants.{Swe7, Big5, Binary, Cp932, Eucjpms, Euckr, Gb18030, Gb2312, Gbk, Sjis, Ujis, Ucs2, Utf16, Utf16le, Utf32, Utf8mb3, Utf8mb4}
 use Rattle.character_sets.specs.declared.coding.Coding.{Coding}
 use Rattle.character_sets.specs.declared.coding.Coding.TheVariants as codings
 
@@ -29,3 +29,13 @@ coding_of _ = codings.SingleByte
 abbrev pub is_decoded : Coding → Bool
 is_decoded codings.Unknown = false
 is_decoded _ = true
+
+-- Each character is a byte.
+abbrev pub is_single_byte : Coding → Bool
+is_single_byte codings.SingleByte = true
+is_single_byte _ = false
+
+-- The bytes below 80 are ASCII, and each byte is a character.
+unfoldable pub has_ascii_bytes : CharacterSet → Bool
+has_ascii_bytes Swe7 = false
+has_ascii_bytes set = is_single_byte (coding_of set)

@@ -1,5 +1,5 @@
 //! The characters of a text.
-ghost use Rattle.std.specs.Prelude.{◌≡◌, [], ◌∷◌, true, false, List, ℕ, is_some, chars, MatchOption, IfSome, IfNone, IsUtf8};
+ghost use Rattle.std.specs.Prelude.{◌≡◌, [], ◌∷◌, true, false, List, ℕ, is_some, unwrap_or, encode_utf8_all, chars, MatchOption, IfSome, IfNone, IsUtf8};
 ghost use Rattle.std.specs.List.{list_all};
 ghost use Rattle.character_sets.specs.Coding.{coding_of};
 ghost use Rattle.character_sets.specs.Spellings.{IsText};
@@ -8,7 +8,7 @@ ghost use Rattle.character_sets.specs.Utf8Texts.{is_basic, are_in_utf8, IsUtf8Co
 ghost use Rattle.character_sets.specs.Texts.{HasCharacters};
 
 use crate::character_set::CharacterSet;
-use crate::coding::{Coding, coding_of};
+use crate::coding::{Coding, coding_of, has_ascii_bytes};
 use crate::first::first_character;
 use std::alloc::AllocError;
 use std::fmt::Write;
@@ -175,6 +175,17 @@ impl<'a> Clone for Characters<'a> {
 }
 
 impl<'a> Characters<'a> {
+    /// The characters that are left as UTF-8, where the bytes are that already: in `utf8mb3` and `utf8mb4`, and for a text in ASCII in
+    /// the single-byte sets but `swe7`. `None` says no more than that they have to be taken one by one.
+    pub fn as_str(&self) -> Option<&'a str>
+        ensures { IfSome result (λ text. text.now ≡ encode_utf8_all self.now) }
+    {
+        match self.form {
+            Form::Utf8(text) => Some(utf8_itself(text)),
+            Form::Coded(set, bytes) => ascii_text(set, bytes),
+        }
+    }
+
     fn copy(&self) -> Characters<'a>
         ensures { result ≡ self.now }
     {
@@ -195,4 +206,23 @@ impl<'a> fmt::Display for Characters<'a> {
         }
         Ok(())
     }
+}
+
+// A text in UTF-8, as the UTF-8 of its characters.
+#[tactic(auto, using(crate::proofs::AsciiTexts::encoded_chars))]
+fn utf8_itself(text: &str) -> &str
+    ensures { result.now ≡ encode_utf8_all (chars text.now) }
+{
+    text
+}
+
+// A text in ASCII as UTF-8.
+#[tactic(auto, using(crate::proofs::AsciiTexts::ascii_text))]
+fn ascii_text(set: CharacterSet, bytes: &[u8]) -> Option<&str>
+    ensures { IfSome result (λ text. text.now ≡ encode_utf8_all (unwrap_or (decoded set bytes.now) [])) }
+{
+    if !has_ascii_bytes(set) || !bytes.is_ascii() {
+        return None;
+    }
+    str::from_utf8(bytes).ok()
 }

@@ -1,6 +1,6 @@
 //! How the characters of a set are coded.
 ghost use Rattle.std.specs.Prelude.{◌≡◌};
-ghost use Rattle.character_sets.specs.Coding.{coding_of};
+ghost use Rattle.character_sets.specs.Coding.{coding_of, has_ascii_bytes};
 
 use crate::character_set::CharacterSet;
 
@@ -49,6 +49,17 @@ pub(crate) fn coding_of(set: CharacterSet) -> Coding
         | CharacterSet::Sjis
         | CharacterSet::Ujis => Coding::Unknown,
         _ => Coding::SingleByte,
+    }
+}
+
+/// Whether the bytes below 0x80 are ASCII, and each byte is a character.
+#[tactic(auto, unfolding(crate::specs::Coding::has_ascii_bytes))]
+pub(crate) fn has_ascii_bytes(set: CharacterSet) -> bool
+    ensures { result ≡ has_ascii_bytes set }
+{
+    match set {
+        CharacterSet::Swe7 => false,
+        _ => matches!(coding_of(set), Coding::SingleByte),
     }
 }
 
