@@ -1,7 +1,7 @@
 -- What is decoded is the text, and the only one.
-use Rattle.std.proofs.Common.{◌≡◌, ℕ, zero, suc, ◌+◌, ◌<◌, ◌≤◌, Bool, true, false, nat_lt, cond, Option, Some, None, List, [], ◌∷◌, ◌++◌, length, take, drop, refl, ap, sym, ◌∙◌, subst, arith}
+use Rattle.std.proofs.Common.{◌≡◌, ℕ, zero, suc, ◌<◌, ◌≤◌, Bool, true, false, nat_lt, cond, Option, Some, None, List, [], ◌∷◌, length, refl, ap, sym, ◌∙◌, subst, arith}
 use Rattle.std.proofs.Math.ListN.{length-append}
-use Rattle.std.specs.Option.{option_map, option_and_then}
+use Rattle.std.specs.Option.{option_and_then}
 use Rattle.std.specs.Prelude.{is_some, encode_utf8, unwrap_or}
 use Rattle.std.specs.Char.Escape.{encode_utf16}
 use Rattle.std.proofs.lemmas.Str.{length-encode, len_utf8_bounds}
@@ -12,7 +12,7 @@ use Rattle.character_sets.specs.declared.coding.ByteOrder.{ByteOrder}
 use Rattle.character_sets.specs.declared.coding.ByteOrder.TheVariants.{BigEndian, LittleEndian}
 use Rattle.character_sets.specs.Coding.{coding_of}
 use Rattle.character_sets.specs.Spellings.{AreUnits, SpellsIn, Begins, IsText}
-use Rattle.character_sets.specs.Decoding.{First, first_character, first_in, first_byte, first_of_ucs2, first_of_utf16, first_of_utf32, first_unit, decoded, decoded_within, with_front, IsNotUtf8}
+use Rattle.character_sets.specs.Decoding.{first_character, decoded, decoded_within, with_front, IsNotUtf8}
 use Rattle.character_sets.proofs.FirstSpelled.{first_character-begins}
 use Rattle.character_sets.proofs.SpelledFirst.{begins-first_character, then_some, mapped_some}
 

@@ -1,25 +1,22 @@
 -- The first character is one that the bytes begin with, and the only one.
-use Rattle.std.specs.Prelude.{nat_le}
-use Rattle.std.proofs.Common.{◌≡◌, ℕ, ◌+◌, ◌-◌, ◌*◌, ◌/◌, ◌%◌, ◌<◌, ◌≤◌, Bool, true, false, ◌&&◌, nat_lt, cond, Option, Some, None, List, [], ◌∷◌, ◌++◌, length, take, drop, refl, ap, sym, ◌∙◌, ◌⊎◌, inl, inr, arith}
+use Rattle.std.proofs.Common.{◌≡◌, ℕ, ◌+◌, ◌-◌, ◌/◌, ◌%◌, ◌<◌, ◌≤◌, Bool, true, false, nat_lt, cond, Some, None, List, [], ◌∷◌, ◌++◌, length, refl, ap, ◌∙◌, arith}
 use Rattle.std.specs.Option.{option_map, option_and_then}
 use Rattle.std.specs.Char.{IsScalar}
 use Rattle.std.specs.Char.Escape.{encode_utf16}
 use Rattle.std.specs.Char.Utf16.{is_low_surrogate, is_high_surrogate, surrogate_pair_char}
 use Rattle.std.specs.Int.{w32, from_be_bytes}
-use Rattle.std.proofs.lemmas.Bool.{le-ltb, lt-ltb}
+use Rattle.std.proofs.lemmas.Bool.{le-ltb}
 use Rattle.std.proofs.lemmas.Bool.Decides.{nat_tests}
-use Rattle.std.proofs.lemmas.Option.{option_and_then_some}
 use Rattle.character_sets.specs.declared.character_set.CharacterSet.{CharacterSet}
 use Rattle.character_sets.specs.declared.coding.Coding.{Coding}
 use Rattle.character_sets.specs.declared.coding.Coding.TheVariants.{SingleByte, BasicUtf8, Utf8, Ucs2, Utf16, Utf16le, Utf32, Unknown}
 use Rattle.character_sets.specs.declared.coding.ByteOrder.{ByteOrder}
 use Rattle.character_sets.specs.declared.coding.ByteOrder.TheVariants.{BigEndian, LittleEndian}
 use Rattle.character_sets.specs.Coding.{coding_of}
-use Rattle.character_sets.specs.SingleByte.{byte_character}
-use Rattle.character_sets.specs.Spellings.{unit, AreUnits, SpellsIn, Spells, Begins}
-use Rattle.character_sets.specs.Decoding.{First, first_unit, first_byte, first_of_ucs2, first_of_utf16, first_behind_unit, surrogate_pair, lone_unit, first_of_utf32, first_in, first_character, unit_char, number_char, IsNotUtf8}
-use Rattle.character_sets.proofs.Scalars.{number_char-scalar, scalar-number_char, unit_char-scalar, scalar-unit_char}
-use Rattle.character_sets.proofs.Units.{FrontUnit, FrontUnit-units, first_unit-front, front-first_unit}
+use Rattle.character_sets.specs.Spellings.{AreUnits, SpellsIn, Begins}
+use Rattle.character_sets.specs.Decoding.{first_unit, first_byte, first_of_ucs2, first_of_utf16, first_behind_unit, surrogate_pair, lone_unit, first_of_utf32, first_in, first_character, number_char, IsNotUtf8}
+use Rattle.character_sets.proofs.Scalars.{number_char-scalar, unit_char-scalar}
+use Rattle.character_sets.proofs.Units.{FrontUnit-units, first_unit-front}
 
 -- A unit that is the last of some.
 last_unit : (order : ByteOrder) (front : List ℕ) (u : ℕ) (rest : List ℕ) → AreUnits order front (u ∷ []) → first_unit order (front ++ rest) ≡ Some (u, rest)

@@ -1,10 +1,8 @@
 -- The laws of texts.
-use Rattle.std.proofs.Common.{◌≡◌, ◌≢◌, ◌↔◌, ℕ, zero, suc, ◌+◌, ◌-◌, ◌<◌, ◌≤◌, ◌⊎◌, inl, inr, Bool, true, false, ◌&&◌, nat_lt, cond, Option, Some, None, List, [], ◌∷◌, ◌++◌, map, length, take, drop, get_or, refl, ap, sym, ◌∙◌, subst, append_assoc, arith}
-use Rattle.std.specs.Prelude.{◌==◌, flat_map, encode_utf8_all}
-use Rattle.std.specs.Char.{IsScalar}
+use Rattle.std.proofs.Common.{◌≡◌, ◌≢◌, ℕ, zero, suc, ◌+◌, ◌-◌, ◌<◌, ◌⊎◌, inl, inr, Bool, true, false, ◌&&◌, cond, Some, List, [], ◌∷◌, ◌++◌, map, length, get_or, refl, ap, sym, ◌∙◌, subst, append_assoc, arith}
+use Rattle.std.specs.Prelude.{◌==◌, flat_map}
 use Rattle.std.specs.Char.Escape.{encode_utf16}
-use Rattle.std.specs.Str.{all_scalars}
-use Rattle.std.proofs.lemmas.Bool.{le-ltb, lt-ltb}
+use Rattle.std.proofs.lemmas.Bool.{lt-ltb}
 use Rattle.std.proofs.lemmas.Bool.Decides.{nat_tests}
 use Rattle.std.proofs.lemmas.Str.{encodes_same}
 use Rattle.character_sets.specs.declared.character_set.CharacterSet.{CharacterSet}
@@ -13,16 +11,16 @@ use Rattle.character_sets.specs.declared.coding.Coding.{Coding}
 use Rattle.character_sets.specs.declared.coding.Coding.TheVariants as codings
 use Rattle.character_sets.specs.declared.coding.ByteOrder.{ByteOrder}
 use Rattle.character_sets.specs.declared.coding.ByteOrder.TheVariants.{BigEndian, LittleEndian}
-use Rattle.character_sets.specs.declared.tables.TheConstants.{UNASSIGNED, ASCII}
+use Rattle.character_sets.specs.declared.tables.TheConstants.{ASCII}
 use Rattle.character_sets.specs.Coding.{coding_of}
 use Rattle.character_sets.specs.SingleByte.{byte_character, entry_of, character_of, lower_half, upper_half}
-use Rattle.character_sets.specs.Spellings.{unit, AreUnits, SpellsIn, Spells, Begins, IsText}
-use Rattle.character_sets.specs.Decoding.{decoded, IsNotUtf8}
+use Rattle.character_sets.specs.Spellings.{AreUnits, SpellsIn, IsText}
+use Rattle.character_sets.specs.Decoding.{IsNotUtf8}
 use Rattle.character_sets.specs.Utf8Texts.{IsUtf8Coding}
 use Rattle.character_sets.specs.Laws.{OneText, TextsJoin, ByTable, KeepsAscii, IsStdUtf8, IsStdUtf16}
 use Rattle.character_sets.proofs.SpelledFirst.{char-byte}
 use Rattle.character_sets.proofs.Decoded.{decoded-text}
-use Rattle.character_sets.proofs.Utf8Lemmas.{Encodes, Encodes-text, text-Encodes}
+use Rattle.character_sets.proofs.Utf8Lemmas.{Encodes-text, text-Encodes}
 
 either : (coding : Coding) → IsUtf8Coding coding ⊎ IsNotUtf8 coding
 either codings.SingleByte = inr tt

@@ -3,7 +3,7 @@ use Rattle.std.proofs.Common.{◌≡◌, ℕ, zero, suc, ◌-◌, Bool, true, fa
 use Rattle.std.specs.Char.{IsScalar}
 use Rattle.std.specs.Str.{all_scalars}
 use Rattle.character_sets.specs.declared.character_set.CharacterSet.{CharacterSet}
-use Rattle.character_sets.specs.declared.character_set.CharacterSet.TheVariants.{Armscii8, Cp1250, Cp1251, Cp1256, Cp1257, Cp850, Cp852, Cp866, Dec8, Geostd8, Greek, Hebrew, Hp8, Keybcs2, Koi8r, Koi8u, Latin1, Latin2, Latin5, Latin7, Macce, Macroman, Swe7, Tis620}
+use Rattle.character_sets.specs.declared.character_set.CharacterSet.TheVariants.{Armscii8, Swe7}
 use Rattle.character_sets.specs.SingleByte.{lower_half, upper_half, entry_of}
 
 lower_are_scalars : (set : CharacterSet) → all_scalars (lower_half set) ≡ true

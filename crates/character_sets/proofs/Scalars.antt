@@ -1,8 +1,6 @@
 -- Numbers that are characters.
-use Rattle.std.specs.Prelude.{nat_le}
-use Rattle.std.proofs.Common.{◌≡◌, ℕ, ◌+◌, ◌-◌, ◌*◌, ◌/◌, ◌%◌, ◌<◌, ◌≤◌, Bool, true, false, ◌&&◌, nat_lt, cond, Option, Some, None, refl, ◌⊎◌, inl, inr, ap, sym, ◌∙◌, arith}
+use Rattle.std.proofs.Common.{◌≡◌, ℕ, ◌<◌, Some, arith}
 use Rattle.std.specs.Char.{IsScalar}
-use Rattle.std.specs.Char.Utf16.{is_low_surrogate, is_high_surrogate, surrogate_pair_char, lone_unit_char}
 use Rattle.std.proofs.lemmas.Bool.Decides.{nat_tests}
 use Rattle.character_sets.specs.Decoding.{unit_char, number_char}
 

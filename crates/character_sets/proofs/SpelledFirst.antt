@@ -1,6 +1,5 @@
 -- What is read as the first character is spelled at the front.
-use Rattle.std.specs.Prelude.{nat_le}
-use Rattle.std.proofs.Common.{◌≡◌, ℕ, ◌+◌, ◌-◌, ◌*◌, ◌/◌, ◌%◌, ◌<◌, ◌≤◌, Bool, true, false, ◌&&◌, nat_lt, cond, Option, Some, None, List, [], ◌∷◌, ◌++◌, length, take, drop, refl, ap, sym, ◌∙◌, subst, arith}
+use Rattle.std.proofs.Common.{◌≡◌, ℕ, ◌+◌, ◌-◌, ◌/◌, ◌%◌, ◌<◌, ◌≤◌, Bool, true, false, nat_lt, cond, Option, Some, None, List, [], ◌∷◌, ◌++◌, length, refl, ap, sym, ◌∙◌, subst, arith}
 use Rattle.std.specs.Option.{option_map, option_and_then}
 use Rattle.std.specs.Char.{IsScalar}
 use Rattle.std.specs.Char.Escape.{encode_utf16}
@@ -15,8 +14,8 @@ use Rattle.character_sets.specs.declared.coding.ByteOrder.{ByteOrder}
 use Rattle.character_sets.specs.declared.coding.ByteOrder.TheVariants.{BigEndian, LittleEndian}
 use Rattle.character_sets.specs.Coding.{coding_of}
 use Rattle.character_sets.specs.SingleByte.{byte_character, entry_of, character_of}
-use Rattle.character_sets.specs.Spellings.{unit, AreUnits, SpellsIn, Spells, Begins}
-use Rattle.character_sets.specs.Decoding.{First, first_unit, first_byte, first_of_ucs2, first_of_utf16, first_behind_unit, surrogate_pair, lone_unit, first_of_utf32, first_in, first_character, unit_char, number_char}
+use Rattle.character_sets.specs.Spellings.{AreUnits, SpellsIn, Begins}
+use Rattle.character_sets.specs.Decoding.{first_unit, first_byte, first_of_ucs2, first_of_utf16, first_behind_unit, surrogate_pair, lone_unit, first_of_utf32, first_in, first_character, unit_char, number_char}
 use Rattle.character_sets.proofs.ScalarEntries.{scalar_entry}
 use Rattle.character_sets.proofs.Scalars.{scalar-number_char, scalar-unit_char}
 use Rattle.character_sets.proofs.Units.{FrontUnit, front-first_unit}

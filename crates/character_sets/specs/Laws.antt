@@ -1,10 +1,9 @@
 -- Laws of the texts of character sets.
-use Rattle.std.specs.Prelude.{◌≡◌, ◌≢◌, ◌↔◌, ◌<◌, ◌++◌, ◌⊎◌, ℕ, true, List, Option, Some, map, flat_map, IsAscii, encode_utf8_all}
+use Rattle.std.specs.Prelude.{◌≡◌, ◌≢◌, ◌↔◌, ◌<◌, ◌++◌, ℕ, true, List, Some, map, flat_map, encode_utf8_all}
 use Rattle.std.specs.Char.Escape.{encode_utf16}
 use Rattle.std.specs.Str.{all_scalars}
 use Rattle.character_sets.specs.declared.character_set.CharacterSet.{CharacterSet}
 use Rattle.character_sets.specs.declared.character_set.CharacterSet.TheVariants.{Swe7, Utf8mb4, Utf16, Utf16le}
-use Rattle.character_sets.specs.declared.coding.Coding.{Coding}
 use Rattle.character_sets.specs.declared.coding.Coding.TheVariants as codings
 use Rattle.character_sets.specs.declared.coding.ByteOrder.TheVariants.{BigEndian, LittleEndian}
 use Rattle.character_sets.specs.Coding.{coding_of}

@@ -1,5 +1,5 @@
 -- What is left of a text.
-use Rattle.std.specs.Prelude.{◌≡◌, ℕ, Bool, true, List, [], is_some, unwrap_or, chars, IsUtf8}
+use Rattle.std.specs.Prelude.{◌≡◌, ℕ, true, List, [], is_some, unwrap_or, chars}
 use Rattle.character_sets.specs.declared.character_set.CharacterSet.{CharacterSet}
 use Rattle.character_sets.specs.declared.characters.Form.{Form}
 use Rattle.character_sets.specs.declared.characters.Form.TheVariants.{Utf8, Coded}

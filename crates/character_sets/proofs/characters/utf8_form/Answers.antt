@@ -1,6 +1,5 @@
 use Rattle.std.proofs.Common.{◌≡◌, ℕ, List, true, sym, subst, rules}
 use Rattle.std.specs.Prelude.{chars}
-use Rattle.character_sets.specs.Coding.{coding_of}
 use Rattle.character_sets.specs.Spellings.{IsText}
 use Rattle.character_sets.specs.Utf8Texts.{are_in_utf8}
 use Rattle.character_sets.proofs.Utf8Lemmas.{text-utf8, utf8-text}

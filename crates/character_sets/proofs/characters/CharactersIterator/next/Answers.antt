@@ -1,5 +1,5 @@
-use Rattle.std.proofs.Common.{◌≡◌, Some, true, [], ◌∷◌, sym, ap, subst, ◌∙◌, rules}
-use Rattle.std.specs.Prelude.{is_some, unwrap_or}
+use Rattle.std.proofs.Common.{◌≡◌, [], ◌∷◌, sym, ap, subst, ◌∙◌, rules}
+use Rattle.std.specs.Prelude.{unwrap_or}
 use Rattle.character_sets.specs.Decoding.{decoded}
 use Rattle.character_sets.specs.Texts.{text_of, IsSound}
 use Rattle.character_sets.proofs.Decoded.{left_is_text, text-first, text-no_first}
