@@ -1,0 +1,6 @@
+pub mod Values
+pub mod Layout
+pub mod Opaques
+pub mod Grammar
+pub mod Refusals
+pub mod Decoding
