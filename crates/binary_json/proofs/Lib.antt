@@ -4,3 +4,6 @@ pub mod Entries
 pub mod Decimals
 pub mod Steps
 pub mod Texts
+pub mod Scalars
+pub mod Members
+pub mod Whole

@@ -22,6 +22,12 @@ chosen false q r y e = inr (refl, e)
 abbrev left : ℕ → Left
 left x = Ok x
 
+abbrev refused : JsonError → Left
+refused d = Err d
+
+pub refused_ok : {d : JsonError} {y : ℕ} → refused d ≡ left y → ⊥
+refused_ok e = cc
+
 pub same_left : (x y : ℕ) → left x ≡ left y → x ≡ y
 same_left x y e = cc
 

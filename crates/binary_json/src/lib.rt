@@ -6,6 +6,7 @@ mod container;
 mod decimal;
 mod error;
 mod opaque;
+pub mod laws;
 mod scalar;
 
 pub use error::{JsonError, Refusal};
