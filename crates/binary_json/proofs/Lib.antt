@@ -7,3 +7,5 @@ pub mod Texts
 pub mod Scalars
 pub mod Members
 pub mod Whole
+pub mod Documents
+pub mod Reading

@@ -27,7 +27,7 @@ header_sound t place s n e =
     let c = passed (nat_lt (byte_size t s) (header_len t s)) _ (Ok (header_len t s)) n b.1 in
     (record { enough = ltb-false _ _ a.0; within = ltb-false _ _ b.0; room = ltb-false _ _ c.0 }, same_left (header_len t s) n c.1)
 
-header_complete : (t place : ℕ) (s : List ℕ) → Fits t s → header_of t place s ≡ Ok (header_len t s)
+pub header_complete : (t place : ℕ) (s : List ℕ) → Fits t s → header_of t place s ≡ Ok (header_len t s)
 unfolding header_of
 header_complete t place s fits = rw (le-ltb _ _ fits.enough, le-ltb _ _ fits.within, le-ltb _ _ fits.room) refl
 

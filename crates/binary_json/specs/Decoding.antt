@@ -25,3 +25,19 @@ container_at value t s = if is_object t then object (entries_at value t s (entry
 unfoldable pub value_at : ℕ → ℕ → List ℕ → Json
 value_at zero t s = scalar (scalar_at t s)
 value_at (suc depth) t s = if is_container t then container_at (value_at depth) t s else scalar (scalar_at t s)
+
+-- Bytes that are checked: whatever they cost, which is less than 2^64, as there is no longer document.
+unfoldable pub is_readable : ℕ → List ℕ → Bool
+is_readable t s = is_ok (value_left 100 t 0 s (2 ^ 64))
+
+unfoldable pub value_in : ℕ → List ℕ → Json
+value_in t s = value_at 100 t s
+
+-- The entries of an array or an object.
+unfoldable pub entries_in : ℕ → List ℕ → Entries
+entries_in t s = entries_at (value_at 99) t s (entry_count t s) 0
+
+-- The value of a document.
+abbrev pub document_value : List ℕ → Json
+document_value [] = scalar null
+document_value (t ∷ s) = value_in t s

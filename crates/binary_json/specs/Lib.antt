@@ -4,3 +4,4 @@ pub mod Opaques
 pub mod Grammar
 pub mod Refusals
 pub mod Decoding
+pub mod Views

@@ -1,5 +1,5 @@
 -- JSON values, as MySQL stores them.
-use Rattle.std.specs.Prelude.{ℕ, ℤ, suc, max, List, Bool, Option}
+use Rattle.std.specs.Prelude.{ℕ, ℤ, suc, max, List, [], ◌∷◌, Bool, Option, Some, None}
 
 -- A value that holds no other values. Integers keep the width of their type. A double is given by its bits, a string by its
 -- bytes, and an opaque value by its column type and its bytes.
@@ -38,3 +38,14 @@ abbrev mutual
   pub entries_nesting : Entries → ℕ
   entries_nesting no_entries = 0
   entries_nesting (entry key v es) = max (nesting v) (entries_nesting es)
+
+-- The values of entries, in order.
+abbrev pub values : Entries → List Json
+values no_entries = []
+values (entry key v es) = v ∷ values es
+
+-- The keys and values of the entries of an object, in order.
+abbrev pub members : Entries → List (List ℕ × Json)
+members no_entries = []
+members (entry None v es) = members es
+members (entry (Some key) v es) = (key, v) ∷ members es

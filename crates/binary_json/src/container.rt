@@ -7,7 +7,7 @@ use crate::error::{JsonError, Refusal};
 use byteorder::{ByteOrder, LittleEndian};
 
 /// The bytes of an array or an object, whose header fits into its size, and that into the bytes.
-#[derive(Clone, Copy)]
+#[derive(Clone, Copy, Debug)]
 pub(crate) struct Container<'a> {
     pub(crate) kind: u8,
     pub(crate) bytes: &'a [u8],
@@ -141,6 +141,18 @@ impl<'a> Container<'a> {
         ensures small { result < 2 ^ 16 }
     {
         usize::from(LittleEndian::read_u16(&self.bytes[self.key_place(index) + width(self.kind)..]))
+    }
+
+    /// The bytes of a key.
+    #[tactic(auto, unfolding(crate::specs::Layout::key_bytes))]
+    pub(crate) fn key(&self, index: usize) -> &'a [u8]
+        requires object { is_object self.now.kind ≡ true }
+        requires known { index < self.now.count }
+        requires within { key_offset self.now.kind self.now.bytes.now index + key_size self.now.kind self.now.bytes.now index ≤ self.now.size }
+        ensures { result.now ≡ key_bytes self.now.kind self.now.bytes.now index }
+    {
+        let offset = self.key_offset(index);
+        &self.bytes[offset..offset + self.key_size(index)]
     }
 
     /// The type of a value.

@@ -1,11 +1,10 @@
-//! Laws of documents, which have no code.
-ghost use Rattle.std.specs.Prelude.{◌≡◌, ℕ, List, Ok, ◌+◌};
-ghost use Rattle.binary_json.specs.Layout.{text};
-ghost use Rattle.binary_json.specs.Grammar.{IsText};
-ghost use Rattle.binary_json.specs.Refusals.{text_left};
+//! Laws of documents. The functions have no code.
+ghost use Rattle.std.specs.Prelude.{◌≡◌, ℕ, List};
+ghost use Rattle.binary_json.specs.Values.{Json};
+ghost use Rattle.binary_json.specs.Grammar.{IsDocument};
 
-/// t
-pub fn texts()
-    ensures { (place : ℕ) (s : List ℕ) (from rest : ℕ) → text_left place s from ≡ Ok rest → (cost : ℕ) × IsText (text s) s cost × (cost + rest ≡ from) }
+/// Bytes are at most one value.
+pub fn documents_are_one_value()
+    ensures { (bytes : List ℕ) (v w : Json) → IsDocument bytes v → IsDocument bytes w → v ≡ w }
 {
 }

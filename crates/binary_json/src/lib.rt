@@ -3,10 +3,16 @@
 
 mod check;
 mod container;
+mod containers;
 mod decimal;
+mod document;
 mod error;
-mod opaque;
 pub mod laws;
+mod opaque;
 mod scalar;
+mod value;
 
+pub use containers::{Array, Object};
+pub use document::Document;
 pub use error::{JsonError, Refusal};
+pub use value::{Double, OpaqueValue, Value};
