@@ -5,7 +5,8 @@ pub mod Decimals
 pub mod Steps
 pub mod Texts
 pub mod Scalars
-pub mod Members
+pub mod MemberChecks
 pub mod Whole
 pub mod Documents
 pub mod Reading
+pub mod Left

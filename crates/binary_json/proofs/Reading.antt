@@ -107,15 +107,15 @@ entries_read t s e low =
     let read = is_read t s e in
     elim (cases_lt t 2) [
       | inl small ↦
-        let same = at_object t s (omega (arith, small)) in
-        let is = subst (λ (v : Json). IsValue v t s read.cost) same read.is in
-        let deep : suc (entries_nesting (entries_in t s)) ≤ 100 = subst (λ (v : Json). nesting v ≤ 100) same read.deep in
-        record { fits = record { enough = is.1.enough; within = is.1.within; room = is.1.room }; cost = is.1.entries_cost; are = is.1.entries; few = omega (arith, is.1.cost_is, read.few); deep = omega (arith, deep) }
+          let same = at_object t s (omega (arith, small)) in
+          let is = subst (λ (v : Json). IsValue v t s read.cost) same read.is in
+          let deep : suc (entries_nesting (entries_in t s)) ≤ 100 = subst (λ (v : Json). nesting v ≤ 100) same read.deep in
+          record { fits = record { enough = is.1.enough; within = is.1.within; room = is.1.room }; cost = is.1.entries_cost; are = is.1.entries; few = omega (arith, is.1.cost_is, read.few); deep = omega (arith, deep) }
       | inr large ↦
-        let same = at_array t s large (omega (arith, low)) in
-        let is = subst (λ (v : Json). IsValue v t s read.cost) same read.is in
-        let deep : suc (entries_nesting (entries_in t s)) ≤ 100 = subst (λ (v : Json). nesting v ≤ 100) same read.deep in
-        record { fits = record { enough = is.2.enough; within = is.2.within; room = is.2.room }; cost = is.2.entries_cost; are = is.2.entries; few = omega (arith, is.2.cost_is, read.few); deep = omega (arith, deep) }
+          let same = at_array t s large (omega (arith, low)) in
+          let is = subst (λ (v : Json). IsValue v t s read.cost) same read.is in
+          let deep : suc (entries_nesting (entries_in t s)) ≤ 100 = subst (λ (v : Json). nesting v ≤ 100) same read.deep in
+          record { fits = record { enough = is.2.enough; within = is.2.within; room = is.2.room }; cost = is.2.entries_cost; are = is.2.entries; few = omega (arith, is.2.cost_is, read.few); deep = omega (arith, deep) }
     ]
 
 pub at_header : (t : ℕ) (s : List ℕ) → is_readable t s ≡ true → t < 4 → header_of t 0 s ≡ Ok (header_len t s)
@@ -188,11 +188,11 @@ at_inlined t s i e low less kind =
     let cases = subst (λ (k : ℕ). IsInlined n.v t s k n.b ⊎ IsPlaced (IsValue n.v) t s k n.b) same n.cases in
     elim cases [
       | inl is ↦
-        record {
-          kind = fixed_from (value_type t s i) is.fixed.low is.fixed.high;
-          enough = is.fixed.enough;
-          value = n.is ∙ ap (λ (v : Json). Some v) (is.is_scalar ∙ ap (λ (x : Scalar). scalar x) is.fixed.is);
-        }
+          record {
+            kind = fixed_from (value_type t s i) is.fixed.low is.fixed.high;
+            enough = is.fixed.enough;
+            value = n.is ∙ ap (λ (v : Json). Some v) (is.is_scalar ∙ ap (λ (x : Scalar). scalar x) is.fixed.is);
+          }
       | inr is ↦ absurd (both_ways (is_inlined t (value_type t s i)) is.placed kind)
     ]
 
@@ -205,8 +205,8 @@ at_placed t s i e low less kind =
     elim cases [
       | inl is ↦ absurd (both_ways (is_inlined t (value_type t s i)) kind is.inlined)
       | inr is ↦
-        let both = read_from n.v (value_type t s i) (placed_bytes t s i) n.b is.is (omega (arith, n.few, all.few)) (omega (arith, n.deep, all.deep)) in
-        record { within = is.within; read = both.0; value = n.is ∙ ap (λ (v : Json). Some v) (sym both.1) }
+          let both = read_from n.v (value_type t s i) (placed_bytes t s i) n.b is.is (omega (arith, n.few, all.few)) (omega (arith, n.deep, all.deep)) in
+          record { within = is.within; read = both.0; value = n.is ∙ ap (λ (v : Json). Some v) (sym both.1) }
     ]
 
 pub values_count : (t : ℕ) (s : List ℕ) → is_readable t s ≡ true → t < 4 → length (values (entries_in t s)) ≡ entry_count t s
@@ -250,9 +250,10 @@ pub at_member : (t : ℕ) (s : List ℕ) (i : ℕ) → is_readable t s ≡ true 
 at_member t s i e low less =
     let all = entries_read t s e (omega (arith, low)) in
     let n = nth_member (entries_in t s) t s 0 i all.cost (lt-ltb t 2 low) all.are (omega (arith, less)) in
-    let same : 0 + i ≡ i = omega arith in
-    (subst (λ (k : ℕ). key_offset t s k + key_size t s k ≤ byte_size t s) same n.within,
-    λ v is. n.member ∙ ap (λ (k : ℕ). Some (key_bytes t s k, n.v)) same ∙ ap (λ (w : Json). Some (key_bytes t s i, w)) (some_json n.v v (sym n.value ∙ is)))
+    let same : 0 + i ≡ i = omega arith in (
+      subst (λ (k : ℕ). key_offset t s k + key_size t s k ≤ byte_size t s) same n.within,
+      λ v is. n.member ∙ ap (λ (k : ℕ). Some (key_bytes t s k, n.v)) same ∙ ap (λ (w : Json). Some (key_bytes t s i, w)) (some_json n.v v (sym n.value ∙ is)),
+    )
 
 pub none_past : {A : Type 0} (xs : List A) (i : ℕ) → length xs ≤ i → slice_get xs i ≡ None
 none_past [] i past = refl

@@ -70,8 +70,9 @@ opaque_sound_of place (k ∷ s) from rest t kind e =
     let paid = spent 1 place from a.0 a.1 in
     let text_is = text_sound (place + 1) s a.0 b.0 b.1 in
     elim (chosen (is_opaque k (text s)) (Ok b.0) (refuse refusals.Opaque place) rest b.2) [
-      | inl x ↦
-        (suc text_is.0, record {
+      | inl x ↦ (
+        suc text_is.0,
+        record {
           kind_is = kind;
           column = k;
           rest = s;
@@ -82,7 +83,9 @@ opaque_sound_of place (k ∷ s) from rest t kind e =
           fits = x.0;
           is = refl;
           cost_is = refl;
-        }, omega (arith, text_is.2, paid, same_left b.0 rest x.1))
+        },
+        omega (arith, text_is.2, paid, same_left b.0 rest x.1),
+      )
       | inr x ↦ absurd (refused_ok x.1)
     ]
 
@@ -103,25 +106,25 @@ unfolding scalar_left scalar_at opaque_left
 scalar_sound t place s from rest e =
     elim (chosen (is_fixed t) (fixed_left t place s from) (cond (nat_eq t 12) (text_left place s from) (cond (nat_eq t 15) (opaque_left place s from) (refuse refusals.UnknownType place))) rest e) [
       | inl f ↦
-        let bounds = fixed_bounds t f.0 in
-        let is = fixed_sound t place s from rest f.0 f.1 in
-        let not_string : nat_eq t 12 ≡ false = ne_eqb t 12 (λ h. omega (arith, h, bounds.1)) in
-        let not_opaque : nat_eq t 15 ≡ false = ne_eqb t 15 (λ h. omega (arith, h, bounds.1)) in
-        (fixed_len t, rw (not_string, not_opaque) (inl (is.0, refl)), is.1)
+          let bounds = fixed_bounds t f.0 in
+          let is = fixed_sound t place s from rest f.0 f.1 in
+          let not_string : nat_eq t 12 ≡ false = ne_eqb t 12 (λ h. omega (arith, h, bounds.1)) in
+          let not_opaque : nat_eq t 15 ≡ false = ne_eqb t 15 (λ h. omega (arith, h, bounds.1)) in
+          (fixed_len t, rw (not_string, not_opaque) (inl (is.0, refl)), is.1)
       | inr g ↦
-        elim (chosen (nat_eq t 12) (text_left place s from) (cond (nat_eq t 15) (opaque_left place s from) (refuse refusals.UnknownType place)) rest g.1) [
-          | inl f ↦
-            let is = text_sound place s from rest f.1 in
-            let string_is : IsString (string (text s)) t s is.0 = record { kind_is = eqb-true t 12 f.0; bytes = text s; text = is.1; is = refl } in
-            (is.0, rw f.0 (inr (inl string_is)), is.2)
-          | inr h ↦
-            elim (chosen (nat_eq t 15) (opaque_left place s from) (refuse refusals.UnknownType place) rest h.1) [
-              | inl f ↦
-                let is = opaque_sound_of place s from rest t (eqb-true t 15 f.0) f.1 in
-                (is.0, rw (h.0, f.0) (inr (inr is.1)), is.2)
-              | inr f ↦ absurd (refused_ok f.1)
-            ]
-        ]
+          elim (chosen (nat_eq t 12) (text_left place s from) (cond (nat_eq t 15) (opaque_left place s from) (refuse refusals.UnknownType place)) rest g.1) [
+            | inl f ↦
+                let is = text_sound place s from rest f.1 in
+                let string_is : IsString (string (text s)) t s is.0 = record { kind_is = eqb-true t 12 f.0; bytes = text s; text = is.1; is = refl } in
+                (is.0, rw f.0 (inr (inl string_is)), is.2)
+            | inr h ↦
+                elim (chosen (nat_eq t 15) (opaque_left place s from) (refuse refusals.UnknownType place) rest h.1) [
+                  | inl f ↦
+                      let is = opaque_sound_of place s from rest t (eqb-true t 15 f.0) f.1 in
+                      (is.0, rw (h.0, f.0) (inr (inr is.1)), is.2)
+                  | inr f ↦ absurd (refused_ok f.1)
+                ]
+          ]
     ]
 
 pub scalar_complete : (x : Scalar) (t place : ℕ) (s : List ℕ) (cost from rest : ℕ) → IsScalar x t s cost → cost + rest ≡ from → (4 ≤ t) × (scalar_left t place s from ≡ Ok rest) × (scalar_at t s ≡ x)

@@ -68,8 +68,8 @@ variable_read (suc most) (b ∷ c ∷ s) p e =
     elim (some_chosen (nat_lt b 128) (Some (b, 1)) (with_low (b - 128) (variable_in most (c ∷ s))) p e) [
       | inl x ↦ last_read most b (c ∷ s) p x.0 x.1
       | inr x ↦
-        let q = with_low_some (b - 128) (variable_in most (c ∷ s)) p x.1 in
-        longer most b c p.0 p.1 q.0.0 q.0.1 s (ltb-false b 128 x.0) q.2 q.3 (variable_read most (c ∷ s) q.0 q.1)
+          let q = with_low_some (b - 128) (variable_in most (c ∷ s)) p x.1 in
+          longer most b c p.0 p.1 q.0.0 q.0.1 s (ltb-false b 128 x.0) q.2 q.3 (variable_read most (c ∷ s) q.0 q.1)
     ]
 
 variable_again : (front : List ℕ) (most n : ℕ) (rest : List ℕ) → IsVariable front n → length front ≤ most → variable_in most (front ++ rest) ≡ Some (n, length front)
@@ -143,5 +143,5 @@ pub text_complete : (bytes s : List ℕ) (cost place from rest : ℕ) → IsText
 unfolding text_left variable text
 text_complete bytes s cost place from rest is e =
     let again : (text_left_by (if_small (variable_in 5 (is.front ++ (bytes ++ is.rest)))) place (is.front ++ (bytes ++ is.rest)) from ≡ Ok rest) × (text_behind (if_small (variable_in 5 (is.front ++ (bytes ++ is.rest)))) (is.front ++ (bytes ++ is.rest)) ≡ bytes) =
-      (left_again is.front bytes is.rest is.length_is is.short is.small place from rest (omega (arith, e, is.cost_is)), text_again is.front bytes is.rest is.length_is is.short is.small) in
+    (left_again is.front bytes is.rest is.length_is is.short is.small place from rest (omega (arith, e, is.cost_is)), text_again is.front bytes is.rest is.length_is is.short is.small) in
     subst (λ (r : List ℕ). (text_left_by (if_small (variable_in 5 r)) place r from ≡ Ok rest) × (text_behind (if_small (variable_in 5 r)) r ≡ bytes)) (sym is.parts) again

@@ -10,7 +10,7 @@ use Rattle.binary_json.specs.Decoding.{scalar_at, key_at, entry_at, entries_at, 
 use Rattle.binary_json.specs.declared.error.Refusal.TheVariants as refusals
 use Rattle.binary_json.proofs.Steps.{bind_ok, passed, chosen, refused_ok, same_left, spent, spends}
 use Rattle.binary_json.proofs.Scalars.{scalar_sound, scalar_complete}
-use Rattle.binary_json.proofs.Members.{Sound, IsMember, key_sound, key_complete, member_sound, inlined_complete, placed_complete}
+use Rattle.binary_json.proofs.MemberChecks.{Sound, IsMember, key_sound, key_complete, member_sound, inlined_complete, placed_complete}
 
 -- ---- headers
 
@@ -74,10 +74,10 @@ module _ (check : Check) (value : ℕ → List ℕ → Json) (depth t place : �
       let P : Json → Type 0 = λ v. IsValue v t s (header_len t s + inner.0) × (header_len t s + inner.0 + rest ≡ from) × (nesting v ≤ suc depth) in
       let t_is : t < 4 = ltb-true t 4 kind in
       let both : P (cond (is_object t) (object es) (array es)) =
-        elim (cases_Bool (is_object t)) [
-          | inl x ↦ subst (λ (b : Bool). P (cond b (object es) (array es))) (sym x) ((omega (arith, ltb-true t 2 x), is), sum, omega (arith, inner.3))
-          | inr x ↦ subst (λ (b : Bool). P (cond b (object es) (array es))) (sym x) ((ltb-false t 2 x, omega (arith, t_is), is), sum, omega (arith, inner.3))
-        ] in
+      elim (cases_Bool (is_object t)) [
+        | inl x ↦ subst (λ (b : Bool). P (cond b (object es) (array es))) (sym x) ((omega (arith, ltb-true t 2 x), is), sum, omega (arith, inner.3))
+        | inr x ↦ subst (λ (b : Bool). P (cond b (object es) (array es))) (sym x) ((ltb-false t 2 x, omega (arith, t_is), is), sum, omega (arith, inner.3))
+      ] in
       (header_len t s + inner.0, both.0, both.1, both.2)
 
 -- ---- values
@@ -93,13 +93,13 @@ value_sound (suc depth) t place s from rest e =
     let P : Json → ℕ → Type 0 = λ v cost. IsValue v t s cost × (cost + rest ≡ from) × (nesting v ≤ suc depth) in
     elim (chosen (is_container t) (container_left (value_left depth) t place s from) (scalar_left t place s from) rest e) [
       | inl x ↦
-        let is = container_sound (value_left depth) (value_at depth) depth t place s (value_sound depth) x.0 from rest x.1 in
-        let all = subst (λ (b : Bool). P (cond b (container_at (value_at depth) t s) (scalar (scalar_at t s))) is.0) (sym x.0) (is.1, is.2, is.3) in
-        (is.0, all.0, all.1, all.2)
+          let is = container_sound (value_left depth) (value_at depth) depth t place s (value_sound depth) x.0 from rest x.1 in
+          let all = subst (λ (b : Bool). P (cond b (container_at (value_at depth) t s) (scalar (scalar_at t s))) is.0) (sym x.0) (is.1, is.2, is.3) in
+          (is.0, all.0, all.1, all.2)
       | inr x ↦
-        let is = scalar_sound t place s from rest x.1 in
-        let all = subst (λ (b : Bool). P (cond b (container_at (value_at depth) t s) (scalar (scalar_at t s))) is.0) (sym x.0) (is.1, is.2, omega arith) in
-        (is.0, all.0, all.1, all.2)
+          let is = scalar_sound t place s from rest x.1 in
+          let all = subst (λ (b : Bool). P (cond b (container_at (value_at depth) t s) (scalar (scalar_at t s))) is.0) (sym x.0) (is.1, is.2, omega arith) in
+          (is.0, all.0, all.1, all.2)
     ]
 
 -- ---- and back
@@ -133,13 +133,13 @@ mutual
   value_complete (array es) (suc depth) t place s cost from rest is deep e =
       let kind : is_object t ≡ false = le-ltb t 2 is.0 in
       let both = container_complete depth es t place s cost from rest (omega (arith, is.1)) is.2 e
-        (λ left c are sum. entries_complete es depth t place s (entry_count t s) 0 c left rest are (omega arith) (omega arith) sum) in
+      (λ left c are sum. entries_complete es depth t place s (entry_count t s) 0 c left rest are (omega arith) (omega arith) sum) in
       (both.0, both.1 ∙ ap (λ (b : Bool). cond b (object es) (array es)) kind)
   value_complete (object es) zero t place s cost from rest is deep e = absurd (omega arith)
   value_complete (object es) (suc depth) t place s cost from rest is deep e =
       let kind : is_object t ≡ true = lt-ltb t 2 (omega (arith, is.0)) in
       let both = container_complete depth es t place s cost from rest (omega (arith, is.0)) is.1 e
-        (λ left c are sum. entries_complete es depth t place s (entry_count t s) 0 c left rest are (omega arith) (omega arith) sum) in
+      (λ left c are sum. entries_complete es depth t place s (entry_count t s) 0 c left rest are (omega arith) (omega arith) sum) in
       (both.0, both.1 ∙ ap (λ (b : Bool). cond b (object es) (array es)) kind)
 
   entries_complete : (es : Entries) (depth t place : ℕ) (s : List ℕ) (n i cost from rest : ℕ) → AreEntries es t s i cost → entries_nesting es ≤ depth → i + n ≡ entry_count t s → cost + rest ≡ from
@@ -154,11 +154,11 @@ mutual
       let sum = are.1.6 in
       let key_is = key_complete key t place s i a from (b + (c + rest)) are.1.3 (omega (arith, e, sum)) in
       let value_is : (value_left_by (value_left depth) t place s i (b + (c + rest)) ≡ Ok (c + rest)) × (entry_at (value_at depth) t s i ≡ v) =
-        elim are.1.4 [
-          | inl is ↦ inlined_complete (value_left depth) (value_at depth) depth t place s i v b (b + (c + rest)) (c + rest) is refl
-          | inr is ↦
+      elim are.1.4 [
+        | inl is ↦ inlined_complete (value_left depth) (value_at depth) depth t place s i v b (b + (c + rest)) (c + rest) is refl
+        | inr is ↦
             placed_complete (value_left depth) (value_at depth) depth t place s i v b (b + (c + rest)) (c + rest) is
             (value_complete v depth (value_type t s i) (place + value_offset t s i) (placed_bytes t s i) b (b + (c + rest)) (c + rest) is.is (omega arith) refl)
-        ] in
+      ] in
       let others = entries_complete es depth t place s n (suc i) c (c + rest) rest are.1.5 (omega arith) (omega (arith, all)) refl in
       (rw (key_is.0, value_is.0) others.0, cc (key_is.1, value_is.1, others.1))

@@ -5,3 +5,4 @@ pub mod Grammar
 pub mod Refusals
 pub mod Decoding
 pub mod Views
+pub mod Iterators

@@ -66,7 +66,7 @@ scalar_left t place s left =
 unfoldable pub key_left : ℕ → ℕ → List ℕ → ℕ → ℕ → Left
 key_left t place s i left =
     if is_object t then
-      (if nat_lt (key_offset t s i) (header_len t s) || nat_lt (byte_size t s) (key_offset t s i + key_size t s i) then refuse refusals.Key (place + key_place t i) else spend (key_size t s i) (place + key_place t i) left)
+    (if nat_lt (key_offset t s i) (header_len t s) || nat_lt (byte_size t s) (key_offset t s i + key_size t s i) then refuse refusals.Key (place + key_place t i) else spend (key_size t s i) (place + key_place t i) left)
     else Ok left
 
 -- The check of a value: its type, its place, its bytes, and the counter.
@@ -76,7 +76,7 @@ Check = ℕ → ℕ → List ℕ → ℕ → Left
 unfoldable pub value_left_by : Check → ℕ → ℕ → List ℕ → ℕ → ℕ → Left
 value_left_by check t place s i left =
     if is_inlined t (value_type t s i) then
-      (if is_unknown (value_type t s i) (inlined_bytes t s i) then refuse refusals.Literal (place + value_place t s i) else Ok left)
+    (if is_unknown (value_type t s i) (inlined_bytes t s i) then refuse refusals.Literal (place + value_place t s i) else Ok left)
     else if nat_lt (value_offset t s i) (header_len t s) || nat_le (byte_size t s) (value_offset t s i) then refuse refusals.Offset (place + value_place t s i)
     else check (value_type t s i) (place + value_offset t s i) (placed_bytes t s i) left
 

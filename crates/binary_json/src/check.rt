@@ -23,7 +23,12 @@ fn check_scalar(kind: u8, place: usize, bytes: &[u8], left: usize) -> Result<usi
 
 // Checks the key of an entry, if it has one.
 #[tactic(auto, using(crate::proofs::Places::key_within), unfolding(crate::specs::Refusals::key_left))]
-fn check_key(container: &Container, place: usize, index: usize, left: usize) -> Result<usize, JsonError>
+fn check_key(
+    container: &Container,
+    place: usize,
+    index: usize,
+    left: usize,
+) -> Result<usize, JsonError>
     requires known { index < container.now.count }
     requires place { place + length container.now.bytes.now < 2 ^ 64 }
     ensures { result ≡ key_left container.now.kind place container.now.bytes.now index left }
@@ -43,7 +48,13 @@ fn check_key(container: &Container, place: usize, index: usize, left: usize) -> 
 // Checks the value of an entry. Behind its array or object, so many may be within one another.
 #[cycle(check)]
 #[tactic(auto, using(crate::proofs::Places::value_within), unfolding(crate::specs::Refusals::value_left_by))]
-fn check_entry(container: &Container, place: usize, index: usize, depth: usize, left: usize) -> Result<usize, JsonError>
+fn check_entry(
+    container: &Container,
+    place: usize,
+    index: usize,
+    depth: usize,
+    left: usize,
+) -> Result<usize, JsonError>
     requires known { index < container.now.count }
     requires place { place + length container.now.bytes.now < 2 ^ 64 }
     ensures { result ≡ value_left_by (value_left depth) container.now.kind place container.now.bytes.now index left }
@@ -60,12 +71,23 @@ fn check_entry(container: &Container, place: usize, index: usize, depth: usize, 
     if offset < container.header() || offset >= container.size {
         return Err(JsonError::new(Refusal::Offset, here));
     }
-    check_value(kind, place + offset, container.placed_bytes(index), depth, left)
+    check_value(
+        kind,
+        place + offset,
+        container.placed_bytes(index),
+        depth,
+        left,
+    )
 }
 
 // Checks all entries.
 #[cycle(check)]
-fn check_entries(container: &Container, place: usize, depth: usize, left: usize) -> Result<usize, JsonError>
+fn check_entries(
+    container: &Container,
+    place: usize,
+    depth: usize,
+    left: usize,
+) -> Result<usize, JsonError>
     requires { place + length container.now.bytes.now < 2 ^ 64 }
     ensures { result ≡ entries_left (value_left depth) container.now.kind place container.now.bytes.now container.now.count 0 left }
 {
@@ -80,7 +102,13 @@ fn check_entries(container: &Container, place: usize, depth: usize, left: usize)
 // Checks an array or an object.
 #[cycle(check)]
 #[tactic(auto, unfolding(crate::specs::Refusals::container_left))]
-fn check_container(kind: u8, place: usize, bytes: &[u8], depth: usize, left: usize) -> Result<usize, JsonError>
+fn check_container(
+    kind: u8,
+    place: usize,
+    bytes: &[u8],
+    depth: usize,
+    left: usize,
+) -> Result<usize, JsonError>
     requires known { kind < 4 }
     requires place { place + length bytes.now < 2 ^ 64 }
     ensures { result ≡ container_left (value_left depth) kind place bytes.now left }
@@ -94,7 +122,13 @@ fn check_container(kind: u8, place: usize, bytes: &[u8], depth: usize, left: usi
 /// another. Answers what may be read behind it.
 #[cycle(check)]
 #[tactic(auto, unfolding(crate::specs::Refusals::value_left))]
-pub(crate) fn check_value(kind: u8, place: usize, bytes: &[u8], depth: usize, left: usize) -> Result<usize, JsonError>
+pub(crate) fn check_value(
+    kind: u8,
+    place: usize,
+    bytes: &[u8],
+    depth: usize,
+    left: usize,
+) -> Result<usize, JsonError>
     requires { place + length bytes.now < 2 ^ 64 }
     ensures { result ≡ value_left depth kind place bytes.now left }
 {

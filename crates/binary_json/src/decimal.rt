@@ -41,7 +41,9 @@ fn decimal_len(precision: u8, scale: u8) -> usize
     ensures { result ≡ groups_len (groups precision scale) }
 {
     let whole = precision - scale;
-    digits_len(whole % 9) + 4 * (usize::from(whole / 9) + usize::from(scale / 9)) + digits_len(scale % 9)
+    digits_len(whole % 9)
+        + 4 * (usize::from(whole / 9) + usize::from(scale / 9))
+        + digits_len(scale % 9)
 }
 
 // Whether each group is a number with as many digits.

@@ -1,7 +1,6 @@
 //! Why a document is refused.
 ghost use Rattle.std.specs.Prelude.{◌≡◌};
 
-
 /// Why a document is refused.
 #[derive(Clone, Copy, Debug, PartialEq, Eq)]
 pub enum Refusal {

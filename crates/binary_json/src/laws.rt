@@ -6,5 +6,4 @@ ghost use Rattle.binary_json.specs.Grammar.{IsDocument};
 /// Bytes are at most one value.
 pub fn documents_are_one_value()
     ensures { (bytes : List ℕ) (v w : Json) → IsDocument bytes v → IsDocument bytes w → v ≡ w }
-{
-}
+{}

@@ -24,4 +24,3 @@ fn is_decimal_data(bytes: &[u8]) -> bool
         _ => false,
     }
 }
-

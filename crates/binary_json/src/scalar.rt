@@ -41,7 +41,12 @@ pub(crate) fn is_unknown(kind: u8, bytes: &[u8]) -> bool
 
 /// Checks a literal or a number.
 #[tactic(auto, unfolding(crate::specs::Refusals::fixed_left))]
-pub(crate) fn check_fixed(kind: u8, place: usize, bytes: &[u8], left: usize) -> Result<usize, JsonError>
+pub(crate) fn check_fixed(
+    kind: u8,
+    place: usize,
+    bytes: &[u8],
+    left: usize,
+) -> Result<usize, JsonError>
     requires { is_fixed kind ≡ true }
     ensures { result ≡ fixed_left kind place bytes.now left }
 {

@@ -21,13 +21,13 @@ key_sound t place s i from rest e =
     let test : Bool = nat_lt (key_offset t s i) (header_len t s) || nat_lt (byte_size t s) (key_offset t s i + key_size t s i) in
     elim (chosen (is_object t) (cond test (refuse refusals.Key (place + key_place t i)) (spend (key_size t s i) (place + key_place t i) from)) (Ok from) rest e) [
       | inl x ↦
-        let p = passed test _ (spend (key_size t s i) (place + key_place t i) from) rest x.1 in
-        let bounds = or_parts (nat_lt (key_offset t s i) (header_len t s)) (nat_lt (byte_size t s) (key_offset t s i + key_size t s i)) p.0 in
-        let is : IsKey (Some (key_bytes t s i)) t s i (key_size t s i) = (x.0, ltb-false _ _ bounds.0, ltb-false _ _ bounds.1, refl, refl) in
-        (key_size t s i, subst (λ (b : Bool). IsKey (cond b (Some (key_bytes t s i)) None) t s i (key_size t s i)) (sym x.0) is, spent (key_size t s i) (place + key_place t i) from rest p.1)
+          let p = passed test _ (spend (key_size t s i) (place + key_place t i) from) rest x.1 in
+          let bounds = or_parts (nat_lt (key_offset t s i) (header_len t s)) (nat_lt (byte_size t s) (key_offset t s i + key_size t s i)) p.0 in
+          let is : IsKey (Some (key_bytes t s i)) t s i (key_size t s i) = (x.0, ltb-false _ _ bounds.0, ltb-false _ _ bounds.1, refl, refl) in
+          (key_size t s i, subst (λ (b : Bool). IsKey (cond b (Some (key_bytes t s i)) None) t s i (key_size t s i)) (sym x.0) is, spent (key_size t s i) (place + key_place t i) from rest p.1)
       | inr x ↦
-        let is : IsKey None t s i 0 = (x.0, refl) in
-        (0, subst (λ (b : Bool). IsKey (cond b (Some (key_bytes t s i)) None) t s i 0) (sym x.0) is, let same = same_left from rest x.1 in omega (arith, same))
+          let is : IsKey None t s i 0 = (x.0, refl) in
+          (0, subst (λ (b : Bool). IsKey (cond b (Some (key_bytes t s i)) None) t s i 0) (sym x.0) is, let same = same_left from rest x.1 in omega (arith, same))
     ]
 
 pub key_complete : (key : Option (List ℕ)) (t place : ℕ) (s : List ℕ) (i cost from rest : ℕ) → IsKey key t s i cost → cost + rest ≡ from → (key_left t place s i from ≡ Ok rest) × (key_at t s i ≡ key)
@@ -82,28 +82,28 @@ module _ (check : Check) (value : ℕ → List ℕ → Json) (depth : ℕ) (t pl
       let placed : Left = cond test (refuse refusals.Offset (place + value_place t s i)) (check k (place + value_offset t s i) (placed_bytes t s i) from) in
       elim (chosen (is_inlined t k) (cond (is_unknown k (inlined_bytes t s i)) (refuse refusals.Literal (place + value_place t s i)) (Ok from)) placed rest e) [
         | inl x ↦
-          let p = passed (is_unknown k (inlined_bytes t s i)) _ (Ok from) rest x.1 in
-          let bounds = inlined_bounds t k x.0 in
-          let same = same_left from rest p.1 in
-          let fixed_is : IsFixed (fixed k (inlined_bytes t s i)) k (inlined_bytes t s i) = record {
-            low = bounds.0;
-            high = omega (arith, bounds.1);
-            enough = omega (arith, bounds.2, inlined_len t s i less room);
-            known = known_of k (slice_index (inlined_bytes t s i) 0) p.0;
-            is = refl;
-          } in
-          let v : Json = scalar (fixed k (inlined_bytes t s i)) in
-          let is : IsInlined v t s i 0 = record { inlined = x.0; x = fixed k (inlined_bytes t s i); is_scalar = refl; fixed = fixed_is; no_cost = refl } in
-          let member : IsMember v 0 from rest = (inl is, omega (arith, same), omega arith) in
-          (0, subst (λ (b : Bool). IsMember (cond b v (value k (placed_bytes t s i))) 0 from rest) (sym x.0) member)
+            let p = passed (is_unknown k (inlined_bytes t s i)) _ (Ok from) rest x.1 in
+            let bounds = inlined_bounds t k x.0 in
+            let same = same_left from rest p.1 in
+            let fixed_is : IsFixed (fixed k (inlined_bytes t s i)) k (inlined_bytes t s i) = record {
+              low = bounds.0;
+              high = omega (arith, bounds.1);
+              enough = omega (arith, bounds.2, inlined_len t s i less room);
+              known = known_of k (slice_index (inlined_bytes t s i) 0) p.0;
+              is = refl;
+            } in
+            let v : Json = scalar (fixed k (inlined_bytes t s i)) in
+            let is : IsInlined v t s i 0 = record { inlined = x.0; x = fixed k (inlined_bytes t s i); is_scalar = refl; fixed = fixed_is; no_cost = refl } in
+            let member : IsMember v 0 from rest = (inl is, omega (arith, same), omega arith) in
+            (0, subst (λ (b : Bool). IsMember (cond b v (value k (placed_bytes t s i))) 0 from rest) (sym x.0) member)
         | inr x ↦
-          let p = passed test _ (check k (place + value_offset t s i) (placed_bytes t s i) from) rest x.1 in
-          let bounds = or_parts (nat_lt (value_offset t s i) (header_len t s)) (nat_le (byte_size t s) (value_offset t s i)) p.0 in
-          let inner = sound k (place + value_offset t s i) (placed_bytes t s i) from rest p.1 in
-          let v : Json = value k (placed_bytes t s i) in
-          let is : IsPlaced (IsValue v) t s i inner.0 = record { placed = x.0; behind = ltb-false _ _ bounds.0; within = leb-false _ _ bounds.1; is = inner.1 } in
-          let member : IsMember v inner.0 from rest = (inr is, inner.2, inner.3) in
-          (inner.0, subst (λ (b : Bool). IsMember (cond b (scalar (fixed k (inlined_bytes t s i))) v) inner.0 from rest) (sym x.0) member)
+            let p = passed test _ (check k (place + value_offset t s i) (placed_bytes t s i) from) rest x.1 in
+            let bounds = or_parts (nat_lt (value_offset t s i) (header_len t s)) (nat_le (byte_size t s) (value_offset t s i)) p.0 in
+            let inner = sound k (place + value_offset t s i) (placed_bytes t s i) from rest p.1 in
+            let v : Json = value k (placed_bytes t s i) in
+            let is : IsPlaced (IsValue v) t s i inner.0 = record { placed = x.0; behind = ltb-false _ _ bounds.0; within = leb-false _ _ bounds.1; is = inner.1 } in
+            let member : IsMember v inner.0 from rest = (inr is, inner.2, inner.3) in
+            (inner.0, subst (λ (b : Bool). IsMember (cond b (scalar (fixed k (inlined_bytes t s i))) v) inner.0 from rest) (sym x.0) member)
       ]
 
   pub inlined_complete : (v : Json) (cost from rest : ℕ) → IsInlined v t s i cost → cost + rest ≡ from → (value_left_by check t place s i from ≡ Ok rest) × (entry_at value t s i ≡ v)
