@@ -1,9 +1,8 @@
 -- Documents: what is accepted is in the grammar, and what is in the grammar is accepted.
-use Rattle.std.proofs.Common.{◌≡◌, ℕ, ◌+◌, ◌-◌, ◌<◌, ◌≤◌, ◌^◌, true, List, [], ◌∷◌, length, Option, Some, None, Ok, Err, refl, sym, ap, subst, ◌∙◌, arith}
+use Rattle.std.proofs.Common.{◌≡◌, ℕ, ◌-◌, ◌≤◌, ◌^◌, true, List, [], ◌∷◌, length, Ok, Err, refl, sym, ap, ◌∙◌, arith}
 use Rattle.std.specs.Prelude.{is_none, is_ok}
-use Rattle.binary_json.specs.declared.error.JsonError.{JsonError}
-use Rattle.binary_json.specs.Values.{Json, scalar, null, nesting}
-use Rattle.binary_json.specs.Grammar.{IsValue, IsDocument}
+use Rattle.binary_json.specs.Values.{Json}
+use Rattle.binary_json.specs.Grammar.{IsDocument}
 use Rattle.binary_json.specs.Refusals.{Left, refusal_in, value_left, document_refusal}
 use Rattle.binary_json.specs.Decoding.{value_at, value_in, is_readable, document_value}
 use Rattle.binary_json.proofs.Whole.{value_sound, value_complete}

@@ -1,7 +1,7 @@
 -- The check of entries one after the other, as a loop does it.
 use Rattle.std.proofs.Common.{◌≡◌, ℕ, suc, ◌-◌, ◌+◌, ◌≤◌, ◌<◌, List, Ok, Err, refl, sym, ◌∙◌, arith}
 use Rattle.binary_json.specs.declared.error.JsonError.{JsonError}
-use Rattle.binary_json.specs.Refusals.{Left, Check, ◌>>=◌, key_left, value_left_by, entries_left}
+use Rattle.binary_json.specs.Refusals.{Left, Check, key_left, value_left_by, entries_left}
 
 module _ (check : Check) (t place : ℕ) (s : List ℕ) (n i left : ℕ) (total : Left) (less : i < n) (so_far : entries_left check t place s (n - i) i left ≡ total) where
   pub goes_on : (a b : ℕ) → key_left t place s i left ≡ Ok a → value_left_by check t place s i a ≡ Ok b → entries_left check t place s (n - (i + 1)) (i + 1) b ≡ total

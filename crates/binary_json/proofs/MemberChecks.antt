@@ -1,15 +1,15 @@
 -- Keys and values of entries: what is checked is in the grammar, and what is in the grammar is checked.
-use Rattle.std.proofs.Common.{◌≡◌, ℕ, zero, suc, ◌+◌, ◌-◌, ◌*◌, ◌<◌, ◌≤◌, Bool, true, false, cond, ◌⊎◌, List, [], ◌∷◌, length, take, drop, Option, Some, None, Ok, Err, refl, sym, ap, subst, ◌∙◌, inl, inr, arith}
-use Rattle.std.specs.Prelude.{nat_lt, nat_le, nat_eq, ◌&&◌, ◌||◌, slice_index, slice_range}
-use Rattle.std.proofs.lemmas.Bool.{ltb-true, ltb-false, leb-true, leb-false, le-leb, lt-leb, le-ltb, and_parts, or_parts, or_from, cases_Bool}
+use Rattle.std.proofs.Common.{◌≡◌, ℕ, ◌+◌, ◌-◌, ◌<◌, ◌≤◌, Bool, true, false, cond, ◌⊎◌, List, length, drop, Option, Some, None, Ok, refl, sym, ap, subst, ◌∙◌, inl, inr, arith}
+use Rattle.std.specs.Prelude.{nat_lt, nat_le, ◌&&◌, ◌||◌, slice_index}
+use Rattle.std.proofs.lemmas.Bool.{ltb-false, leb-true, leb-false, lt-leb, le-ltb, and_parts, or_parts, or_from}
 use Rattle.std.proofs.lemmas.List.{length-take, length-drop}
 use Rattle.binary_json.specs.Values.{Scalar, Json, scalar, nesting}
-use Rattle.binary_json.specs.Layout.{is_object, is_large, fixed_len, fixed, width, value_len, entry_count, byte_size, header_len, key_place, key_offset, key_size, key_bytes, value_place, value_type, value_offset, is_inlined, inlined_bytes, placed_bytes}
+use Rattle.binary_json.specs.Layout.{is_object, is_large, fixed_len, fixed, width, entry_count, byte_size, header_len, key_place, key_offset, key_size, key_bytes, value_place, value_type, value_offset, is_inlined, inlined_bytes, placed_bytes}
 use Rattle.binary_json.specs.Grammar.{IsFixed, IsKey, IsInlined, IsPlaced, IsValue}
 use Rattle.binary_json.specs.Refusals.{Left, refuse, spend, is_unknown, key_left, Check, value_left_by}
 use Rattle.binary_json.specs.Decoding.{key_at, entry_at}
 use Rattle.binary_json.specs.declared.error.Refusal.TheVariants as refusals
-use Rattle.binary_json.proofs.Steps.{passed, chosen, refused_ok, same_left, spent, spends}
+use Rattle.binary_json.proofs.Steps.{passed, chosen, same_left, spent, spends}
 use Rattle.binary_json.proofs.Places.{value_within}
 use Rattle.binary_json.proofs.Scalars.{known_of, known_from}
 

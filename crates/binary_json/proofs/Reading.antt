@@ -1,11 +1,11 @@
 -- What bytes that are checked have.
-use Rattle.std.proofs.Common.{◌≡◌, ℕ, zero, suc, ◌+◌, ◌-◌, ◌*◌, ◌<◌, ◌≤◌, ◌^◌, Bool, true, false, cond, ◌⊎◌, List, [], ◌∷◌, length, drop, Option, Some, None, Ok, Err, refl, sym, ap, subst, ◌∙◌, inl, inr, arith}
-use Rattle.std.specs.Prelude.{is_ok, nat_lt, nat_eq, slice_index, slice_get}
-use Rattle.std.proofs.lemmas.Bool.{cases_lt, ltb-true, ltb-false, lt-ltb, le-ltb, eq-eqb, ne_eqb, both_ways}
+use Rattle.std.proofs.Common.{◌≡◌, ℕ, zero, suc, ◌+◌, ◌-◌, ◌<◌, ◌≤◌, ◌^◌, Bool, true, false, cond, ◌⊎◌, List, [], ◌∷◌, length, drop, Option, Some, None, Ok, Err, refl, sym, ap, subst, ◌∙◌, inl, inr, arith}
+use Rattle.std.specs.Prelude.{is_ok, slice_index, slice_get}
+use Rattle.std.proofs.lemmas.Bool.{cases_lt, lt-ltb, le-ltb, both_ways}
 use Rattle.binary_json.specs.Values.{Scalar, string, opaque, Json, scalar, array, object, Entries, no_entries, entry, nesting, entries_nesting, values, members}
-use Rattle.binary_json.specs.Layout.{is_container, is_object, is_fixed, fixed_len, fixed, entry_count, byte_size, header_len, key_offset, key_size, key_bytes, value_type, value_offset, is_inlined, inlined_bytes, placed_bytes, text}
+use Rattle.binary_json.specs.Layout.{is_object, is_fixed, fixed_len, fixed, entry_count, byte_size, header_len, key_offset, key_size, key_bytes, value_type, value_offset, is_inlined, inlined_bytes, placed_bytes, text}
 use Rattle.binary_json.specs.Opaques.{is_opaque}
-use Rattle.binary_json.specs.Grammar.{IsFixed, IsString, IsOpaque, IsScalar, IsKey, IsInlined, IsPlaced, IsContainer, IsValue, AreEntries}
+use Rattle.binary_json.specs.Grammar.{IsFixed, IsScalar, IsInlined, IsPlaced, IsValue, AreEntries}
 use Rattle.binary_json.specs.Refusals.{Left, header_of, value_left}
 use Rattle.binary_json.specs.Decoding.{scalar_at, value_at, container_at, is_readable, value_in, entries_in}
 use Rattle.binary_json.proofs.Scalars.{fixed_from}

@@ -1,12 +1,12 @@
 -- Scalars: what is checked is in the grammar, and what is in the grammar is checked.
-use Rattle.std.proofs.Common.{◌≡◌, ℕ, zero, suc, ◌+◌, ◌-◌, ◌<◌, ◌≤◌, Bool, true, false, cond, ◌⊎◌, List, [], ◌∷◌, length, drop, Ok, Err, refl, sym, ap, subst, ◌∙◌, inl, inr, arith}
+use Rattle.std.proofs.Common.{◌≡◌, ℕ, suc, ◌+◌, ◌≤◌, Bool, true, false, cond, List, [], ◌∷◌, length, drop, Ok, refl, sym, ap, subst, ◌∙◌, inl, inr, arith}
 use Rattle.std.specs.Prelude.{nat_lt, nat_le, nat_eq, ◌&&◌, slice_index}
-use Rattle.std.proofs.lemmas.Bool.{ltb-true, ltb-false, leb-true, le-leb, le-ltb, eqb-true, ne_eqb, eq-eqb, and_parts, and_from}
+use Rattle.std.proofs.lemmas.Bool.{ltb-false, leb-true, le-leb, le-ltb, eqb-true, ne_eqb, eq-eqb, and_parts, and_from}
 use Rattle.binary_json.specs.Values.{Scalar, string, opaque}
 use Rattle.binary_json.specs.Layout.{is_fixed, fixed_len, fixed, text}
 use Rattle.binary_json.specs.Opaques.{is_opaque}
-use Rattle.binary_json.specs.Grammar.{IsFixed, IsText, IsString, IsOpaque, IsScalar}
-use Rattle.binary_json.specs.Refusals.{Left, ◌>>=◌, refuse, spend, is_unknown, fixed_left, text_left, opaque_left, opaque_left_of, scalar_left}
+use Rattle.binary_json.specs.Grammar.{IsFixed, IsString, IsOpaque, IsScalar}
+use Rattle.binary_json.specs.Refusals.{◌>>=◌, refuse, spend, is_unknown, fixed_left, text_left, opaque_left, opaque_left_of, scalar_left}
 use Rattle.binary_json.specs.Decoding.{scalar_at}
 use Rattle.binary_json.specs.declared.error.Refusal.TheVariants as refusals
 use Rattle.binary_json.proofs.Steps.{bind_ok, passed, chosen, refused_ok, same_left, spent, spends}

@@ -1,13 +1,12 @@
 -- Lengths, and the bytes behind them: what is checked is in the grammar, and what is in the grammar is checked.
-use Rattle.std.proofs.Common.{◌≡◌, ℕ, zero, suc, ◌+◌, ◌-◌, ◌*◌, ◌^◌, ◌<◌, ◌≤◌, Bool, true, false, cond, ◌⊎◌, List, [], ◌∷◌, ◌++◌, length, take, drop, Option, Some, None, Ok, Err, refl, sym, ap, subst, ◌∙◌, inl, inr, arith}
-use Rattle.std.specs.Prelude.{nat_lt, slice_range}
-use Rattle.std.proofs.lemmas.Bool.{cases_lt, ltb-true, ltb-false, lt-ltb, le-ltb}
+use Rattle.std.proofs.Common.{◌≡◌, ℕ, zero, suc, ◌+◌, ◌-◌, ◌*◌, ◌^◌, ◌<◌, ◌≤◌, Bool, true, false, cond, ◌⊎◌, List, [], ◌∷◌, ◌++◌, length, take, drop, Option, Some, None, Ok, refl, sym, ap, subst, ◌∙◌, inl, inr, arith}
+use Rattle.std.specs.Prelude.{nat_lt}
+use Rattle.std.proofs.lemmas.Bool.{ltb-true, ltb-false, lt-ltb, le-ltb}
 use Rattle.std.proofs.lemmas.List.{take-append-drop, length-append, length-take, length-take-le, length-drop}
 use Rattle.std.proofs.Math.Seq.{take-append_seam, drop-append_seam}
 use Rattle.binary_json.specs.Layout.{variable_in, with_low, if_small, variable, text_behind, text}
 use Rattle.binary_json.specs.Grammar.{IsVariable, IsText}
-use Rattle.binary_json.specs.Refusals.{Left, refuse, spend, text_left_by, text_left}
-use Rattle.binary_json.specs.declared.error.Refusal.TheVariants as refusals
+use Rattle.binary_json.specs.Refusals.{spend, text_left_by, text_left}
 use Rattle.binary_json.proofs.Steps.{passed, spent, spends}
 
 -- ---- lengths

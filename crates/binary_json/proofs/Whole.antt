@@ -1,16 +1,16 @@
 -- Whole values: what is checked is in the grammar, and what is in the grammar is checked.
-use Rattle.std.proofs.Common.{◌≡◌, ℕ, zero, suc, ◌+◌, ◌-◌, ◌*◌, ◌<◌, ◌≤◌, Bool, true, false, cond, ◌⊎◌, List, length, Ok, Err, refl, sym, ap, subst, ◌∙◌, inl, inr, arith}
-use Rattle.std.specs.Prelude.{nat_lt, nat_le, nat_eq}
-use Rattle.std.proofs.lemmas.Bool.{ltb-true, ltb-false, leb-true, leb-false, lt-ltb, le-ltb, cases_Bool}
+use Rattle.std.proofs.Common.{◌≡◌, ℕ, zero, suc, ◌+◌, ◌*◌, ◌<◌, ◌≤◌, Bool, true, false, cond, List, length, Ok, refl, sym, ap, subst, ◌∙◌, inl, inr, arith}
+use Rattle.std.specs.Prelude.{nat_lt}
+use Rattle.std.proofs.lemmas.Bool.{ltb-true, ltb-false, lt-ltb, le-ltb, cases_Bool}
 use Rattle.binary_json.specs.Values.{Json, scalar, array, object, Entries, no_entries, entry, nesting, entries_nesting}
 use Rattle.binary_json.specs.Layout.{is_container, is_object, width, entry_count, byte_size, header_len, value_type, value_offset, placed_bytes}
-use Rattle.binary_json.specs.Grammar.{IsScalar, IsContainer, IsValue, AreEntries}
-use Rattle.binary_json.specs.Refusals.{Left, Check, ◌>>=◌, refuse, spend, key_left, value_left_by, entries_left, header_of, container_left, scalar_left, value_left}
-use Rattle.binary_json.specs.Decoding.{scalar_at, key_at, entry_at, entries_at, container_at, value_at}
+use Rattle.binary_json.specs.Grammar.{IsContainer, IsValue, AreEntries}
+use Rattle.binary_json.specs.Refusals.{Check, ◌>>=◌, refuse, spend, key_left, value_left_by, entries_left, header_of, container_left, scalar_left, value_left}
+use Rattle.binary_json.specs.Decoding.{scalar_at, entry_at, entries_at, container_at, value_at}
 use Rattle.binary_json.specs.declared.error.Refusal.TheVariants as refusals
-use Rattle.binary_json.proofs.Steps.{bind_ok, passed, chosen, refused_ok, same_left, spent, spends}
+use Rattle.binary_json.proofs.Steps.{bind_ok, passed, chosen, same_left, spent, spends}
 use Rattle.binary_json.proofs.Scalars.{scalar_sound, scalar_complete}
-use Rattle.binary_json.proofs.MemberChecks.{Sound, IsMember, key_sound, key_complete, member_sound, inlined_complete, placed_complete}
+use Rattle.binary_json.proofs.MemberChecks.{Sound, key_sound, key_complete, member_sound, inlined_complete, placed_complete}
 
 -- ---- headers
 

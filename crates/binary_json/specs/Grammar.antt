@@ -3,7 +3,7 @@
 -- A value is given by its type and by the bytes from its first one on; what stands behind it is ignored. It has a cost: the
 -- number of bytes that are read of it, each time that they are read, for offsets may name the same bytes again. What stands in
 -- an entry was read with the header, and costs nothing more.
-use Rattle.std.specs.Prelude.{◌≡◌, ℕ, zero, suc, ◌+◌, ◌*◌, ◌^◌, ◌<◌, ◌≤◌, ◌⊎◌, Bool, true, false, List, [], ◌∷◌, ◌++◌, length, slice_index, Option, Some, None}
+use Rattle.std.specs.Prelude.{◌≡◌, ℕ, suc, ◌+◌, ◌*◌, ◌^◌, ◌<◌, ◌≤◌, ◌⊎◌, true, false, List, [], ◌∷◌, ◌++◌, length, slice_index, Option, Some, None}
 use Rattle.binary_json.specs.Values.{Scalar, null, string, opaque, Json, scalar, array, object, Entries, no_entries, entry, nesting}
 use Rattle.binary_json.specs.Layout.{is_object, fixed_len, fixed, width, entry_count, byte_size, header_len, key_offset, key_size, key_bytes, value_type, value_offset, is_inlined, inlined_bytes, placed_bytes}
 use Rattle.binary_json.specs.Opaques.{is_opaque}

@@ -2,7 +2,7 @@
 --
 -- A value is checked from its first byte on, depth first. A counter has what may still be read, in bytes: all bytes of the
 -- document behind its type, at first. What is read is taken from it, each time that it is read.
-use Rattle.std.specs.Prelude.{◌≡◌, ℕ, zero, suc, ◌+◌, ◌-◌, ◌*◌, ◌==◌, ◌&&◌, ◌||◌, Bool, true, false, List, [], ◌∷◌, length, drop, slice_index, nat_lt, nat_le, if◌then◌else◌, Option, Some, None, Result, Ok, Err}
+use Rattle.std.specs.Prelude.{ℕ, zero, suc, ◌+◌, ◌-◌, ◌*◌, ◌==◌, ◌&&◌, ◌||◌, Bool, true, List, [], ◌∷◌, length, slice_index, nat_lt, nat_le, if◌then◌else◌, Option, Some, None, Result, Ok, Err}
 use Rattle.binary_json.specs.declared.error.Refusal.{Refusal}
 use Rattle.binary_json.specs.declared.error.Refusal.TheVariants as refusals
 use Rattle.binary_json.specs.declared.error.JsonError.{JsonError}

@@ -1,6 +1,6 @@
 -- What views of a document show.
 use Rattle.std.specs.Prelude.{ℕ, List}
-use Rattle.binary_json.specs.Values.{Scalar, null, boolean, int16, uint16, int32, uint32, int64, uint64, double, string, opaque, Json, scalar, array, object, values, members as members_in}
+use Rattle.binary_json.specs.Values.{null, boolean, int16, uint16, int32, uint32, int64, uint64, double, string, opaque, Json, scalar, array, object, values, members as members_in}
 use Rattle.binary_json.specs.Decoding.{entries_in, document_value}
 use Rattle.binary_json.specs.declared.containers.Array.{Array}
 use Rattle.binary_json.specs.declared.containers.Object.{Object}

@@ -1,4 +1,4 @@
-use Rattle.std.proofs.Common.{◌≡◌, ℕ, suc, ◌+◌, ◌-◌, ◌<◌, ◌^◌, take, drop, get_or, ap, sym, ◌∙◌, arith}
+use Rattle.std.proofs.Common.{◌≡◌, ℕ, suc, ◌+◌, ◌-◌, ◌<◌, take, drop, get_or, ap, sym, ◌∙◌, arith}
 use Rattle.binary_json.specs.Opaques.{magnitude, number_behind}
 use Rattle.binary_json.proofs.Decimals.{byte_taken, byte_below, three_below}
 use Rattle.binary_json.proofs.decimal.group.Goals as goal

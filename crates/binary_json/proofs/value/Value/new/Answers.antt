@@ -1,8 +1,7 @@
-use Rattle.std.proofs.Common.{◌≡◌, ℕ, true, drop, sym, ap, subst, ◌∙◌, List, arith}
+use Rattle.std.proofs.Common.{◌≡◌, ℕ, true, drop, sym, ap, subst, ◌∙◌, arith}
 use Rattle.std.proofs.lemmas.List.{take_rest}
 use Rattle.binary_json.specs.Layout.{text}
-use Rattle.binary_json.specs.Values.{Json, scalar, opaque}
-use Rattle.binary_json.specs.Decoding.{is_readable, value_in}
+use Rattle.binary_json.specs.Decoding.{is_readable}
 use Rattle.binary_json.proofs.Reading.{at_opaque, at_fixed}
 use Rattle.binary_json.proofs.value.Value.new.Goals as goal
 
