@@ -10,7 +10,7 @@ from ._bodies import Body
 from ._errors import BinlogError, InvalidLog, LogError, RowsError
 from ._library import library_version
 from ._log import Cursor, Damage, Event, Log, open
-from ._types import EventType
+from ._types import EventType, MariaEventType
 from ._whole import DamagedEvent, Stats, TypeStats, Verification, gtid_set, stats, verify
 
 __all__ = [
@@ -24,6 +24,7 @@ __all__ = [
     "InvalidLog",
     "Log",
     "LogError",
+    "MariaEventType",
     "RowsError",
     "Stats",
     "TypeStats",

@@ -51,11 +51,29 @@ class EventType(enum.IntEnum):
     ENUM_END_EVENT = 43
 
 
+class MariaEventType(enum.IntEnum):
+    """The type of one of MariaDB's own events, in a log that MariaDB wrote. No type of MySQL's has such a number."""
+
+    ANNOTATE_ROWS_EVENT = 160
+    BINLOG_CHECKPOINT_EVENT = 161
+    GTID_EVENT = 162
+    GTID_LIST_EVENT = 163
+    START_ENCRYPTION_EVENT = 164
+    QUERY_COMPRESSED_EVENT = 165
+    WRITE_ROWS_COMPRESSED_EVENT_V1 = 166
+    UPDATE_ROWS_COMPRESSED_EVENT_V1 = 167
+    DELETE_ROWS_COMPRESSED_EVENT_V1 = 168
+    WRITE_ROWS_COMPRESSED_EVENT = 169
+    UPDATE_ROWS_COMPRESSED_EVENT = 170
+    DELETE_ROWS_COMPRESSED_EVENT = 171
+
+
 _NAMES = [str(number) for number in range(256)]
-for _kind in EventType:
+for _kind in (*EventType, *MariaEventType):
     _NAMES[_kind] = _kind.name
 
 
 def name_of(event_type: int) -> str:
-    """The name of a type by its number, or the number if no type has it."""
+    """The name of a type by its number, of MySQL's or of MariaDB's own, or the number if no type has it. Both servers have a type
+    named GTID_EVENT."""
     return _NAMES[event_type]

@@ -8,7 +8,7 @@ from typing import NamedTuple, Optional, Union
 from ._errors import LogError
 from ._library import error_name, error_text
 from ._log import Event, open
-from ._types import EventType, name_of
+from ._types import EventType, MariaEventType, name_of
 
 Path = Union[str, "os.PathLike[str]"]
 
@@ -77,15 +77,14 @@ def verify(path: Path) -> Verification:
 
 
 # MariaDB's types of events with GTIDs. In another server's log they have no data.
-_MARIA_GTID, _MARIA_GTID_LIST = 162, 163
+_MARIA_WITH_GTIDS = (MariaEventType.GTID_EVENT, MariaEventType.GTID_LIST_EVENT)
 
 _WITH_GTIDS = frozenset(
     (
         EventType.GTID_EVENT,
         EventType.GTID_TAGGED_LOG_EVENT,
         EventType.PREVIOUS_GTIDS_EVENT,
-        _MARIA_GTID,
-        _MARIA_GTID_LIST,
+        *_MARIA_WITH_GTIDS,
     )
 )
 
@@ -128,7 +127,7 @@ class _GtidSet:
             for entry in body["sids"]:
                 for start, end in entry["intervals"]:
                     self._add_interval((entry["uuid"], entry["tag"] or ""), start, end, event.position)
-        elif event.event_type in (_MARIA_GTID, _MARIA_GTID_LIST):
+        elif event.event_type in _MARIA_WITH_GTIDS:
             for text in body.get("gtids", [body.get("gtid")]):
                 domain, server, sequence = map(int, text.split("-"))
                 self._last[domain, server] = sequence
@@ -191,7 +190,8 @@ class Stats:
     damaged: how many events are damaged, which are in no other number.
     first, last: the timestamps of the first event and the last one, in seconds since 1970; None without events. Those of a
         sum are the least of the first ones and the greatest of the last ones.
-    types: for each type that has events, by its name, or its number if that is unknown.
+    types: for each type that has events, by its name, or its number if that is unknown. MariaDB's own types have their names, too;
+        a GTID_EVENT is one of either server.
     """
 
     events: int = 0
@@ -233,6 +233,9 @@ def stats(path: Path) -> Stats:
             if found.first is None:
                 found.first = timestamp
             found.last = timestamp
-    found.types = {name_of(kind): TypeStats(events[kind], sizes[kind]) for kind in range(256) if events[kind]}
+    for kind in filter(events.__getitem__, range(256)):
+        own = found.types.setdefault(name_of(kind), TypeStats())
+        own.events += events[kind]
+        own.bytes += sizes[kind]
     found.events, found.bytes = sum(events), sum(sizes)
     return found

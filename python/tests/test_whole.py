@@ -1,6 +1,8 @@
 """Tests of what is said of whole logs."""
 
+import collections
 import itertools
+import json
 import pickle
 import re
 import sys
@@ -18,6 +20,7 @@ import gtid_model
 import gtids_sample
 import listing_model
 import make_sample
+import maria_events
 import maria_gtids_sample
 
 SAMPLE = make_sample.sample()
@@ -81,6 +84,22 @@ class Counts(Files):
         found = binlog.stats(self.file(MAGIC + unknown + UNDERSIZED))
         self.assertEqual((found.events, found.bytes, found.damaged), (1, len(unknown), 1))
         self.assertEqual(found.types, {"200": binlog.TypeStats(1, len(unknown))})
+
+    def test_marias_types(self):
+        log = next(maria_events.logs())
+        every = [json.loads(line) for line in log.lines.splitlines()]
+        found = binlog.stats(self.file(log.content))
+        names = collections.Counter(event["name"] for event in every)
+        self.assertEqual({name: counts.events for name, counts in found.types.items()}, names)
+        own = {event["type"]: event["name"] for event in every if event["type"] >= 160}
+        self.assertEqual(own, {kind.value: kind.name for kind in binlog.MariaEventType})
+
+    def test_gtid_events_of_both_servers(self):
+        frames_of_both = [gtids_sample.gtid(1), maria_gtids_sample.gtid(0, 1, 2)]
+        wanted = {"GTID_EVENT": binlog.TypeStats(2, sum(map(len, frames_of_both)))}
+        self.assertEqual(binlog.stats(self.file(MAGIC + b"".join(frames_of_both))).types, wanted)
+        one, other = (binlog.stats(self.file(MAGIC + frame)) for frame in frames_of_both)
+        self.assertEqual((one + other).types, wanted)
 
     def test_no_event(self):
         self.assertEqual(binlog.stats(self.file(MAGIC)), binlog.Stats())
