@@ -57,6 +57,7 @@ PROVED = Build(
         "benchmark": [proved("bench")],
         "rows": [proved("probe_rows")],
         "texts": [proved("probe_inflate")],
+        "characters": [proved("probe_characters")],
         "events": [proved("probe_events")],
     },
     making="proved",
