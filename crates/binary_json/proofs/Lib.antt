@@ -1,0 +1,12 @@
+pub mod Places
+pub mod Lengths
+pub mod Entries
+pub mod Decimals
+pub mod Steps
+pub mod Texts
+pub mod Scalars
+pub mod MemberChecks
+pub mod Whole
+pub mod Documents
+pub mod Reading
+pub mod Left

@@ -1,0 +1,20 @@
+//! MySQL's binary JSON: the documents of JSON columns.
+#![tactic(auto)]
+
+mod check;
+mod container;
+mod containers;
+mod decimal;
+mod document;
+mod error;
+mod iterators;
+pub mod laws;
+mod opaque;
+mod scalar;
+mod value;
+
+pub use containers::{Array, Object};
+pub use document::Document;
+pub use error::{JsonError, Refusal};
+pub use iterators::{Elements, Members};
+pub use value::{Double, OpaqueValue, Value};
