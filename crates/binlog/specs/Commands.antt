@@ -12,6 +12,8 @@ use Rattle.binlog_commands.specs.Statistics.{no_items, CountsItem}
 use Rattle.binlog_commands.specs.declared.gtids.GtidCollector.{GtidCollector}
 use Rattle.binlog_commands.specs.declared.stats.Stats.{Stats}
 use Rattle.binlog_commands.specs.declared.tally.Tally.{Tally}
+use Rattle.clap.specs.declared.parser.matches.Found.{Found}
+use Rattle.binlog_cli.specs.FilterWords.{StatesFilter}
 use Rattle.binlog_cli.specs.Reports.{ReportedView}
 use Rattle.binlog_cli.specs.Outputs.{worse_outcome, written, unwritten, Finishes}
 use Rattle.binlog_cli.specs.declared.output.Output.{Output}
@@ -43,12 +45,13 @@ module _ {B : Type 0} (contents : B → Option (List ℕ)) where
   abbrev pub Ends : (output : Output B) (outcome : Outcome) (status : Status) (new : Option (List ℕ)) → Type 0
   Ends output outcome status new = Finishes output.failure (bytes_of output) outcome status new
 
--- The files have these names and bytes; `old` and `new` are the bytes of the output's writer.
-module _ {B N : Type 0} (contents : B → Option (List ℕ)) (is_verified is_followed : Bool) (bytes : N → Option (List ℕ)) (names : List N) where
-  -- A visitor with an output is shown what a filter takes of the files, and its output is finished.
+-- The options state the filter. The files have these names and bytes; `old` and `new` are the bytes of the output's writer.
+module _ {B N : Type 0} (contents : B → Option (List ℕ)) (options : Found) (is_verified is_followed : Bool) (bytes : N → Option (List ℕ)) (names : List N) where
+  -- A visitor with an output is shown what the filter takes of the files, and its output is finished.
   pub record WritesShown {T : Type 0} (visits : VisitRelation T) (refuses : RefusalRelation T) (output_of : T → Output B)
       (old : Option (List ℕ)) (status : Status) (new : Option (List ℕ)) : Type 0 where
     pub filter : Filter
+    pub states : StatesFilter options filter
     pub start : T
     pub begins : Begins contents old (output_of start)
     pub outcome : Outcome
@@ -58,9 +61,10 @@ module _ {B N : Type 0} (contents : B → Option (List ℕ)) (is_verified is_fol
 
   -- ---- `copy`
 
-  -- The file header is written, and behind it what a filter takes of the files, and all descriptions.
+  -- The file header is written, and behind it what the filter takes of the files, and all descriptions.
   pub record WritesCopy (old : Option (List ℕ)) (status : Status) (new : Option (List ℕ)) : Type 0 where
     pub filter : Filter
+    pub states : StatesFilter options filter
     pub output : Output B
     pub begins : Begins contents old output
     pub outcome : Outcome
@@ -73,16 +77,17 @@ module _ {B N : Type 0} (contents : B → Option (List ℕ)) (is_verified is_fol
     pub output : Output B
     pub ends : Ends contents output (unwritten Fine) status new
 
-  -- The log is written of what a filter takes of the files, or the file header can't be.
+  -- The log is written of what the filter takes of the files, or the file header can't be.
   abbrev pub CopiesOr : (old : Option (List ℕ)) (status : Status) (new : Option (List ℕ)) → Type 0
   CopiesOr old status new = WritesCopy old status new ⊎ WritesNoHeader status new
 
   -- ---- `gtids`
 
-  -- The GTIDs of what a filter takes of the files are collected, and the lines of the errors are written on the way; behind them
+  -- The GTIDs of what the filter takes of the files are collected, and the lines of the errors are written on the way; behind them
   -- the lines of the set.
   pub record WritesGtids (missing_in : Option N) (old : Option (List ℕ)) (status : Status) (new : Option (List ℕ)) : Type 0 where
     pub filter : Filter
+    pub states : StatesFilter options filter
     pub start : GtidCollector (CountedView (Output B))
     pub begins : Begins contents old start.output.inner
     pub empty : start.gtids ≡ log_gtids [] []
@@ -99,9 +104,10 @@ module _ {B N : Type 0} (contents : B → Option (List ℕ)) (is_verified is_fol
 
   -- ---- `stats`
 
-  -- What a filter takes of the files is counted, and the text of the counts is written, all of it if the output doesn't fail.
+  -- What the filter takes of the files is counted, and the text of the counts is written, all of it if the output doesn't fail.
   pub record WritesCounts (old : Option (List ℕ)) (status : Status) (new : Option (List ℕ)) : Type 0 where
     pub filter : Filter
+    pub states : StatesFilter options filter
     pub read : Outcome
     pub counts : Stats
     pub shown : ShowsTaken (λ before maps index item after. CountsItem before index item after) (λ before maps index item error after. IsNever) (λ counts. 0)
@@ -115,9 +121,10 @@ module _ {B N : Type 0} (contents : B → Option (List ℕ)) (is_verified is_fol
 
   -- ---- `verify`
 
-  -- The files are verified with what a filter takes of them, and the line of each is written.
+  -- The files are verified with what the filter takes of them, and the line of each is written.
   pub record WritesTallies (is_quiet : Bool) (name_of : N → List ℕ) (old : Option (List ℕ)) (status : Status) (new : Option (List ℕ)) : Type 0 where
     pub start : ReportedView (Filtered Tally)
+    pub states : StatesFilter options start.visitor.filter
     pub output : Output B
     pub begins : Begins contents old output
     pub outcome : Outcome
@@ -125,3 +132,9 @@ module _ {B N : Type 0} (contents : B → Option (List ℕ)) (is_verified is_fol
     pub listed : Output B
     pub verifies : VerifiesFiles is_verified is_followed is_quiet name_of bytes names Fine (verifying start (bytes_of contents output)) outcome (verifying behind (bytes_of contents listed))
     pub ends : Ends contents listed outcome status new
+
+  -- ---- `copy` to a writer or a file
+
+  -- The log is written behind what the writer has, or the file header can't be; the writer is dropped then.
+  abbrev pub Copied : (old : Option (List ℕ)) (status : Status) → Type 0
+  Copied old status = (new : Option (List ℕ)) × CopiesOr old status new

@@ -1,7 +1,9 @@
 //! The commands that list and count events, and what all commands read. Each is generic over the files that it reads and its
 //! writer, which it gives back with its status. A status in place of a result is that of a command that can't begin.
 ghost use Rattle.std.specs.Prelude.{◌≡◌, ◌⊎◌, IfErr, IfOk};
+ghost use Rattle.clap.specs.Matches.{found_of};
 ghost use Rattle.binlog_filters.specs.declared.filter.Filter.{Filter};
+ghost use Rattle.binlog_cli.specs.FilterWords.{StatesFilter};
 ghost use Rattle.binlog_cli.specs.declared.exit_status.Status.TheVariants.{Failed, Usage};
 ghost use Rattle.binlog.specs.Commands.{outcome_of_text, WritesShown, WritesCounts};
 ghost use Rattle.binlog.specs.Reading.{ShowsTaken};
@@ -28,7 +30,7 @@ pub(crate) fn list<'a, S: Inputs, R: Clock + Eprint + AllocGlobal, W: Write + Dr
     request: &Request<'_, 'a>,
     writer: W,
 ) -> Result<(Status, W), Status>
-    ensures ok { IfOk result (λ ended. WritesShown ⟦<BufWriter<Retrying<W>> as Write>⟧.contents request.now.reading.is_verified request.now.reading.is_followed
+    ensures ok { IfOk result (λ ended. WritesShown ⟦<BufWriter<Retrying<W>> as Write>⟧.contents (found_of request.now.options.now) request.now.reading.is_verified request.now.reading.is_followed
         (λ name. S.bytes inputs.now name.now) request.now.files.now
         ⟦<LineWriter<TextLines, Output<BufWriter<Retrying<W>>>> as Visitor>⟧.visits ⟦<LineWriter<TextLines, Output<BufWriter<Retrying<W>>>> as Visitor>⟧.refuses (λ lines. lines.output)
         (W.contents writer) ended.0 (W.contents ended.1)) }
@@ -44,7 +46,7 @@ pub(crate) fn json<'a, S: Inputs, R: Clock + Eprint + AllocGlobal, W: Write + Dr
     request: &Request<'_, 'a>,
     writer: W,
 ) -> Result<(Status, W), Status>
-    ensures ok { IfOk result (λ ended. WritesShown ⟦<BufWriter<Retrying<W>> as Write>⟧.contents request.now.reading.is_verified request.now.reading.is_followed
+    ensures ok { IfOk result (λ ended. WritesShown ⟦<BufWriter<Retrying<W>> as Write>⟧.contents (found_of request.now.options.now) request.now.reading.is_verified request.now.reading.is_followed
         (λ name. S.bytes inputs.now name.now) request.now.files.now
         ⟦<MariaJsonWriter<Output<BufWriter<Retrying<W>>>> as Visitor>⟧.visits ⟦<MariaJsonWriter<Output<BufWriter<Retrying<W>>>> as Visitor>⟧.refuses (λ lines. lines.output)
         (W.contents writer) ended.0 (W.contents ended.1)) }
@@ -70,7 +72,7 @@ fn write_lines<
     lines: L,
     writer: W,
 ) -> Result<(Status, W), Status>
-    ensures ok { IfOk result (λ ended. WritesShown ⟦<BufWriter<Retrying<W>> as Write>⟧.contents request.now.reading.is_verified request.now.reading.is_followed
+    ensures ok { IfOk result (λ ended. WritesShown ⟦<BufWriter<Retrying<W>> as Write>⟧.contents (found_of request.now.options.now) request.now.reading.is_verified request.now.reading.is_followed
         (λ name. S.bytes inputs.now name.now) request.now.files.now
         ⟦<LineWriter<L, Output<BufWriter<Retrying<W>>>> as Visitor>⟧.visits ⟦<LineWriter<L, Output<BufWriter<Retrying<W>>>> as Visitor>⟧.refuses (λ lines. lines.output)
         (W.contents writer) ended.0 (W.contents ended.1)) }
@@ -89,7 +91,7 @@ pub(crate) fn read_all<
     R: Clock + Eprint + AllocGlobal,
     T: Visitor + Refusing + Drop,
 >(rt: &'a R, inputs: &S, request: &Request<'_, 'a>, visitor: T) -> Result<(Outcome, T), Status>
-    ensures ok { IfOk result (λ shown. (filter : Filter) × ShowsTaken T.visits T.refuses T.refusals filter request.now.reading.is_verified request.now.reading.is_followed
+    ensures ok { IfOk result (λ shown. (filter : Filter) × StatesFilter (found_of request.now.options.now) filter × ShowsTaken T.visits T.refuses T.refusals filter request.now.reading.is_verified request.now.reading.is_followed
         (λ name. S.bytes inputs.now name.now) request.now.files.now visitor shown.0 shown.1) }
     ensures err { IfErr result (λ status. (status ≡ Usage) ⊎ (status ≡ Failed)) }
 {
@@ -125,7 +127,7 @@ pub(crate) fn stats<'a, S: Inputs, R: Clock + Eprint + AllocGlobal, W: Write + D
     request: &Request<'_, 'a>,
     writer: W,
 ) -> Result<(Status, W), Status>
-    ensures ok { IfOk result (λ ended. WritesCounts ⟦<BufWriter<Retrying<W>> as Write>⟧.contents request.now.reading.is_verified request.now.reading.is_followed
+    ensures ok { IfOk result (λ ended. WritesCounts ⟦<BufWriter<Retrying<W>> as Write>⟧.contents (found_of request.now.options.now) request.now.reading.is_verified request.now.reading.is_followed
         (λ name. S.bytes inputs.now name.now) request.now.files.now (W.contents writer) ended.0 (W.contents ended.1)) }
     ensures err { IfErr result (λ status. (status ≡ Usage) ⊎ (status ≡ Failed)) }
 {

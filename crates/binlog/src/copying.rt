@@ -1,7 +1,8 @@
 //! The command that copies logs.
-ghost use Rattle.std.specs.Prelude.{◌≡◌, ◌⊎◌, IfErr, IfOk};
+ghost use Rattle.std.specs.Prelude.{◌≡◌, ◌≢◌, ◌⊎◌, codes, IfErr, IfOk};
+ghost use Rattle.clap.specs.Matches.{found_of};
 ghost use Rattle.binlog_cli.specs.declared.exit_status.Status.TheVariants.{Failed, Usage};
-ghost use Rattle.binlog.specs.Commands.{CopiesOr};
+ghost use Rattle.binlog.specs.Commands.{Copied, CopiesOr};
 ghost use Rattle.binlog.specs.Copying.{CopiesFiles};
 
 use crate::commands::read_taken;
@@ -23,26 +24,39 @@ pub(crate) fn copy<'a, S: Inputs, R: Files + Clock + Eprint + AllocGlobal, W: Wr
     request: &Request<'_, 'a>,
     writer: W,
 ) -> Result<Status, Status>
+    ensures output { request.now.output.now ≡ codes "-" → IfOk result (λ status. Copied ⟦<BufWriter<Retrying<W>> as Write>⟧.contents (found_of request.now.options.now)
+        request.now.reading.is_verified request.now.reading.is_followed (λ name. S.bytes inputs.now name.now) request.now.files.now (W.contents writer) status) }
+    ensures file { request.now.output.now ≢ codes "-" → IfOk result (λ status. (file : R.File) × Copied ⟦<BufWriter<Retrying<R::File>> as Write>⟧.contents (found_of request.now.options.now)
+        request.now.reading.is_verified request.now.reading.is_followed (λ name. S.bytes inputs.now name.now) request.now.files.now (R.File.contents file) status) }
     ensures err { IfErr result (λ status. (status ≡ Usage) ⊎ (status ≡ Failed)) }
 {
     if request.output == "-" {
-        return match copy_to(rt, inputs, request, writer) {
-            Ok((status, _)) => Ok(status),
-            Err(status) => Err(status),
-        };
+        return copy_whole(rt, inputs, request, writer);
     }
     // Wrong usage leaves the output as it is.
     filter(rt, request.options)?;
     match fs::create(rt, request.output) {
-        Ok(file) => match copy_to(rt, inputs, request, file) {
-            Ok((status, _)) => Ok(status),
-            Err(status) => Err(status),
-        },
+        Ok(file) => copy_whole(rt, inputs, request, file),
         Err(error) => {
             let _ = eprintln!(rt; "binlog: {}: {error}", request.output);
             Err(Status::Failed)
         }
     }
+}
+
+// Writes the log of the events that the filter takes, and closes the writer.
+fn copy_whole<'a, S: Inputs, R: Clock + Eprint + AllocGlobal, W: Write + Drop>(
+    rt: &'a R,
+    inputs: &S,
+    request: &Request<'_, 'a>,
+    writer: W,
+) -> Result<Status, Status>
+    ensures ok { IfOk result (λ status. Copied ⟦<BufWriter<Retrying<W>> as Write>⟧.contents (found_of request.now.options.now)
+        request.now.reading.is_verified request.now.reading.is_followed (λ name. S.bytes inputs.now name.now) request.now.files.now (W.contents writer) status) }
+    ensures err { IfErr result (λ status. (status ≡ Usage) ⊎ (status ≡ Failed)) }
+{
+    let (status, _) = copy_to(rt, inputs, request, writer)?;
+    Ok(status)
 }
 
 // Writes the log of the events that the filter takes.
@@ -52,7 +66,7 @@ fn copy_to<'a, S: Inputs, R: Clock + Eprint + AllocGlobal, W: Write + Drop>(
     request: &Request<'_, 'a>,
     writer: W,
 ) -> Result<(Status, W), Status>
-    ensures ok { IfOk result (λ ended. CopiesOr ⟦<BufWriter<Retrying<W>> as Write>⟧.contents request.now.reading.is_verified request.now.reading.is_followed
+    ensures ok { IfOk result (λ ended. CopiesOr ⟦<BufWriter<Retrying<W>> as Write>⟧.contents (found_of request.now.options.now) request.now.reading.is_verified request.now.reading.is_followed
         (λ name. S.bytes inputs.now name.now) request.now.files.now (W.contents writer) ended.0 (W.contents ended.1)) }
     ensures err { IfErr result (λ status. (status ≡ Usage) ⊎ (status ≡ Failed)) }
 {

@@ -1,5 +1,6 @@
 //! The command that verifies checksums.
 ghost use Rattle.std.specs.Prelude.{◌≡◌, ◌⊎◌, IfErr, IfOk};
+ghost use Rattle.clap.specs.Matches.{found_of};
 ghost use Rattle.binlog_cli.specs.declared.exit_status.Status.TheVariants.{Fine, Failed, Usage};
 ghost use Rattle.binlog.specs.Commands.{WritesTallies};
 ghost use Rattle.binlog.specs.Reading.{unless_followed};
@@ -22,7 +23,7 @@ pub(crate) fn verify<'a, S: Inputs, R: Clock + Eprint + AllocGlobal, W: Write + 
     request: &Request<'_, 'a>,
     writer: W,
 ) -> Result<(Status, W), Status>
-    ensures ok { IfOk result (λ ended. WritesTallies ⟦<BufWriter<Retrying<W>> as Write>⟧.contents request.now.reading.is_verified request.now.reading.is_followed
+    ensures ok { IfOk result (λ ended. WritesTallies ⟦<BufWriter<Retrying<W>> as Write>⟧.contents (found_of request.now.options.now) request.now.reading.is_verified request.now.reading.is_followed
         (λ name. S.bytes inputs.now name.now) request.now.files.now request.now.is_quiet (λ name. name.now) (W.contents writer) ended.0 (W.contents ended.1)) }
     ensures err { IfErr result (λ status. (status ≡ Usage) ⊎ (status ≡ Failed)) }
 {

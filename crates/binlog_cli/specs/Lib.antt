@@ -3,3 +3,6 @@ pub mod Outputs
 pub mod Reports
 pub mod TallyText
 pub mod StatsText
+pub mod Times
+pub mod TypeNames
+pub mod FilterWords

@@ -1,5 +1,5 @@
 -- The end of a run that wrote to an output.
-use Rattle.std.specs.Prelude.{◌≡◌, ℕ, true, false, ◌&&◌, List, Option, Some, None, IfSome, if◌then◌else◌}
+use Rattle.std.specs.Prelude.{◌≡◌, ℕ, true, false, ◌&&◌, List, Option, Some, None, IfSome, Result, Ok, Err, if◌then◌else◌}
 use Rattle.std.specs.Io.KnownBytes.{Keeps, append_known}
 use Rattle.std.specs.declared.io.Error.{Error}
 use Rattle.binlog_cli.specs.Statuses.{EndsBehind, failed_or, worse}
@@ -21,6 +21,12 @@ worse_outcome a b = record { status = worse a.status b.status; is_written = a.is
 abbrev pub EndsWith : (failure : Option Error) (outcome : Outcome) (after : Status) → Type 0
 EndsWith None outcome after = after ≡ (if outcome.is_written then outcome.status else failed_or outcome.status)
 EndsWith (Some failure) outcome after = EndsBehind failure outcome.status after
+
+-- Why an output fails, if it does, behind a call with this answer: for the reason of the first call that failed.
+abbrev pub failure_behind : {T : Type 0} → Option Error → Result T Error → Option Error
+failure_behind (Some failure) answer = Some failure
+failure_behind None (Ok x) = None
+failure_behind None (Err error) = Some error
 
 -- A writer has a front of these bytes.
 pub record HasFront (bytes writer : Option (List ℕ)) : Type 0 where

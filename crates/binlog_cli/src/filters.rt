@@ -1,38 +1,54 @@
 //! The filter that the words of `binlog`'s command line state.
-ghost use Rattle.std.specs.Prelude.{◌≡◌, ◌⊎◌, IfErr};
+ghost use Rattle.std.specs.Prelude.{◌≡◌, ◌⊎◌, codes, IfErr, IfOk};
+ghost use Rattle.clap.specs.Matches.{found_of, first_value, one_text};
 ghost use Rattle.binlog_cli.specs.declared.exit_status.Status.TheVariants.{Failed, Usage};
+ghost use Rattle.binlog_cli.specs.FilterWords.{StatesFilter, StatesGtids, StatesNoGtids, StatesNoServer, StatesNumber};
 
 use crate::exit_status::{Status, out_of_memory};
-use binlog_file::{EventType, GtidTracker};
+use crate::times::time;
+use crate::type_names::types;
+use binlog_file::GtidTracker;
 use binlog_filters::Filter;
 use binlog_gtid_text::{GtidTextError, parse};
-use binlog_json_lines::name_of;
 use clap::ArgMatches;
-use jiff::civil::DateTime;
-use jiff::tz::TimeZone;
-use jiff::{Error, Timestamp};
 
 /// The filter. An option that can't be read has a message, and is the status of the run.
 pub fn filter<R: Eprint + AllocGlobal>(rt: &R, matches: &ArgMatches<'_>) -> Result<Filter, Status>
-    ensures { IfErr result (λ status. (status ≡ Usage) ⊎ (status ≡ Failed)) }
+    ensures ok { IfOk result (λ filter. StatesFilter (found_of matches.now) filter) }
+    ensures err { IfErr result (λ status. (status ≡ Usage) ⊎ (status ≡ Failed)) }
 {
-    let mut filter = Filter::new(rt.alloc());
-    filter.start_position = matches.get_one("start-position").unwrap_or(0);
-    filter.stop_position = matches.get_one("stop-position");
-    filter.start_time = time(rt, matches, "start-datetime")?.unwrap_or(0);
-    filter.stop_time = time(rt, matches, "stop-datetime")?;
-    filter.server_id = server_id(rt, matches)?;
-    add_types(rt, matches, &mut filter)?;
-    filter.include_gtids = gtids(rt, matches, "include-gtids")?;
-    filter.exclude_gtids = gtids(rt, matches, "exclude-gtids")?;
-    Ok(filter)
+    let start_time = time(rt, matches, "start-datetime")?;
+    let stop_time = time(rt, matches, "stop-datetime")?;
+    let server_id = server_id(rt, matches)?;
+    let types = types(rt, matches)?;
+    let include_gtids = gtids(rt, matches, "include-gtids")?;
+    let exclude_gtids = gtids(rt, matches, "exclude-gtids")?;
+    Ok(Filter {
+        start_position: number(matches, "start-position").unwrap_or(0),
+        stop_position: number(matches, "stop-position"),
+        start_time: start_time.unwrap_or(0),
+        stop_time,
+        server_id,
+        types,
+        include_gtids,
+        exclude_gtids,
+        takes_descriptions: false,
+    })
+}
+
+// The number of an option, if it is given.
+fn number(matches: &ArgMatches<'_>, option: &str) -> Option<u64>
+    ensures { StatesNumber (one_text (found_of matches.now) option.now) result }
+{
+    matches.get_one::<u64>(option)
 }
 
 // The server id.
 fn server_id<R: Eprint>(rt: &R, matches: &ArgMatches<'_>) -> Result<Option<u32>, Status>
-    ensures { IfErr result (λ status. status ≡ Usage) }
+    ensures ok { IfOk result (λ id. StatesNumber (one_text (found_of matches.now) (codes "server-id")) id) }
+    ensures err { IfErr result (λ status. (status ≡ Usage) × StatesNoServer (one_text (found_of matches.now) (codes "server-id"))) }
 {
-    match matches.get_one::<u64>("server-id") {
+    match number(matches, "server-id") {
         None => Ok(None),
         Some(id) => match u32::try_from(id) {
             Ok(id) => Ok(Some(id)),
@@ -44,66 +60,14 @@ fn server_id<R: Eprint>(rt: &R, matches: &ArgMatches<'_>) -> Result<Option<u32>,
     }
 }
 
-// A time in seconds since 1970; 0 for an earlier one.
-fn time<R: Eprint>(rt: &R, matches: &ArgMatches<'_>, option: &str) -> Result<Option<u64>, Status>
-    ensures { IfErr result (λ status. status ≡ Usage) }
-{
-    let Some(text) = matches.get_str(option) else {
-        return Ok(None);
-    };
-    match seconds(text) {
-        Some(seconds) => Ok(Some(seconds)),
-        None => {
-            report_time(rt, option, text);
-            Err(Status::Usage)
-        }
-    }
-}
-
-// Writes the message of a text that is no time, or has a zone.
-fn report_time<R: Eprint>(rt: &R, option: &str, text: &str) {
-    let _ = if has_zone(text) {
-        eprintln!(rt;
-            "binlog: --{option}: {text:?} has a zone in brackets; an offset is read, as +02:00"
-        )
-    } else {
-        eprintln!(rt;
-            "binlog: --{option}: {text:?} is no time, as 2026-11-26T12:00:00 or 2026-11-26T14:00:00+02:00"
-        )
-    };
-}
-
-// Whether a text has a zone in brackets. A civil time would be read over it.
-fn has_zone(text: &str) -> bool {
-    text.contains('[')
-}
-
-// The seconds since 1970 of a time, in UTC if it has no offset; 0 for an earlier one.
-fn seconds(text: &str) -> Option<u64> {
-    if has_zone(text) {
-        return None;
-    }
-    let timestamp = match text.parse::<Timestamp>() {
-        Ok(timestamp) => timestamp,
-        Err(Error::Missing(_)) => time_in_utc(text)?,
-        Err(_) => return None,
-    };
-    Some(u64::try_from(timestamp.as_second()).unwrap_or(0))
-}
-
-// A time without an offset.
-fn time_in_utc(text: &str) -> Option<Timestamp> {
-    let civil: DateTime = text.parse().ok()?;
-    TimeZone::UTC.to_timestamp(civil).ok()
-}
-
-// A set of GTIDs.
+// The set of GTIDs of an option, if it is given.
 fn gtids<R: Eprint + AllocGlobal>(
     rt: &R,
     matches: &ArgMatches<'_>,
     option: &str,
 ) -> Result<Option<GtidTracker>, Status>
-    ensures { IfErr result (λ status. (status ≡ Usage) ⊎ (status ≡ Failed)) }
+    ensures ok { IfOk result (λ set. StatesGtids (first_value (found_of matches.now) option.now) set) }
+    ensures err { IfErr result (λ status. ((status ≡ Usage) × StatesNoGtids (first_value (found_of matches.now) option.now)) ⊎ (status ≡ Failed)) }
 {
     let Some(text) = matches.get_str(option) else {
         return Ok(None);
@@ -116,38 +80,4 @@ fn gtids<R: Eprint + AllocGlobal>(
             Err(Status::Usage)
         }
     }
-}
-
-// Adds the types that are asked for.
-fn add_types<R: Eprint>(rt: &R, matches: &ArgMatches<'_>, filter: &mut Filter) -> Result<(), Status>
-    ensures { IfErr result (λ status. (status ≡ Usage) ⊎ (status ≡ Failed)) }
-{
-    let Some(names) = matches.get_strs("type") else {
-        return Ok(());
-    };
-    for name in names.iter() {
-        let Some(number) = type_of(name) else {
-            let _ = eprintln!(rt; "binlog: --type: there is no event type {name:?}");
-            return Err(Status::Usage);
-        };
-        if filter.types.push(number).is_err() {
-            return Err(out_of_memory(rt));
-        }
-    }
-    Ok(())
-}
-
-// The raw type with this name, with or without its `_EVENT`, in any case.
-fn type_of(name: &str) -> Option<u8> {
-    (0..=u8::MAX).find(|number| is_named(*number, name))
-}
-
-// Whether a raw type has this name.
-fn is_named(number: u8, name: &str) -> bool {
-    let Ok(event_type) = EventType::try_from(number) else {
-        return false;
-    };
-    let whole = name_of(event_type);
-    let short = whole.strip_suffix("_EVENT").unwrap_or(whole);
-    name.eq_ignore_ascii_case(whole) || name.eq_ignore_ascii_case(short)
 }

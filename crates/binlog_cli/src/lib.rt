@@ -10,6 +10,8 @@ mod progress;
 mod refusing;
 mod reported;
 mod summaries;
+mod times;
+mod type_names;
 
 pub use arguments::command;
 pub use exit_status::{Outcome, Status, out_of_memory};

@@ -1,9 +1,11 @@
 //! The output of a command.
-ghost use Rattle.std.specs.Prelude.{◌≡◌, Some, None, IfErr, IfOk, IfSome, IsSome};
-ghost use Rattle.std.specs.Io.KnownBytes.{Keeps};
+ghost use Rattle.std.specs.Prelude.{◌≡◌, [], Some, None, IfErr, IfOk, IfSome, OnOk};
+ghost use Rattle.std.specs.Io.Buffered.{writer_buffer};
+ghost use Rattle.std.specs.Io.{WritesAtMost};
+ghost use Rattle.std.specs.Io.KnownBytes.{Keeps, WriteAppends};
 ghost use Rattle.binlog_cli.specs.declared.exit_status.Status.TheVariants.{Failed};
 ghost use Rattle.binlog_cli.specs.Statuses.{EndsBehind};
-ghost use Rattle.binlog_cli.specs.Outputs.{EndsWith, Finishes, HasBytes};
+ghost use Rattle.binlog_cli.specs.Outputs.{EndsWith, Finishes, HasBytes, failure_behind};
 
 use crate::exit_status::{Outcome, Status, out_of_memory};
 use binlog_ends::Retrying;
@@ -52,8 +54,8 @@ impl<W: Write + Drop> Output<BufWriter<Retrying<W>>> {
         ensures first { IfSome self.failure (λ failure. result.0 ≡ Some failure) }
         ensures written { HasBytes result.0 (⟦<BufWriter<Retrying<W>> as Write>⟧.contents self.inner) (W.contents result.1) }
     {
-        let flushed = self.inner.flush();
-        self.note(&flushed);
+        // A failure is kept.
+        let _ = self.flush();
         let Output { inner, failure } = self;
         let (inner, _unwritten) = inner.into_parts();
         (failure, inner.into_inner())
@@ -64,8 +66,7 @@ impl<B: Write> Output<B> {
     // Keeps why a call failed if it is the first failure.
     fn note<T>(&mut self, answer: &io::Result<T>)
         ensures inner { self.new.inner ≡ self.old.inner }
-        ensures err { IfErr answer.now (λ error. IsSome self.new.failure) }
-        ensures first { IfSome self.old.failure (λ failure. self.new.failure ≡ Some failure) }
+        ensures failure { self.new.failure ≡ failure_behind self.old.failure answer.now }
     {
         if let Err(error) = answer
             && self.failure.is_none()
@@ -97,17 +98,25 @@ fn end_behind<E: Eprint>(rt: &E, failure: &io::Error, status: Status) -> Status
     status.max(Status::Failed)
 }
 
-/// Its bytes are those of the writer.
-impl<B: Write> Write for Output<B> {
-    ghost contents = { λ output. B.contents output.inner };
+/// Its bytes are those of the writer. Why the first call failed is kept.
+impl<W: Write + Drop> Write for Output<BufWriter<Retrying<W>>> {
+    ghost contents = { λ output. ⟦<BufWriter<Retrying<W>> as Write>⟧.contents output.inner };
 
-    fn write(&mut self, buf: &[u8]) -> io::Result<usize> {
+    fn write(&mut self, buf: &[u8]) -> io::Result<usize>
+        ensures bound { WritesAtMost result buf.now }
+        ensures bytes { WriteAppends (⟦<BufWriter<Retrying<W>> as Write>⟧.contents self.old.inner) (⟦<BufWriter<Retrying<W>> as Write>⟧.contents self.new.inner) result buf.now }
+        ensures failure { self.new.failure ≡ failure_behind self.old.failure result }
+    {
         let written = self.inner.write(buf);
         self.note(&written);
         written
     }
 
-    fn flush(&mut self) -> io::Result<()> {
+    fn flush(&mut self) -> io::Result<()>
+        ensures bytes { Keeps (⟦<BufWriter<Retrying<W>> as Write>⟧.contents self.old.inner) (⟦<BufWriter<Retrying<W>> as Write>⟧.contents self.new.inner) }
+        ensures empty { OnOk result (writer_buffer self.new.inner ≡ []) }
+        ensures failure { self.new.failure ≡ failure_behind self.old.failure result }
+    {
         let flushed = self.inner.flush();
         self.note(&flushed);
         flushed

@@ -1,4 +1,5 @@
 pub mod CopiedLogs
 pub mod FilteredCopies
+pub mod TakenCounts
 pub mod CollectedGtids
 pub mod WholeCounts

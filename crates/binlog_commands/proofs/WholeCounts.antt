@@ -113,7 +113,7 @@ all_smaller items largest is event less =
     subst (All (Below event)) (sym split)
     (All-append (Below event) (events_in is.before) (is.event ∷ events_in is.behind) front (All-cons (Below event) is.event (events_in is.behind) more end))
 
-abbrev as_largest : ℕ → EventView → Largest
+abbrev pub as_largest : ℕ → EventView → Largest
 as_largest index event = record { index = index; size = size_of event; event_type = type_of event }
 
 is_new_largest : (items : List (Result EventView Error)) (event : EventView) → All (Below event) (events_in items) → IsLargest (items ++ Ok event ∷ []) (as_largest (length items) event)
@@ -121,7 +121,7 @@ is_new_largest items event smaller =
     record { before = items; event = event; behind = []; whole = refl; index = refl; size = refl; type = refl; smaller = smaller; no_larger = All-nil (UpTo event) }
 
 -- what is to hold of the largest event, if there is one
-abbrev FindsLargest : List (Result EventView Error) → Option Largest → Type 0
+abbrev pub FindsLargest : List (Result EventView Error) → Option Largest → Type 0
 FindsLargest items found = MatchOption found (events_in items ≡ []) (IsLargest items)
 
 larger_by : (items : List (Result EventView Error)) (event : EventView) (largest : Largest) (b : Bool) → ltb largest.size (size_of event) ≡ b → IsLargest items largest
@@ -154,12 +154,12 @@ module _ {T : Type 0} (visits : VisitRelation T) (holds : List (Result EventView
 
 -- ---- statistics
 
-record Counted (items : List (Result EventView Error)) (stats : Stats) : Type 0 where
-  all : AreCounted items stats
-  events_wide : length stats.events ≡ 256
-  bytes_wide : length stats.bytes ≡ 256
+pub record Counted (items : List (Result EventView Error)) (stats : Stats) : Type 0 where
+  pub all : AreCounted items stats
+  pub events_wide : length stats.events ≡ 256
+  pub bytes_wide : length stats.bytes ≡ 256
 
-none_is_counted : Counted [] no_items
+pub none_is_counted : Counted [] no_items
 none_is_counted = record {
   all = record {
     events = λ type within. get_or-replicate 256 type 0 0 within;
@@ -174,7 +174,7 @@ none_is_counted = record {
   bytes_wide = refl;
 }
 
-abbrev with_event : Stats → ℕ → EventView → Stats
+abbrev pub with_event : Stats → ℕ → EventView → Stats
 with_event old index event = record {
   events = set old.events (type_of event) (counted (get_or old.events (type_of event) 0) 1);
   bytes = set old.bytes (type_of event) (counted (get_or old.bytes (type_of event) 0) (length event.frame));
@@ -236,7 +236,7 @@ module _ (items : List (Result EventView Error)) (old : Stats) (was : Counted it
 abbrev CountsAt : VisitRelation Stats
 CountsAt old maps index item new = CountsItem old index item new
 
-item_counted : (items : List (Result EventView Error)) (item : Result EventView Error) (maps : TableMaps) (old new : Stats) → Counted items old → CountsAt old maps (length items) item new → Counted (items ++ item ∷ []) new
+pub item_counted : (items : List (Result EventView Error)) (item : Result EventView Error) (maps : TableMaps) (old new : Stats) → Counted items old → CountsAt old maps (length items) item new → Counted (items ++ item ∷ []) new
 item_counted items (Ok event) maps old new was is = subst (Counted (items ++ Ok event ∷ [])) (sym is) (event_counted items old was event)
 item_counted items (Err error) maps old new was is = subst (Counted (items ++ Err error ∷ [])) (sym is) (error_counted items old was error)
 
@@ -245,7 +245,7 @@ all_counted maps items new visited = (all_visited CountsAt Counted item_counted 
 
 -- ---- tallies
 
-abbrev Tallies : VisitRelation Tally
+abbrev pub Tallies : VisitRelation Tally
 Tallies old maps index item new = Counts old item new
 
 item_tallied : (items : List (Result EventView Error)) (item : Result EventView Error) (maps : TableMaps) (old new : Tally) → AreTallied items old → Tallies old maps (length items) item new → AreTallied (items ++ item ∷ []) new

@@ -4,4 +4,5 @@ pub mod Copying
 pub mod Parts
 pub mod Statistics
 pub mod WholeCounts
+pub mod TakenCounts
 pub mod FilteredCopies

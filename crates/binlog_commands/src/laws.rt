@@ -17,6 +17,7 @@ ghost use Rattle.binlog_commands.specs.Collecting.{collected, CollectsAll};
 ghost use Rattle.binlog_commands.specs.Counting.{none_counted};
 ghost use Rattle.binlog_commands.specs.Statistics.{no_items};
 ghost use Rattle.binlog_commands.specs.WholeCounts.{AreCounted, AreTallied};
+ghost use Rattle.binlog_commands.specs.TakenCounts.{AreTakenCounted, AreTakenTallied};
 ghost use Rattle.binlog_commands.specs.Parts.{ArePart, event_bytes};
 ghost use Rattle.binlog_commands.specs.FilteredCopies.{IsFilteredCopy};
 
@@ -51,6 +52,21 @@ pub fn counts_are_of_all_items()
 pub fn tallies_are_of_all_items()
     ensures { (maps : TableMaps) (items : List (Result EventView Error)) (new : Tally)
         → Visits ⟦<Tally as Visitor>⟧.visits maps 0 items none_counted new → AreTallied items new }
+{}
+
+/// The statistics that are shown what a filter takes of a log, are those of the items that it takes, and of no others: of its
+/// events, and of each error. The largest event has its index in the log.
+pub fn filtered_counts_are_of_taken_items()
+    ensures { (maps : TableMaps) (items : List (Result EventView Error)) (old new : Filtered Stats) → old.visitor ≡ no_items
+        → Visits ⟦<Filtered<Stats> as Visitor>⟧.visits maps 0 items old new
+        → AreTakenCounted old.filter old.place.position old.is_wanted items new.visitor }
+{}
+
+/// The tally that is shown what a filter takes of a log is that of the items that it takes, and of no others.
+pub fn filtered_tallies_are_of_taken_items()
+    ensures { (maps : TableMaps) (items : List (Result EventView Error)) (old new : Filtered Tally) → old.visitor ≡ none_counted
+        → Visits ⟦<Filtered<Tally> as Visitor>⟧.visits maps 0 items old new
+        → AreTakenTallied old.filter old.place.position old.is_wanted items new.visitor }
 {}
 
 /// The copy of a log is a log. If no frame is left out that brings another description into force, the bytes of the events

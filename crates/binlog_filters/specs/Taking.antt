@@ -59,7 +59,7 @@ meets_conditions filter start event is_wanted =
 abbrev pub is_taken : Filter → Option ℕ → EventView → Bool → Bool
 is_taken filter start event is_wanted = (filter.takes_descriptions && is_description event.frame) || meets_conditions filter start event is_wanted
 
--- The filter has no condition, so that it takes each event.
+-- The filter has no condition, so that it takes each event. If it gets conditions, no event is taken in spite of them.
 pub record HasNoCondition (filter : Filter) : Type 0 where
   pub from_start : filter.start_position ≡ 0
   pub to_end : filter.stop_position ≡ None
@@ -69,6 +69,7 @@ pub record HasNoCondition (filter : Filter) : Type 0 where
   pub any_type : filter.types.items ≡ []
   pub includes_all : filter.include_gtids ≡ None
   pub excludes_none : filter.exclude_gtids ≡ None
+  pub no_exception : filter.takes_descriptions ≡ false
 
 -- ---- transactions
 

@@ -158,25 +158,11 @@ pub mod civil {
     }
 }
 
-/// Time zones.
+/// Offsets from UTC.
 pub mod tz {
     use super::civil::DateTime;
     use super::{Error, Timestamp};
     use ::time::PrimitiveDateTime;
-
-    /// A time zone: there is UTC alone.
-    #[derive(Clone, Copy, Debug)]
-    pub struct TimeZone;
-
-    impl TimeZone {
-        /// UTC.
-        pub const UTC: TimeZone = TimeZone;
-
-        /// The time that a date and a time of day are.
-        pub fn to_timestamp(self, time: DateTime) -> Result<Timestamp, Error> {
-            Timestamp::from_second(time.0.assume_utc().unix_timestamp())
-        }
-    }
 
     /// An offset from UTC: there is none but 0.
     #[derive(Clone, Copy, Debug)]
@@ -185,6 +171,11 @@ pub mod tz {
     impl Offset {
         /// UTC.
         pub const UTC: Offset = Offset;
+
+        /// The time that a date and a time of day are.
+        pub fn to_timestamp(self, time: DateTime) -> Result<Timestamp, Error> {
+            Timestamp::from_second(time.0.assume_utc().unix_timestamp())
+        }
 
         /// The date and the time of day of a time.
         pub fn to_datetime(self, time: Timestamp) -> DateTime {

@@ -3,10 +3,11 @@ use Rattle.binlog.proofs.commands.json.Goals as goal
 pub returns-clause-ok : goal.returns-clause-ok
 returns-clause-ok g c = record {
   filter = c.in_ok-outcome.ensures.ok.0;
+  states = c.in_ok-outcome.ensures.ok.1;
   start = c.new-lines.result;
   begins = record { has = rw c.new-lines.ensures.output c.in_ok-output.ensures.bytes; fine = rw c.new-lines.ensures.output c.in_ok-output.ensures.fine };
   outcome = c.in_ok-outcome.outcome;
   behind = c.in_ok-outcome.lines;
-  shown = c.in_ok-outcome.ensures.ok.1;
+  shown = c.in_ok-outcome.ensures.ok.2;
   ends = rw c.into_output.ensures at c.finish.ensures;
 }

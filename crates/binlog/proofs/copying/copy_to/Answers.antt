@@ -4,6 +4,7 @@ use Rattle.binlog.proofs.copying.copy_to.Goals as goal
 pub returns-in-Ok-clause-ok : goal.returns-in-Ok-clause-ok
 returns-in-Ok-clause-ok g c = inl (record {
   filter = c.in_ok-filter.filter;
+  states = c.in_ok-filter.ensures.ok;
   output = c.in_ok-output.output;
   begins = record { has = c.in_ok-output.ensures.bytes; fine = c.in_ok-output.ensures.fine };
   outcome = c.in-Ok.outcome;

@@ -1,8 +1,10 @@
+use Rattle.std.proofs.Common.{rules}
 use Rattle.binlog.proofs.verifying.verify.Goals as goal
 
 pub returns-clause-ok : goal.returns-clause-ok
 returns-clause-ok g c = record {
   start = c.new-reported.result;
+  states = search rules;
   output = c.in_ok-output.output;
   begins = record { has = c.in_ok-output.ensures.bytes; fine = c.in_ok-output.ensures.fine };
   outcome = c.verify_files-outcome.result;
