@@ -136,7 +136,8 @@ size_t binlog_rest(const uint8_t *log, size_t size, const binlog_cursor *cursor)
  * An item with an error has the line of that error.
  *
  * A row event's values are written by help of its table map: the last one among the table maps, of which there are
- * `count`, that has the table id of the event. Without one, the members `table` and `rows` are null. Any other item
+ * `count`, that has the table id of the event. Without one, the members `table` and `rows` are null. The stored bytes of the rows,
+ * `rows_data`, are left out where all rows are read, as without the option `--stored` of the program. Any other item
  * doesn't need table maps, and they aren't looked at. Usually these are the items of type 19 between the row event and the
  * event before it that is neither a row event nor a table map.
  *

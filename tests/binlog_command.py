@@ -10,6 +10,7 @@ folder; without `dpkg-deb` no package is made. The last line is `N passed, M fai
 """
 
 import argparse
+import json
 import os
 import pty
 import re
@@ -26,6 +27,8 @@ from itertools import chain
 from pathlib import Path
 
 import checksummed_sample
+import encoded_events
+import encoded_logs
 import gtid_model
 import gtids_sample
 import json_model
@@ -33,8 +36,10 @@ import listing_model
 import make_sample
 import maria_events
 import maria_gtids_sample
+import maria_json_model
 import programs
 import results
+import row_lines
 from damaged_copies import EVENT, MAGIC, PROCESSES_AT_A_TIME, SIZE_OFFSET, frame_starts, with_byte
 from programs import REPOSITORY
 
@@ -66,6 +71,28 @@ def transactions(*numbers):
     statement = make_sample.frame(make_sample.QUERY, make_sample.query_body(b"test", b"select 1"), 0)
     rotate = make_sample.frame(make_sample.ROTATE, make_sample.ROTATE_BODY, 0)
     return MAGIC + rotate + b"".join(gtid_event(number) + 2 * statement for number in numbers)
+
+
+def maria_log():
+    """A log that MariaDB wrote, its events, and for each of them the number of its transaction: None for those of the log."""
+    lengths = encoded_logs.POST_HEADER_LENGTHS
+    described = encoded_logs.described("MariaDB", lengths, server_version="10.11.6-MariaDB-log", algorithm=1)
+    statement = encoded_events.query(schema="test", text="insert into t values (1)")
+    compressed = maria_events.query_compressed("insert into t values (2)", None)
+    transactions = [
+        [maria_events.gtid(0, 0, 5), maria_events.annotate_rows("insert into t values (1)"), encoded_events.xid(value=7)],
+        [maria_events.gtid(0, 0, 6, flags=1), statement],
+        [maria_events.gtid(0, 7, 1), compressed, encoded_events.xid(value=8)],
+    ]
+    checkpoint = maria_events.binlog_checkpoint("mariadb-bin.000001")
+    of_log = [described.event, maria_events.gtid_list(0, [(0, 1, 4)]), checkpoint]
+    behind = [checkpoint, maria_events.start_encryption(1, 2, bytes(12)), encoded_events.rotate(position=4, name="mariadb-bin.000002")]
+    pairs = [(event, None) for event in of_log]
+    for number, events in enumerate(transactions):
+        pairs += [(event, number) for event in events]
+        pairs += [(behind[number], None)]
+    events = [maria_events.with_own_server(event, index) for index, (event, _) in enumerate(pairs)]
+    return encoded_logs.log("MariaDB", events), events, [number for _, number in pairs]
 
 
 class Result:
@@ -343,6 +370,18 @@ def gtid_filters(runner):
             yield runner.check(["copy", *words, "-o", "-", "0.bin"], Result(copy_of(log, indexes)), [log])
 
 
+def names(runner):
+    """Each name of a type of either server, whole and short, in any case. `GTID_EVENT` is the name of a type of each."""
+    named = sorted((json_model.NAMES | maria_json_model.NAMES).items())
+    # Without the format description and the table map, whose bodies are read.
+    numbers = [number for number in range(256) if number not in (15, 19)]
+    log = MAGIC + b"".join(make_sample.frame(number, bytes(8), 0) for number in numbers)
+    for number, name in named:
+        indexes = [numbers.index(other) for other, same in named if same == name and other in numbers]
+        for word in (name, name.lower(), name.removesuffix("_EVENT"), name.removesuffix("_EVENT").capitalize()):
+            yield runner.check(["list", "--type", word, "0.bin"], Result(lines(log, indexes)), [log])
+
+
 def gtids(runner):
     """The GTIDs of several logs, and those that another log lacks."""
     logs = [transactions(1, 2, 3), transactions(5), transactions(2)]
@@ -382,20 +421,23 @@ def time_of(frame):
     return datetime.fromtimestamp(seconds, timezone.utc).strftime("%Y-%m-%dT%H:%M:%SZ")
 
 
-def counts_of(log):
-    """The text of `stats` for a log, from its frames."""
+def counts_of(log, indexes=None, transactions=0, names=json_model.NAMES):
+    """The text of `stats` for the events of a log that have these indexes, all of them if there are none, from their frames. Types
+    have these names by number, and others their number."""
     every = frames(log)
-    size = sum(map(len, every))
-    largest = max(range(len(every)), key=lambda index: len(every[index]))
-    rows = {2: "QUERY_EVENT", 4: "ROTATE_EVENT", 15: "FORMAT_DESCRIPTION_EVENT", 16: "XID_EVENT"}
-    wanted = [f"events {len(every)}", f"bytes {size}", "damaged 0", "transactions 0"]
-    wanted += [f"first {time_of(every[0])}", f"last {time_of(every[-1])}"]
-    kind = rows[listing_model.type_number(every[largest])]
-    wanted += [f"largest event {largest} of {len(every[largest])} bytes, {kind}"]
-    for number, name in rows.items():
-        sizes = [len(frame) for frame in every if listing_model.type_number(frame) == number]
-        if sizes:
-            wanted += [f"type {name} {len(sizes)} events {sum(sizes)} bytes {sum(sizes) * 100 // size}%"]
+    indexes = range(len(every)) if indexes is None else indexes
+    taken = [every[index] for index in indexes]
+    size = sum(map(len, taken))
+    largest = max(indexes, key=lambda index: len(every[index]))
+    kinds = [listing_model.type_number(frame) for frame in taken]
+    wanted = [f"events {len(taken)}", f"bytes {size}", "damaged 0", f"transactions {transactions}"]
+    wanted += [f"first {time_of(taken[0])}", f"last {time_of(taken[-1])}"]
+    kind = listing_model.type_number(every[largest])
+    wanted += [f"largest event {largest} of {len(every[largest])} bytes, {names.get(kind, kind)}"]
+    for number in sorted(set(kinds)):
+        sizes = [len(frame) for frame, kind in zip(taken, kinds) if kind == number]
+        row = f"{len(sizes)} events {sum(sizes)} bytes {sum(sizes) * 100 // size}%"
+        wanted += [f"type {names.get(number, number)} {row}"]
     return "".join(line + "\n" for line in wanted).encode()
 
 
@@ -404,6 +446,10 @@ def stats(runner):
     yield runner.check(["stats", "0.bin"], Result(counts_of(SAMPLE)), [SAMPLE])
     finished = runner.run(["stats", "0.bin", "0.bin"], [transactions(1, 2)])
     yield None if b"\ntransactions 4\n" in finished.stdout else f"stats: {finished.stdout!r}"
+    log = MAGIC + b"".join(make_sample.frame(number, bytes(8), 0) for number in range(256) if number not in (15, 19))
+    # 33, 34 and 42 begin MySQL's transactions, and 162 MariaDB's.
+    names_of_both = json_model.NAMES | maria_json_model.NAMES
+    yield runner.check(["stats", "0.bin"], Result(counts_of(log, transactions=4, names=names_of_both)), [log])
 
 
 def copies(runner):
@@ -427,6 +473,47 @@ def maria(runner):
     """MariaDB's own events as lines of JSON, in the logs that it wrote, and as unknown ones in those of other servers."""
     for log in maria_events.logs():
         yield runner.check(["json", "0.bin"], Result(log.lines), [log.content])
+
+
+def stored_rows(runner):
+    """The stored bytes of rows: those of events that have a refused row or no table map, and with `--stored` of all."""
+    log, _ = row_lines.sample()
+    for options, kept in ([], [False, False, True, True]), (["--stored"], [True] * 4):
+        output, status = json_model.expected(log, keeps_stored=bool(options))
+        yield runner.check(["json", *options, "0.bin"], Result(output, status), [log])
+        found = runner.run(["json", *options, "--type", "WRITE_ROWS", "0.bin"], [log]).stdout.splitlines()
+        is_right = ["rows_data" in json.loads(line)["data"] for line in found] == kept
+        yield None if is_right else f"json {options}: {found}"
+    yield runner.check(["list", "--stored", "0.bin"], Result(b"", USAGE, r"(?s).+"), [log])
+
+
+def maria_transactions(runner):
+    """Filters take whole transactions of a log that MariaDB wrote, and the events of the log itself."""
+    log, events, numbers = maria_log()
+    names_of_types = {event.type: event.name for event in events}
+    every = range(len(events))
+    of_log = [index for index in every if numbers[index] is None]
+    cases = [
+        ([], every, len(set(numbers) - {None})),
+        (["--include-gtids", f"{SID}:1-9"], of_log, 0),
+        (["--exclude-gtids", f"{SID}:1-9"], every, 3),
+        (["--type", "GTID"], [index for index in every if events[index].name == "GTID_EVENT"], 3),
+    ]
+    for name in names_of_types.values():
+        indexes = [index for index in every if events[index].name == name]
+        cases += [(["--type", name], indexes, 3 * (name == "GTID_EVENT"))]
+    json_lines = log.lines.splitlines(keepends=True)
+    for words, indexes, count in cases:
+        with_description = sorted({0, *indexes})
+        wanted = [
+            ("list", lines(log.content, indexes)),
+            ("json", b"".join(json_lines[index] for index in indexes)),
+            ("stats", counts_of(log.content, indexes, count, names_of_types)),
+            ("copy", copy_of(log.content, with_description)),
+        ]
+        for command, output in wanted:
+            ends = ["-o", "-"] if command == "copy" else []
+            yield runner.check([command, *words, *ends, "0.bin"], Result(output), [log.content])
 
 
 # ---- words and ends
@@ -604,8 +691,8 @@ def installs(runner):
     yield from laid_out(runner, runner.folder / "unpacked/usr")
 
 
-PARTS = (models, damaged, cut_logs, cut_ends, reported, several, filters, gtid_filters, gtids, maria_gtids, samples, stats)
-PARTS += (copies, maria, words, ends, progress, followed, installs)
+PARTS = (models, damaged, cut_logs, cut_ends, reported, several, filters, gtid_filters, names, gtids, maria_gtids, samples, stats)
+PARTS += (copies, maria, maria_transactions, stored_rows, words, ends, progress, followed, installs)
 
 
 def results_of(build, part):

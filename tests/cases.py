@@ -5,8 +5,8 @@ Usage: cases.py FLAG [FILE..]
 
 FLAG is one of `programs.py`: it says which programs are run. Of each case, a line of a FILE, an event under a format description
 is put into a log, or the events of its table; all files if none is named. The lines of JSON have the values of the case, and
-`events` prints the bytes that are written for the body, or why it is refused. tests/cases/README.md says what a line has. The last
-line is `N passed, M failed`; the exit status is 1 if something failed.
+`events` prints the bytes that are written for the body, or why it is refused; `texts` prints the text of a zlib stream, or why it is
+refused. tests/cases/README.md says what a line has. The last line is `N passed, M failed`; the exit status is 1 if something failed.
 """
 
 import argparse
@@ -70,6 +70,16 @@ class Case(NamedTuple):
     member: str
     text: str | None
     line: dict | None = None
+
+
+class Stream(NamedTuple):
+    """A case of a zlib stream: its text, or the name of its refusal, and the exit status."""
+
+    name: str
+    content: bytes
+    text: bytes
+    refusal: bytes
+    status: int
 
 
 class Listing(NamedTuple):
@@ -219,7 +229,26 @@ def logs(name, head, parts, names):
     yield Listing(name, bytes_of(parts[0], names), found[1], lines, int(found[2] or 0))
 
 
-KINDS = {"bodies": bodies, "variables": variables, "gtids": gtids, "values": values, "rows": rows, "logs": logs}
+def streams(name, head, parts, names):
+    """A zlib stream: its `text`, or why it is `refused`."""
+    if head not in ("text", "refused") or len(parts) != 2:
+        raise Refused("no stream")
+    content = bytes_of(parts[0], names)
+    if head == "text":
+        yield Stream(name, content, bytes_of(parts[1], names), b"", 0)
+    else:
+        yield Stream(name, content, b"", f"{parts[1]}\n".encode(), 1)
+
+
+KINDS = {
+    "bodies": bodies,
+    "variables": variables,
+    "gtids": gtids,
+    "values": values,
+    "rows": rows,
+    "logs": logs,
+    "streams": streams,
+}
 
 
 def whole_lines(path):
@@ -237,6 +266,11 @@ def whole_lines(path):
             is_of_value = before.count(ARROW) == 1 and not text.startswith("=>") and not before.endswith(";")
             whole.append((first, before + ("" if is_of_value else " ") + text))
     return whole
+
+
+def kind_of(path):
+    """The kind of a file's cases, its first line. Files of other kinds than `KINDS` are those of other scripts."""
+    return whole_lines(path)[0][1]
 
 
 def cases_of(path):
@@ -262,12 +296,12 @@ def lines_of(words, content):
 
 
 def text_of(member, line):
-    """The text of a member of a line, and for `table` of what follows it; the line if it has no such member."""
+    """The text of a member of a line, and for `table` of what follows it up to the data; the line if it has no such member."""
     before, key, _ = line.partition(f'"{member}":')
     if not key:
         return line
     start = len(before) + len(key)
-    end = len(line) - 1 if member == "table" else DECODER.raw_decode(line, start)[1]
+    end = line.rindex(',"data":{') if member == "table" else DECODER.raw_decode(line, start)[1]
     return line[start:end]
 
 
@@ -291,10 +325,24 @@ def listing_fault(build, case):
     return None
 
 
+def stream_fault(build, case):
+    """None, or what is wrong with the text of a stream."""
+    words = build.command("texts")
+    finished = subprocess.run(words, input=case.content, stdout=subprocess.PIPE, stderr=subprocess.PIPE)
+    found = finished.stdout, finished.stderr, finished.returncode
+    if found != (case.text, case.refusal, case.status):
+        return f"{case.name}: {words[0]} prints {found}, not {case[2:]}"
+    return None
+
+
+# The cases of which each is a run of its own.
+ALONE = {Listing: listing_fault, Stream: stream_fault}
+
+
 def faults(build, cases):
     """For each case, None or what is wrong."""
-    if cases and isinstance(cases[0], Listing):
-        yield from (listing_fault(build, case) for case in cases)
+    if cases and type(cases[0]) in ALONE:
+        yield from (ALONE[type(case)](build, case) for case in cases)
         return
     content = FILE_HEADER + b"".join(part for case in cases for part in case.frames)
     json_lines, events_lines = (lines_of(build.command(purpose), content) for purpose in ("json", "events"))
@@ -311,8 +359,8 @@ def main():
     parser = argparse.ArgumentParser(description="Compares what is read and written with cases that were worked by hand.")
     programs.add_flags(parser)
     parser.add_argument("files", nargs="*", type=Path, metavar="FILE")
-    arguments = programs.parsed(parser, "json", "events")
-    files = arguments.files or sorted(CASES.glob("*.txt"))
+    arguments = programs.parsed(parser, "json", "events", "texts")
+    files = arguments.files or [path for path in sorted(CASES.glob("*.txt")) if kind_of(path) in KINDS]
     return results.report(result for path in files for result in faults(arguments.build, list(cases_of(path))))
 
 

@@ -23,9 +23,8 @@ from pathlib import Path
 
 import programs
 import results
+from character_model import UNICODE, collations, single_byte_sets, unicode_text
 from maria_daemon import LeftOut, Server, program_in
-
-CASES = programs.REPOSITORY / "tests/cases"
 
 # Python's codecs that have the characters of a set, and the bytes at which they differ.
 CODECS = {
@@ -51,49 +50,10 @@ CODECS = {
     "tis620": ("tis-620", b""),
 }
 
-# The Unicode sets, Python's codec, and the first code point that the set doesn't have.
-UNICODE = {
-    "ucs2": ("utf-16-be", 0x10000),
-    "utf16": ("utf-16-be", 0x110000),
-    "utf16le": ("utf-16-le", 0x110000),
-    "utf32": ("utf-32-be", 0x110000),
-    "utf8mb3": ("utf-8", 0x10000),
-    "utf8mb4": ("utf-8", 0x110000),
-}
-
 UNDECODED = ["big5", "binary", "cp932", "eucjpms", "euckr", "gb18030", "gb2312", "gbk", "sjis", "ujis"]
 
 RANDOM_TEXTS = 3000
 SURROGATES = range(0xD800, 0xE000)
-
-# ---- The cases
-
-
-def lines_of(name):
-    lines = (CASES / name).read_text().splitlines()
-    return [line.split("\t") for line in lines if not line.startswith("#")]
-
-
-def single_byte_sets():
-    """The code points of the 256 bytes of each set, None for a byte that is no character."""
-    sets = {}
-    for name, first, *points in lines_of("character_sets.tsv"):
-        entries = sets.setdefault(name, [])
-        assert len(entries) == int(first, 16)
-        entries += [None if point == "-" else int(point, 16) for point in points]
-    assert all(len(entries) == 256 for entries in sets.values())
-    return sets
-
-
-def collations():
-    """The set of each collation's number, for each server."""
-    sets = {"mysql": {}, "mariadb": {}}
-    for server, name, *numbers in lines_of("collations.tsv"):
-        for number in numbers:
-            first, _, last = number.partition("-")
-            sets[server] |= dict.fromkeys(range(int(first), int(last or first) + 1), name)
-    return sets
-
 
 # ---- Questions and answers
 
@@ -108,16 +68,6 @@ def answer(text):
         return "none"
     points = ",".join(f"{ord(character):x}" for character in text)
     return f"{points or '-'} {text.encode().hex() or '-'}"
-
-
-def decoded(name, content):
-    """The text by Python's codec, of a set that is Unicode."""
-    codec, end = UNICODE[name]
-    try:
-        text = content.decode(codec)
-    except UnicodeDecodeError:
-        return None
-    return text if all(ord(character) < end for character in text) else None
 
 
 def single_byte_cases(sets):
@@ -184,15 +134,13 @@ def damaged(rng, content):
 def unicode_cases():
     for name in UNICODE:
         for content in unicode_contents(name):
-            yield question(name, content), answer(decoded(name, content))
+            yield question(name, content), answer(unicode_text(name, content))
 
 
 def collation_cases(sets):
-    mysql = {number: name for number, name in sets["mariadb"].items() if number < 324} | sets["mysql"]
-    mariadb = sets["mariadb"] | sets["mysql"]
     for number in range(0x10000):
-        yield f"collation {number}", mysql.get(number, "none")
-        yield f"mariadb {number}", mariadb.get(number, "none")
+        yield f"collation {number}", sets["mysql"].get(number, "none")
+        yield f"mariadb {number}", sets["mariadb"].get(number, "none")
     yield "collation 65536", "unknown"
 
 

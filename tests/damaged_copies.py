@@ -449,20 +449,21 @@ def first_difference(found, wanted):
 
 class Compared(NamedTuple):
     """The models of a listing, of its own program and of the command of `binlog`, which give the output and the status for a
-    log; and the encoder's output for a log, None if it has none."""
+    log; the encoder's output for a log, None if it has none, and the model of that."""
 
     program: Callable
     command: Callable
     stated: Callable
+    encoder: Callable
 
     def model_of(self, words):
         return self.command if programs.is_command(words) else self.program
 
 
 COMPARED = {
-    "list": Compared(listing_model.expected, listing_model.of_command(listing_model.expected), lambda log: log.listing),
-    "json": Compared(json_model.expected, listing_model.of_command(json_model.expected), lambda log: log.lines),
-    "gtids": Compared(gtid_model.expected, listing_model.of_command(gtid_model.expected), lambda _log: None),
+    "list": Compared(listing_model.expected, listing_model.of_command(listing_model.expected), lambda log: log.listing, listing_model.expected),
+    "json": Compared(json_model.expected, listing_model.of_command(json_model.expected), lambda log: log.lines, json_model.encoded),
+    "gtids": Compared(gtid_model.expected, listing_model.of_command(gtid_model.expected), lambda _log: None, gtid_model.expected),
 }
 
 
@@ -476,7 +477,7 @@ def failure(commands, purpose, case):
         for words in commands
         for fault in all_faults(" ".join(words), programs.run(words, content), wanted(compared.model_of(words)))
     ]
-    faults += [fault for output in stated for fault in encoder_faults(wanted(compared.program), output)]
+    faults += [fault for output in stated for fault in encoder_faults(compared.encoder(content), output)]
     return f"{name}: {'; '.join(faults)}" if faults else None
 
 
@@ -490,10 +491,8 @@ def all_faults(name, found, wanted):
 
 
 def encoder_faults(found, output):
-    """What of the model is unlike the encoder's output, which has no rows."""
-    lines, status = found
-    wanted = output, listing_model.STATUS_FINE
-    return all_faults("the model, unlike the encoder", (json_model.without_rows(lines), status), wanted)
+    """What of the model is unlike the encoder's output."""
+    return all_faults("the model, unlike the encoder", found, (output, listing_model.STATUS_FINE))
 
 
 def main():

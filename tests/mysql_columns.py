@@ -107,15 +107,15 @@ def of_selected(column, content, has_members):
         return content.decode()
     if column.kind in ("enum", "set"):
         number, _, digits = content.decode().partition(" ")
-        return shown(bytes.fromhex(digits)) if has_members else int(number)
+        return shown(bytes.fromhex(digits), column.character_set) if has_members else int(number)
     if column.kind == "json":
         return mysql_documents.of_text(content.decode())
     return of_bytes(column, content)
 
 
 def of_bytes(column, content):
-    """A text, or digits where the character set is `binary`."""
-    return shown(content) if column.kind in TEXTS else content.hex()
+    """A text in the column's character set, or digits where that is `binary`."""
+    return shown(content, column.character_set) if column.kind in TEXTS else content.hex()
 
 
 # ---- What `mysqlbinlog` prints
@@ -164,12 +164,12 @@ def encoded_members(column):
 
 
 def member_of_enum(column, index):
-    return shown(encoded_members(column)[index - 1]) if index else ""
+    return shown(encoded_members(column)[index - 1], column.character_set) if index else ""
 
 
 def members_of_set(column, mask):
     members = encoded_members(column)
-    return shown(b",".join(member for bit, member in enumerate(members) if mask >> bit & 1))
+    return shown(b",".join(member for bit, member in enumerate(members) if mask >> bit & 1), column.character_set)
 
 
 # ---- What a line of JSON says

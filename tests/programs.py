@@ -58,6 +58,7 @@ PROVED = Build(
         "rows": [proved("probe_rows")],
         "texts": [proved("probe_inflate")],
         "characters": [proved("probe_characters")],
+        "documents": [proved("probe_json")],
         "events": [proved("probe_events")],
     },
     making="proved",

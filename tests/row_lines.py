@@ -5,8 +5,8 @@ Usage: row_lines.py [--count N] FLAG
 
 FLAG is one of `programs.py`: it says which `binlog` is run. Each line has the members that the model of JSON lines gives; the rows
 are those that the encoder states for events of every type of column, and those of the model for N damaged events (20,000 if not
-given). Which table map is in force follows from all events of the log, also where a filter takes only some. The last line is
-`N passed, M failed`; the exit status is 1 if something failed.
+given), and with `--stored` for a tenth of them. Which table map is in force follows from all events of the log, also where a filter
+takes only some. The last line is `N passed, M failed`; the exit status is 1 if something failed.
 """
 
 import argparse
@@ -25,6 +25,8 @@ from row_values import WHOLE, framed, is_same, row_event, start, table_map
 
 STATUSES = (0, 2)
 VERSIONS = ("8.0.36", "10.11.6-MariaDB")
+# The option to keep the stored bytes of rows, and none.
+OPTIONS = ((), ("--stored",))
 ROTATE, TABLE_MAP, PARTIAL_UPDATE = 4, 19, 39
 ROW_TYPES = {kind[0] for kind in encode.ROWS_KINDS}
 WRITE, UPDATE, DELETE = WHOLE[3], WHOLE[4], WHOLE[5]
@@ -43,9 +45,9 @@ def parsed(lines):
     return [json.loads(line, object_pairs_hook=list) for line in lines.splitlines()]
 
 
-def wanted_lines(version, events):
+def wanted_lines(version, events, words=()):
     """The members of each line by the model, those of the description first."""
-    return parsed(json_model.expected(content_of(version, events))[0])
+    return parsed(json_model.expected(content_of(version, events), "--stored" in words)[0])
 
 
 def sample():
@@ -76,15 +78,15 @@ def failure(name, binlog, version, events, wanted, words=()):
     return None
 
 
-def agrees(name, binlog, version, events):
+def agrees(name, binlog, version, events, words):
     """Compares with the model alone."""
-    return failure(f"{name}, {version}", binlog, version, events, wanted_lines(version, events))
+    return failure(f"{name}, {version} {words}", binlog, version, events, wanted_lines(version, events, words), words)
 
 
 # ---- encoded events
 
 
-def encoded(binlog):
+def encoded(binlog, words):
     """Events of every type of column, with the rows that the encoder states."""
     for version in VERSIONS:
         events, stated = [], []
@@ -93,19 +95,19 @@ def encoded(binlog):
                 continue
             events += added
             stated += [None] * (len(added) - len(rows)) + [("rows", row[0][1]) for row in rows]
-        wanted = wanted_lines(version, events)
+        wanted = wanted_lines(version, events, words)
         for line, rows in zip(wanted[1:], stated, strict=True):
-            line[-1:] = line[-1:] if rows is None else [rows]
-        yield failure(f"encoded, {version}", binlog, version, events, wanted)
+            line[-2:-1] = line[-2:-1] if rows is None else [rows]
+        yield failure(f"encoded, {version} {words}", binlog, version, events, wanted, words)
 
 
-def damaged(binlog, count):
+def damaged(binlog, count, words):
     """Damaged events, by the model."""
     chance, kinds = random.Random(35), list(row_events.kinds())
     while count > 0:
         version = chance.choice(VERSIONS)
         events, rows = row_values.damaged_log(chance, kinds, min(count, row_values.EVENTS_OF_A_LOG))
-        result = agrees(f"damaged events, {count} left", binlog, version, events)
+        result = agrees(f"damaged events, {count} left", binlog, version, events, words)
         yield from [result] * (1 if result else rows)
         count -= rows
 
@@ -196,27 +198,41 @@ def refused():
     yield "a name with escapes", names, [shown("d.t", ("after", [('a"\n', 7)]))]
 
 
-def in_force(binlog):
+def has_all_rows(members):
+    """Whether these are the members of rows, none of which is refused."""
+    rows = dict(members).get("rows")
+    return rows is not None and not any(row[:1] and row[0][0] == "error" for row in rows)
+
+
+def with_members(line, members, words):
+    """A line with these members of rows before its data, which has the stored bytes exactly if not all rows are there, or if they are
+    asked for."""
+    if not members:
+        return line
+    kept = [(name, value) for name, value in line[-1][1] if name != "rows_data" or "--stored" in words or not has_all_rows(members)]
+    return [*line[:9], *members, ("data", kept)]
+
+
+def in_force(binlog, words):
     """The table map that is in force, with all events and with those of one type."""
     for name, events, wanted in cases():
-        lines = wanted_lines(VERSIONS[0], events)
-        for line, members in zip(lines[-len(wanted) :], wanted):
-            line[10:] = members
-        yield failure(name, binlog, VERSIONS[0], events, lines)
+        lines = wanted_lines(VERSIONS[0], events, ["--stored"])
+        lines[-len(wanted) :] = [with_members(line, members, words) for line, members in zip(lines[-len(wanted) :], wanted)]
+        yield failure(f"{name} {words}", binlog, VERSIONS[0], events, lines, words)
         taken = [line for line in lines if dict(line)["type"] in ROW_TYPES] if all("type" in dict(line) for line in lines) else None
         for type_name in {dict(line)["name"] for line in taken or []}:
             of_type = [line for line in taken if dict(line)["name"] == type_name]
-            yield failure(f"{name}, {type_name} alone", binlog, VERSIONS[0], events, of_type, ["--type", type_name])
+            yield failure(f"{name}, {type_name} alone {words}", binlog, VERSIONS[0], events, of_type, [*words, "--type", type_name])
 
 
-def not_texts(binlog):
+def not_texts(binlog, words):
     """Names that aren't UTF-8."""
     head = b"\1\0\0\0\0\0" + b"\1\0"
     body = head + b"\2d\xff\0" + b"\1t\0" + b"\1\3" + b"\0" + b"\1"
     events = [(TABLE_MAP, body), row_event(WRITE, 1, [True], [True], b"\0\7\0\0\0")]
-    lines = wanted_lines(VERSIONS[0], events)
-    lines[-1][10:] = [("table", [("hex", b"d\xff.t".hex())]), ("rows", [[("after", [("@1", 7)])]])]
-    yield failure("a name that isn't UTF-8", binlog, VERSIONS[0], events, lines)
+    lines = wanted_lines(VERSIONS[0], events, ["--stored"])
+    lines[-1] = with_members(lines[-1], [("table", [("hex", b"d\xff.t".hex())]), ("rows", [[("after", [("@1", 7)])]])], words)
+    yield failure(f"a name that isn't UTF-8 {words}", binlog, VERSIONS[0], events, lines, words)
 
 
 def main():
@@ -225,7 +241,9 @@ def main():
     parser.add_argument("--count", type=int, default=20_000)
     arguments = programs.parsed(parser, "binlog")
     binlog = arguments.build.command("binlog")
-    return results.report([*encoded(binlog), *in_force(binlog), *not_texts(binlog), *damaged(binlog, arguments.count)])
+    found = [result for words in OPTIONS for part in (encoded, in_force, not_texts) for result in part(binlog, words)]
+    found += [*damaged(binlog, arguments.count, ()), *damaged(binlog, arguments.count // 10, ("--stored",))]
+    return results.report(found)
 
 
 if __name__ == "__main__":

@@ -9,6 +9,8 @@ import struct
 from collections import namedtuple
 from datetime import datetime, timezone
 
+import character_model
+
 # A floating-point number by its bits: the format of its bytes, and the bytes.
 Float = namedtuple("Float", "format bytes")
 
@@ -16,7 +18,7 @@ Float = namedtuple("Float", "format bytes")
 Column = namedtuple("Column", "read real", defaults=[None])
 
 # What the table map states of a column.
-Facts = namedtuple("Facts", "name is_unsigned is_binary members", defaults=[None, False, False, None])
+Facts = namedtuple("Facts", "name is_unsigned character_set members", defaults=[None, False, None, None])
 
 INTEGERS = {1: 1, 2: 2, 9: 3, 3: 4, 8: 8}
 BLOBS = (252, 249, 250, 251, 140, 245, 255, 242)
@@ -25,7 +27,7 @@ STRINGS = (254, 247, 248)
 STRING, ENUM, SET = STRINGS
 ENUM_SIZES, SET_SIZES = (1, 2), range(1, 9)
 COMPRESSED, JSON, GEOMETRY, VECTOR = (140, 141), 245, 255, 242
-BINARY = 63
+BINARY = "binary"
 
 YEAR = 13
 NUMERIC = (*INTEGERS, 4, 5, YEAR, 246)
@@ -85,11 +87,17 @@ def fraction_text(digits, microseconds):
     return f".{microseconds:06}"[: digits + 1] if digits else ""
 
 
-def shown(content):
-    try:
-        return content.decode("utf-8")
-    except UnicodeDecodeError:
-        return [("hex", content.hex())]
+def shown(content, character_set):
+    """A text in a character set; where none is known, and in `binary`, one in UTF-8 if it can be."""
+    known = "utf8mb4" if character_set in (None, BINARY) else character_set
+    text = character_model.text(known, content)
+    return [("hex", content.hex())] if text is None else text
+
+
+def comma(character_set):
+    """A comma between two members of a SET."""
+    codec, _ = character_model.UNICODE.get(character_set, ("ascii", None))
+    return ",".encode(codec)
 
 
 # ---- values
@@ -221,7 +229,7 @@ def enumeration(width):
         index = data.number(width)
         if facts.members is None or index > len(facts.members):
             return index
-        return shown(facts.members[index - 1] if index else b"")
+        return shown(facts.members[index - 1] if index else b"", facts.character_set)
 
     return read
 
@@ -233,7 +241,8 @@ def member_set(width):
         mask = data.number(width)
         if facts.members is None or mask >> len(facts.members):
             return mask
-        return shown(b",".join(text for place, text in enumerate(facts.members) if mask >> place & 1))
+        texts = [text for place, text in enumerate(facts.members) if mask >> place & 1]
+        return shown(comma(facts.character_set).join(texts), facts.character_set)
 
     return read
 
@@ -250,12 +259,12 @@ def counted(width, greatest, value_of, is_length=lambda length: True):
 
 
 def string(content, facts):
-    return content.hex() if facts.is_binary else shown(content)
+    return content.hex() if facts.character_set == BINARY else shown(content, facts.character_set)
 
 
 def fixed_string(length):
     """The value of a CHAR, or of a BINARY of this length, whose zeros at the end aren't stored."""
-    return lambda content, facts: content.ljust(length, b"\0").hex() if facts.is_binary else shown(content)
+    return lambda content, facts: string(content.ljust(length, b"\0") if facts.character_set == BINARY else content, facts)
 
 
 def digits_alone(content, _facts):
@@ -405,15 +414,16 @@ def members(content):
     return [content.take(content.lenenc()) for _ in range(count)]
 
 
-def read_field(kind, content, places, total):
+def read_field(kind, content, places, total, is_maria):
     """What a field states: the name of a fact, and its values for the columns of the class; None for no fact."""
     numeric, character, enum_or_set, enums, sets, geometries, vectors = places
     if kind == 1:
         return "is_unsigned", numeric, bitmap(content, len(numeric))
-    if kind in (2, 3):
-        count = len(character)
-        found = default_charset(content, count) if kind == 2 else [content.lenenc() for _ in range(count)]
-        return "is_binary", character, [collation == BINARY for collation in found]
+    if kind in (2, 3, 10, 11):
+        of_class = character if kind in (2, 3) else enum_or_set
+        count = len(of_class)
+        found = default_charset(content, count) if kind in (2, 10) else [content.lenenc() for _ in range(count)]
+        return "character_set", of_class, [character_model.set_of_collation(collation, is_maria) for collation in found]
     if kind == 4:
         return "name", range(total), [name(content) for _ in range(total)]
     if kind in (5, 6):
@@ -424,11 +434,6 @@ def read_field(kind, content, places, total):
             content.lenenc()
     elif kind in (8, 9):
         skipped_pairs(content, total, kind - 7)
-    elif kind == 10:
-        default_charset(content, len(enum_or_set))
-    elif kind == 11:
-        for _ in enum_or_set:
-            content.lenenc()
     elif kind == 12:
         content.take((total + 7) // 8)
     else:
@@ -466,7 +471,7 @@ def facts(found, optional, is_maria):
         try:
             if kind is None:
                 raise content
-            field = read_field(kind, content, places, len(found))
+            field = read_field(kind, content, places, len(found), is_maria)
             allowed(not content.left(), "LeftOver")
         except Fault as fault:
             refused = refused or (fault.args[0], kind)

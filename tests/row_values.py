@@ -317,8 +317,19 @@ def random_table(chance, kinds):
         optional += row_events.field(1, chance.randbytes(2)[: (len(chosen) + 7) // 8])
         types_of_text = row_model.character_types(chance.random() < 0.5)
         characters = [column for column in chosen if column.type in types_of_text and real_type(column) == column.type]
-        optional += row_events.field(3, bytes(chance.choice((0x2D, 0x3F)) for _ in characters))
+        optional += random_collations(chance, 3, len(characters))
+        if chance.random() < 0.5:
+            optional += random_collations(chance, 11, sum(real_type(column) in (247, 248) for column in chosen))
     return chosen, table_map(chance.randrange(4), types, metadata, optional)
+
+
+# Of both servers and of MariaDB alone, of decoded sets and of others, and numbers of none.
+COLLATIONS = (1, 5, 7, 8, 9, 10, 11, 25, 26, 28, 33, 35, 51, 54, 56, 60, 63, 63, 63, 45, 45, 224, 250, 0, 1032, 2304, 2560, 3271, 65_544)
+
+
+def random_collations(chance, kind, count):
+    """A field with a collation for each column of a class."""
+    return row_events.field(kind, b"".join(encode.length_encoded(chance.choice(COLLATIONS)) for _ in range(count)))
 
 
 def real_type(column):
@@ -336,10 +347,25 @@ def random_members(chance, chosen):
     return damage(chance, fields) if chance.random() < 0.2 else fields
 
 
+# Strings of at most ten bytes.
+SHORT = [(15, b"\x0a\0"), (253, b"\x0a\0"), (254, b"\xfe\x0a")]
+CODECS = ("utf-8", "utf-16-be", "utf-16-le", "utf-32-be", "ascii", "cp1252", "koi8-r", "cp932", "gbk")
+LETTERS = "aZ\"\n~\u00e4\u00df\u0434\u20ac\u65e5\ufffd\U0001f600"
+
+
+def random_content(chance, kind):
+    """One of the contents of a kind, or a short string of any bytes or of letters in some codec."""
+    if (kind.type, kind.metadata) not in SHORT or chance.random() < 0.3:
+        return chance.choice(kind.values)[0]
+    letters = "".join(chance.choice(LETTERS) for _ in range(chance.randint(0, 5)))
+    text = letters.encode(chance.choice(CODECS), "ignore") if chance.random() < 0.7 else chance.randbytes(chance.randint(0, 10))
+    return row_events.counted(text[:10], 1)
+
+
 def random_image(chance, chosen, present):
     there = [kind for kind, is_there in zip(chosen, present) if is_there]
     nulls = [chance.random() < 0.2 for _ in there]
-    contents = (b"" if is_null else chance.choice(kind.values)[0] for kind, is_null in zip(there, nulls))
+    contents = (b"" if is_null else random_content(chance, kind) for kind, is_null in zip(there, nulls))
     return encode.bits(nulls) + b"".join(contents)
 
 

@@ -5,6 +5,8 @@ from rt_to_rust.source import segments
 
 LOOPS = ("for", "while", "loop")
 
+CLONE = "fn clone ( & self ) -> Result < Self , AllocError > { Ok (".split()
+
 FORMATTER = "< W : fmt :: Write > ( & self , f : & mut fmt :: Formatter < W >".split()
 
 
@@ -40,6 +42,18 @@ def formatters(source):
     """A formatter over any writer is Rust's own."""
     for index in source.places(*FORMATTER):
         yield source.span(index, index + len(FORMATTER) - 1, "(&self, f: &mut fmt::Formatter<'_>")
+    # A method of a trait that isn't imported, as its name is that of ours.
+    for index in source.places("f", ".", "write_char", "("):
+        yield source.span(index, index + 3, "fmt::Write::write_char(f, ")
+
+
+def copies(source):
+    """Copies that are never refused, as Rust's `Clone` has them."""
+    for index in source.places(*CLONE):
+        value = index + len(CLONE)
+        end = source.partner[value - 1]
+        yield source.span(index, value - 1, "fn clone(&self) -> Self { ")
+        yield source.span(end, end)
 
 
 def labels(source):
@@ -62,7 +76,7 @@ def is_jumped_to(source, label):
 
 def without_drops(source):
     """The source with Rust's bounds and signatures."""
-    source = source.changed([*drop_derives(source), *formatters(source), *labels(source)])
+    source = source.changed([*drop_derives(source), *formatters(source), *copies(source), *labels(source)])
     source = source.changed(drop_bounds(source))
     for index in source.places("Drop"):
         raise source.refusal(index, "a bound of `Drop` in a place that isn't known")

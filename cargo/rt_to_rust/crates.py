@@ -3,6 +3,7 @@
 LIBRARY = [
     "crc32_ieee",
     "binlog_wire",
+    "character_sets",
     "binlog_consts",
     "binlog_numbers",
     "binlog_description",
@@ -37,6 +38,7 @@ TOOLS = [
     "binlog_filters",
     "binlog_commands",
     "binlog_maria_json",
+    "binlog_event_types",
     "binlog_cli",
 ]
 
@@ -51,11 +53,9 @@ TESTS = [
     "test_bodies",
     "test_gtids",
     "test_rows",
-    "test_values",
     "test_files",
     "test_events",
-    "test_verified",
-    "test_gtid_listing",
+    "test_listing",
 ]
 
 # The sources that are written by hand in the packages, in `templates`: what real devices are there isn't what the proved

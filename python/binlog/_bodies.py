@@ -56,7 +56,7 @@ def value_of(found: Any) -> Any:
 
 
 def _cell_of(found: Any) -> Any:
-    """The value of a column. The bytes of texts that aren't UTF-8, of JSON documents and of compressed values are objects of
+    """The value of a column. The bytes of what is no text in its character set, of JSON documents and of compressed values are objects of
     one member in the line."""
     return bytes.fromhex(*found.values()) if isinstance(found, dict) else found
 

@@ -8,16 +8,16 @@ nothing_left [] (suc i) past = refl
 nothing_left (x ∷ xs) zero past = absurd (omega arith)
 nothing_left (x ∷ xs) (suc i) past = nothing_left xs i (omega arith)
 
-abbrev some : {A : Type 0} → A → Option A
+abbrev pub some : {A : Type 0} → A → Option A
 some x = Some x
 
-abbrev none : {A : Type 0} → Option A
+abbrev pub none : {A : Type 0} → Option A
 none = None
 
-some_is : {A : Type 0} (x y : A) → some x ≡ some y → x ≡ y
+pub some_is : {A : Type 0} (x y : A) → some x ≡ some y → x ≡ y
 some_is x y e = cc
 
-none_some : {A : Type 0} (x : A) → none ≡ some x → ⊥
+pub none_some : {A : Type 0} (x : A) → none ≡ some x → ⊥
 none_some x e = cc
 
 first_left : {A : Type 0} (xs : List A) (i : ℕ) (x : A) → some x ≡ slice_get xs i → drop i xs ≡ x ∷ drop (suc i) xs

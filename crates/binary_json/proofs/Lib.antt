@@ -2,6 +2,7 @@ pub mod Places
 pub mod Lengths
 pub mod Entries
 pub mod Decimals
+pub mod DecimalParts
 pub mod Steps
 pub mod Texts
 pub mod Scalars
@@ -10,3 +11,4 @@ pub mod Whole
 pub mod Documents
 pub mod Reading
 pub mod Left
+pub mod Keys

@@ -1,6 +1,6 @@
 -- What bytes that are checked have.
 use Rattle.std.proofs.Common.{◌≡◌, ℕ, zero, suc, ◌+◌, ◌-◌, ◌<◌, ◌≤◌, ◌^◌, Bool, true, false, cond, ◌⊎◌, List, [], ◌∷◌, length, drop, Option, Some, None, Ok, Err, refl, sym, ap, subst, ◌∙◌, inl, inr, arith}
-use Rattle.std.specs.Prelude.{is_ok, slice_index, slice_get}
+use Rattle.std.specs.Prelude.{is_ok, option_map, slice_index, slice_get}
 use Rattle.std.proofs.lemmas.Bool.{cases_lt, lt-ltb, le-ltb, both_ways}
 use Rattle.binary_json.specs.Values.{Scalar, string, opaque, Json, scalar, array, object, Entries, no_entries, entry, nesting, entries_nesting, values, members}
 use Rattle.binary_json.specs.Layout.{is_object, is_fixed, fixed_len, fixed, entry_count, byte_size, header_len, key_offset, key_size, key_bytes, value_type, value_offset, is_inlined, inlined_bytes, placed_bytes, text}
@@ -259,3 +259,10 @@ pub none_past : {A : Type 0} (xs : List A) (i : ℕ) → length xs ≤ i → sli
 none_past [] i past = refl
 none_past (x ∷ xs) zero past = absurd (omega arith)
 none_past (x ∷ xs) (suc i) past = none_past xs i (omega arith)
+
+pub key_in : (t : ℕ) (s : List ℕ) (i : ℕ) → is_readable t s ≡ true → t < 2 → i < entry_count t s → option_map (λ m. m.0) (slice_get (members (entries_in t s)) i) ≡ Some (key_bytes t s i)
+key_in t s i e low less =
+    let all = entries_read t s e (omega (arith, low)) in
+    let n = nth_member (entries_in t s) t s 0 i all.cost (lt-ltb t 2 low) all.are (omega (arith, less)) in
+    let same : 0 + i ≡ i = omega arith in
+    ap (λ (o : Option (List ℕ × Json)). option_map (λ m. m.0) o) n.member ∙ ap (λ (k : ℕ). Some (key_bytes t s k)) same

@@ -1,6 +1,8 @@
 -- Which bytes an opaque value of a column type may have. Source: MySQL's documentation of its source code, `decimal.h` and
 -- `my_time.h`.
-use Rattle.std.specs.Prelude.{ℕ, ◌+◌, ◌-◌, ◌*◌, ◌/◌, ◌%◌, ◌^◌, ◌==◌, ◌&&◌, ◌||◌, Bool, true, false, List, [], ◌∷◌, ◌++◌, length, take, drop, map, replicate, nat_lt, nat_le, if◌then◌else◌}
+use Rattle.std.specs.Prelude.{ℕ, ◌+◌, ◌-◌, ◌*◌, ◌/◌, ◌%◌, ◌^◌, ◌==◌, ◌&&◌, ◌||◌, Bool, true, false, List, [], ◌∷◌, ◌++◌, length, take, drop, map, replicate, nat_lt, nat_le, if◌then◌else◌, ℤ, Option, Some, None}
+use Rattle.std.specs.Int.{w64, cast_signed}
+use Rattle.byteorder.specs.Endian.{little_number}
 
 -- ---- decimal numbers
 
@@ -24,6 +26,11 @@ abbrev pub magnitude : List ℕ → List ℕ
 magnitude [] = []
 magnitude (b ∷ s) = if nat_le 128 b then (b - 128) ∷ s else (127 - b) ∷ map (λ c. 255 - c) s
 
+-- The number has a minus sign: the top bit of the first byte isn't set.
+abbrev pub is_negative_decimal : List ℕ → Bool
+is_negative_decimal [] = false
+is_negative_decimal (b ∷ s) = nat_lt b 128
+
 -- The number of bytes, the most significant first, behind those of the number `high`.
 abbrev pub number_behind : ℕ → List ℕ → ℕ
 number_behind high [] = high
@@ -46,6 +53,15 @@ is_decimal_data [] = false
 is_decimal_data (precision ∷ []) = false
 is_decimal_data (precision ∷ scale ∷ digits) = is_decimal precision scale digits
 
+-- The precision, the scale and the digits of the bytes of a decimal number.
+abbrev pub decimal_parts : List ℕ → Option (ℕ × ℕ × List ℕ)
+decimal_parts [] = None
+decimal_parts (precision ∷ []) = None
+decimal_parts (precision ∷ scale ∷ digits) = Some (precision, scale, digits)
+
+abbrev pub decimal_of : ℕ → List ℕ → Option (ℕ × ℕ × List ℕ)
+decimal_of k s = if k == 246 then decimal_parts s else None
+
 -- ---- all column types
 
 -- TIMESTAMP, DATE, TIME and DATETIME.
@@ -55,3 +71,7 @@ is_temporal k = k == 7 || nat_le 10 k && nat_le k 12
 -- DECIMAL is 246. The temporal types have eight bytes, and all others any bytes.
 unfoldable pub is_opaque : ℕ → List ℕ → Bool
 is_opaque k s = if k == 246 then is_decimal_data s else if is_temporal k then length s == 8 else true
+
+-- The packed number of a value of a temporal type: a signed number of eight bytes.
+abbrev pub packed_of : ℕ → List ℕ → Option ℤ
+packed_of k s = if is_temporal k then Some (cast_signed w64 (little_number 8 s)) else None

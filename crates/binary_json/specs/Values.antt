@@ -1,5 +1,5 @@
 -- JSON values, as MySQL stores them.
-use Rattle.std.specs.Prelude.{ℕ, ℤ, suc, max, List, [], ◌∷◌, Bool, Option, Some, None}
+use Rattle.std.specs.Prelude.{◌≡◌, ◌⊎◌, ℕ, ℤ, suc, max, List, [], ◌∷◌, Bool, Option, Some, None}
 
 -- A value that holds no other values. Integers keep the width of their type. A double is given by its bits, a string by its
 -- bytes, and an opaque value by its column type and its bytes.
@@ -49,3 +49,15 @@ abbrev pub members : Entries → List (List ℕ × Json)
 members no_entries = []
 members (entry None v es) = members es
 members (entry (Some key) v es) = (key, v) ∷ members es
+
+-- ---- members by their keys
+
+-- This is the value of the first member with this key.
+abbrev pub IsFirstOfKey : List ℕ → Json → List (List ℕ × Json) → Type 0
+IsFirstOfKey key v [] = ⊥
+IsFirstOfKey key v (m ∷ ms) = ((m.0 ≡ key) × (m.1 ≡ v)) ⊎ ((m.0 ≡ key → ⊥) × IsFirstOfKey key v ms)
+
+-- No member has this key.
+abbrev pub HasNoKey : List ℕ → List (List ℕ × Json) → Type 0
+HasNoKey key [] = Unit {0}
+HasNoKey key (m ∷ ms) = (m.0 ≡ key → ⊥) × HasNoKey key ms

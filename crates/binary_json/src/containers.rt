@@ -1,5 +1,6 @@
 //! Views of arrays and objects.
-ghost use Rattle.std.specs.Prelude.{◌≡◌, ◌<◌, ◌≤◌, true};
+ghost use Rattle.std.specs.Prelude.{◌≡◌, ◌≢◌, ◌<◌, ◌≤◌, true};
+ghost use Rattle.std.specs.Bool.{OnTrue, OnFalse};
 ghost use Rattle.binary_json.specs.Decoding.{is_readable};
 
 use crate::container::Container;
@@ -33,6 +34,15 @@ fn checked_container(kind: u8, bytes: &[u8]) -> Container<'_>
         Ok(container) => container,
         Err(_) => unreachable!(),
     }
+}
+
+// Whether these are the same bytes.
+#[tactic(auto, using(crate::proofs::Keys::same_bytes, crate::proofs::Keys::other_bytes))]
+fn are_same(a: &[u8], b: &[u8]) -> bool
+    ensures same { OnTrue result (a.now ≡ b.now) }
+    ensures other { OnFalse result (a.now ≢ b.now) }
+{
+    a == b
 }
 
 impl<'a> Container<'a> {
@@ -104,7 +114,8 @@ impl<'a> Array<'a> {
 }
 
 impl<'a> Object<'a> {
-    ghost use Rattle.std.specs.Prelude.{◌≡◌, ◌≤◌, ◌<◌, length, true, option_map, slice_get, IsTrue, ◌↔◌};
+    ghost use Rattle.std.specs.Prelude.{◌≡◌, ◌≤◌, ◌<◌, length, true, Some, option_map, slice_get, IsTrue, ◌↔◌, MatchOption};
+    ghost use Rattle.binary_json.specs.Values.{IsFirstOfKey, HasNoKey};
     ghost use Rattle.binary_json.specs.Decoding.{is_readable};
     ghost use Rattle.binary_json.specs.Views.{members, json};
 
@@ -145,5 +156,28 @@ impl<'a> Object<'a> {
             return None;
         }
         Some((self.container.key(index), self.container.value(index)))
+    }
+
+    // The key of a member.
+    #[tactic(auto, using(crate::proofs::Reading::members_count, crate::proofs::Reading::at_member))]
+    fn key(&self, index: usize) -> &'a [u8]
+        requires { index < length (members self.now) }
+        ensures { option_map (λ m. m.0) (slice_get (members self.now) index) ≡ Some result.now }
+    {
+        self.container.key(index)
+    }
+
+    /// The value of the first member with this key; None if there is no such member. It looks at one key after the other: that
+    /// servers keep keys in order isn't relied on.
+    #[tactic(auto, using(crate::proofs::Reading::members_count))]
+    pub fn get(&self, key: &str) -> Option<Value<'a>>
+        ensures { MatchOption result (HasNoKey key.now (members self.now)) (λ value. IsFirstOfKey key.now (json value) (members self.now)) }
+    {
+        'members: for index in 0..self.container.count {
+            if are_same(self.key(index), key.as_bytes()) {
+                return Some(self.container.value(index));
+            }
+        }
+        None
     }
 }

@@ -1,12 +1,79 @@
-//! The bytes of decimal numbers.
-ghost use Rattle.std.specs.Prelude.{◌≡◌, ◌+◌, ◌-◌, ◌*◌, ◌/◌, ◌%◌, ◌^◌, ◌<◌, ◌≤◌, ◌∷◌, ◌++◌, [], length, take, drop, nat_lt, replicate, slice_index};
-ghost use Rattle.binary_json.specs.Opaques.{digits_len, groups, groups_len, magnitude, number_behind, groups_fit, is_decimal};
+//! Decimal numbers, and the bytes of their digits.
+ghost use Rattle.std.specs.Prelude.{◌≡◌, ◌+◌, ◌-◌, ◌*◌, ◌/◌, ◌%◌, ◌^◌, ◌<◌, ◌≤◌, ◌∷◌, ◌++◌, [], true, option_map, length, take, drop, nat_lt, replicate, slice_index};
+ghost use Rattle.binary_json.specs.Opaques.{digits_len, groups, groups_len, magnitude, number_behind, groups_fit, is_decimal, is_negative_decimal, is_decimal_data, decimal_parts};
 
 /// The most digits of a decimal number: nine groups of nine.
 const MOST_DIGITS: u8 = 81;
 
 /// The most digits behind the point.
 const MOST_SCALE: u8 = 38;
+
+/// A decimal number of an opaque value. Its digits stand in groups, each a number: before the point a group of fewer than nine
+/// digits, possibly of none, and groups of nine; after the point groups of nine, and one of fewer.
+#[derive(Clone, Copy, Debug)]
+pub struct Decimal<'a> {
+    pub(crate) precision: u8,
+    pub(crate) scale: u8,
+    pub(crate) digits: &'a [u8],
+    ghost fits: { is_decimal precision scale digits.now ≡ true },
+}
+
+impl<'a> Decimal<'a> {
+    /// The number of decimal digits, 1 to 81: a cast to DECIMAL may have more than a column.
+    #[tactic(auto, using(crate::proofs::DecimalParts::decimal_parts))]
+    pub fn precision(&self) -> u8
+        ensures is { result ≡ self.now.precision }
+        ensures most { result ≤ 81 }
+    {
+        self.precision
+    }
+
+    /// The number of decimal digits after the point, at most 38 and not above the precision.
+    #[tactic(auto, using(crate::proofs::DecimalParts::decimal_parts))]
+    pub fn scale(&self) -> u8
+        ensures is { result ≡ self.now.scale }
+        ensures most { result ≤ 38 }
+        ensures within { result ≤ self.now.precision }
+    {
+        self.scale
+    }
+
+    /// Whether the number has a minus sign. Minus zero may have one.
+    pub fn is_negative(&self) -> bool
+        ensures { result ≡ is_negative_decimal self.now.digits.now }
+    {
+        match self.digits.first() {
+            Some(first) => *first < 128,
+            None => false,
+        }
+    }
+
+    /// The number of a group of this many digits, whose bytes begin at the index `at`.
+    #[tactic(auto, using(crate::proofs::DecimalParts::decimal_parts))]
+    pub fn group(&self, at: usize, digits: u8) -> u64
+        requires digits { digits ≤ 9 }
+        requires room { at + digits_len digits ≤ groups_len (groups self.now.precision self.now.scale) }
+        ensures { result ≡ number_behind 0 (take (digits_len digits) (drop at (magnitude self.now.digits.now))) }
+    {
+        group(self.digits, at, digits_len(digits))
+    }
+}
+
+/// The decimal number of the bytes of an opaque value: its precision, its scale, and its digits.
+#[tactic(auto, using(crate::proofs::DecimalParts::parts_fit))]
+pub(crate) fn decimal_in(bytes: &[u8]) -> Option<Decimal<'_>>
+    requires { is_decimal_data bytes.now ≡ true }
+    ensures { option_map (λ d. (d.precision, d.scale, d.digits.now)) result ≡ decimal_parts bytes.now }
+{
+    match bytes {
+        [precision, scale, digits @ ..] => Some(Decimal {
+            precision: *precision,
+            scale: *scale,
+            digits,
+        }),
+        _ => None,
+    }
+}
 
 /// Whether the bytes are the digits of a decimal number of this precision and scale.
 #[tactic(auto, unfolding(crate::specs::Opaques::is_decimal))]
@@ -21,8 +88,8 @@ pub(crate) fn is_decimal(precision: u8, scale: u8, digits: &[u8]) -> bool
         && all_fit(precision, scale, digits)
 }
 
-// The number of bytes of a group of this many digits.
-fn digits_len(digits: u8) -> usize
+/// The number of bytes of a group of this many digits, at most nine.
+pub fn digits_len(digits: u8) -> usize
     requires { digits ≤ 9 }
     ensures len { result ≡ digits_len digits }
     ensures small { result ≤ 4 }
@@ -114,8 +181,8 @@ fn magnitude_at(digits: &[u8], index: usize) -> u8
     }
 }
 
-// 10 to the power of `exponent`.
-fn pow_10(exponent: u8) -> u64
+/// 10 to the power of `exponent`, at most nine.
+pub fn pow_10(exponent: u8) -> u64
     requires { exponent ≤ 9 }
     ensures { result ≡ 10 ^ exponent }
 {

@@ -4,7 +4,7 @@
 mod check;
 mod container;
 mod containers;
-mod decimal;
+pub mod decimal;
 mod document;
 mod error;
 mod iterators;
@@ -14,6 +14,7 @@ mod scalar;
 mod value;
 
 pub use containers::{Array, Object};
+pub use decimal::Decimal;
 pub use document::Document;
 pub use error::{JsonError, Refusal};
 pub use iterators::{Elements, Members};

@@ -1,6 +1,6 @@
 //! The bytes of opaque values.
 ghost use Rattle.std.specs.Prelude.{◌≡◌};
-ghost use Rattle.binary_json.specs.Opaques.{is_decimal_data, is_opaque};
+ghost use Rattle.binary_json.specs.Opaques.{is_decimal_data, is_temporal, is_opaque};
 
 use crate::decimal::is_decimal;
 
@@ -11,9 +11,16 @@ pub(crate) fn is_opaque(kind: u8, bytes: &[u8]) -> bool
 {
     match kind {
         246 => is_decimal_data(bytes),
-        7 | 10..=12 => bytes.len() == 8,
+        _ if is_temporal(kind) => bytes.len() == 8,
         _ => true,
     }
+}
+
+/// Whether the column type is TIMESTAMP, DATE, TIME or DATETIME.
+pub(crate) fn is_temporal(kind: u8) -> bool
+    ensures { result ≡ is_temporal kind }
+{
+    kind == 7 || kind >= 10 && kind <= 12
 }
 
 fn is_decimal_data(bytes: &[u8]) -> bool

@@ -1,9 +1,11 @@
 //! Views of values.
-ghost use Rattle.std.specs.Prelude.{◌≡◌, from_bits, true};
+ghost use Rattle.std.specs.Prelude.{◌≡◌, from_bits, true, option_map};
 ghost use Rattle.std.specs.Float.{binary64};
-ghost use Rattle.binary_json.specs.Opaques.{is_opaque};
+ghost use Rattle.binary_json.specs.Opaques.{is_opaque, decimal_of, packed_of};
 
 use crate::containers::{Array, Object};
+use crate::decimal::{Decimal, decimal_in};
+use crate::opaque::is_temporal;
 use crate::scalar::text;
 use byteorder::{ByteOrder, LittleEndian};
 use std::num::f64_from_bits_with_nan;
@@ -82,6 +84,30 @@ impl<'a> OpaqueValue<'a> {
         ensures { result.now ≡ self.now.bytes.now }
     {
         self.bytes
+    }
+
+    /// The decimal number, if the column type is DECIMAL; else None.
+    #[tactic(auto, unfolding(crate::specs::Opaques::is_opaque))]
+    pub fn decimal(&self) -> Option<Decimal<'a>>
+        ensures { option_map (λ d. (d.precision, d.scale, d.digits.now)) result ≡ decimal_of self.now.column self.now.bytes.now }
+    {
+        match self.column {
+            246 => decimal_in(self.bytes),
+            _ => None,
+        }
+    }
+
+    /// The number into which a DATE, a TIME, a DATETIME or a TIMESTAMP is packed, if the column type is one of these; else None. The
+    /// absolute value has 24 bits for the microsecond, six each for the second and the minute, and the hour: ten bits of a TIME, and
+    /// else five, with five more for the day, and the month, counted through years of 13.
+    #[tactic(auto, using(crate::proofs::DecimalParts::eight_bytes))]
+    pub fn packed_time(&self) -> Option<i64>
+        ensures { result ≡ packed_of self.now.column self.now.bytes.now }
+    {
+        if !is_temporal(self.column) {
+            return None;
+        }
+        Some(LittleEndian::read_i64(self.bytes))
     }
 }
 

@@ -47,13 +47,15 @@ module _ {B : Type 0} (contents : B → Option (List ℕ)) where
 
 -- The options state the filter. The files have these names and bytes; `old` and `new` are the bytes of the output's writer.
 module _ {B N : Type 0} (contents : B → Option (List ℕ)) (options : Found) (is_verified is_followed : Bool) (bytes : N → Option (List ℕ)) (names : List N) where
-  -- A visitor with an output is shown what the filter takes of the files, and its output is finished.
-  pub record WritesShown {T : Type 0} (visits : VisitRelation T) (refuses : RefusalRelation T) (output_of : T → Output B)
+  -- A visitor with an output is shown what the filter takes of the files, and its output is finished. `IsMade` says what else holds of
+  -- the visitor as it is made.
+  pub record WritesShown {T : Type 0} (visits : VisitRelation T) (refuses : RefusalRelation T) (output_of : T → Output B) (IsMade : T → Type 0)
       (old : Option (List ℕ)) (status : Status) (new : Option (List ℕ)) : Type 0 where
     pub filter : Filter
     pub states : StatesFilter options filter
     pub start : T
     pub begins : Begins contents old (output_of start)
+    pub made : IsMade start
     pub outcome : Outcome
     pub behind : T
     pub shown : ShowsTaken visits refuses (λ visitor. 0) filter is_verified is_followed bytes names start outcome behind

@@ -1,6 +1,6 @@
 //! The commands that list and count events, and what all commands read. Each is generic over the files that it reads and its
 //! writer, which it gives back with its status. A status in place of a result is that of a command that can't begin.
-ghost use Rattle.std.specs.Prelude.{◌≡◌, ◌⊎◌, IfErr, IfOk};
+ghost use Rattle.std.specs.Prelude.{◌≡◌, ◌⊎◌, ⊤, IfErr, IfOk};
 ghost use Rattle.clap.specs.Matches.{found_of};
 ghost use Rattle.binlog_filters.specs.declared.filter.Filter.{Filter};
 ghost use Rattle.binlog_cli.specs.FilterWords.{StatesFilter};
@@ -11,14 +11,14 @@ ghost use Rattle.binlog.specs.Reading.{ShowsTaken};
 use crate::files::read_files;
 use crate::inputs::Inputs;
 use crate::request::{Reading, Request};
-use binlog_cli::{BUFFER_SIZE, Outcome, Output, Refusing, Reported, Status, filter, write_stats};
+use binlog_cli::{BUFFER_SIZE, Outcome, Output, Reported, Status, filter, write_stats};
 use binlog_commands::Stats;
 use binlog_file::Retrying;
 use binlog_filters::{Filter, Filtered};
 use binlog_lines::ItemLines;
 use binlog_listing::TextLines;
 use binlog_maria_json::MariaJsonWriter;
-use binlog_visits::{LineWriter, Visitor};
+use binlog_visits::{LineWriter, Refusing, Visitor};
 use std::io;
 use std::io::{BufWriter, Write};
 use std::time::Clock;
@@ -32,14 +32,14 @@ pub(crate) fn list<'a, S: Inputs, R: Clock + Eprint + AllocGlobal, W: Write + Dr
 ) -> Result<(Status, W), Status>
     ensures ok { IfOk result (λ ended. WritesShown ⟦<BufWriter<Retrying<W>> as Write>⟧.contents (found_of request.now.options.now) request.now.reading.is_verified request.now.reading.is_followed
         (λ name. S.bytes inputs.now name.now) request.now.files.now
-        ⟦<LineWriter<TextLines, Output<BufWriter<Retrying<W>>>> as Visitor>⟧.visits ⟦<LineWriter<TextLines, Output<BufWriter<Retrying<W>>>> as Visitor>⟧.refuses (λ lines. lines.output)
+        ⟦<LineWriter<TextLines, Output<BufWriter<Retrying<W>>>> as Visitor>⟧.visits ⟦<LineWriter<TextLines, Output<BufWriter<Retrying<W>>>> as Visitor>⟧.refuses (λ lines. lines.output) (λ lines. ⊤)
         (W.contents writer) ended.0 (W.contents ended.1)) }
     ensures err { IfErr result (λ status. (status ≡ Usage) ⊎ (status ≡ Failed)) }
 {
     write_lines(rt, inputs, request, TextLines::new(), writer)
 }
 
-/// `binlog json`: writes the line of JSON of each item that the filter takes.
+/// `binlog json`: writes the line of JSON of each item that the filter takes, with the stored bytes of all rows if they are asked for.
 pub(crate) fn json<'a, S: Inputs, R: Clock + Eprint + AllocGlobal, W: Write + Drop>(
     rt: &'a R,
     inputs: &S,
@@ -49,11 +49,11 @@ pub(crate) fn json<'a, S: Inputs, R: Clock + Eprint + AllocGlobal, W: Write + Dr
     ensures ok { IfOk result (λ ended. WritesShown ⟦<BufWriter<Retrying<W>> as Write>⟧.contents (found_of request.now.options.now) request.now.reading.is_verified request.now.reading.is_followed
         (λ name. S.bytes inputs.now name.now) request.now.files.now
         ⟦<MariaJsonWriter<Output<BufWriter<Retrying<W>>>> as Visitor>⟧.visits ⟦<MariaJsonWriter<Output<BufWriter<Retrying<W>>>> as Visitor>⟧.refuses (λ lines. lines.output)
-        (W.contents writer) ended.0 (W.contents ended.1)) }
+        (λ lines. lines.keeps_stored ≡ request.now.keeps_stored) (W.contents writer) ended.0 (W.contents ended.1)) }
     ensures err { IfErr result (λ status. (status ≡ Usage) ⊎ (status ≡ Failed)) }
 {
     let output = Output::new(rt, request.reading.output_capacity(), writer)?;
-    let lines = MariaJsonWriter::new(rt.alloc(), output);
+    let lines = MariaJsonWriter::new(rt.alloc(), output, request.keeps_stored);
     let (outcome, lines) = read_all(rt, inputs, request, lines)?;
     Ok(lines.into_output().finish(rt, outcome))
 }
@@ -74,7 +74,7 @@ fn write_lines<
 ) -> Result<(Status, W), Status>
     ensures ok { IfOk result (λ ended. WritesShown ⟦<BufWriter<Retrying<W>> as Write>⟧.contents (found_of request.now.options.now) request.now.reading.is_verified request.now.reading.is_followed
         (λ name. S.bytes inputs.now name.now) request.now.files.now
-        ⟦<LineWriter<L, Output<BufWriter<Retrying<W>>>> as Visitor>⟧.visits ⟦<LineWriter<L, Output<BufWriter<Retrying<W>>>> as Visitor>⟧.refuses (λ lines. lines.output)
+        ⟦<LineWriter<L, Output<BufWriter<Retrying<W>>>> as Visitor>⟧.visits ⟦<LineWriter<L, Output<BufWriter<Retrying<W>>>> as Visitor>⟧.refuses (λ lines. lines.output) (λ lines. ⊤)
         (W.contents writer) ended.0 (W.contents ended.1)) }
     ensures err { IfErr result (λ status. (status ≡ Usage) ⊎ (status ≡ Failed)) }
 {

@@ -10,10 +10,10 @@ ghost use Rattle.binlog.specs.Reading.{VisitsInput, tail_behind, status_behind, 
 use crate::following::Following;
 use crate::inputs::Inputs;
 use crate::request::Reading;
-use binlog_cli::{Outcome, Progress, Refusing, Reported, Status, shown_name};
+use binlog_cli::{Outcome, Progress, Reported, Status, shown_name};
 use binlog_file::{Counted, Error, ReadCounted, Retrying};
 use binlog_filters::Filtered;
-use binlog_visits::{Visitor, visit_counted, visit_verified_counted};
+use binlog_visits::{Refusing, Visitor, visit_counted, visit_verified_counted};
 use crc32_ieee::Crc32;
 use std::alloc::Global;
 use std::io::Read;
@@ -136,27 +136,27 @@ fn visit_input<I: Read + Drop, T: Visitor>(
     ensures { IfSome (I.remaining input) (λ bytes. length bytes < 2 ^ 64 →
         VisitsInput T.visits T.refuses is_verified bytes visitor.old result visitor.new) }
 {
-    let input = Counted::new(Retrying::new(input));
+    let mut input = Counted::new(Retrying::new(input));
     if !is_verified {
-        return visit_counted(alloc, input, visitor);
+        return visit_counted(alloc, &mut input, visitor);
     }
     let crc32 = Crc32::new();
     let checksum = |bytes: &[u8]| -> u32
         ensures { IsCrc32 bytes.now result }
     { crc32.checksum(bytes) };
-    visit_by_crc32(alloc, checksum, input, visitor)
+    visit_by_crc32(alloc, checksum, &mut input, visitor)
 }
 
 // Visits the items of an open file whose checksums are verified by a function that gives the CRC-32.
-fn visit_by_crc32<F: Fn(&[u8]) -> u32 + Drop, I: ReadCounted + Drop, T: Visitor>(
+fn visit_by_crc32<F: Fn(&[u8]) -> u32 + Drop, I: ReadCounted, T: Visitor>(
     alloc: Global,
     checksum: F,
-    input: I,
+    input: &mut I,
     visitor: &mut T,
 ) -> Result<Option<usize>, Error>
     requires callable { F.IsAlwaysCallable checksum }
     requires gives { GivesCrc32 (λ bytes given. FnReturnsAt F.Fn checksum bytes given) }
-    ensures { IfSome (I.remaining input) (λ bytes. length bytes < 2 ^ 64 →
+    ensures { IfSome (I.remaining input.old) (λ bytes. length bytes < 2 ^ 64 →
         VisitsVerifiedLog IsCrc32 T.visits T.refuses bytes visitor.old result visitor.new) }
 {
     visit_verified_counted(alloc, checksum, input, visitor)

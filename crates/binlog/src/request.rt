@@ -74,6 +74,8 @@ pub(crate) struct Request<'m, 'a> {
     pub(crate) reading: Reading,
     /// Whether no lines are written.
     pub(crate) is_quiet: bool,
+    /// Whether lines of JSON keep the stored bytes of rows.
+    pub(crate) keeps_stored: bool,
     /// The log whose GTIDs aren't written.
     pub(crate) missing_in: Option<&'a str>,
     /// The name of the file that is written; `-` is standard output.
@@ -88,6 +90,7 @@ impl<'m, 'a> Request<'m, 'a> {
         ensures files { map (λ file. file.now) result.files.now ≡ unwrap_or (option_map raw_values (matched_of (found_of options.now) (codes "FILE"))) [] }
         ensures followed { Flags (one_text (found_of options.now) (codes "follow")) result.reading.is_followed }
         ensures quiet { Flags (one_text (found_of options.now) (codes "quiet")) result.is_quiet }
+        ensures stored { Flags (one_text (found_of options.now) (codes "stored")) result.keeps_stored }
         ensures missing { option_map (λ file. file.now) result.missing_in ≡ first_value (found_of options.now) (codes "missing-in") }
         ensures output { result.output.now ≡ unwrap_or (first_value (found_of options.now) (codes "output")) (codes "-") }
     {
@@ -103,6 +106,7 @@ impl<'m, 'a> Request<'m, 'a> {
                 is_followed,
             },
             is_quiet: options.get_flag("quiet"),
+            keeps_stored: options.get_flag("stored"),
             missing_in: options.get_str("missing-in"),
             output: options.get_str("output").unwrap_or("-"),
         }

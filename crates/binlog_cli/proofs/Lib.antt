@@ -3,5 +3,5 @@ mod StatsRows
 mod StatsTimes
 mod WholeStats
 mod WrittenTexts
-mod AddedTypes
+mod NamedTypes
 mod CivilInstants

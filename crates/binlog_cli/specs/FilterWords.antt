@@ -10,7 +10,7 @@ use Rattle.binlog_gtid_text.specs.declared.error.GtidTextError.{GtidTextError}
 use Rattle.binlog_gtid_text.specs.declared.piece.Piece.{Piece}
 use Rattle.binlog_filters.specs.declared.filter.Filter.{Filter}
 use Rattle.binlog_cli.specs.Times.{StatesTime}
-use Rattle.binlog_cli.specs.TypeNames.{AreNamed}
+use Rattle.binlog_event_types.specs.TypeNames.{AreNamed}
 
 -- A text is a number below 2^64 in decimal; a plus may stand before it.
 pub record IsNumber (text : List ℕ) (n : ℕ) : Type 0 where

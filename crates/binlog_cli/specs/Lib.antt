@@ -4,5 +4,4 @@ pub mod Reports
 pub mod TallyText
 pub mod StatsText
 pub mod Times
-pub mod TypeNames
 pub mod FilterWords

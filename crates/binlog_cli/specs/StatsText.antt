@@ -1,12 +1,9 @@
 -- The text of `binlog stats`.
-use Rattle.std.specs.Prelude.{◌≡◌, ◌==◌, if◌then◌else◌, ◌*◌, ◌/◌, max, suc, zero, ℕ, pos, List, [], ◌++◌, codes, decimal, Option, Some, None, Result, Ok, Err, slice_index_or}
+use Rattle.std.specs.Prelude.{◌≡◌, ◌==◌, if◌then◌else◌, ◌*◌, ◌/◌, max, suc, zero, ℕ, pos, List, [], ◌++◌, codes, decimal, Option, Some, None, unwrap_or, slice_index_or}
 use Rattle.std.specs.Io.KnownBytes.{Appends}
 use Rattle.jiff_core.specs.declared.civil.datetime.DateTime.{DateTime}
 use Rattle.jiff.specs.Words.{civil_nanos, iso_datetime_text}
-use Rattle.binlog_file.specs.declared.EventType.{EventType}
-use Rattle.binlog_file.specs.declared.UnknownEventType.{UnknownEventType}
-use Rattle.binlog_file.specs.EventTypes.{event_type_of}
-use Rattle.binlog_json_lines.specs.Names.{type_name}
+use Rattle.binlog_event_types.specs.NamesOfNumbers.{name_of_number}
 use Rattle.binlog_commands.specs.Statistics.{total}
 use Rattle.binlog_commands.specs.declared.stats.Stats.{Stats}
 use Rattle.binlog_commands.specs.declared.stats.Largest.{Largest}
@@ -28,13 +25,9 @@ abbrev pub IsTimeLine : (word : List ℕ) → Option ℕ → List ℕ → Type 0
 IsTimeLine word None text = text ≡ []
 IsTimeLine word (Some seconds) text = (time : List ℕ) × IsTime seconds time × (text ≡ word ++ codes " " ++ time ++ codes "\n")
 
--- The name of a type, or the number if no type has it.
-abbrev pub type_or_number : ℕ → Result EventType UnknownEventType → List ℕ
-type_or_number number (Ok type) = type_name type
-type_or_number number (Err unknown) = decimal number
-
+-- The name of a type of either server, or the number if no type has it.
 unfoldable pub type_text : ℕ → List ℕ
-type_text number = type_or_number number (event_type_of number)
+type_text number = unwrap_or (name_of_number number) (decimal number)
 
 -- The line of the largest event, and nothing for none.
 abbrev pub largest_line : Option Largest → List ℕ

@@ -53,7 +53,8 @@ fn json<'a>(alloc: Global) -> Result<Command<'a>, AllocError> {
              binlog json --include-gtids 3e11fa47-71ca-11e1-9e33-c80aa9429562:5 mysql-bin.000007\n  \
              binlog json --follow --type QUERY mysql-bin.000008 | jq -r .data.query",
         )
-        .arg(follow(alloc))?;
+        .arg(follow(alloc))?
+        .arg(stored(alloc))?;
     with_filters(alloc, with_files(alloc, command)?)
 }
 
@@ -136,6 +137,14 @@ fn follow<'a>(alloc: Global) -> Arg<'a> {
         .help("Waits at the end of the last file for more events, as tail -f does")
 }
 
+// The option to keep the stored bytes of rows.
+fn stored<'a>(alloc: Global) -> Arg<'a> {
+    Arg::new(alloc, "stored")
+        .long("stored")
+        .action(ArgAction::SetTrue)
+        .help("Keeps the stored bytes of rows also where all their values are shown")
+}
+
 // The command with the files that it reads.
 fn with_files<'a>(alloc: Global, command: Command<'a>) -> Result<Command<'a>, AllocError> {
     let files = Arg::new(alloc, "FILE")
@@ -172,7 +181,9 @@ fn with_filters<'a>(alloc: Global, command: Command<'a>) -> Result<Command<'a>, 
             text(alloc, "type")
                 .value_name("NAME")
                 .action(ArgAction::Append)
-                .help("Events of this type, as XID or XID_EVENT; may be given again"),
+                .help(
+                    "Events of this type of MySQL or MariaDB, as XID or XID_EVENT; may be given again",
+                ),
         )?
         .arg(
             text(alloc, "include-gtids")

@@ -3,10 +3,9 @@ ghost use Rattle.std.specs.Prelude.{◌≡◌, ◌≢◌, codes, false};
 ghost use Rattle.binlog_cli.specs.Reports.{begun_file, ended_file};
 
 use crate::progress::Progress;
-use crate::refusing::Refusing;
 use binlog_file::{Error, EventData, EventRef, EventStreamReader, GtidTracker};
 use binlog_filters::{Filtered, Place};
-use binlog_visits::Visitor;
+use binlog_visits::{Refusing, Visitor};
 use std::alloc::Global;
 use std::marker::Model;
 

@@ -7,8 +7,7 @@ ghost use Rattle.binlog_cli.specs.StatsText.{IsStatsText, IsTime, IsTimeLine, Wr
 ghost use Rattle.binlog_cli.specs.TallyText.{tally_line};
 
 use binlog_commands::{Largest, Stats, Tally};
-use binlog_file::EventType;
-use binlog_json_lines::name_of;
+use binlog_event_types::name_of_number;
 use jiff::Timestamp;
 use jiff::civil::DateTime;
 use jiff::tz::Offset;
@@ -144,8 +143,8 @@ fn write_row<W: Write>(
 fn write_type<W: Write>(number: u8, output: &mut W) -> io::Result<()>
     ensures { OnOk result (Appends (W.contents output.old) (W.contents output.new) (type_text number)) }
 {
-    match EventType::try_from(number) {
-        Ok(event_type) => write!(output, "{}", name_of(event_type)),
-        Err(_) => write!(output, "{number}"),
+    match name_of_number(number) {
+        Some(name) => write!(output, "{name}"),
+        None => write!(output, "{number}"),
     }
 }

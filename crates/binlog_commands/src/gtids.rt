@@ -4,7 +4,7 @@ ghost use Rattle.binlog_gtid_listing.specs.LogItems.{log_gtids};
 
 use binlog_file::{Error, EventRef, EventStreamReader, WriteCounted};
 use binlog_gtid_listing::{LogGtids, list_refused, track_log_event};
-use binlog_visits::Visitor;
+use binlog_visits::{Refusing, Visitor};
 use std::alloc::Global;
 
 /// Adds the GTIDs of each event, MySQL's or MariaDB's, to their sets, and writes the line of each error: of an item, and of an
@@ -70,5 +70,14 @@ impl<W: WriteCounted> Visitor for GtidCollector<W> {
             Ok(_) => Ok(()),
             Err(error) => Err(error),
         }
+    }
+}
+
+/// An event whose GTIDs can't be read is an error.
+impl<W> Refusing for GtidCollector<W> {
+    ghost refusals = { λ collector. collector.refused };
+
+    fn refused(&self) -> u64 {
+        self.refused
     }
 }

@@ -3,7 +3,7 @@ ghost use Rattle.std.specs.Prelude.{◌≡◌};
 ghost use Rattle.binlog_commands.specs.Counting.{none_counted, with_cut};
 
 use binlog_file::{Error, EventRef, EventStreamReader};
-use binlog_visits::Visitor;
+use binlog_visits::{Refusing, Visitor};
 
 /// Counts the events of a log, their bytes, their checksums, and the errors in the places of events. A count stays at
 /// 2^64 - 1.
@@ -76,5 +76,11 @@ impl Visitor for Tally {
     ) -> Result<(), Error> {
         self.errors = self.errors.saturating_add(1);
         Ok(())
+    }
+}
+
+impl Refusing for Tally {
+    fn refused(&self) -> u64 {
+        0
     }
 }

@@ -41,9 +41,10 @@ is_any (x ∷ xs) n = list_any (λ (y : ℕ). y == n) (x ∷ xs)
 abbrev pub is_of_type : Filter → ℕ → Bool
 is_of_type filter type = is_any filter.types.items type
 
--- The types of events that belong to the log and to no transaction: STOP, ROTATE, FORMAT_DESCRIPTION, PREVIOUS_GTIDS.
+-- The types of events that belong to the log and to no transaction: STOP, ROTATE, FORMAT_DESCRIPTION, PREVIOUS_GTIDS; of
+-- MariaDB's own BINLOG_CHECKPOINT, GTID_LIST, START_ENCRYPTION.
 abbrev pub is_of_log : ℕ → Bool
-is_of_log type = (type == 3) || ((type == 4) || ((type == 15) || (type == 35)))
+is_of_log type = (type == 3) || ((type == 4) || ((type == 15) || ((type == 35) || ((type == 161) || ((type == 163) || (type == 164))))))
 
 -- Each condition takes the event that begins here, where `is_wanted` says so of its transaction.
 abbrev pub meets_conditions : Filter → Option ℕ → EventView → Bool → Bool
@@ -73,9 +74,9 @@ pub record HasNoCondition (filter : Filter) : Type 0 where
 
 -- ---- transactions
 
--- The types of events with which a transaction begins: GTID, ANONYMOUS_GTID, GTID_TAGGED_LOG.
+-- The types of events with which a transaction begins: GTID, ANONYMOUS_GTID, GTID_TAGGED_LOG; of MariaDB's own GTID.
 abbrev pub begins_transaction : ℕ → Bool
-begins_transaction type = (type == 33) || ((type == 34) || (type == 42))
+begins_transaction type = (type == 33) || ((type == 34) || ((type == 42) || (type == 162)))
 
 -- The GTID is in the set, or there is no set.
 abbrev pub is_included : Option (List GtidGroup) → Pair → ℕ → Bool

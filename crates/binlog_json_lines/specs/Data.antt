@@ -9,11 +9,11 @@ use Rattle.binlog_file.specs.ReadData.{data_read}
 use Rattle.binlog_file.specs.declared.EventData.{EventData}
 use Rattle.binlog_file.specs.declared.EventData.TheVariants as variants
 use Rattle.json_line.specs.Tokens.{number_value, bytes_value, member, object}
-use Rattle.binlog_json_lines.specs.Names.{type_name}
+use Rattle.binlog_event_types.specs.MysqlNames.{type_name}
 use Rattle.binlog_json_lines.specs.Bodies.{rotate_object, intvar_object, rand_object, xid_object, begin_load_query_object, incident_object, rows_query_object, description_object}
 use Rattle.binlog_json_lines.specs.Statements.{query_object, execute_load_query_object, user_var_object}
 use Rattle.binlog_json_lines.specs.Gtids.{gtid_object, previous_gtids_object}
-use Rattle.binlog_json_lines.specs.Rows.{table_map_object, rows_object}
+use Rattle.binlog_json_lines.specs.Rows.{table_map_object, rows_object, short_rows_object}
 
 -- The object of data without a body.
 abbrev pub empty_object : List Token
@@ -65,6 +65,11 @@ data_object (variants.ViewChangeEvent s) = raw_object s
 data_object (variants.XaPrepareLogEvent s) = raw_object s
 data_object (variants.TransactionPayloadEvent s) = raw_object s
 
+-- The object of event data, that of a row event without its stored rows.
+abbrev pub short_data_object : EventData → List Token
+short_data_object (variants.RowsEvent e) = short_rows_object e
+short_data_object body = data_object body
+
 -- The error number of a refusal.
 abbrev pub refusal_number : Refusal → ℕ
 refusal_number ends = 5
@@ -77,6 +82,12 @@ read_value (Ok (v, [])) = data_object v
 read_value (Ok (v, b ∷ rest)) = error_object 7
 read_value (Err why) = error_object (refusal_number why)
 
+-- The same with the object that has no stored rows.
+abbrev pub short_read_value : Read EventData → List Token
+short_read_value (Ok (v, [])) = short_data_object v
+short_read_value (Ok (v, b ∷ rest)) = error_object 7
+short_read_value (Err why) = error_object (refusal_number why)
+
 -- The name of an event type; null for an unknown type.
 abbrev pub name_value : Result EventType UnknownEventType → List Token
 name_value (Err unknown) = null ∷ []
@@ -86,3 +97,8 @@ name_value (Ok type) = string (type_name type) ∷ []
 abbrev pub data_value : FormatDescriptionEvent → List ℕ → Result EventType UnknownEventType → List Token
 data_value d s (Err unknown) = null ∷ []
 data_value d s (Ok type) = read_value (data_read d s type)
+
+-- The same, that of a row event without its stored rows.
+abbrev pub short_data_value : FormatDescriptionEvent → List ℕ → Result EventType UnknownEventType → List Token
+short_data_value d s (Err unknown) = null ∷ []
+short_data_value d s (Ok type) = short_read_value (data_read d s type)

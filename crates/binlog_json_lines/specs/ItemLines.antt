@@ -1,5 +1,5 @@
 -- The line of an item: a JSON object.
-use Rattle.std.specs.Prelude.{ℕ, List, [], ◌++◌, codes, Result, Ok, Err, ⊤}
+use Rattle.std.specs.Prelude.{ℕ, Bool, true, false, List, [], ◌++◌, codes, Result, Ok, Err, ⊤}
 use Rattle.std.specs.Int.{w32, to_le_bytes}
 use Rattle.json.specs.Print.{print}
 use Rattle.json.specs.Token.{Token}
@@ -12,7 +12,7 @@ use Rattle.binlog_file.specs.declared.BinlogEventHeader.{BinlogEventHeader}
 use Rattle.binlog_file.specs.Events.{EventView}
 use Rattle.binlog_file.specs.Parts.{data_of, checksum_of}
 use Rattle.json_line.specs.Tokens.{number_value, bytes_value, or_null, member, object}
-use Rattle.binlog_json_lines.specs.Data.{name_value, data_value}
+use Rattle.binlog_json_lines.specs.Data.{name_value, data_value, short_data_value}
 
 -- The raw type and the type's name.
 unfoldable pub type_members : ℕ → List Token
@@ -27,16 +27,29 @@ header_members header =
     ++ member (codes "log_pos") (number_value header.log_pos)
     ++ member (codes "flags") (number_value header.flags)
 
--- The stored checksum, and the data.
-unfoldable pub body_members : EventView → List Token
-body_members event =
-    member (codes "checksum") (or_null bytes_value (checksum_of event.fde.footer event.frame))
-    ++ member (codes "data") (data_value event.fde (data_of event.fde.footer event.frame) (event_type_of (header_of event.frame).event_type))
+-- The stored checksum.
+unfoldable pub checksum_member : EventView → List Token
+checksum_member event = member (codes "checksum") (or_null bytes_value (checksum_of event.fde.footer event.frame))
+
+-- The members of the object of an event before its data.
+unfoldable pub event_head : ℕ → EventView → List Token
+event_head index event =
+    member (codes "index") (number_value index)
+    ++ type_members (header_of event.frame).event_type
+    ++ header_members (header_of event.frame)
+    ++ checksum_member event
+
+-- The data of an event, that of a row event with its stored rows or without them.
+abbrev pub event_data : (has_stored_rows : Bool) → EventView → List Token
+event_data true event = data_value event.fde (data_of event.fde.footer event.frame) (event_type_of (header_of event.frame).event_type)
+event_data false event = short_data_value event.fde (data_of event.fde.footer event.frame) (event_type_of (header_of event.frame).event_type)
+
+abbrev pub data_member : (has_stored_rows : Bool) → EventView → List Token
+data_member has_stored_rows event = member (codes "data") (event_data has_stored_rows event)
 
 -- The members of the object of an event.
 unfoldable pub event_members : ℕ → EventView → List Token
-event_members index event =
-    member (codes "index") (number_value index) ++ type_members (header_of event.frame).event_type ++ header_members (header_of event.frame) ++ body_members event
+event_members index event = event_head index event ++ data_member true event
 
 -- The object of an event.
 unfoldable pub event_object : ℕ → EventView → List Token

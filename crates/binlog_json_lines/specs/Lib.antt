@@ -1,4 +1,3 @@
-pub mod Names
 pub mod Bodies
 pub mod Statements
 pub mod StatusVars

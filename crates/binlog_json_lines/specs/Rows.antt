@@ -51,3 +51,7 @@ rows_columns e =
 -- The object of a row event.
 abbrev pub rows_object : RowsEventData → List Token
 rows_object e = object (rows_table (event_in e) ++ rows_columns (event_in e) ++ member (codes "rows_data") (bytes_value (event_in e).rows))
+
+-- The same without its stored rows.
+abbrev pub short_rows_object : RowsEventData → List Token
+short_rows_object e = object (rows_table (event_in e) ++ rows_columns (event_in e))

@@ -9,16 +9,16 @@ ghost use Rattle.binlog_file.specs.Headers.{header_of};
 ghost use Rattle.binlog_file.specs.EventRefs.{view_of};
 ghost use Rattle.binlog_file.specs.Parts.{data_of};
 ghost use Rattle.json_line.specs.Tokens.{Adds};
-ghost use Rattle.binlog_json_lines.specs.Data.{empty_object, raw_object, error_object, data_object, name_value, data_value};
+ghost use Rattle.binlog_json_lines.specs.Data.{empty_object, raw_object, error_object, data_object, short_data_object, name_value, data_value, short_data_value};
 
 use crate::bodies::{
     write_begin_load_query, write_description, write_incident, write_intvar, write_rand,
     write_rotate, write_rows_query, write_xid,
 };
 use crate::gtids::{write_gtid, write_previous_gtids};
-use crate::names::name_of;
-use crate::rows::{write_rows, write_table_map};
+use crate::rows::{write_rows, write_short_rows, write_table_map};
 use crate::statements::{write_execute_load_query, write_query, write_user_var};
+use binlog_event_types::name_of;
 use binlog_file::{Error, EventData, EventRef, EventType, QueryEvent, UnknownEventType};
 use json_line::Line;
 use std::alloc::{AllocError, Global};
@@ -61,6 +61,26 @@ fn write_other_data(line: &mut Line, alloc: Global, event: &EventRef<'_>) -> Res
     match event.read_data(alloc) {
         Ok(Some(body)) => {
             let written = write_object(line, alloc, &body);
+            drop(body);
+            written
+        }
+        Ok(None) => line.null(),
+        Err(error) => write_refusal(line, &error),
+    }
+}
+
+/// Writes the data of an event, that of a row event without its stored rows.
+pub(crate) fn write_data_without_rows(
+    line: &mut Line,
+    alloc: Global,
+    event: &EventRef<'_>,
+) -> Result<(), AllocError>
+    ensures { Adds result line.old line.new (short_data_value (view_of event.now).fde
+        (data_of (view_of event.now).fde.footer (view_of event.now).frame) (event_type_of (header_of (view_of event.now).frame).event_type)) }
+{
+    match event.read_data(alloc) {
+        Ok(Some(body)) => {
+            let written = write_short_object(line, alloc, &body);
             drop(body);
             written
         }
@@ -115,6 +135,20 @@ fn write_raw(line: &mut Line, bytes: &[u8]) -> Result<(), AllocError>
     line.bytes_member("raw", bytes)?;
     line.end_object()?;
     Ok(())
+}
+
+// Writes event data, that of a row event without its stored rows.
+fn write_short_object(
+    line: &mut Line,
+    alloc: Global,
+    body: &EventData<'_>,
+) -> Result<(), AllocError>
+    ensures { Adds result line.old line.new (short_data_object body.now) }
+{
+    match body {
+        EventData::RowsEvent(event) => write_short_rows(line, event),
+        _ => write_object(line, alloc, body),
+    }
 }
 
 // Writes event data, by its variant.

@@ -5,7 +5,7 @@ ghost use Rattle.std.specs.Prelude.{option_map};
 ghost use Rattle.binlog_file.specs.Images.{bitmap_of};
 ghost use Rattle.json_line.specs.Tokens.{Adds, or_null};
 ghost use Rattle.binlog_json_lines.specs.Bits.{bits_value};
-ghost use Rattle.binlog_json_lines.specs.Rows.{mapped_table, mapped_columns, table_map_object, extra_data_member, rows_table, rows_columns, rows_object};
+ghost use Rattle.binlog_json_lines.specs.Rows.{mapped_table, mapped_columns, table_map_object, extra_data_member, rows_table, rows_columns, rows_object, short_rows_object};
 
 use crate::bits::write_bits;
 use binlog_file::{BitView, RowsEvent, RowsEventData, TableMapEvent};
@@ -54,6 +54,18 @@ pub(crate) fn write_rows(line: &mut Line, event: &RowsEventData<'_>) -> Result<(
     write_rows_table(line, event)?;
     write_rows_columns(line, event)?;
     line.bytes_member("rows_data", event.rows_data())?;
+    line.end_object()?;
+    Ok(())
+}
+
+/// Writes the object of a row event without its stored rows.
+pub(crate) fn write_short_rows(line: &mut Line, event: &RowsEventData<'_>) -> Result<(), AllocError>
+    ensures { Adds result line.old line.new (short_rows_object event.now) }
+{
+    let event = event.event();
+    line.begin_object()?;
+    write_rows_table(line, event)?;
+    write_rows_columns(line, event)?;
     line.end_object()?;
     Ok(())
 }

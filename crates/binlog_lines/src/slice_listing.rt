@@ -1,10 +1,11 @@
 //! The listing of a log in memory.
-ghost use Rattle.std.specs.Prelude.{◌≡◌, false, Some, IfErr};
+ghost use Rattle.std.specs.Prelude.{◌≡◌, ◌⊎◌, false, Some, IfErr};
 ghost use Rattle.binlog_wire.specs.Errors.{is_environment_error};
+ghost use Rattle.binlog_wire.specs.declared.error.Error.TheVariants.{Memory, Writer};
 ghost use Rattle.binlog_events.specs.EventRefs.{item_view};
 ghost use Rattle.binlog_events.specs.Writing.{CountsWriter};
 ghost use Rattle.binlog_lines.specs.Lines.{Lists, ListsItem};
-ghost use Rattle.binlog_lines.specs.SliceLines.{ListsSlice, answered};
+ghost use Rattle.binlog_lines.specs.SliceLines.{ListsSlice, IsSliceError, answered};
 
 use crate::item_lines::ItemLines;
 use crate::output::write_line;
@@ -27,7 +28,8 @@ pub fn list_slice<W: Write, L: ItemLines>(
     lines: &mut L,
     output: &mut W,
 ) -> Result<bool, Error>
-    ensures { Lists L.line L.takes bytes.now (W.contents output.old) result (W.contents output.new) }
+    ensures lists { Lists L.line L.takes bytes.now (W.contents output.old) result (W.contents output.new) }
+    ensures err { IfErr result IsSliceError }
 {
     let slice = BinlogSlice::new(BinlogVersion::Version4, bytes)?;
     let mut output = CountedRef::new(&mut *output);
@@ -43,6 +45,7 @@ fn list_items<W: WriteCounted, L: ItemLines>(
 ) -> Result<bool, Error>
     requires { slice.is_ended ≡ false }
     ensures lists { ListsSlice L.line L.takes slice.entry (W.contents output.old) result (W.contents output.new) }
+    ensures kind { IfErr result (λ e. (e ≡ Memory) ⊎ (e ≡ Writer)) }
     ensures writer { CountsWriter result (W.count output.old) (W.count output.new) }
 {
     let mut has_errors = false;
@@ -65,6 +68,7 @@ fn list_item<W: WriteCounted, L: ItemLines>(
 ) -> Result<bool, Error>
     requires { IfErr item (λ e. is_environment_error e ≡ false) }
     ensures lists { ListsItem L.line L.takes index (Some (item_view item.entry)) (W.contents output.old) (W.contents output.new) (answered result) }
+    ensures kind { IfErr result (λ e. (e ≡ Memory) ⊎ (e ≡ Writer)) }
     ensures writer { CountsWriter result (W.count output.old) (W.count output.new) }
 {
     match item {

@@ -1,4 +1,3 @@
-pub mod Names
 pub mod Bodies
 pub mod Gtids
 pub mod Compressed

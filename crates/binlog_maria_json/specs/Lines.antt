@@ -1,5 +1,5 @@
 -- The lines of JSON of a log, with MariaDB's own events.
-use Rattle.std.specs.Prelude.{◌≡◌, ◌⊎◌, ℕ, Bool, true, false, List, [], ◌∷◌, ◌++◌, codes, take, Option, Result, Ok, Err}
+use Rattle.std.specs.Prelude.{◌≡◌, ◌⊎◌, ◌||◌, ℕ, Bool, true, false, not, List, [], ◌∷◌, ◌++◌, codes, take, Option, Result, Ok, Err}
 use Rattle.std.specs.Io.KnownBytes.{Appends}
 use Rattle.std.specs.Option.{option_and_then}
 use Rattle.json.specs.Print.{print}
@@ -11,7 +11,7 @@ use Rattle.binlog_ends.specs.Counts.{AppendsFront}
 use Rattle.binlog_description.specs.Headers.{header_of}
 use Rattle.binlog_events.specs.Events.{EventView}
 use Rattle.binlog_events.specs.Parts.{data_of, checksum_of}
-use Rattle.binlog_json_lines.specs.ItemLines.{header_members, event_members, item_line}
+use Rattle.binlog_json_lines.specs.ItemLines.{header_members, event_head, data_member, item_line}
 use Rattle.binlog_consts.specs.EventTypes.{event_type_of}
 use Rattle.binlog_rows.specs.declared.table_map_event.TableMapEvent.{TableMapEvent}
 use Rattle.binlog_row_json.specs.Members.{AreMembers}
@@ -22,7 +22,7 @@ use Rattle.binlog_mariadb.specs.EventTypes.{maria_event_number, maria_event_type
 use Rattle.binlog_mariadb.specs.Flavour.{IsMariaVersion}
 use Rattle.binlog_mariadb.specs.declared.event_type.MariaEventType.{MariaEventType}
 use Rattle.binlog_mariadb.specs.declared.event_type.UnknownMariaEventType.{UnknownMariaEventType}
-use Rattle.binlog_maria_json.specs.Names.{maria_name}
+use Rattle.binlog_event_types.specs.MariaNames.{maria_name}
 use Rattle.binlog_maria_json.specs.Data.{IsValue}
 
 -- The event is of a log that MariaDB wrote, by the server version of the description in force.
@@ -71,47 +71,49 @@ abbrev pub IsLine : ℕ → Result EventView Error → List ℕ → Type 0
 IsLine index (Ok event) text = IsEventLine index event (maria_event_type_of (header_of event.frame).event_type) text
 IsLine index (Err error) text = text ≡ item_line index (Err error)
 
--- The tokens are the object of a row event with its rows, by this table map: the members `table` and `rows` are behind its data.
-pub record IsRowsObject (map : Option TableMapEvent) (index : ℕ) (event : EventView) (tokens : List Token) : Type 0 where
+-- The tokens are the object of a row event with its rows, by this table map: the members of its rows are before its data. The data
+-- has the stored rows exactly if they are kept in all lines, or if not all rows are read.
+pub record IsRowsObject (keeps_stored : Bool) (map : Option TableMapEvent) (index : ℕ) (event : EventView) (tokens : List Token) : Type 0 where
+  pub all_read : Bool
   pub rows : List Token
-  pub read : AreMembers event map rows
-  pub is : tokens ≡ object (event_members index event ++ rows)
+  pub read : AreMembers event map all_read rows
+  pub is : tokens ≡ object (event_head index event ++ rows ++ data_member (keeps_stored || not all_read) event)
 
 -- The text is the line of a row event with its rows.
-pub record IsRowsLine (map : Option TableMapEvent) (index : ℕ) (event : EventView) (text : List ℕ) : Type 0 where
+pub record IsRowsLine (keeps_stored : Bool) (map : Option TableMapEvent) (index : ℕ) (event : EventView) (text : List ℕ) : Type 0 where
   pub tokens : List Token
-  pub are : IsRowsObject map index event tokens
+  pub are : IsRowsObject keeps_stored map index event tokens
   pub is : text ≡ print tokens ++ codes "\n"
 
 -- The text is the line of an event, where a row event has its rows.
-abbrev pub IsLineOf : (is_row_event : Bool) → Option TableMapEvent → ℕ → EventView → List ℕ → Type 0
-IsLineOf true map index event text = IsRowsLine map index event text
-IsLineOf false map index event text = IsLine index (Ok event) text
+abbrev pub IsLineOf : (is_row_event : Bool) → (keeps_stored : Bool) → Option TableMapEvent → ℕ → EventView → List ℕ → Type 0
+IsLineOf true keeps_stored map index event text = IsRowsLine keeps_stored map index event text
+IsLineOf false keeps_stored map index event text = IsLine index (Ok event) text
 
-abbrev pub IsLineWith : Option TableMapEvent → ℕ → EventView → List ℕ → Type 0
-IsLineWith map index event text = IsLineOf (is_of_rows (event_type_of (header_of event.frame).event_type)) map index event text
+abbrev pub IsLineWith : (keeps_stored : Bool) → Option TableMapEvent → ℕ → EventView → List ℕ → Type 0
+IsLineWith keeps_stored map index event text = IsLineOf (is_of_rows (event_type_of (header_of event.frame).event_type)) keeps_stored map index event text
 
 -- The table map in force for the table id of a row event.
 abbrev pub map_of_event : TableMaps → EventView → Option TableMapEvent
 map_of_event maps event = option_and_then maps (table_id_of event)
 
 -- The text is the line of an item, where a row event has its rows and these table maps are in force behind the item.
-abbrev pub IsLineIn : TableMaps → ℕ → Result EventView Error → List ℕ → Type 0
-IsLineIn maps index (Ok event) text = IsLineWith (map_of_event maps event) index event text
-IsLineIn maps index (Err error) text = IsLine index (Err error) text
+abbrev pub IsLineIn : (keeps_stored : Bool) → TableMaps → ℕ → Result EventView Error → List ℕ → Type 0
+IsLineIn keeps_stored maps index (Ok event) text = IsLineWith keeps_stored (map_of_event maps event) index event text
+IsLineIn keeps_stored maps index (Err error) text = IsLine index (Err error) text
 
 -- The line of the item is written.
-pub record WritesLine (maps : TableMaps) (index : ℕ) (item : Result EventView Error) (old new : Option (List ℕ)) : Type 0 where
+pub record WritesLine (keeps_stored : Bool) (maps : TableMaps) (index : ℕ) (item : Result EventView Error) (old new : Option (List ℕ)) : Type 0 where
   pub text : List ℕ
-  pub line : IsLineIn maps index item text
+  pub line : IsLineIn keeps_stored maps index item text
   pub written : Appends old new text
 
 -- A prefix of the line of the item is written.
-pub record WritesFront (maps : TableMaps) (index : ℕ) (item : Result EventView Error) (old new : Option (List ℕ)) : Type 0 where
+pub record WritesFront (keeps_stored : Bool) (maps : TableMaps) (index : ℕ) (item : Result EventView Error) (old new : Option (List ℕ)) : Type 0 where
   pub text : List ℕ
-  pub line : IsLineIn maps index item text
+  pub line : IsLineIn keeps_stored maps index item text
   pub written : AppendsFront old new text
 
 -- The line isn't written whole: the writer failed, or an allocation for the line.
-abbrev pub WritesNoLine : TableMaps → ℕ → Result EventView Error → Option (List ℕ) → Error → Option (List ℕ) → Type 0
-WritesNoLine maps index item old error new = ((error ≡ Writer) × WritesFront maps index item old new) ⊎ ((error ≡ Memory) × (new ≡ old))
+abbrev pub WritesNoLine : (keeps_stored : Bool) → TableMaps → ℕ → Result EventView Error → Option (List ℕ) → Error → Option (List ℕ) → Type 0
+WritesNoLine keeps_stored maps index item old error new = ((error ≡ Writer) × WritesFront keeps_stored maps index item old new) ⊎ ((error ≡ Memory) × (new ≡ old))

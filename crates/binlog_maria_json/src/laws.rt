@@ -20,7 +20,7 @@ use std::io::Write;
 pub fn json_lines<W: Write>()
     ensures lines { (maps : TableMaps) (index : ℕ) (items : List (Result EventView Error)) (old new : MariaJsonWriter W)
         → Visits ⟦<MariaJsonWriter<W> as Visitor>⟧.visits maps index items old new
-        → WritesLines maps index items (W.contents old.output) (W.contents new.output) }
+        → WritesLines old.keeps_stored maps index items (W.contents old.output) (W.contents new.output) }
     ensures errors { (maps : TableMaps) (index : ℕ) (items : List (Result EventView Error)) (old new : MariaJsonWriter W)
         → Visits ⟦<MariaJsonWriter<W> as Visitor>⟧.visits maps index items old new
         → new.has_errors ≡ (old.has_errors || has_errors_in items) }
@@ -32,5 +32,5 @@ pub fn json_lines<W: Write>()
 pub fn taken_json_lines<W: Write>()
     ensures { (maps : TableMaps) (index : ℕ) (items : List (Result EventView Error)) (old new : Filtered (MariaJsonWriter W))
         → Visits ⟦<Filtered<MariaJsonWriter<W>> as Visitor>⟧.visits maps index items old new
-        → WritesTaken IsLineIn old.filter old.place.position old.is_wanted maps index items (W.contents old.visitor.output) (W.contents new.visitor.output) }
+        → WritesTaken (IsLineIn old.visitor.keeps_stored) old.filter old.place.position old.is_wanted maps index items (W.contents old.visitor.output) (W.contents new.visitor.output) }
 {}

@@ -10,10 +10,8 @@ mod data;
 mod gtids;
 pub mod laws;
 mod lines;
-mod names;
 mod writer;
 
 pub use compressed::MOST_BYTES;
 pub use lines::MariaJsonLines;
-pub use names::maria_name_of;
 pub use writer::MariaJsonWriter;

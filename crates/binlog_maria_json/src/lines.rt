@@ -1,7 +1,7 @@
 //! The line of an item.
 #![tactic(auto, using(std::proofs::Common::append_assoc))]
 
-ghost use Rattle.std.specs.Prelude.{◌≡◌, ℕ, IfErr, IfOk, MatchOption, Ok, Err, option_copied, true};
+ghost use Rattle.std.specs.Prelude.{◌≡◌, ◌||◌, ℕ, IfErr, IfOk, MatchOption, Ok, Err, option_copied, true, not};
 ghost use Rattle.json_line.specs.Tokens.{Adds};
 ghost use Rattle.binlog_wire.specs.declared.error.Error.TheVariants.{Memory};
 ghost use Rattle.binlog_description.specs.Headers.{header_of};
@@ -12,9 +12,9 @@ ghost use Rattle.binlog_row_json.specs.Shown.{Shows};
 ghost use Rattle.binlog_maria_json.specs.Lines.{IsOfMaria, IsOther, type_members, head_members, IsEventObject, IsOwnLine, IsLine, IsRowsObject, IsRowsLine, IsLineWith};
 
 use crate::data::write_data;
-use crate::names::maria_name_of;
+use binlog_event_types::maria_name_of;
 use binlog_file::{Error, EventRef, TableMapEvent};
-use binlog_json_lines::{JsonLines, write_event_members, write_header};
+use binlog_json_lines::{JsonLines, write_data_member, write_event_head, write_header};
 use binlog_lines::ItemLines;
 use binlog_mariadb::{MariaEventType, is_maria_log};
 use binlog_row_json::{RowsWriter, is_row_event};
@@ -62,9 +62,10 @@ impl MariaJsonLines {
         }
     }
 
-    /// The line of an event, with the rows of a row event: behind the members of [`JsonLines`] its object has the members
-    /// `table` and `rows`. The table map is the one in force for the event's table id; one of another table id counts as
-    /// none. Any other event has the line that [`MariaJsonLines::event_line`] makes.
+    /// The line of an event, with the rows of a row event: before `data` its object has the members `table` and `rows`. The
+    /// table map is the one in force for the event's table id; one of another table id counts as none. The data has the
+    /// stored bytes of the rows, `rows_data`, if `keeps_stored` is true, and else only if `rows` doesn't have all rows. Any
+    /// other event has the line that [`MariaJsonLines::event_line`] makes.
     ///
     /// # Errors
     ///
@@ -75,12 +76,13 @@ impl MariaJsonLines {
         index: u64,
         event: &EventRef<'_>,
         table_map: Option<&TableMapEvent<'_>>,
+        keeps_stored: bool,
     ) -> Result<&[u8], Error>
-        ensures line { IfOk result (λ text. IsLineWith (option_copied table_map.entry) index (view_of event.now) text.now) }
+        ensures line { IfOk result (λ text. IsLineWith keeps_stored (option_copied table_map.entry) index (view_of event.now) text.now) }
         ensures memory { IfErr result (λ e. e ≡ Memory) }
     {
         if is_row_event(event) {
-            self.rows_line(alloc, index, event, table_map)
+            self.rows_line(alloc, index, event, table_map, keeps_stored)
         } else {
             self.event_line(alloc, index, event)
         }
@@ -93,8 +95,9 @@ impl MariaJsonLines {
         index: u64,
         event: &EventRef<'_>,
         table_map: Option<&TableMapEvent<'_>>,
+        keeps_stored: bool,
     ) -> Result<&[u8], Error>
-        ensures line { IfOk result (λ text. IsRowsLine (option_copied table_map.entry) index (view_of event.now) text.now) }
+        ensures line { IfOk result (λ text. IsRowsLine keeps_stored (option_copied table_map.entry) index (view_of event.now) text.now) }
         ensures memory { IfErr result (λ e. e ≡ Memory) }
     {
         self.line.clear();
@@ -105,6 +108,7 @@ impl MariaJsonLines {
             index,
             event,
             table_map,
+            keeps_stored,
         )?;
         Ok(self.line.end()?)
     }
@@ -208,14 +212,24 @@ fn write_rows_event(
     index: u64,
     event: &EventRef<'_>,
     table_map: Option<&TableMapEvent<'_>>,
+    keeps_stored: bool,
 ) -> Result<(), AllocError>
-    ensures { Shows result line.old line.new (IsRowsObject (option_copied table_map.entry) index (view_of event.now)) }
+    ensures { Shows result line.old line.new (IsRowsObject keeps_stored (option_copied table_map.entry) index (view_of event.now)) }
 {
     line.begin_object()?;
-    write_event_members(line, alloc, index, event)?;
-    rows.write_members(line, alloc, event, table_map)?;
+    write_event_head(line, index, event)?;
+    let all_read = rows.write_members(line, alloc, event, table_map)?;
+    let has_stored_rows = has_stored_rows(keeps_stored, all_read);
+    write_data_member(line, alloc, event, has_stored_rows)?;
     line.end_object()?;
     Ok(())
+}
+
+// Whether the data of a row event has the stored bytes of its rows.
+fn has_stored_rows(keeps_stored: bool, all_read: bool) -> bool
+    ensures { result ≡ (keeps_stored || not all_read) }
+{
+    keeps_stored || !all_read
 }
 
 // Writes the members before the data.

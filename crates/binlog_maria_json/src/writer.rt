@@ -8,7 +8,7 @@ use crate::lines::MariaJsonLines;
 use binlog_file::{CountedRef, Error, EventRef, EventStreamReader, TableMapEvent};
 use binlog_lines::write_line;
 use binlog_row_json::table_id;
-use binlog_visits::Visitor;
+use binlog_visits::{Refusing, Visitor};
 use std::alloc::Global;
 use std::io::Write;
 
@@ -18,19 +18,23 @@ pub struct MariaJsonWriter<W> {
     alloc: Global,
     lines: MariaJsonLines,
     output: W,
+    keeps_stored: bool,
     has_errors: bool,
 }
 
 impl<W> MariaJsonWriter<W> {
-    /// Writes to this output. Nothing is allocated.
-    pub fn new(alloc: Global, output: W) -> Self
+    /// Writes to this output. The lines of row events keep the stored bytes of their rows if `keeps_stored` is true, and else only
+    /// where not all rows are read. Nothing is allocated.
+    pub fn new(alloc: Global, output: W, keeps_stored: bool) -> Self
         ensures output { result.output ≡ output }
+        ensures stored { result.keeps_stored ≡ keeps_stored }
         ensures errors { result.has_errors ≡ false }
     {
         MariaJsonWriter {
             alloc,
             lines: MariaJsonLines::new(alloc),
             output,
+            keeps_stored,
             has_errors: false,
         }
     }
@@ -72,10 +76,12 @@ impl<W: Write> Visitor for MariaJsonWriter<W> {
     ghost use Rattle.binlog_maria_json.specs.Lines.{WritesLine, WritesNoLine};
 
     ghost visits = { λ old maps index item new.
-        WritesLine maps index item (W.contents old.output) (W.contents new.output) × (new.has_errors ≡ (old.has_errors || is_err item)) };
+        WritesLine old.keeps_stored maps index item (W.contents old.output) (W.contents new.output)
+        × (new.has_errors ≡ (old.has_errors || is_err item)) × (new.keeps_stored ≡ old.keeps_stored) };
 
     ghost refuses = { λ old maps index item error new.
-        WritesNoLine maps index item (W.contents old.output) error (W.contents new.output) × (new.has_errors ≡ old.has_errors) };
+        WritesNoLine old.keeps_stored maps index item (W.contents old.output) error (W.contents new.output)
+        × (new.has_errors ≡ old.has_errors) × (new.keeps_stored ≡ old.keeps_stored) };
 
     #[inline(always)]
     fn visit_event(
@@ -87,7 +93,7 @@ impl<W: Write> Visitor for MariaJsonWriter<W> {
         let table_map = table_map(self.alloc, event, reader);
         let line = self
             .lines
-            .event_line_with_rows(self.alloc, index, event, table_map)?;
+            .event_line_with_rows(self.alloc, index, event, table_map, self.keeps_stored)?;
         let mut output = CountedRef::new(&mut self.output);
         write_line(&mut output, line)
     }
@@ -103,5 +109,12 @@ impl<W: Write> Visitor for MariaJsonWriter<W> {
         write_line(&mut output, line)?;
         self.has_errors = true;
         Ok(())
+    }
+}
+
+/// Data that can't be read has the number of its error in the line, and is no error of the log.
+impl<W> Refusing for MariaJsonWriter<W> {
+    fn refused(&self) -> u64 {
+        0
     }
 }

@@ -1,6 +1,6 @@
-pub mod BinaryFlags
 pub mod ClassCounts
 pub mod Classes
+pub mod ColumnSets
 pub mod Columns
 pub mod FactsSoFar
 pub mod FieldItems

@@ -4,7 +4,7 @@ use Rattle.std.specs.List.{find}
 use Rattle.binlog_optional_metadata.specs.Fields.{Content, bits, numbers, names, charsets, lists}
 use Rattle.binlog_optional_metadata.specs.FieldsLeft.{FieldContent, first_field}
 use Rattle.binlog_optional_metadata.specs.declared.class_counts.ClassCounts.{ClassCounts}
-use Rattle.binlog_optional_metadata.specs.declared.field_type.OptionalMetadataFieldType.TheVariants.{SIGNEDNESS, DEFAULT_CHARSET, COLUMN_CHARSET, COLUMN_NAME, SET_STR_VALUE, ENUM_STR_VALUE}
+use Rattle.binlog_optional_metadata.specs.declared.field_type.OptionalMetadataFieldType.TheVariants.{SIGNEDNESS, DEFAULT_CHARSET, COLUMN_CHARSET, COLUMN_NAME, SET_STR_VALUE, ENUM_STR_VALUE, ENUM_AND_SET_DEFAULT_CHARSET, ENUM_AND_SET_COLUMN_CHARSET}
 use Rattle.binlog_optional_metadata.specs.declared.metadata_error.OptionalMetadataError.{OptionalMetadataError}
 
 -- These are the fields of the bytes, one after the other to their end: of each its content, or why it is refused.
@@ -34,6 +34,12 @@ abbrev pub states_collations : Content → Bool
 states_collations (charsets DEFAULT_CHARSET sets) = true
 states_collations (numbers COLUMN_CHARSET collations) = true
 states_collations _ = false
+
+-- The field states the collation of each ENUM and SET column.
+abbrev pub states_member_collations : Content → Bool
+states_member_collations (charsets ENUM_AND_SET_DEFAULT_CHARSET sets) = true
+states_member_collations (numbers ENUM_AND_SET_COLUMN_CHARSET collations) = true
+states_member_collations _ = false
 
 -- The field states the name of each column.
 abbrev pub states_names : Content → Bool

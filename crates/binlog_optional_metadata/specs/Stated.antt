@@ -1,9 +1,11 @@
 -- What the fields of the optional metadata state of columns.
 -- Source: MySQL's documentation of its source code, `mysql::binlog::event::Table_map_event`.
-use Rattle.std.specs.Prelude.{◌≡◌, ℕ, ◌<◌, ◌==◌, ◌&&◌, Bool, false, List, [], length, take, reverse, slice_get, slice_index_or, Option, None, Some, option_map, unwrap_or, if◌then◌else◌}
+use Rattle.std.specs.Prelude.{◌≡◌, ℕ, ◌<◌, ◌==◌, ◌&&◌, Bool, false, List, [], nat_lt, length, take, reverse, slice_get, slice_index_or, Option, None, Some, option_map, unwrap_or, if◌then◌else◌}
 use Rattle.std.specs.List.{find}
-use Rattle.std.specs.Option.{option_and_then}
+use Rattle.std.specs.Option.{option_and_then, option_or}
 use Rattle.std.specs.Str.{is_utf8}
+use Rattle.character_sets.specs.Collations.{set_of_collation, set_of_mariadb_collation}
+use Rattle.character_sets.specs.declared.character_set.CharacterSet.{CharacterSet}
 use Rattle.binlog_columns.specs.Metadata.{Typed, real_number, string_length}
 use Rattle.binlog_columns.specs.RealTypes.{real_type}
 use Rattle.binlog_columns.specs.declared.column_type.ColumnType.{ColumnType}
@@ -12,9 +14,10 @@ use Rattle.binlog_optional_metadata.specs.Bits.{first_bit_in}
 use Rattle.binlog_optional_metadata.specs.Classes.{is_in_class, character_class, class_count}
 use Rattle.binlog_optional_metadata.specs.Counts.{counts_of}
 use Rattle.binlog_optional_metadata.specs.Fields.{Content, bits, numbers, charsets, names_in, lists_in}
-use Rattle.binlog_optional_metadata.specs.declared.column_class.ColumnClass.TheVariants.{Numeric, Enum, Set}
-use Rattle.binlog_optional_metadata.specs.Facts.{Facts, facts_of}
-use Rattle.binlog_optional_metadata.specs.AllFields.{AreFields, contents_of, first_refusal, states_signedness, states_collations, states_names, states_enums, states_sets, last_field}
+use Rattle.binlog_optional_metadata.specs.declared.column_class.ColumnClass.{ColumnClass}
+use Rattle.binlog_optional_metadata.specs.declared.column_class.ColumnClass.TheVariants.{Numeric, Enum, Set, EnumOrSet}
+use Rattle.binlog_optional_metadata.specs.Facts.{Facts, is_binary, facts_of}
+use Rattle.binlog_optional_metadata.specs.AllFields.{AreFields, contents_of, first_refusal, states_signedness, states_collations, states_member_collations, states_names, states_enums, states_sets, last_field}
 use Rattle.binlog_optional_metadata.specs.declared.column_facts.ColumnFacts.{ColumnFacts}
 use Rattle.binlog_optional_metadata.specs.FieldsLeft.{FieldContent}
 use Rattle.binlog_optional_metadata.specs.declared.metadata_error.OptionalMetadataError.{OptionalMetadataError}
@@ -25,6 +28,7 @@ use Rattle.binlog_optional_metadata.specs.declared.metadata_error.OptionalMetada
 pub record Stated : Type 0 where
   pub signedness : Option Content
   pub collations : Option Content
+  pub member_collations : Option Content
   pub names : Option Content
   pub enums : Option Content
   pub sets : Option Content
@@ -34,6 +38,7 @@ abbrev pub stated_in : List Content → Stated
 stated_in fields = record {
   signedness = last_field states_signedness fields;
   collations = last_field states_collations fields;
+  member_collations = last_field states_member_collations fields;
   names = last_field states_names fields;
   enums = last_field states_enums fields;
   sets = last_field states_sets fields;
@@ -56,14 +61,15 @@ collation_in (charsets type sets) index = collation_or_default sets index
 collation_in (numbers type collations) index = slice_index_or collations index 0
 collation_in _ index = 0
 
--- The collation of the character set `binary`, by its number.
-abbrev pub binary : ℕ
-binary = 63
+-- The character set of a collation, by its number, which has 16 bits, and by the server that wrote the log.
+unfoldable pub set_numbered : Bool → ℕ → Option CharacterSet
+set_numbered is_maria_log number =
+    if nat_lt number 0x1_0000 then (if is_maria_log then set_of_mariadb_collation number else set_of_collation number) else None
 
--- The column with this index in its class has the character set `binary`.
-abbrev pub is_binary_in : Option Content → ℕ → Bool
-is_binary_in None index = false
-is_binary_in (Some field) index = collation_in field index == binary
+-- The character set of the column with this index in its class.
+abbrev pub set_stated : Bool → Option Content → ℕ → Option CharacterSet
+set_stated is_maria_log None index = None
+set_stated is_maria_log (Some field) index = set_numbered is_maria_log (collation_in field index)
 
 -- The names of the columns.
 abbrev pub names_stated : Option Content → List (List ℕ)
@@ -81,9 +87,16 @@ lists_stated (Some field) = lists_in field
 
 -- ---- columns
 
--- The column has the character set `binary`.
-abbrev pub is_binary_behind : Bool → Stated → List Typed → Typed → Bool
-is_binary_behind is_maria_log stated before column = is_in_class (character_class is_maria_log) (real_type column) && is_binary_in stated.collations (class_count (character_class is_maria_log) before)
+-- The character set of a column, by the collations of the columns of this class; None if it isn't in the class.
+abbrev pub class_set : ColumnClass → Bool → Option Content → List Typed → Typed → Option CharacterSet
+class_set class is_maria_log collations before column =
+    if is_in_class class (real_type column) then set_stated is_maria_log collations (class_count class before) else None
+
+-- The character set of a column: of a column of characters, or of an ENUM or a SET.
+abbrev pub set_behind : Bool → Stated → List Typed → Typed → Option CharacterSet
+set_behind is_maria_log stated before column =
+    option_or (class_set (character_class is_maria_log) is_maria_log stated.collations before column)
+    (class_set EnumOrSet is_maria_log stated.member_collations before column)
 
 -- The length of a STRING whose real type is STRING; 0 for any other column.
 abbrev pub string_length_as : ColumnType → ℕ → ℕ
@@ -91,8 +104,8 @@ string_length_as MYSQL_TYPE_STRING metadata = if real_number metadata == 254 the
 string_length_as _ metadata = 0
 
 -- The length to which the values of a column are padded with zeros: that of a BINARY.
-abbrev pub padded_length : Bool → Typed → ℕ
-padded_length is_binary column = if is_binary then string_length_as column.0 column.1 else 0
+abbrev pub padded_length : Option CharacterSet → Typed → ℕ
+padded_length set column = if is_binary set then string_length_as column.0 column.1 else 0
 
 -- The members of a column of this real type: those of the ENUM or the SET with its index in its class.
 abbrev pub members_in : ColumnType → Option (List (List ℕ)) → Option (List (List ℕ)) → Option (List (List ℕ))
@@ -103,8 +116,8 @@ abbrev pub facts_behind : Bool → Stated → List Typed → Typed → Facts
 facts_behind is_maria_log stated before column = record {
   name = option_and_then text_of (slice_get (names_stated stated.names) (length before));
   is_unsigned = is_in_class Numeric (real_type column) && is_set_in stated.signedness (class_count Numeric before);
-  is_binary = is_binary_behind is_maria_log stated before column;
-  padded_length = padded_length (is_binary_behind is_maria_log stated before column) column;
+  character_set = set_behind is_maria_log stated before column;
+  padded_length = padded_length (set_behind is_maria_log stated before column) column;
   members = members_in (real_type column) (slice_get (lists_stated stated.enums) (class_count Enum before)) (slice_get (lists_stated stated.sets) (class_count Set before));
 }
 

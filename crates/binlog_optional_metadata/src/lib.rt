@@ -8,14 +8,14 @@
 //! by the columns before it.
 #![tactic(auto)]
 
-mod binary_columns;
-mod character_sets;
 mod class_counts;
 mod class_index;
+mod collations;
 mod column_class;
 mod column_facts;
 mod column_index;
 mod column_members;
+mod column_sets;
 mod content;
 mod default_charset;
 mod field;

@@ -4,13 +4,19 @@ ghost use Rattle.binlog_columns.specs.Columns.{typed_of};
 ghost use Rattle.binlog_optional_metadata.specs.StringLengths.{most_bytes};
 ghost use Rattle.binlog_optional_metadata.specs.Stated.{string_length_as, padded_length};
 
+use crate::column_facts::is_binary;
 use binlog_columns::{Column, ColumnType, Layout};
+use character_sets::CharacterSet;
 
-/// The length to which the values of a column are padded with zeros, where it is known whether its character set is `binary`.
-pub(crate) fn padded_length(column: &Column, is_binary: bool) -> u32
-    ensures { result ≡ padded_length is_binary (typed_of column.now) }
+/// The length to which the values of a column are padded with zeros, where this is stated of its character set.
+pub(crate) fn padded_length(column: &Column, character_set: Option<CharacterSet>) -> u32
+    ensures { result ≡ padded_length character_set (typed_of column.now) }
 {
-    if is_binary { string_length(column) } else { 0 }
+    if is_binary(character_set) {
+        string_length(column)
+    } else {
+        0
+    }
 }
 
 /// The length of a STRING; 0 for any other column.

@@ -4,7 +4,7 @@ ghost use Rattle.binlog_optional_metadata.specs.FieldValues.{content_of};
 ghost use Rattle.binlog_optional_metadata.specs.FieldsLeft.{answer_field_content};
 ghost use Rattle.binlog_optional_metadata.specs.StatedFields.{with_field, with_content, with_refusal};
 
-use crate::character_sets::CharacterSets;
+use crate::collations::Collations;
 use crate::field::OptionalMetadataField;
 use crate::member_lists::MemberLists;
 use crate::metadata_bits::MetadataBits;
@@ -18,7 +18,9 @@ pub(crate) struct StatedFields<'a> {
     /// Whether each numeric column is unsigned.
     pub(crate) signedness: Option<MetadataBits<'a>>,
     /// The collation of each character column.
-    pub(crate) character_sets: Option<CharacterSets<'a>>,
+    pub(crate) collations: Option<Collations<'a>>,
+    /// The collation of each ENUM and SET column.
+    pub(crate) member_collations: Option<Collations<'a>>,
     /// The name of each column.
     pub(crate) names: Option<Names<'a>>,
     /// The members of each ENUM column.
@@ -38,7 +40,8 @@ impl<'a> StatedFields<'a> {
     {
         let mut stated = StatedFields {
             signedness: None,
-            character_sets: None,
+            collations: None,
+            member_collations: None,
             names: None,
             enums: None,
             sets: None,
@@ -69,8 +72,14 @@ impl<'a> StatedFields<'a> {
         use OptionalMetadataField as Field;
         match field {
             Field::Signedness(bits) => self.signedness = Some(bits),
-            Field::DefaultCharset(sets) => self.character_sets = Some(CharacterSets::Default(sets)),
-            Field::ColumnCharset(sets) => self.character_sets = Some(CharacterSets::Each(sets)),
+            Field::DefaultCharset(sets) => self.collations = Some(Collations::Default(sets)),
+            Field::ColumnCharset(sets) => self.collations = Some(Collations::Each(sets)),
+            Field::EnumAndSetDefaultCharset(sets) => {
+                self.member_collations = Some(Collations::Default(sets));
+            }
+            Field::EnumAndSetColumnCharset(sets) => {
+                self.member_collations = Some(Collations::Each(sets));
+            }
             Field::ColumnName(names) => self.names = Some(names),
             Field::EnumStrValue(lists) => self.enums = Some(lists),
             Field::SetStrValue(lists) => self.sets = Some(lists),

@@ -1,5 +1,5 @@
 //! The facts of the columns of a table.
-ghost use Rattle.std.specs.Prelude.{◌≡◌, ◌&&◌, ◌==◌, ◌+◌, ◌<◌, ◌^◌, List, [], ◌∷◌, Some, None, drop, option_map, slice_get, slice_index_or, false, unwrap_or, IfOk, length};
+ghost use Rattle.std.specs.Prelude.{◌≡◌, ◌&&◌, ◌==◌, ◌+◌, ◌<◌, ◌^◌, List, [], ◌∷◌, Some, None, drop, option_map, slice_get, false, unwrap_or, IfOk, length};
 ghost use Rattle.std.specs.Option.{option_and_then};
 ghost use Rattle.binlog_columns.specs.TableColumns.{columns_of};
 ghost use Rattle.binlog_optional_metadata.specs.FieldValues.{bits_of};
@@ -7,11 +7,11 @@ ghost use Rattle.binlog_optional_metadata.specs.declared.field_type.OptionalMeta
 ghost use Rattle.binlog_optional_metadata.specs.Stated.{is_set_in, text_of, StatesFacts};
 ghost use Rattle.binlog_optional_metadata.specs.StatedFields.{names_left};
 
-use crate::binary_columns::binary_columns;
 use crate::class_index::ClassIndex;
 use crate::column_class::ColumnClass;
 use crate::column_facts::ColumnFacts;
 use crate::column_members::next_members;
+use crate::column_sets::{column_sets, first_set, set_at};
 use crate::metadata_bits::MetadataBits;
 use crate::metadata_error::OptionalMetadataError;
 use crate::names::Names;
@@ -35,8 +35,8 @@ impl<'a> TableFacts<'a> {
     /// the log ([`ColumnClass::character`]).
     ///
     /// Each field that is read counts, also beside others that are refused; of two fields of one kind the last that is read.
-    /// What no field states is as in [`ColumnFacts`] without it: a column without a name, not UNSIGNED, not `binary`, without
-    /// members. A name that isn't UTF-8 isn't stated. The numbers of columns and of members bound what is allocated; each
+    /// What no field states is as in [`ColumnFacts`] without it: a column without a name, not UNSIGNED, without a character set,
+    /// without members. A name that isn't UTF-8 isn't stated. The numbers of columns and of members bound what is allocated; each
     /// member has its own bytes in the metadata.
     ///
     /// # Errors
@@ -53,21 +53,28 @@ impl<'a> TableFacts<'a> {
         let fields = OptionalMetadata::new(columns, optional_metadata, is_maria_log);
         let stated = StatedFields::read(fields);
         let count = columns.num_columns();
-        let binary = binary_columns(alloc, count, stated.character_sets)?;
+        let sets_of_texts = column_sets(alloc, count, is_maria_log, stated.collations)?;
+        let sets_of_members = column_sets(alloc, count, is_maria_log, stated.member_collations)?;
         let (mut names, mut enums, mut sets) = (stated.names, stated.enums, stated.sets);
         let mut numeric = ClassIndex::new(ColumnClass::Numeric);
         let mut character = ClassIndex::new(ColumnClass::character(is_maria_log));
+        let mut listed = ClassIndex::new(ColumnClass::EnumOrSet);
         let mut facts = Vec::with_capacity(alloc, count)?;
         'columns: for column in columns {
             let real_type = column.real_type();
-            let is_binary = flag_at(&binary, character.take(real_type));
+            let numeric_index = numeric.take(real_type);
+            let character_index = character.take(real_type);
+            let listed_index = listed.take(real_type);
+            let of_texts = set_at(&sets_of_texts, character_index);
+            let of_members = set_at(&sets_of_members, listed_index);
+            let character_set = first_set(of_texts, of_members);
             let members = next_members(alloc, &mut enums, &mut sets, real_type)?;
             facts
                 .push(ColumnFacts {
                     name: next_name(&mut names),
-                    is_unsigned: is_set(&stated.signedness, numeric.take(real_type)),
-                    is_binary,
-                    padded_length: padded_length(&column, is_binary),
+                    is_unsigned: is_set(&stated.signedness, numeric_index),
+                    character_set,
+                    padded_length: padded_length(&column, character_set),
                     members,
                 })
                 .map_err(AllocError::from)?;
@@ -109,15 +116,5 @@ fn is_set(signedness: &Option<MetadataBits<'_>>, index: Option<u64>) -> bool
     match (signedness, index) {
         (Some(bits), Some(index)) => bits.bit(index).unwrap_or(false),
         _ => false,
-    }
-}
-
-/// The flag with this index; false if there is none.
-fn flag_at(flags: &[bool], index: Option<u64>) -> bool
-    ensures { result ≡ unwrap_or (option_map (λ place. slice_index_or flags.now place false) index) false }
-{
-    match index {
-        Some(index) => flags.get(index as usize).copied().unwrap_or(false),
-        None => false,
     }
 }

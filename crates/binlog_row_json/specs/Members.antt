@@ -1,5 +1,5 @@
 -- The members `table`, `metadata` and `rows` of the object of a row event.
-use Rattle.std.specs.Prelude.{◌≡◌, ◌↔◌, ◌==◌, ℕ, Bool, IsTrue, List, [], ◌∷◌, ◌++◌, codes, take, Option, None, Some, Result, if◌then◌else◌}
+use Rattle.std.specs.Prelude.{◌≡◌, ◌↔◌, ◌==◌, ℕ, Bool, false, IsTrue, List, [], ◌∷◌, ◌++◌, codes, take, Option, None, Some, Result, if◌then◌else◌}
 use Rattle.json.specs.Token.{Token, key, null}
 use Rattle.json_line.specs.Tokens.{text_value, member}
 use Rattle.binlog_events.specs.Events.{EventView}
@@ -18,7 +18,7 @@ use Rattle.binlog_optional_metadata.specs.Stated.{StatesFacts}
 use Rattle.binlog_optional_metadata.specs.declared.column_facts.ColumnFacts.{ColumnFacts}
 use Rattle.binlog_row_lines.specs.Parts.{AreParts}
 use Rattle.binlog_row_lines.specs.Rows.{rows_parts}
-use Rattle.binlog_row_lines.specs.Written.{ShowsRows}
+use Rattle.binlog_row_lines.specs.Written.{are_read, ShowsRows}
 use Rattle.binlog_mariadb.specs.Flavour.{IsMariaVersion}
 use Rattle.binlog_row_json.specs.Refusals.{refusal_value, metadata_member}
 use Rattle.binlog_optional_metadata.specs.declared.metadata_error.OptionalMetadataError.{OptionalMetadataError}
@@ -39,59 +39,62 @@ rows_error map body = event_error map (event_in body)
 
 -- The tokens are the member `metadata`, if a field of the optional metadata is refused, and the member `rows` with the array of the
 -- rows of the event, a row of the table of this table map each. There is exactly one such split of its bytes (`rows_are_split` of
--- `binlog_images`), and the names and the signedness of columns are those that the optional metadata states.
-pub record AreReadRows (is_maria_log is_partial : Bool) (map : TableMapEvent) (event : RowsEvent) (tokens : List Token) : Type 0 where
+-- `binlog_images`), and the names and the signedness of columns are those that the optional metadata states. `all_read` says whether
+-- no row is refused: then `rows` has all rows.
+pub record AreReadRows (is_maria_log is_partial : Bool) (map : TableMapEvent) (event : RowsEvent) (all_read : Bool) (tokens : List Token) : Type 0 where
   pub facts : List ColumnFacts
   pub refusal : Option OptionalMetadataError
   pub stated : StatesFacts is_maria_log (mapped_columns map) map.columns.optional_metadata facts refusal
   pub items : List (Result RowCells RowsError)
   pub split : AreRows (shape_as is_partial (event_shape (mapped_columns map) event)) 0 event.rows items
+  pub all : all_read ≡ are_read items
   pub rows : List Token
   pub rows_are : AreParts (rows_parts facts items) rows
   pub are : tokens ≡ metadata_member refusal ++ member (codes "rows") rows
 
 -- Such members are appended for these rows.
-pub record ShowsStatedRows (is_maria_log : Bool) (map : TableMapEvent) (rows : Rows) (old new : List Token) : Type 0 where
+pub record ShowsStatedRows (is_maria_log : Bool) (map : TableMapEvent) (rows : Rows) (all_read : Bool) (old new : List Token) : Type 0 where
   pub facts : List ColumnFacts
   pub refusal : Option OptionalMetadataError
   pub stated : StatesFacts is_maria_log (mapped_columns map) map.columns.optional_metadata facts refusal
-  pub shown : ShowsRows facts rows (old ++ metadata_member refusal ++ key (codes "rows") ∷ []) new
+  pub shown : ShowsRows facts rows all_read (old ++ metadata_member refusal ++ key (codes "rows") ∷ []) new
 
 -- The members behind `table`: the rows and what is refused of the metadata, or what is in the place of rows that can't be read at
--- all.
-abbrev pub AreRowsMembers : Bool → RowsEventData → TableMapEvent → Option RowsEventError → List Token → Type 0
-AreRowsMembers is_maria_log body map (Some error) tokens = tokens ≡ member (codes "rows") (refusal_value error)
-AreRowsMembers is_maria_log body map None tokens = AreReadRows is_maria_log (is_partial body) map (event_in body) tokens
+-- all. In these and in the relations below, `all_read` says whether `rows` has all rows of the event.
+abbrev pub AreRowsMembers : Bool → RowsEventData → TableMapEvent → Option RowsEventError → (all_read : Bool) → List Token → Type 0
+AreRowsMembers is_maria_log body map (Some error) all_read tokens = (all_read ≡ false) × (tokens ≡ member (codes "rows") (refusal_value error))
+AreRowsMembers is_maria_log body map None all_read tokens = AreReadRows is_maria_log (is_partial body) map (event_in body) all_read tokens
 
 -- The members of an event without a table map in force.
 abbrev pub unmapped_members : List Token
 unmapped_members = member (codes "table") (null ∷ []) ++ member (codes "rows") (null ∷ [])
 
 -- The members of a row event with this table map.
-pub record AreMappedMembers (is_maria_log : Bool) (body : RowsEventData) (map : TableMapEvent) (tokens : List Token) : Type 0 where
+pub record AreMappedMembers (is_maria_log : Bool) (body : RowsEventData) (map : TableMapEvent) (all_read : Bool) (tokens : List Token) : Type 0 where
   pub rows : List Token
-  pub read : AreRowsMembers is_maria_log body map (rows_error map body) rows
+  pub read : AreRowsMembers is_maria_log body map (rows_error map body) all_read rows
   pub are : tokens ≡ member (codes "table") (text_value (name_of map)) ++ rows
 
 -- The members of a row event, with the table map in force for its table id.
-abbrev pub AreEventMembers : Bool → RowsEventData → Option TableMapEvent → List Token → Type 0
-AreEventMembers is_maria_log body None tokens = tokens ≡ unmapped_members
-AreEventMembers is_maria_log body (Some map) tokens = AreMappedMembers is_maria_log body map tokens
+abbrev pub AreEventMembers : Bool → RowsEventData → Option TableMapEvent → (all_read : Bool) → List Token → Type 0
+AreEventMembers is_maria_log body None all_read tokens = (all_read ≡ false) × (tokens ≡ unmapped_members)
+AreEventMembers is_maria_log body (Some map) all_read tokens = AreMappedMembers is_maria_log body map all_read tokens
 
 -- Whether MariaDB wrote the log, by the server version of the description in force.
 abbrev pub IsFlavour : EventView → Bool → Type 0
 IsFlavour event is_maria_log = IsTrue is_maria_log ↔ IsMariaVersion (take 50 event.fde.server_version)
 
 -- The members of a row event, or of none, with this table map.
-abbrev pub AreBodyMembers : Bool → Option TableMapEvent → Option RowsEventData → List Token → Type 0
-AreBodyMembers is_maria_log map None tokens = tokens ≡ []
-AreBodyMembers is_maria_log map (Some body) tokens = AreEventMembers is_maria_log body (map_for (event_in body) map) tokens
+abbrev pub AreBodyMembers : Bool → Option TableMapEvent → Option RowsEventData → (all_read : Bool) → List Token → Type 0
+AreBodyMembers is_maria_log map None all_read tokens = (all_read ≡ false) × (tokens ≡ [])
+AreBodyMembers is_maria_log map (Some body) all_read tokens = AreEventMembers is_maria_log body (map_for (event_in body) map) all_read tokens
 
 -- The members of an event whose data is this row event, or none.
-abbrev pub AreMembersOf : EventView → Option TableMapEvent → Option RowsEventData → List Token → Type 0
-AreMembersOf event map None tokens = tokens ≡ []
-AreMembersOf event map (Some body) tokens = (is_maria_log : Bool) × IsFlavour event is_maria_log × AreBodyMembers is_maria_log map (Some body) tokens
+abbrev pub AreMembersOf : EventView → Option TableMapEvent → Option RowsEventData → (all_read : Bool) → List Token → Type 0
+AreMembersOf event map None all_read tokens = (all_read ≡ false) × (tokens ≡ [])
+AreMembersOf event map (Some body) all_read tokens =
+    (is_maria_log : Bool) × IsFlavour event is_maria_log × AreBodyMembers is_maria_log map (Some body) all_read tokens
 
 -- The members `table`, `metadata` and `rows` of an event, with this table map. An event that isn't a row event has none.
-abbrev pub AreMembers : EventView → Option TableMapEvent → List Token → Type 0
-AreMembers event map tokens = AreMembersOf event map (rows_event_of event) tokens
+abbrev pub AreMembers : EventView → Option TableMapEvent → (all_read : Bool) → List Token → Type 0
+AreMembers event map all_read tokens = AreMembersOf event map (rows_event_of event) all_read tokens

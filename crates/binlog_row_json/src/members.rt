@@ -1,7 +1,7 @@
 //! The members `table`, `metadata` and `rows`.
 #![tactic(auto, using(std::proofs::Common::append_assoc))]
 
-ghost use Rattle.std.specs.Prelude.{◌≡◌, ◌++◌, [], ◌∷◌, codes, Bool, None, option_copied, OnOk};
+ghost use Rattle.std.specs.Prelude.{◌≡◌, ◌++◌, [], ◌∷◌, codes, Bool, None, option_copied, IfOk};
 ghost use Rattle.json.specs.Token.{key};
 ghost use Rattle.json_line.specs.Tokens.{Adds, text_value};
 ghost use Rattle.binlog_wire.specs.Fields.{IsBytes};
@@ -11,7 +11,7 @@ ghost use Rattle.binlog_columns.specs.Refusals.{refusal};
 ghost use Rattle.binlog_row_json.specs.Members.{name_of, unmapped_members, rows_error, map_for, ShowsStatedRows, AreRowsMembers, AreEventMembers, AreBodyMembers, AreMembers};
 ghost use Rattle.binlog_row_json.specs.Refusals.{metadata_member};
 ghost use Rattle.binlog_row_json.specs.RowEvents.{rows_in};
-ghost use Rattle.binlog_row_json.specs.Shown.{Shows};
+ghost use Rattle.binlog_row_json.specs.Shown.{ShowsBy};
 
 use crate::refusals::{write_metadata_refusal, write_refusal};
 use crate::row_events::is_row_event;
@@ -90,6 +90,9 @@ impl RowsWriter {
     /// table map is the one in force for the event's table id; one of another table id counts as none. The memory that is
     /// taken is that of a value's text, and of the facts of the table's columns.
     ///
+    /// The result is whether `rows` has all rows of the event: false if one is refused, or if they can't be read at all, and for
+    /// any other event.
+    ///
     /// # Errors
     ///
     /// [`AllocError`] if an allocation fails. Some tokens may then have been written.
@@ -99,11 +102,11 @@ impl RowsWriter {
         alloc: Global,
         event: &EventRef<'_>,
         table_map: Option<&TableMapEvent<'_>>,
-    ) -> Result<(), AllocError>
-        ensures { Shows result line.old line.new (AreMembers (view_of event.now) (option_copied table_map.entry)) }
+    ) -> Result<bool, AllocError>
+        ensures { ShowsBy result line.old line.new (AreMembers (view_of event.now) (option_copied table_map.entry)) }
     {
         if !is_row_event(event) {
-            return Ok(());
+            return Ok(false);
         }
         match event.read_data(alloc) {
             Ok(Some(body)) => {
@@ -112,8 +115,8 @@ impl RowsWriter {
                 drop(body);
                 written
             }
-            Ok(None) => Ok(()),
-            Err(_) => Ok(()),
+            Ok(None) => Ok(false),
+            Err(_) => Ok(false),
         }
     }
 
@@ -125,14 +128,14 @@ impl RowsWriter {
         body: &EventData<'_>,
         table_map: Option<&TableMapEvent<'_>>,
         is_maria_log: bool,
-    ) -> Result<(), AllocError>
-        ensures { Shows result line.old line.new (AreBodyMembers is_maria_log (option_copied table_map.entry) (rows_in body.now)) }
+    ) -> Result<bool, AllocError>
+        ensures { ShowsBy result line.old line.new (AreBodyMembers is_maria_log (option_copied table_map.entry) (rows_in body.now)) }
     {
         match body {
             EventData::RowsEvent(event) => {
                 self.write_event(line, alloc, event, map_for(event, table_map), is_maria_log)
             }
-            _ => Ok(()),
+            _ => Ok(false),
         }
     }
 
@@ -144,11 +147,12 @@ impl RowsWriter {
         body: &RowsEventData<'_>,
         table_map: Option<&TableMapEvent<'_>>,
         is_maria_log: bool,
-    ) -> Result<(), AllocError>
-        ensures { Shows result line.old line.new (AreEventMembers is_maria_log body.now (option_copied table_map.entry)) }
+    ) -> Result<bool, AllocError>
+        ensures { ShowsBy result line.old line.new (AreEventMembers is_maria_log body.now (option_copied table_map.entry)) }
     {
         let Some(table_map) = table_map else {
-            return write_unmapped(line);
+            write_unmapped(line)?;
+            return Ok(false);
         };
         line.key("table")?;
         self.write_name(line, table_map)?;
@@ -178,15 +182,16 @@ impl RowsWriter {
         body: &RowsEventData<'_>,
         table_map: &TableMapEvent<'_>,
         is_maria_log: bool,
-    ) -> Result<(), AllocError>
-        ensures { Shows result line.old line.new (AreRowsMembers is_maria_log body.now table_map.now (rows_error table_map.now body.now)) }
+    ) -> Result<bool, AllocError>
+        ensures { ShowsBy result line.old line.new (AreRowsMembers is_maria_log body.now table_map.now (rows_error table_map.now body.now)) }
     {
         are_bytes(body.rows_data());
         match body.rows(table_map) {
             Ok(rows) => self.write_split_rows(line, alloc, rows, table_map, is_maria_log),
             Err(error) => {
                 line.key("rows")?;
-                write_refusal(line, &error)
+                write_refusal(line, &error)?;
+                Ok(false)
             }
         }
     }
@@ -200,9 +205,9 @@ impl RowsWriter {
         rows: Rows<'_>,
         table_map: &TableMapEvent<'_>,
         is_maria_log: bool,
-    ) -> Result<(), AllocError>
+    ) -> Result<bool, AllocError>
         requires { refusal 0 table_map.now.columns.types table_map.now.columns.metadata ≡ None }
-        ensures { IsBytes rows.entry.rest.now → OnOk result (ShowsStatedRows is_maria_log table_map.now rows.entry line.old line.new) }
+        ensures { IsBytes rows.entry.rest.now → IfOk result (λ all_read. ShowsStatedRows is_maria_log table_map.now rows.entry all_read line.old line.new) }
     {
         let columns = table_map.table_columns().unwrap();
         let optional_metadata = table_map.optional_metadata_raw();

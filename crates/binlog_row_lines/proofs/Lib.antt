@@ -6,3 +6,4 @@ mod Padding
 mod PlainTexts
 mod SetTexts
 mod EnumTexts
+mod ColumnTexts

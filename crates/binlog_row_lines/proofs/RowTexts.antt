@@ -1,5 +1,5 @@
 -- Rows that are written one after the other, and the columns of an image.
-use Rattle.std.proofs.Common.{◌≡◌, ℕ, ◌+◌, ◌<◌, ◌≤◌, List, [], ◌∷◌, ◌++◌, length, get_or, drop, map, flat_map, Result, Ok, Err, OnOk, refl, sym, ap, ◌∙◌, append_assoc, append-nil, add-one, drop-cons}
+use Rattle.std.proofs.Common.{◌≡◌, ℕ, ◌+◌, ◌<◌, ◌≤◌, Bool, true, false, ◌&&◌, List, [], ◌∷◌, ◌++◌, length, get_or, drop, map, flat_map, Result, Ok, Err, is_ok, refl, sym, ap, ◌∙◌, append_assoc, append-nil, add-one, drop-cons}
 use Rattle.std.proofs.lemmas.List.{drop_all}
 use Rattle.json.specs.Token.{Token, begin_object, begin_array, end_array}
 use Rattle.binlog_images.specs.Cells.{Cell}
@@ -13,7 +13,7 @@ use Rattle.binlog_optional_metadata.specs.declared.column_facts.ColumnFacts.{Col
 use Rattle.binlog_optional_metadata.specs.Facts.{facts_of}
 use Rattle.binlog_row_lines.specs.Parts.{Part, exactly, Shows}
 use Rattle.binlog_row_lines.specs.Rows.{first_parts, members_from, item_parts}
-use Rattle.binlog_row_lines.specs.Written.{ShowsRows}
+use Rattle.binlog_row_lines.specs.Written.{are_read, ShowsRows}
 use Rattle.binlog_row_lines.proofs.Parts.{shows_exact, shows_both}
 
 -- ---- the columns of an image
@@ -76,10 +76,27 @@ pub item_shown : (columns : List ColumnFacts) (items : Items) (item : Result Row
     → Shows old new (exactly begin_array ∷ [] ++ flat_map (item_parts columns) (map answer_row (items ++ item ∷ [])))
 item_shown columns items item old mid new so_far more = rw (items_more columns items item) (shows_both so_far more)
 
+-- Whether one more row is read, too.
+read_more : (items : Items) (item : Result Row RowsError) → are_read (map answer_row (items ++ item ∷ [])) ≡ are_read (map answer_row items) && is_ok item
+read_more [] (Ok row) = refl
+read_more [] (Err error) = refl
+read_more (Ok first ∷ items) item = read_more items item
+read_more (Err first ∷ items) item = refl
+
+-- One more row behind rows that are read, and behind others.
+pub read_behind : (items : Items) (item : Result Row RowsError) (all_read one : Bool) → all_read ≡ are_read (map answer_row items) → all_read ≡ true → one ≡ is_ok item
+    → one ≡ are_read (map answer_row (items ++ item ∷ []))
+read_behind items item all_read one before read is = is ∙ ap (λ (b : Bool). b && is_ok item) (sym read ∙ before) ∙ sym (read_more items item)
+
+pub unread_behind : (items : Items) (item : Result Row RowsError) (all_read : Bool) → all_read ≡ are_read (map answer_row items) → all_read ≡ false
+    → all_read ≡ are_read (map answer_row (items ++ item ∷ []))
+unread_behind items item all_read before unread = unread ∙ ap (λ (b : Bool). b && is_ok item) (sym unread ∙ before) ∙ sym (read_more items item)
+
 -- All rows, written.
-pub rows_shown : {A E : Type 0} (result : Result A E) (columns : List ColumnFacts) (rows : Rows) (items : Items) (old mid new : List Token)
+pub rows_shown : (columns : List ColumnFacts) (rows : Rows) (items : Items) (all_read : Bool) (old mid new : List Token)
     → AreRows (row_shape rows) rows.row rows.rest.now (map answer_row items)
+    → all_read ≡ are_read (map answer_row items)
     → Shows old mid (exactly begin_array ∷ [] ++ flat_map (item_parts columns) (map answer_row items))
-    → OnOk result (new ≡ mid ++ end_array ∷ []) → OnOk result (ShowsRows columns rows old new)
-rows_shown (Ok x) columns rows items old mid new are shown is = record { items = map answer_row items; are = are; shown = shows_both shown (shows_exact mid new (end_array ∷ []) is) }
-rows_shown (Err e) columns rows items old mid new are shown is = is
+    → new ≡ mid ++ end_array ∷ [] → ShowsRows columns rows all_read old new
+rows_shown columns rows items all_read old mid new are read shown is =
+    record { items = map answer_row items; are = are; read = read; shown = shows_both shown (shows_exact mid new (end_array ∷ []) is) }

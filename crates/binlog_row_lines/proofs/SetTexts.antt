@@ -8,17 +8,17 @@ use Rattle.binlog_optional_metadata.specs.Facts.{texts_of}
 use Rattle.binlog_row_lines.specs.Members.{chosen, after_commas, joined}
 
 -- Texts that are appended: each behind a comma, except the first of all.
-abbrev pub appended : Bool → List (List ℕ) → List ℕ
-appended true texts = joined texts
-appended false texts = after_commas texts
+abbrev pub appended : List ℕ → Bool → List (List ℕ) → List ℕ
+appended comma true texts = joined comma texts
+appended comma false texts = after_commas comma texts
 
-first_appended : (is_first : Bool) (text : List ℕ) (texts : List (List ℕ)) → appended is_first (text ∷ texts) ≡ cond is_first text (44 ∷ text) ++ after_commas texts
-first_appended true text texts = refl
-first_appended false text texts = refl
+first_appended : (comma : List ℕ) (is_first : Bool) (text : List ℕ) (texts : List (List ℕ)) → appended comma is_first (text ∷ texts) ≡ cond is_first text (comma ++ text) ++ after_commas comma texts
+first_appended comma true text texts = refl
+first_appended comma false text texts = refl
 
-nothing_appended : (is_first : Bool) → appended is_first [] ≡ []
-nothing_appended true = refl
-nothing_appended false = refl
+nothing_appended : (comma : List ℕ) (is_first : Bool) → appended comma is_first [] ≡ []
+nothing_appended comma true = refl
+nothing_appended comma false = refl
 
 none_chosen : (members : List (List ℕ)) → chosen members 0 ≡ []
 none_chosen [] = refl
@@ -40,29 +40,29 @@ chosen_next members index bits none is_set below is =
     ap (λ (l : List (Bor (List ℕ))). chosen (texts_of l) bits) split ∙ chosen_by (get_or members index none).now (texts_of (drop (index + 1) members)) bits is_set is
 
 -- A member whose bit is set.
-pub member_pushed : (old new start : List ℕ) (members : List (Bor (List ℕ))) (index bits : ℕ) (none : Bor (List ℕ)) (is_first : Bool) → index < length members → ¬ (bits % 2 ≡ 0)
-    → old ++ appended is_first (chosen_from index members bits) ≡ start → new ≡ old ++ cond is_first (get_or members index none).now (44 ∷ (get_or members index none).now)
-    → new ++ appended false (chosen_from (index + 1) members (bits / 2)) ≡ start
-member_pushed old new start members index bits none is_first below odd whole pushed =
+pub member_pushed : (comma : List ℕ) (old new start : List ℕ) (members : List (Bor (List ℕ))) (index bits : ℕ) (none : Bor (List ℕ)) (is_first : Bool) → index < length members → ¬ (bits % 2 ≡ 0)
+    → old ++ appended comma is_first (chosen_from index members bits) ≡ start → new ≡ old ++ cond is_first (get_or members index none).now (comma ++ (get_or members index none).now)
+    → new ++ appended comma false (chosen_from (index + 1) members (bits / 2)) ≡ start
+member_pushed comma old new start members index bits none is_first below odd whole pushed =
     let one : bits % 2 ≡ 1 = omega (arith, odd) in
     let is_set : eqb (bits % 2) 1 ≡ true = ap (λ (n : ℕ). eqb n 1) one in
     let text : List ℕ = (get_or members index none).now in
     let rest : List (List ℕ) = chosen_from (index + 1) members (bits / 2) in
-    let step : appended is_first (chosen_from index members bits) ≡ cond is_first text (44 ∷ text) ++ after_commas rest =
-    ap (λ (texts : List (List ℕ)). appended is_first texts) (chosen_next members index bits none true below is_set) ∙ first_appended is_first text rest in
-    ap (λ (l : List ℕ). l ++ after_commas rest) pushed ∙ append_assoc old (cond is_first text (44 ∷ text)) (after_commas rest) ∙ ap (λ (l : List ℕ). old ++ l) (sym step) ∙ whole
+    let step : appended comma is_first (chosen_from index members bits) ≡ cond is_first text (comma ++ text) ++ after_commas comma rest =
+    ap (λ (texts : List (List ℕ)). appended comma is_first texts) (chosen_next members index bits none true below is_set) ∙ first_appended comma is_first text rest in
+    ap (λ (l : List ℕ). l ++ after_commas comma rest) pushed ∙ append_assoc old (cond is_first text (comma ++ text)) (after_commas comma rest) ∙ ap (λ (l : List ℕ). old ++ l) (sym step) ∙ whole
 
-passed_by : (text start : List ℕ) (members : List (Bor (List ℕ))) (index bits : ℕ) (none : Bor (List ℕ)) (is_first : Bool) → index < length members → bits % 2 ≡ 0
-    → text ++ appended is_first (chosen_from index members bits) ≡ start → text ++ appended is_first (chosen_from (index + 1) members (bits / 2)) ≡ start
-passed_by text start members index bits none is_first below even whole =
+passed_by : (comma : List ℕ) (text start : List ℕ) (members : List (Bor (List ℕ))) (index bits : ℕ) (none : Bor (List ℕ)) (is_first : Bool) → index < length members → bits % 2 ≡ 0
+    → text ++ appended comma is_first (chosen_from index members bits) ≡ start → text ++ appended comma is_first (chosen_from (index + 1) members (bits / 2)) ≡ start
+passed_by comma text start members index bits none is_first below even whole =
     let is_clear : eqb (bits % 2) 1 ≡ false = ap (λ (n : ℕ). eqb n 1) even in
-    ap (λ (texts : List (List ℕ)). text ++ appended is_first texts) (sym (chosen_next members index bits none false below is_clear)) ∙ whole
+    ap (λ (texts : List (List ℕ)). text ++ appended comma is_first texts) (sym (chosen_next members index bits none false below is_clear)) ∙ whole
 
 -- A member whose bit isn't set.
-pub member_passed : (text start : List ℕ) (members : List (Bor (List ℕ))) (index bits : ℕ) (is_first : Bool) → index < length members → bits % 2 ≡ 0
-    → text ++ appended is_first (chosen_from index members bits) ≡ start → text ++ appended is_first (chosen_from (index + 1) members (bits / 2)) ≡ start
-member_passed text start [] index bits is_first below even whole = absurd (omega (arith, below))
-member_passed text start (member ∷ members) index bits is_first below even whole = passed_by text start (member ∷ members) index bits member is_first below even whole
+pub member_passed : (comma : List ℕ) (text start : List ℕ) (members : List (Bor (List ℕ))) (index bits : ℕ) (is_first : Bool) → index < length members → bits % 2 ≡ 0
+    → text ++ appended comma is_first (chosen_from index members bits) ≡ start → text ++ appended comma is_first (chosen_from (index + 1) members (bits / 2)) ≡ start
+member_passed comma text start [] index bits is_first below even whole = absurd (omega (arith, below))
+member_passed comma text start (member ∷ members) index bits is_first below even whole = passed_by comma text start (member ∷ members) index bits member is_first below even whole
 
 -- More bits than a mask has are never set.
 pub never_beyond : (mask count : ℕ) → 64 ≤ count → mask < 2 ^ 64 → leb (2 ^ count) mask ≡ false
@@ -71,15 +71,15 @@ never_beyond mask count many small =
     lt-leb (2 ^ count) mask (omega (arith, more, small))
 
 -- No bits are left.
-pub no_bits : (text start : List ℕ) (members : List (Bor (List ℕ))) (index bits : ℕ) (is_first : Bool) → bits ≡ 0
-    → text ++ appended is_first (chosen_from index members bits) ≡ start → text ≡ start
-no_bits text start members index bits is_first zero whole =
+pub no_bits : (comma : List ℕ) (text start : List ℕ) (members : List (Bor (List ℕ))) (index bits : ℕ) (is_first : Bool) → bits ≡ 0
+    → text ++ appended comma is_first (chosen_from index members bits) ≡ start → text ≡ start
+no_bits comma text start members index bits is_first zero whole =
     let none : chosen_from index members bits ≡ [] = ap (λ (n : ℕ). chosen_from index members n) zero ∙ none_chosen (texts_of (drop index members)) in
-    sym (append-nil text) ∙ ap (λ (l : List ℕ). text ++ l) (sym (ap (λ (texts : List (List ℕ)). appended is_first texts) none ∙ nothing_appended is_first)) ∙ whole
+    sym (append-nil text) ∙ ap (λ (l : List ℕ). text ++ l) (sym (ap (λ (texts : List (List ℕ)). appended comma is_first texts) none ∙ nothing_appended comma is_first)) ∙ whole
 
 -- No members are left.
-pub no_members : (text start : List ℕ) (members : List (Bor (List ℕ))) (index bits : ℕ) (is_first : Bool) → length members ≤ index
-    → text ++ appended is_first (chosen_from index members bits) ≡ start → text ≡ start
-no_members text start members index bits is_first over whole =
+pub no_members : (comma : List ℕ) (text start : List ℕ) (members : List (Bor (List ℕ))) (index bits : ℕ) (is_first : Bool) → length members ≤ index
+    → text ++ appended comma is_first (chosen_from index members bits) ≡ start → text ≡ start
+no_members comma text start members index bits is_first over whole =
     let none : chosen_from index members bits ≡ [] = ap (λ (l : List (Bor (List ℕ))). chosen (texts_of l) bits) (drop_all index members over) in
-    sym (append-nil text) ∙ ap (λ (l : List ℕ). text ++ l) (sym (ap (λ (texts : List (List ℕ)). appended is_first texts) none ∙ nothing_appended is_first)) ∙ whole
+    sym (append-nil text) ∙ ap (λ (l : List ℕ). text ++ l) (sym (ap (λ (texts : List (List ℕ)). appended comma is_first texts) none ∙ nothing_appended comma is_first)) ∙ whole

@@ -1,5 +1,6 @@
 pub mod Parts
 pub mod Numbers
+pub mod Texts
 pub mod Members
 pub mod Times
 pub mod Values

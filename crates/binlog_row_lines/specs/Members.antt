@@ -2,12 +2,14 @@
 use Rattle.std.specs.Prelude.{ℕ, ◌/◌, ◌%◌, ◌^◌, ◌==◌, List, [], ◌∷◌, ◌++◌, length, flat_map, nat_lt, slice_get, Option, None, Some, if◌then◌else◌}
 use Rattle.std.specs.Option.{option_and_then}
 use Rattle.json.specs.Token.{Token}
-use Rattle.json_line.specs.Tokens.{number_value, text_value}
+use Rattle.json_line.specs.Tokens.{number_value}
+use Rattle.character_sets.specs.declared.character_set.CharacterSet.{CharacterSet}
+use Rattle.binlog_row_lines.specs.Texts.{column_text, comma_in}
 
 -- A text, or else the number.
-abbrev pub text_or_number : Option (List ℕ) → ℕ → List Token
-text_or_number None n = number_value n
-text_or_number (Some text) n = text_value text
+abbrev pub text_or_number : Option CharacterSet → Option (List ℕ) → ℕ → List Token
+text_or_number set None n = number_value n
+text_or_number set (Some text) n = column_text set text
 
 -- ---- ENUM
 
@@ -16,8 +18,8 @@ abbrev pub enum_text : ℕ → List (List ℕ) → Option (List ℕ)
 enum_text index members = slice_get ([] ∷ members) index
 
 -- An ENUM: the text, else the index.
-abbrev pub enum_value : Option (List (List ℕ)) → ℕ → List Token
-enum_value members index = text_or_number (option_and_then (enum_text index) members) index
+abbrev pub enum_value : Option CharacterSet → Option (List (List ℕ)) → ℕ → List Token
+enum_value set members index = text_or_number set (option_and_then (enum_text index) members) index
 
 -- ---- SET
 
@@ -27,18 +29,18 @@ chosen [] mask = []
 chosen (member ∷ members) mask = if mask % 2 == 1 then member ∷ chosen members (mask / 2) else chosen members (mask / 2)
 
 -- Texts, each behind a comma.
-abbrev pub after_commas : List (List ℕ) → List ℕ
-after_commas texts = flat_map (λ text. 44 ∷ text) texts
+abbrev pub after_commas : List ℕ → List (List ℕ) → List ℕ
+after_commas comma texts = flat_map (λ text. comma ++ text) texts
 
 -- Texts with a comma between two.
-abbrev pub joined : List (List ℕ) → List ℕ
-joined [] = []
-joined (text ∷ texts) = text ++ after_commas texts
+abbrev pub joined : List ℕ → List (List ℕ) → List ℕ
+joined comma [] = []
+joined comma (text ∷ texts) = text ++ after_commas comma texts
 
 -- The members of a SET with commas between them; none if a bit beyond the members is set.
-abbrev pub set_text : ℕ → List (List ℕ) → Option (List ℕ)
-set_text mask members = if nat_lt mask (2 ^ length members) then Some (joined (chosen members mask)) else None
+abbrev pub set_text : List ℕ → ℕ → List (List ℕ) → Option (List ℕ)
+set_text comma mask members = if nat_lt mask (2 ^ length members) then Some (joined comma (chosen members mask)) else None
 
 -- A SET: the text, else the mask.
-abbrev pub set_value : Option (List (List ℕ)) → ℕ → List Token
-set_value members mask = text_or_number (option_and_then (set_text mask) members) mask
+abbrev pub set_value : Option CharacterSet → Option (List (List ℕ)) → ℕ → List Token
+set_value set members mask = text_or_number set (option_and_then (set_text (comma_in set) mask) members) mask

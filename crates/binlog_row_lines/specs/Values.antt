@@ -1,16 +1,17 @@
 -- Values as tokens, by what they mean.
 use Rattle.std.specs.Prelude.{ℕ, ◌+◌, ◌-◌, ◌/◌, ◌%◌, ◌^◌, ◌==◌, ◌&&◌, Bool, List, [], ◌∷◌, ◌++◌, length, replicate, codes, nat_le, nat_lt, if◌then◌else◌}
 use Rattle.json.specs.Token.{Token, null, string}
-use Rattle.json_line.specs.Tokens.{number_value, bytes_value, text_value, member, object}
+use Rattle.json_line.specs.Tokens.{number_value, bytes_value, member, object}
 use Rattle.binlog_values.specs.Contents.{Content, number_in, bytes_in, before_fraction, time2_zero, time2_distance}
 use Rattle.binlog_values.specs.Decimals.{decimal_text}
 use Rattle.binlog_values.specs.Texts.{sign_text}
 use Rattle.binlog_values.specs.Times.{microseconds_of, date_time_of, time_distance, year_of}
 use Rattle.binlog_values.specs.Values.{Meaning}
 use Rattle.binlog_values.specs.Values as meanings
-use Rattle.binlog_optional_metadata.specs.Facts.{Facts}
+use Rattle.binlog_optional_metadata.specs.Facts.{Facts, is_binary}
 use Rattle.binlog_row_lines.specs.Parts.{Part, exactly, utc, exact}
 use Rattle.binlog_row_lines.specs.Numbers.{integer_value, single_parts, double_parts}
+use Rattle.binlog_row_lines.specs.Texts.{column_text}
 use Rattle.binlog_row_lines.specs.Members.{enum_value, set_value}
 use Rattle.binlog_row_lines.specs.Times.{date_text, clock_text, fraction_text}
 
@@ -65,9 +66,10 @@ abbrev pub padded : ℕ → List ℕ → List ℕ
 padded len s = s ++ replicate (len - length s) 0
 
 -- The bytes of a string: if the character set is `binary` the hexadecimal digits of all bytes, with the zeros at the end of a BINARY;
--- else text.
+-- else a text in its character set.
 abbrev pub string_value : Facts → List ℕ → List Token
-string_value facts s = if facts.is_binary then bytes_value (padded facts.padded_length s) else text_value s
+string_value facts s =
+    if is_binary facts.character_set then bytes_value (padded facts.padded_length s) else column_text facts.character_set s
 
 -- An object with one member, the hexadecimal digits of bytes that aren't decoded.
 abbrev pub encoded_value : List ℕ → List ℕ → List Token
@@ -89,8 +91,8 @@ value_tokens facts (meanings.timestamp2 digits) content = []
 value_tokens facts (meanings.datetime2 digits) content = string (datetime2_of digits (number_in content)) ∷ []
 value_tokens facts (meanings.time2 digits) content = string (time2_of digits (number_in content)) ∷ []
 value_tokens facts (meanings.bit count) content = number_value (number_in content)
-value_tokens facts meanings.enumeration content = enum_value facts.members (number_in content)
-value_tokens facts meanings.members content = set_value facts.members (number_in content)
+value_tokens facts meanings.enumeration content = enum_value facts.character_set facts.members (number_in content)
+value_tokens facts meanings.members content = set_value facts.character_set facts.members (number_in content)
 value_tokens facts meanings.string content = string_value facts (bytes_in content)
 value_tokens facts meanings.json content = encoded_value (codes "jsonb") (bytes_in content)
 value_tokens facts meanings.geometry content = bytes_value (bytes_in content)

@@ -1,5 +1,5 @@
 -- Rows that are written.
-use Rattle.std.specs.Prelude.{List, Result}
+use Rattle.std.specs.Prelude.{◌≡◌, ◌&&◌, Bool, true, List, [], ◌∷◌, Result, is_ok}
 use Rattle.json.specs.Token.{Token}
 use Rattle.binlog_images.specs.Cells.{RowCells}
 use Rattle.binlog_images.specs.RowsLeft.{row_shape}
@@ -10,9 +10,15 @@ use Rattle.binlog_optional_metadata.specs.declared.column_facts.ColumnFacts.{Col
 use Rattle.binlog_row_lines.specs.Parts.{Shows}
 use Rattle.binlog_row_lines.specs.Rows.{rows_parts}
 
+-- All rows are read: none is refused.
+abbrev pub are_read : List (Result RowCells RowsError) → Bool
+are_read [] = true
+are_read (item ∷ items) = is_ok item && are_read items
+
 -- The array of the rows into which the bytes split, one by one, up to their end or to the first that is refused. There
--- is exactly one such split (`rows_are_split` of `binlog_images`).
-pub record ShowsRows (columns : List ColumnFacts) (rows : Rows) (old new : List Token) : Type 0 where
+-- is exactly one such split (`rows_are_split` of `binlog_images`). `all_read` says whether none is refused.
+pub record ShowsRows (columns : List ColumnFacts) (rows : Rows) (all_read : Bool) (old new : List Token) : Type 0 where
   pub items : List (Result RowCells RowsError)
   pub are : AreRows (row_shape rows) rows.row rows.rest.now items
+  pub read : all_read ≡ are_read items
   pub shown : Shows old new (rows_parts columns items)

@@ -11,6 +11,7 @@ mod names;
 mod numbers;
 mod rows;
 mod strings;
+mod texts;
 mod times;
 mod timestamps;
 mod values;

@@ -1,7 +1,7 @@
 //! Rows as JSON.
 #![tactic(auto, using(std::proofs::Common::append_assoc))]
 
-ghost use Rattle.std.specs.Prelude.{◌≡◌, ◌+◌, ◌<◌, ◌^◌, ◌++◌, ◌∷◌, [], drop, Option, option_map, OnOk};
+ghost use Rattle.std.specs.Prelude.{◌≡◌, ◌+◌, ◌<◌, ◌^◌, ◌++◌, ◌∷◌, [], drop, Option, option_map, IfOk};
 ghost use Rattle.std.specs.String.{string_bytes};
 ghost use Rattle.json.specs.Token.{key};
 ghost use Rattle.json_line.specs.Lines.{IsPlainText};
@@ -219,7 +219,7 @@ impl ValueWriter {
     }
 
     /// Writes the rows that are left of an event of a table with these columns: an array of the rows, up to the last or
-    /// to the first that is refused, for which there is an object that says why.
+    /// to the first that is refused, for which there is an object that says why. The result is whether all are read.
     ///
     /// # Errors
     ///
@@ -229,13 +229,16 @@ impl ValueWriter {
         line: &mut Line,
         columns: &[ColumnFacts<'_>],
         rows: Rows<'_>,
-    ) -> Result<(), AllocError>
-        ensures { IsBytes rows.entry.rest.now → OnOk result (ShowsRows columns.now rows.entry line.old line.new) }
+    ) -> Result<bool, AllocError>
+        ensures { IsBytes rows.entry.rest.now → IfOk result (λ all_read. ShowsRows columns.now rows.entry all_read line.old line.new) }
     {
+        let mut all_read = true;
         line.begin_array()?;
         'rows: for item in rows {
             self.write_item(line, columns, &item)?;
+            all_read = all_read && item.is_ok();
         }
-        line.end_array()
+        line.end_array()?;
+        Ok(all_read)
     }
 }

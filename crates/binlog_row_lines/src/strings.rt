@@ -5,6 +5,7 @@ ghost use Rattle.json_line.specs.Tokens.{Adds, bytes_value};
 ghost use Rattle.binlog_optional_metadata.specs.Facts.{facts_of};
 ghost use Rattle.binlog_row_lines.specs.Values.{padded, string_value};
 
+use crate::texts::write_text;
 use binlog_optional_metadata::ColumnFacts;
 use json_line::Line;
 use std::alloc::AllocError;
@@ -18,10 +19,10 @@ pub(crate) fn write_string(
 ) -> Result<(), AllocError>
     ensures { Adds result line.old line.new (string_value (facts_of facts.now) bytes.now) }
 {
-    if facts.is_binary {
+    if facts.is_binary() {
         write_padded(line, memory, facts.padded_length as usize, bytes)
     } else {
-        line.text(bytes)
+        write_text(line, facts.character_set, bytes)
     }
 }
 

@@ -94,8 +94,10 @@ impl ValueWriter {
             Value::DateTime2(time) => write_datetime2(line, text, time),
             Value::Time2(time) => write_time2(line, text, time),
             Value::Bit(bits) => line.number(bits.bits()),
-            Value::Enum(index) => write_enum(line, &facts.members, *index),
-            Value::Set(mask) => write_set(line, bytes, &facts.members, *mask),
+            Value::Enum(index) => write_enum(line, facts.character_set, &facts.members, *index),
+            Value::Set(mask) => {
+                write_set(line, bytes, facts.character_set, &facts.members, *mask)
+            }
             Value::Bytes(string) => write_string(line, bytes, facts, string),
             Value::Geometry(bytes) | Value::Vector(bytes) => line.bytes(bytes),
             Value::Json(bytes) => write_encoded(line, "jsonb", bytes),

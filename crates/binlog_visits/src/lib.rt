@@ -3,9 +3,11 @@
 #![tactic(auto)]
 
 mod lines;
+mod refusing;
 mod visiting;
 mod visitor;
 
 pub use lines::LineWriter;
+pub use refusing::Refusing;
 pub use visiting::{visit, visit_counted, visit_verified, visit_verified_counted};
 pub use visitor::Visitor;

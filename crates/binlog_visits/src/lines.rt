@@ -1,6 +1,7 @@
 //! A visitor that writes the line of each item.
 ghost use Rattle.std.specs.Prelude.{◌≡◌};
 
+use crate::refusing::Refusing;
 use crate::visitor::Visitor;
 use binlog_file::{CountedRef, Error, EventRef, EventStreamReader};
 use binlog_lines::{ItemLines, write_line};
@@ -66,5 +67,11 @@ impl<L: ItemLines, W: Write> Visitor for LineWriter<L, W> {
         let line = self.lines.error_line(self.alloc, index, error)?;
         let mut output = CountedRef::new(&mut self.output);
         write_line(&mut output, line)
+    }
+}
+
+impl<L, W> Refusing for LineWriter<L, W> {
+    fn refused(&self) -> u64 {
+        0
     }
 }

@@ -3,11 +3,14 @@ ghost use Rattle.std.specs.Prelude.{◌≡◌, Ok, Err, false, OnOk, IfErr};
 ghost use Rattle.binlog_wire.specs.Errors.{is_environment_error};
 ghost use Rattle.binlog_events.specs.EventRefs.{view_of};
 ghost use Rattle.binlog_file.specs.State.{state_of};
-ghost use Rattle.binlog_visits.specs.Visits.{VisitRelation, RefusalRelation};
+ghost use Rattle.binlog_visits.specs.Visits.{VisitRelation, RefusalRelation, IsNoReaderError};
 
 use binlog_file::{Error, EventRef, EventStreamReader};
 
 /// Is shown the items of a log, in order, with their indexes from 0.
+///
+/// A visit is never refused with [`Error::Reader`] or [`Error::ReaderInFrame`]: these two state that the reader of the log
+/// failed.
 pub trait Visitor {
     /// What a visit of the item with this index makes of the visitor, with these table maps in force behind it.
     ghost visits: { VisitRelation Self };
@@ -24,7 +27,8 @@ pub trait Visitor {
         reader: &EventStreamReader,
     ) -> Result<(), Error>
         ensures ok { OnOk result (visits self.old (state_of reader.now).table_maps index (Ok (view_of event.now)) self.new) }
-        ensures err { IfErr result (λ e. refuses self.old (state_of reader.now).table_maps index (Ok (view_of event.now)) e self.new) };
+        ensures err { IfErr result (λ e. refuses self.old (state_of reader.now).table_maps index (Ok (view_of event.now)) e self.new) }
+        ensures reader { IfErr result IsNoReaderError };
 
     /// Visits an error that is in the place of an event: no failure of memory or of the reader. The reader has what is in
     /// force, which the error left as it was. An error ends the visits.
@@ -36,5 +40,6 @@ pub trait Visitor {
     ) -> Result<(), Error>
         requires { is_environment_error error.now ≡ false }
         ensures ok { OnOk result (visits self.old (state_of reader.now).table_maps index (Err error.now) self.new) }
-        ensures err { IfErr result (λ e. refuses self.old (state_of reader.now).table_maps index (Err error.now) e self.new) };
+        ensures err { IfErr result (λ e. refuses self.old (state_of reader.now).table_maps index (Err error.now) e self.new) }
+        ensures reader { IfErr result IsNoReaderError };
 }

@@ -8,6 +8,7 @@ use Rattle.character_sets.specs.declared.coding.Coding.{Coding}
 use Rattle.character_sets.specs.declared.coding.Coding.TheVariants.{SingleByte, BasicUtf8, Utf8, Ucs2, Utf16, Utf16le, Utf32, Unknown}
 use Rattle.character_sets.specs.Coding.{coding_of, is_single_byte, has_ascii_bytes}
 use Rattle.character_sets.specs.SingleByte.{byte_character}
+use Rattle.character_sets.specs.Spellings.{IsText}
 use Rattle.character_sets.specs.Decoding.{decoded, IsNotUtf8}
 use Rattle.character_sets.proofs.Decoded.{decoded-text}
 use Rattle.character_sets.proofs.LawsOfTexts.{keeps_ascii, by_table_from}
@@ -37,11 +38,15 @@ ascii_bytes set (b ∷ bs) other ascii =
     ap (λ o. o ∷ map (byte_character set) bs) (keeps_ascii set b other (ascii 0))
     ∙ ap (λ l. Some b ∷ l) (ascii_bytes set bs other (λ i. ascii (suc i)))
 
+single_coding : (set : CharacterSet) → has_ascii_bytes set ≡ true → coding_of set ≡ SingleByte
+single_coding set has = single (coding_of set) (single_bytes set has)
+
+pub single_text : (set : CharacterSet) (bytes : List ℕ) → has_ascii_bytes set ≡ true → IsAscii bytes → IsText set bytes bytes
+single_text set bytes has ascii = by_table_from set bytes bytes (single_coding set has) (ascii_bytes set bytes (not_swe7 set has) ascii)
+
 pub ascii_text : (set : CharacterSet) (bytes : List ℕ) → has_ascii_bytes set ≡ true → IsAscii bytes → bytes ≡ encode_utf8_all (unwrap_or (decoded set bytes) [])
 ascii_text set bytes has ascii =
-    let coding : coding_of set ≡ SingleByte = single (coding_of set) (single_bytes set has) in
-    let text = by_table_from set bytes bytes coding (ascii_bytes set bytes (not_swe7 set has) ascii) in
-    let found = decoded-text set bytes bytes (subst IsNotUtf8 (sym coding) tt) text in
+    let found = decoded-text set bytes bytes (subst IsNotUtf8 (sym (single_coding set has)) tt) (single_text set bytes has ascii) in
     sym (ap (λ o. encode_utf8_all (unwrap_or o [])) found ∙ encodes-IsAscii bytes ascii)
 
 -- A text in UTF-8 is that of its characters.

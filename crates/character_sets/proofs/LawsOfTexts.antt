@@ -22,7 +22,7 @@ use Rattle.character_sets.proofs.SpelledFirst.{char-byte}
 use Rattle.character_sets.proofs.Decoded.{decoded-text}
 use Rattle.character_sets.proofs.Utf8Lemmas.{Encodes-text, text-Encodes}
 
-either : (coding : Coding) → IsUtf8Coding coding ⊎ IsNotUtf8 coding
+pub either : (coding : Coding) → IsUtf8Coding coding ⊎ IsNotUtf8 coding
 either codings.SingleByte = inr tt
 either codings.BasicUtf8 = inl tt
 either codings.Utf8 = inl tt

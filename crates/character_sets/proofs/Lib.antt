@@ -6,4 +6,6 @@ pub mod SpelledFirst
 pub mod Decoded
 pub mod Utf8Lemmas
 pub mod LawsOfTexts
+pub mod Reading
 pub mod AsciiTexts
+pub mod AsciiKept

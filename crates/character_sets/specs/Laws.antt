@@ -9,10 +9,15 @@ use Rattle.character_sets.specs.declared.coding.ByteOrder.TheVariants.{BigEndian
 use Rattle.character_sets.specs.Coding.{coding_of}
 use Rattle.character_sets.specs.SingleByte.{byte_character}
 use Rattle.character_sets.specs.Spellings.{AreUnits, IsText}
+use Rattle.character_sets.specs.Characters.{characters_of}
 
 -- Bytes are the text of one list of characters at most.
 abbrev pub OneText : Type 0
 OneText = (set : CharacterSet) (bytes cs ds : List ℕ) → IsText set bytes cs → IsText set bytes ds → cs ≡ ds
+
+-- The characters of bytes, as a function, are those of their text.
+abbrev pub TextsAreRead : Type 0
+TextsAreRead = (set : CharacterSet) (bytes cs : List ℕ) → (characters_of set bytes ≡ Some cs) ↔ IsText set bytes cs
 
 -- Texts behind one another are the text of the characters of both.
 abbrev pub TextsJoin : Type 0

@@ -4,6 +4,7 @@ pub mod Spellings
 pub mod Decoding
 pub mod Utf8Texts
 pub mod Texts
+pub mod Characters
 pub mod Collations
 pub mod Names
 pub mod Laws

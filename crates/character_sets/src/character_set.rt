@@ -6,7 +6,7 @@ ghost use Rattle.character_sets.specs.Names.{name_of, all_sets, old_utf8, set_na
 use crate::coding::{Coding, coding_of};
 
 /// A character set of MySQL or MariaDB. Each server of today has all of them, but MariaDB has no `gb18030`.
-#[derive(Clone, Copy, Debug, PartialEq, Eq)]
+#[derive(Clone, Copy, Debug, PartialEq, Eq, Hash)]
 pub enum CharacterSet {
     /// ARMSCII-8, Armenian.
     Armscii8,

@@ -1,14 +1,16 @@
 //! The characters of a text.
-ghost use Rattle.std.specs.Prelude.{◌≡◌, [], ◌∷◌, true, false, List, ℕ, is_some, unwrap_or, encode_utf8_all, chars, MatchOption, IfSome, IfNone, IsUtf8};
+ghost use Rattle.std.specs.Prelude.{◌≡◌, [], ◌∷◌, true, false, List, ℕ, is_some, unwrap_or, encode_utf8_all, chars, MatchOption, IfSome, IfNone, IsAscii, IsUtf8};
+ghost use Rattle.std.specs.Bool.{OnTrue};
 ghost use Rattle.std.specs.List.{list_all};
 ghost use Rattle.character_sets.specs.Coding.{coding_of};
 ghost use Rattle.character_sets.specs.Spellings.{IsText};
-ghost use Rattle.character_sets.specs.Decoding.{decoded, IsNotUtf8};
+ghost use Rattle.character_sets.specs.Decoding.{Gives, decoded, IsNotUtf8};
 ghost use Rattle.character_sets.specs.Utf8Texts.{is_basic, are_in_utf8, IsUtf8Coding};
 ghost use Rattle.character_sets.specs.Texts.{HasCharacters};
+ghost use Rattle.character_sets.specs.Characters.{characters_of, utf8_of};
 
 use crate::character_set::CharacterSet;
-use crate::coding::{Coding, coding_of, has_ascii_bytes};
+use crate::coding::{Coding, coding_of, has_ascii_bytes, is_utf8};
 use crate::first::first_character;
 use std::alloc::AllocError;
 use std::fmt::Write;
@@ -53,9 +55,18 @@ impl CharacterSet {
     pub fn decode(self, bytes: &[u8]) -> Option<Characters<'_>>
         ensures text { IfSome result (λ characters. IsText self bytes.now characters) }
         ensures none { IfNone result ((characters : List ℕ) → ¬ (IsText self bytes.now characters)) }
+        ensures given { Gives (λ characters. characters) result (characters_of self bytes.now) }
     {
         let form = form_of(self, bytes)?;
         Some(Characters { form })
+    }
+
+    /// Whether a text of bytes below 0x80 is in ASCII in this set, whose other texts may have other bytes: in `utf8mb3`, `utf8mb4`
+    /// and the single-byte sets but `swe7`. It is false for the sets that aren't decoded.
+    pub fn keeps_ascii(self) -> bool
+        ensures { OnTrue result ((bytes : List ℕ) → IsAscii bytes → utf8_of self bytes ≡ Some bytes) }
+    {
+        has_ascii_bytes(self) || is_utf8(coding_of(self))
     }
 }
 
@@ -199,7 +210,7 @@ impl<'a> fmt::Display for Characters<'a> {
 
     ghost output = { λ characters. Some (encode_utf8_all characters) };
 
-    fn fmt<W: Write>(&self, f: &mut fmt::Formatter<W>) -> fmt::Result {
+    fn fmt<W: fmt::Write>(&self, f: &mut fmt::Formatter<W>) -> fmt::Result {
         let mut rest = self.copy();
         while let Some(character) = rest.next() {
             f.write_char(character)?;

@@ -1,6 +1,8 @@
 //! How the characters of a set are coded.
 ghost use Rattle.std.specs.Prelude.{◌≡◌};
+ghost use Rattle.std.specs.Bool.{OnTrue};
 ghost use Rattle.character_sets.specs.Coding.{coding_of, has_ascii_bytes};
+ghost use Rattle.character_sets.specs.Utf8Texts.{IsUtf8Coding};
 
 use crate::character_set::CharacterSet;
 
@@ -61,6 +63,13 @@ pub(crate) fn has_ascii_bytes(set: CharacterSet) -> bool
         CharacterSet::Swe7 => false,
         _ => matches!(coding_of(set), Coding::SingleByte),
     }
+}
+
+/// Whether this is UTF-8, of all characters or of some.
+pub(crate) fn is_utf8(coding: Coding) -> bool
+    ensures { OnTrue result (IsUtf8Coding coding) }
+{
+    matches!(coding, Coding::Utf8 | Coding::BasicUtf8)
 }
 
 /// Which of the two bytes of a unit is first.

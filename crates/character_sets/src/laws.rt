@@ -1,9 +1,14 @@
 //! Laws of the texts of character sets: functions that do nothing, whose contracts are the laws.
-ghost use Rattle.character_sets.specs.Laws.{OneText, TextsJoin, ByTable, KeepsAscii, IsStdUtf8, IsStdUtf16};
+ghost use Rattle.character_sets.specs.Laws.{OneText, TextsAreRead, TextsJoin, ByTable, KeepsAscii, IsStdUtf8, IsStdUtf16};
 
 /// Bytes are the text of one list of characters at most.
 pub fn one_text()
     ensures { OneText }
+{}
+
+/// The characters of bytes, as a function, are those of their text; there are none exactly if the bytes are no text.
+pub fn texts_are_read()
+    ensures { TextsAreRead }
 {}
 
 /// Texts behind one another are the text of the characters of both.

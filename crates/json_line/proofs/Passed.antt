@@ -8,7 +8,7 @@ use Rattle.std.proofs.lemmas.List.Sums.{prefix_len-le-length}
 use Rattle.std.proofs.lemmas.Str.{IsUtf8-from_ascii}
 use Rattle.std.proofs.lemmas.Str.Ascii.{IsAscii-from_all}
 use Rattle.std.specs.Bool.{OnTrue}
-use Rattle.std.specs.Str.{IsUtf8}
+use Rattle.std.specs.Str.{IsAscii, IsUtf8}
 use Rattle.std.specs.List.{prefix_len}
 use lib.Bits.{bit_or}
 use lib.Ieee.Fits.{and_l, and_r}
@@ -111,6 +111,10 @@ pub as_it_is : (b : Bool) (d : List ℕ) → OnTrue b (PassedBetween d 0 (length
 as_it_is true d passed = escape_on_plain true d (λ k from to. ap not (passed_parts (get_or d k 0) (passed k from to)).0)
 as_it_is false d passed = tt
 
+pub is_ascii : (b : Bool) (d : List ℕ) → OnTrue b (PassedBetween d 0 (length d)) → OnTrue b (IsAscii d)
+is_ascii true d passed = IsAscii-from_all d (All-from_get_or (λ x. x < 128) d 0 (λ k within. omega (arith, ltb-false 127 (get_or d k 0) (passed_parts (get_or d k 0) (passed k (omega arith) within)).1)))
+is_ascii false d passed = tt
+
 pub is_text : (b : Bool) (d : List ℕ) → OnTrue b (PassedBetween d 0 (length d)) → OnTrue b (IsUtf8 d)
-is_text true d passed = IsUtf8-from_ascii d (IsAscii-from_all d (All-from_get_or (λ x. x < 128) d 0 (λ k within. omega (arith, ltb-false 127 (get_or d k 0) (passed_parts (get_or d k 0) (passed k (omega arith) within)).1))))
+is_text true d passed = IsUtf8-from_ascii d (is_ascii true d passed)
 is_text false d passed = tt

@@ -1,6 +1,8 @@
 -- The parts of a line as tokens of JSON.
 use Rattle.std.specs.Prelude.{◌≡◌, ℕ, List, [], ◌∷◌, ◌++◌, length, cond, nat_eq, codes, decimal, Option, Some, None, Result, OnOk}
 use Rattle.std.specs.Str.Lossy.{utf8_valid_len}
+use Rattle.character_sets.specs.declared.character_set.CharacterSet.{CharacterSet}
+use Rattle.character_sets.specs.Characters.{utf8_of}
 use Rattle.hex.specs.Hex.{encode_lower}
 use Rattle.uuid.specs.Text.{hyphenated_text, lower}
 use Rattle.json.specs.Token.{Token, begin_object, end_object, begin_array, end_array, key, string, number, boolean, null}
@@ -19,11 +21,22 @@ number_value n = number (decimal n) ∷ []
 abbrev pub bytes_value : List ℕ → List Token
 bytes_value bytes = string (encode_lower bytes) ∷ []
 
+-- An object with the hexadecimal digits of bytes.
+abbrev pub hex_value : List ℕ → List Token
+hex_value bytes = begin_object ∷ key (codes "hex") ∷ string (encode_lower bytes) ∷ end_object ∷ []
+
 -- A string if the bytes are UTF-8, else an object with their hexadecimal digits.
 abbrev pub text_value : List ℕ → List Token
-text_value text =
-    cond (nat_eq (utf8_valid_len text) (length text)) (string text ∷ [])
-    (begin_object ∷ key (codes "hex") ∷ string (encode_lower text) ∷ end_object ∷ [])
+text_value text = cond (nat_eq (utf8_valid_len text) (length text)) (string text ∷ []) (hex_value text)
+
+-- A string of this UTF-8, or else an object with the hexadecimal digits of bytes.
+abbrev pub string_or_hex : Option (List ℕ) → List ℕ → List Token
+string_or_hex (Some utf8) bytes = string utf8 ∷ []
+string_or_hex None bytes = hex_value bytes
+
+-- A text in a character set: a string of its characters if the bytes are one, else an object with their hexadecimal digits.
+abbrev pub text_value_in : CharacterSet → List ℕ → List Token
+text_value_in set text = string_or_hex (utf8_of set text) text
 
 -- A UUID: a string of 36 characters.
 abbrev pub uuid_value : List ℕ → List Token

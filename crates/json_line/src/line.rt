@@ -1,16 +1,18 @@
 //! A line of JSON: tokens, and values made of them.
-ghost use Rattle.std.specs.Prelude.{◌≡◌, ◌∷◌, ◌++◌, [], codes, IsUtf8, IfOk, OnErr};
+ghost use Rattle.std.specs.Prelude.{◌≡◌, ◌∷◌, ◌++◌, [], codes, encode_utf8_all, IsUtf8, IfOk, OnErr};
 ghost use Rattle.std.specs.Fmt.{signed_decimal};
 ghost use Rattle.json.specs.Lex.{tokens as read_tokens};
 ghost use Rattle.json.specs.Print.{escape, print, token_text, IsNumber};
 ghost use Rattle.json.specs.Token as tokens;
 ghost use Rattle.json_line.specs.Lines.{IsPlainText};
-ghost use Rattle.json_line.specs.Tokens.{Adds, number_value, bytes_value, text_value, uuid_value, or_null, member, bytes_member_if_any};
+ghost use Rattle.json_line.specs.Tokens.{Adds, number_value, bytes_value, text_value, text_value_in, hex_value, uuid_value, or_null, member, bytes_member_if_any};
 
 use crate::buffer::Buffer;
 use crate::plain::is_plain;
+use character_sets::{CharacterSet, Characters};
 use json::Writer;
 use std::alloc::{AllocError, Global};
+use std::fmt::Write;
 use std::marker::Model;
 use std::{mem, str};
 use uuid::Uuid;
@@ -22,6 +24,7 @@ pub struct Line {
     text: Buffer,
     after_value: bool,
     token: Vec<u8>,
+    characters: String,
 }
 
 impl Model for Line {
@@ -57,7 +60,7 @@ fn token_writer(token: &mut Vec<u8>, alloc: Global) -> Writer<Global>
 
 /// Each writing call appends its tokens, or fails with [`AllocError`] if an allocation fails. After a failure the line
 /// is unchanged, except in calls that write several tokens one after another: [`Line::text`] with bytes that aren't
-/// UTF-8, and the members with a text or with bytes. There the first tokens may have been written.
+/// UTF-8, [`Line::text_in`] with bytes that are no text, and the members with a text or with bytes. There the first tokens may have been written.
 ///
 /// The calls don't check that the tokens form a JSON value: a caller has to end what it begins.
 impl Line {
@@ -70,6 +73,7 @@ impl Line {
             text: Buffer::new(alloc),
             after_value: false,
             token: Vec::new(alloc),
+            characters: String::new(alloc),
         }
     }
 
@@ -331,12 +335,59 @@ impl Line {
 
     #[cold]
     fn bytes_in_object(&mut self, bytes: &[u8]) -> Result<(), AllocError>
-        ensures { Adds result self.old self.new (tokens.begin_object ∷ tokens.key (codes "hex") ∷ bytes_value bytes.now ++ tokens.end_object ∷ []) }
+        ensures { Adds result self.old self.new (hex_value bytes.now) }
     {
         self.begin_object()?;
         self.key("hex")?;
         self.bytes(bytes)?;
         self.end_object()
+    }
+
+    /// Writes a text in a character set: a string of its characters; an object with the hexadecimal digits of all bytes, as
+    /// [`Line::text`] writes it, if they are no text in the set, or the set isn't decoded ([`CharacterSet::decode`]).
+    #[inline]
+    pub fn text_in(&mut self, set: CharacterSet, text: &[u8]) -> Result<(), AllocError>
+        ensures { Adds result self.old self.new (text_value_in set text.now) }
+    {
+        if set.keeps_ascii() && is_plain(text) {
+            return self.string_as_it_is(text);
+        }
+        self.other_text_in(set, text)
+    }
+
+    // A text that isn't ASCII, or needs an escape.
+    #[inline(never)]
+    fn other_text_in(&mut self, set: CharacterSet, text: &[u8]) -> Result<(), AllocError>
+        ensures { Adds result self.old self.new (text_value_in set text.now) }
+    {
+        match set.decode(text) {
+            Some(characters) => self.characters(&characters),
+            None => self.bytes_in_object(text),
+        }
+    }
+
+    /// Writes a string of these characters, escaped where needed.
+    pub fn characters(&mut self, characters: &Characters<'_>) -> Result<(), AllocError>
+        ensures added { Adds result self.old self.new (tokens.string (encode_utf8_all characters.now) ∷ []) }
+        ensures unchanged { OnErr result (self.new ≡ self.old) }
+    {
+        match characters.as_str() {
+            Some(text) => self.string(text),
+            None => self.encoded_characters(characters),
+        }
+    }
+
+    // Through reused memory for the characters as UTF-8.
+    fn encoded_characters(&mut self, characters: &Characters<'_>) -> Result<(), AllocError>
+        ensures added { Adds result self.old self.new (tokens.string (encode_utf8_all characters.now) ∷ []) }
+        ensures unchanged { OnErr result (self.new ≡ self.old) }
+    {
+        let mut text = mem::replace(&mut self.characters, String::new(self.alloc));
+        text.clear();
+        write!(text, "{characters}")?;
+        let written = self.string(text.as_str());
+        self.characters = text;
+        written
     }
 
     /// Writes a UUID as a string, in lower case with hyphens.

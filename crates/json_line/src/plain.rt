@@ -1,5 +1,5 @@
 //! Whether a text is ASCII and needs no escape.
-ghost use Rattle.std.specs.Prelude.{◌≡◌, ◌+◌, ◌≤◌, length, IsUtf8};
+ghost use Rattle.std.specs.Prelude.{◌≡◌, ◌+◌, ◌≤◌, length, IsAscii, IsUtf8};
 ghost use Rattle.std.specs.Bool.{OnTrue};
 ghost use Rattle.json.specs.Print.{escape};
 ghost use Rattle.json_line.specs.Passed.{PassedBetween};
@@ -55,6 +55,7 @@ fn is_plain_by_blocks<const N: usize>(text: &[u8]) -> bool
 pub(crate) fn is_plain(text: &[u8]) -> bool
     ensures as_it_is { OnTrue result (escape text.now ≡ text.now) }
     ensures utf8 { OnTrue result (IsUtf8 text.now) }
+    ensures ascii { OnTrue result (IsAscii text.now) }
 {
     if text.len() >= 16 {
         is_plain_by_blocks::<16>(text)

@@ -1,5 +1,6 @@
-//! Writes the text of the zlib stream on standard input, or the reason why it is refused on standard error. A test
-//! compares it with Python's `zlib`. The exit status is 0, 1 for a refusal, or 2 where input, output or memory failed.
+//! Writes the text of the zlib stream on standard input, or the name of its refusal on standard error. `tests/inflate.py` compares it
+//! with Python's `zlib`, and `tests/cases.py` with streams that were worked by hand. The exit status is 0, 1 for a refusal, or 2 where
+//! input, output or memory failed.
 #![tactic(auto)]
 
 use inflate::{Error, decompress_zlib};
@@ -37,7 +38,7 @@ fn run(rt: &(impl Input + Print + Eprint + AllocGlobal)) -> io::Result<Outcome> 
         }
         Err(Error::Memory) => Ok(Outcome::Failed),
         Err(error) => {
-            eprintln!(rt; "{error}")?;
+            eprintln!(rt; "{error:?}")?;
             Ok(Outcome::Refused)
         }
     }

@@ -114,7 +114,9 @@ impl<W: Write> Printer<W> {
         let optional = table_map.optional_metadata_raw();
         let facts = TableFacts::new(self.alloc, columns, optional, is_maria)?;
         self.line.key("rows")?;
-        self.values.write_rows(&mut self.line, &facts.columns, rows)
+        self.values
+            .write_rows(&mut self.line, &facts.columns, rows)?;
+        Ok(())
     }
 }
 

@@ -1,10 +1,7 @@
-//! Tests of the lowest crates: the fields of `binlog_wire`, the tables of `binlog_consts`, the integers of
-//! `binlog_numbers`.
+//! Tests of the lowest crates: the sizes of fields of `binlog_wire`, its errors, the tables of `binlog_consts`, and the integers of
+//! `binlog_numbers`. `tests/cases` has fields of each kind, in the bodies of events.
 
-mod bits;
-mod byte_strings;
 mod constants;
 mod errors;
 mod integers;
 mod numbers;
-mod sizes;

@@ -4,26 +4,21 @@ use binlog_bodies::{
     BeginLoadQueryEvent, Error, IncidentEvent, IntvarEvent, RotateEvent, RowsQueryEvent, XidEvent,
     laws,
 };
-use binlog_consts::{IncidentType, IntvarEventType, UnknownIncidentType};
+use binlog_consts::{IncidentType, IntvarEventType};
 use binlog_description::laws as description_laws;
 use std::alloc::Global;
 use std::borrow::{CowSlice, CowStr};
-use testkit_bodies::{
-    by_default, is_copied, is_read_as, is_rewritten, is_same, is_text, is_written, read, told_len,
-};
+use testkit_bodies::{is_same, is_text, is_written, read, told_len};
 
 /// The number 11 in eight bytes.
 pub(crate) const ELEVEN: &[u8] = b"\x0b\0\0\0\0\0\0\0";
-
-/// A block of the first five bytes of a file.
-const BLOCK: &[u8] = b"\x01\x02\0\0block";
 
 /// A message that is too long, and its first 255 bytes.
 const MESSAGE: [u8; 300] = [b'm'; 300];
 
 const CUT_MESSAGE: [u8; 255] = [b'm'; 255];
 
-// The event of `ROTATE`.
+// The last event of the sample.
 fn rotate() -> RotateEvent<'static> {
     RotateEvent::new(4, CowSlice::Borrowed(b"master-bin.000002"))
 }
@@ -93,7 +88,6 @@ fn integer_variable_has_its_parts(rt: HostRuntime) {
 fn integer_variable_is_written(rt: HostRuntime) {
     let body = b"\x01\x02\x01\0\0\0\0\0\0";
     assert!(rt; is_written(rt.alloc(), &last_insert_id(), body) == Ok(true));
-    assert!(rt; is_rewritten::<IntvarEvent>(rt.alloc(), body, body) == Ok(true));
 }
 
 // An INCIDENT with the message that is too long.
@@ -140,33 +134,23 @@ fn cut_message_of_an_incident_is_written(rt: HostRuntime) {
     assert!(rt; is_cut_written(rt.alloc(), b"\x01\0\xff") == Ok(true));
 }
 
-#[test]
-fn incident_is_copied(rt: HostRuntime) {
-    assert!(rt; is_copied(rt.alloc(), incident()) == Ok(true));
-}
-
-// The type of an INCIDENT.
-fn type_of(event: IncidentEvent<'_>) -> Result<IncidentType, UnknownIncidentType> {
-    let incident_type = event.incident_type();
-    drop(event);
-    incident_type
-}
-
-fn type_in(alloc: Global, body: &[u8]) -> Result<Result<IncidentType, UnknownIncidentType>, Error> {
-    Ok(type_of(read(alloc, body)?))
-}
-
-#[test]
-fn incident_has_a_type_that_may_be_unknown(rt: HostRuntime) {
-    let changed = incident()
+// Whether an INCIDENT that is set field by field has its parts.
+fn is_incident_changed() -> bool {
+    let event = incident()
         .with_incident_type(IncidentType::NONE)
         .with_message(CowSlice::Borrowed(b""));
-    assert!(rt; type_of(changed) == Ok(IncidentType::NONE));
-    let unknown = type_in(rt.alloc(), b"\x02\x01\x01m");
-    assert!(rt; unknown == Ok(Err(UnknownIncidentType(258))));
+    let is_changed = event.incident_type() == Ok(IncidentType::NONE)
+        && event.message_raw().is_empty();
+    drop(event);
+    is_changed
 }
 
-// The event of `STATEMENT`.
+#[test]
+fn incident_has_its_parts(rt: HostRuntime) {
+    assert!(rt; is_incident_changed());
+}
+
+// A statement of rows.
 fn statement() -> RowsQueryEvent<'static> {
     RowsQueryEvent::new(CowSlice::Borrowed(b"insert into t1 values (1)"))
 }
@@ -181,13 +165,11 @@ fn is_statement(alloc: Global, wanted: &str) -> Result<bool, Error> {
 }
 
 #[test]
-fn statement_of_rows_is_read(rt: HostRuntime) {
-    let body = b"\xffinsert into t1 values (1)".as_slice();
-    assert!(rt; is_read_as(rt.alloc(), by_default(), body, statement()));
+fn statement_of_rows_is_a_text(rt: HostRuntime) {
     assert!(rt; is_statement(rt.alloc(), "insert into t1 values (1)") == Ok(true));
 }
 
-// The event of `BLOCK`.
+// A block of the first five bytes of a file.
 fn block() -> BeginLoadQueryEvent<'static> {
     BeginLoadQueryEvent::new(0)
         .with_file_id(513)
@@ -202,8 +184,7 @@ fn has_its_parts(event: BeginLoadQueryEvent<'_>) -> bool {
 }
 
 #[test]
-fn first_block_of_a_file_is_read(rt: HostRuntime) {
-    assert!(rt; is_read_as(rt.alloc(), by_default(), BLOCK, block()));
+fn first_block_of_a_file_has_its_parts(rt: HostRuntime) {
     assert!(rt; has_its_parts(block()));
 }
 

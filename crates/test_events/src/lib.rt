@@ -1,5 +1,5 @@
-//! Tests of `binlog_file`: reading, writing and borrowing of events, table maps, and slices. The functions are short, since the
-//! time of a proof grows with the square of a function's length.
+//! Tests of `binlog_file`: reading, writing and borrowing of events, table maps, slices, and logs whose checksums are verified. The
+//! functions are short, since the time of a proof grows with the square of a function's length.
 #![tactic(auto)]
 
 #[cfg(test)]
@@ -11,9 +11,11 @@ mod events;
 #[cfg(test)]
 mod lending;
 #[cfg(test)]
-mod refused_memory;
-#[cfg(test)]
 mod state;
+#[cfg(test)]
+mod verified_in_force;
+#[cfg(test)]
+mod verified_items;
 #[cfg(test)]
 mod writers;
 #[cfg(test)]

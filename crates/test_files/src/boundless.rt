@@ -3,16 +3,22 @@
 use binlog_file::{BinlogFile, BinlogVersion, Error, Event, EventStreamReader};
 use std::alloc::Global;
 use std::io::BufReader;
-use testkit_logs::{FILE_HEADER, default_description, joined, next_item};
+use testkit_logs::{default_description, next_item};
 
 /// The number of bytes that come at a time.
 const PIECE: usize = 20;
 
-/// The header of an event that states 4,294,967,295 bytes.
-const HEADER: &[u8] = b"\0\0\0\0\x02\x01\0\0\0\xff\xff\xff\xff\0\0\0\0\0\0";
+/// The header of an event that states 4,294,967,295 bytes, and 81 bytes of it.
+const EVENT: &[u8] =
+    b"\0\0\0\0\x02\x01\0\0\0\xff\xff\xff\xff\0\0\0\0\0\0\0\0\0\0\0\0\0\0\0\0\0\0\0\0\0\0\0\0\0\0\0\0\0\
+    \0\0\0\0\0\0\0\0\0\0\0\0\0\0\0\0\0\0\0\0\0\0\0\0\0\0\0\0\0\0\0\0\0\0\0\0\0\0\0\0\0\0\0\0\0\0\0\0\
+    \0\0\0\0\0\0\0\0\0\0";
 
-/// The bytes of that event that come after its header.
-const REST: &[u8] = &[0; 81];
+/// A file of the event.
+const FILE: &[u8] =
+    b"\xfebin\0\0\0\0\x02\x01\0\0\0\xff\xff\xff\xff\0\0\0\0\0\0\0\0\0\0\0\0\0\0\0\0\0\0\0\0\0\0\0\0\0\0\0\0\0\
+    \0\0\0\0\0\0\0\0\0\0\0\0\0\0\0\0\0\0\0\0\0\0\0\0\0\0\0\0\0\0\0\0\0\0\0\0\0\0\0\0\0\0\0\0\0\0\0\0\
+    \0\0\0\0\0\0\0\0\0\0";
 
 fn pieces(alloc: Global, bytes: &[u8]) -> Result<BufReader<&[u8]>, Error> {
     let Ok(input) = BufReader::with_capacity(alloc, PIECE, bytes) else {
@@ -23,10 +29,17 @@ fn pieces(alloc: Global, bytes: &[u8]) -> Result<BufReader<&[u8]>, Error> {
 
 // The error of the event, read by itself, or none.
 fn refusal(alloc: Global) -> Result<Option<Error>, Error> {
-    let bytes = joined(alloc, &[HEADER, REST])?;
-    let fde = default_description(alloc)?;
-    let read = Event::read(alloc, &fde, &mut pieces(alloc, bytes.as_slice())?);
+    let mut input = pieces(alloc, EVENT)?;
+    let read = first_of(alloc, &mut input);
+    drop(input);
     Ok(read.err())
+}
+
+fn first_of(alloc: Global, input: &mut BufReader<&[u8]>) -> Result<usize, Error> {
+    let event = Event::read(alloc, &default_description(alloc)?, input)?;
+    let len = event.data().len();
+    drop(event);
+    Ok(len)
 }
 
 #[test]
@@ -36,9 +49,11 @@ fn a_boundless_event_is_not_read(rt: HostRuntime) {
 
 // The same of a stream's event.
 fn refusal_in_stream(alloc: Global) -> Result<Option<Error>, Error> {
-    let bytes = joined(alloc, &[HEADER, REST])?;
+    let mut input = pieces(alloc, EVENT)?;
     let mut reader = EventStreamReader::new(alloc, BinlogVersion::Version4);
-    let read = reader.read(&mut pieces(alloc, bytes.as_slice())?);
+    let read = reader.read(&mut input);
+    drop(input);
+    drop(reader);
     Ok(read.err())
 }
 
@@ -49,10 +64,11 @@ fn a_boundless_event_is_not_read_from_a_stream(rt: HostRuntime) {
 
 // Whether a file with the event alone has no item.
 fn ends_a_file(alloc: Global) -> Result<bool, Error> {
-    let bytes = joined(alloc, &[FILE_HEADER, HEADER, REST])?;
-    let input = pieces(alloc, bytes.as_slice())?;
+    let input = pieces(alloc, FILE)?;
     let mut file = BinlogFile::new(alloc, BinlogVersion::Version4, input)?;
-    Ok(next_item(&mut file) == None)
+    let ends = next_item(&mut file) == None;
+    drop(file);
+    Ok(ends)
 }
 
 #[test]

@@ -45,6 +45,14 @@ fn lacks(alloc: Global, intervals: &[(u64, u64)], wanted: &[(u64, u64)]) -> Resu
     Ok(lacks)
 }
 
+// The union of the set of these intervals with another.
+fn union_with(alloc: Global, one: &[(u64, u64)], other: &GnoSet) -> Result<GnoSet, Error> {
+    let one = set_of(alloc, one)?;
+    let union = one.union(other);
+    drop(one);
+    union
+}
+
 // Whether these are the intervals of the union of two sets.
 fn is_union(
     alloc: Global,
@@ -52,10 +60,8 @@ fn is_union(
     other: &[(u64, u64)],
     wanted: &[(u64, u64)],
 ) -> Result<bool, Error> {
-    let one = set_of(alloc, one)?;
     let other = set_of(alloc, other)?;
-    let union = one.union(&other);
-    drop(one);
+    let union = union_with(alloc, one, &other);
     drop(other);
     let union = union?;
     let is_union = are(union.intervals(), wanted);

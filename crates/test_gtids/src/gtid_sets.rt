@@ -1,6 +1,5 @@
 //! Tests of `binlog_gtid_sets`: what events add to a set of GTIDs, and what it answers.
 
-mod adding;
 mod differences;
 mod groups;
 mod memory;

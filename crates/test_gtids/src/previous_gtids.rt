@@ -4,7 +4,7 @@ use binlog_gtids::{PreviousGtidsEvent, PreviousGtidsSid};
 use binlog_numbers::{GnoInterval, Tag};
 use binlog_wire::Error;
 use std::alloc::{AllocError, Global};
-use testkit_bodies::{is_rewritten, is_same, is_written, joined, read, told_len, written};
+use testkit_bodies::{is_same, is_written, joined, read, told_len, written};
 
 /// An entry without a tag, after its SID: the GNOs 1 to 5.
 const ONE_TO_FIVE: &[u8] = b"\x01\0\0\0\0\0\0\0\x01\0\0\0\0\0\0\0\x06\0\0\0\0\0\0\0";
@@ -50,8 +50,6 @@ fn no_previous_gtids_are_eight_zeros(rt: HostRuntime) {
 #[test]
 fn previous_gtids_with_a_tag(rt: HostRuntime) {
     assert!(rt; goes_round(rt.alloc(), tagged_sid(rt.alloc()), TAGGED_SID) == Ok(true));
-    let rewritten = is_rewritten::<PreviousGtidsEvent>(rt.alloc(), TAGGED_SID, TAGGED_SID);
-    assert!(rt; rewritten == Ok(true));
 }
 
 // Whether an entry without a tag is written and read as the format states.

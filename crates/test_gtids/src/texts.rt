@@ -126,17 +126,14 @@ fn is_refused(alloc: Global, text: &str, fault: GtidTextFault, at: usize) -> boo
 #[test]
 fn texts_are_read_and_written(rt: HostRuntime) {
     for (text, wanted) in READ {
-        assert!(rt;
-            is_written_as(rt.alloc(), text, wanted) == Ok(true),
-            "{text}"
-        );
+        assert!(rt; is_written_as(rt.alloc(), text, wanted) == Ok(true));
     }
 }
 
 #[test]
 fn faults_are_found_where_they_are(rt: HostRuntime) {
     for (text, fault, at) in REFUSED {
-        assert!(rt; is_refused(rt.alloc(), text, *fault, *at), "{text}");
+        assert!(rt; is_refused(rt.alloc(), text, *fault, *at));
     }
 }
 
@@ -145,9 +142,6 @@ fn faults_are_found_where_they_are(rt: HostRuntime) {
 fn texts_are_read_and_written_or_memory_is_refused(rt: HostRuntime) {
     for (text, wanted) in READ {
         let written = is_written_as(rt.alloc(), text, wanted);
-        assert!(rt;
-            matches!(written, Ok(true) | Err(GtidTextError::Memory)),
-            "{text}"
-        );
+        assert!(rt; matches!(written, Ok(true) | Err(GtidTextError::Memory)));
     }
 }

@@ -36,17 +36,16 @@ fn other_gtid() -> GtidEvent {
         .with_lc_typecode()
 }
 
-// Whether an event is written as these parts, which are read as the same event.
-fn goes_round(alloc: Global, event: GtidEvent, parts: &[&[u8]]) -> Result<bool, Error> {
+// Whether an event is written as these parts. `tests/cases/gtids.txt` has what is read of them.
+fn is_made_of(alloc: Global, event: GtidEvent, parts: &[&[u8]]) -> bool {
     let is_written = is_written_as(alloc, &event, parts);
-    let is_read = is_same(read_gtid(alloc, 33, parts), &event);
     drop(event);
-    Ok(is_written? && is_read?)
+    is_written == Ok(true)
 }
 
 #[test]
 fn new_gtid_is_written_whole(rt: HostRuntime) {
-    assert!(rt; goes_round(rt.alloc(), new_gtid(), &[HEAD, NO_TIMES]) == Ok(true));
+    assert!(rt; is_made_of(rt.alloc(), new_gtid(), &[HEAD, NO_TIMES]));
 }
 
 #[test]
@@ -101,14 +100,16 @@ fn first_field_of_an_anonymous_gtid_that_does_not_fit_is_named(rt: HostRuntime) 
     }
 }
 
+// A GTID with the latest times and versions.
+fn latest_gtid() -> GtidEvent {
+    late_gtid((1 << 55) - 1, (1 << 56) - 1, (1 << 31) - 1).with_original_server_version(u32::MAX)
+}
+
 // Bit 55 of the immediate timestamp and bit 31 of the immediate version state that an original one follows.
 #[test]
 fn latest_times_and_versions_are_written(rt: HostRuntime) {
-    let event = late_gtid((1 << 55) - 1, (1 << 56) - 1, (1 << 31) - 1).with_original_server_version(
-        u32::MAX,
-    );
     let parts: &[&[u8]] = &[HEAD, CLOCK, &[0xff; 14], &[0], &[0xff; 8]];
-    assert!(rt; goes_round(rt.alloc(), event, parts) == Ok(true));
+    assert!(rt; is_made_of(rt.alloc(), latest_gtid(), parts));
 }
 
 // Whether a GTID without a clock code is written without its timestamp, which would be unwritable.

@@ -2,4 +2,3 @@
 
 mod compressed;
 mod data;
-mod gtids;

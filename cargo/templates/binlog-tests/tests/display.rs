@@ -3,7 +3,7 @@ use binlog::GtidTracker;
 use binlog::gtid_text::GtidTextError;
 use binlog::mariadb::MariaGtid;
 use binlog::raw::ParseBuf;
-use binlog::values::{Column, ColumnFacts, Value};
+use binlog::values::{CharacterSet, Column, ColumnFacts, Value};
 use std::fmt::Display;
 
 /// The value at the start of these bytes, in a column of this type and metadata.
@@ -92,7 +92,7 @@ fn other_values_are_json() {
 fn facts_of_the_column_count() {
     let unsigned = ColumnFacts { is_unsigned: true, ..ColumnFacts::default() };
     assert_eq!(value(1, b"", b"\xff").display(&unsigned).to_string(), "255");
-    let binary = ColumnFacts { is_binary: true, padded_length: 4, ..ColumnFacts::default() };
+    let binary = ColumnFacts { character_set: Some(CharacterSet::Binary), padded_length: 4, ..ColumnFacts::default() };
     assert_eq!(value(254, b"\xfe\x04", b"\x02ab").display(&binary).to_string(), r#""61620000""#);
     let members = ColumnFacts { members: Some(vec![b"red", b"blue"]), ..ColumnFacts::default() };
     assert_eq!(value(254, b"\xf7\x01", b"\x02").display(&members).to_string(), r#""blue""#);

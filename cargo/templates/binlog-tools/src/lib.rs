@@ -5,6 +5,7 @@
 #[doc(hidden)]
 pub mod binlog_cli;
 pub mod binlog_commands;
+pub mod binlog_event_types;
 pub mod binlog_filters;
 pub mod binlog_gtid_listing;
 pub mod binlog_json_lines;

@@ -11,7 +11,7 @@ use std::str;
 const UNKNOWN: ColumnFacts<'static> = ColumnFacts {
     name: None,
     is_unsigned: false,
-    is_binary: false,
+    character_set: None,
     padded_length: 0,
     members: None,
 };

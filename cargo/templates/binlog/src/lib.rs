@@ -59,6 +59,7 @@ mod binlog_values;
 mod binlog_wire;
 mod bitflags;
 mod calendar;
+mod character_sets;
 mod checksums;
 mod crc32_ieee;
 #[doc(hidden)]
@@ -177,6 +178,7 @@ pub mod values {
     pub use crate::binlog_optional_metadata::{OptionalMetadataError, OptionalMetadataErrorKind};
     pub use crate::binlog_values::{Bit, Date, DateTime, DateTime2, Decimal, Double, Float, Integer};
     pub use crate::binlog_values::{Time, Time2, Timestamp2, Value, Year};
+    pub use crate::character_sets::{CHARACTER_SETS, CharacterSet, Characters};
     #[doc(hidden)]
     pub use crate::binlog_values::text;
 }

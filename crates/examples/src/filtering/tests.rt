@@ -1,7 +1,6 @@
 use super::copy_events;
 use binlog_file::{Error, EventType};
 use std::alloc::Global;
-use std::test::Fail;
 use testkit_logs::{FILE_HEADER, SAMPLE, joined};
 
 /// A format description, a QUERY and an XID event of MySQL 5.7, with CRC-32 checksums that zlib computed.
@@ -20,12 +19,16 @@ const XID: &[u8] =
 /// The types that are copied: XID and ROTATE.
 const ENDS: [EventType; 2] = [EventType::XID_EVENT, EventType::ROTATE_EVENT];
 
-// Whether the copy for these types has these parts.
+// Whether the copy of a log for these types has these parts.
 fn is_copied_as(alloc: Global, log: &[u8], parts: &[&[u8]]) -> Result<bool, Error> {
     let wanted = joined(alloc, parts)?;
     let mut output = Vec::new(alloc);
-    copy_events(alloc, log, &ENDS, &mut output)?;
-    Ok(output == wanted)
+    let answer = copy_events(alloc, log, &ENDS, &mut output);
+    let is_copied = output == wanted;
+    drop(output);
+    drop(wanted);
+    answer?;
+    Ok(is_copied)
 }
 
 // The log positions in the copied events are those of the original log.
@@ -35,10 +38,15 @@ fn events_of_some_types_are_copied(rt: HostRuntime) {
     assert!(rt; is_copied_as(rt.alloc(), SAMPLE, &parts) == Ok(true));
 }
 
+// Whether the copy of a log with checksums lacks its statement.
+fn is_copied_with_checksums(alloc: Global) -> Result<bool, Error> {
+    let log = joined(alloc, &[FILE_HEADER, DESCRIPTION, STATEMENT, XID])?;
+    let is_copied = is_copied_as(alloc, log.as_slice(), &[FILE_HEADER, DESCRIPTION, XID]);
+    drop(log);
+    is_copied
+}
+
 #[test]
-fn events_are_copied_with_their_checksums(rt: HostRuntime) -> Result<(), Fail> {
-    let log = joined(rt.alloc(), &[FILE_HEADER, DESCRIPTION, STATEMENT, XID])?;
-    let parts = [FILE_HEADER, DESCRIPTION, XID];
-    assert!(rt; is_copied_as(rt.alloc(), log.as_slice(), &parts) == Ok(true));
-    Ok(())
+fn events_are_copied_with_their_checksums(rt: HostRuntime) {
+    assert!(rt; is_copied_with_checksums(rt.alloc()) == Ok(true));
 }

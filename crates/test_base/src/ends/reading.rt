@@ -52,8 +52,8 @@ fn a_failure_takes_no_byte_wherever_it_comes(rt: HostRuntime) {
     }
 }
 
-#[test]
-fn an_interruption_is_a_failure(rt: HostRuntime) {
+// Whether the calls that are interrupted are failures.
+fn fails_twice() -> bool {
     let plan = Plan {
         calls_before: 0,
         failures: 2,
@@ -63,24 +63,31 @@ fn an_interruption_is_a_failure(rt: HostRuntime) {
     let none = input.last_failure();
     let first = input.read_some(&mut [0; 3]);
     let second = input.read_some(&mut [0; 3]);
-    let failures = input.failures();
-    let last = input.last_failure();
+    let (failures, last) = (input.failures(), input.last_failure());
     drop(input);
-    assert!(rt; none == None);
-    assert!(rt; first == Err(Failed) && second == Err(Failed));
-    assert!(rt; failures == 2);
-    assert!(rt; last == Some(ErrorKind::Interrupted));
+    first == Err(Failed)
+        && second == Err(Failed)
+        && (none, failures, last) == (None, 2, Some(ErrorKind::Interrupted))
 }
 
 #[test]
-fn a_slice_is_read_in_pieces(rt: HostRuntime) {
+fn an_interruption_is_a_failure(rt: HostRuntime) {
+    assert!(rt; fails_twice());
+}
+
+// Whether a slice is read to its end, without a failure.
+fn is_slice_read() -> bool {
     let mut input = SliceReader::new(BYTES);
     let read = read_all(&mut input);
     let is_at_end = input.rest().is_empty();
     let failures = input.failures();
     drop(input);
-    assert!(rt; read == (*b"abcd", 4, None));
-    assert!(rt; is_at_end && failures == 0);
+    read == (*b"abcd", 4, None) && is_at_end && failures == 0
+}
+
+#[test]
+fn a_slice_is_read_in_pieces(rt: HostRuntime) {
+    assert!(rt; is_slice_read());
 }
 
 // The result of the first call, and the number of failures after it.
@@ -89,33 +96,41 @@ fn first_answer<R: ReadCounted>(input: &mut R) -> (Result<usize, Failed>, u64) {
     (answer, input.failures())
 }
 
-#[test]
-fn a_borrowed_reader_counts_on(rt: HostRuntime) {
+// A reader whose first call fails.
+fn failing_first() -> Counted<ByteReader<'static>> {
     let plan = Plan {
         calls_before: 0,
         failures: 1,
         kind: ErrorKind::Other,
     };
-    let mut input = Counted::new(ByteReader::new(BYTES, plan));
-    let (first, borrowed_failures) = first_answer(&mut &mut input);
+    Counted::new(ByteReader::new(BYTES, plan))
+}
+
+// Whether a failure of a borrowed reader is counted by the reader, which has all of its bytes.
+fn counts_on() -> bool {
+    let mut input = failing_first();
+    let first = first_answer(&mut &mut input);
     let failures = input.failures();
     let left = input.get_ref().left();
     drop(input);
-    assert!(rt; first == Err(Failed));
-    assert!(rt; borrowed_failures == 1 && failures == 1);
-    assert!(rt; left == 4);
+    first == (Err(Failed), 1) && failures == 1 && left == 4
+}
+
+#[test]
+fn a_borrowed_reader_counts_on(rt: HostRuntime) {
+    assert!(rt; counts_on());
+}
+
+// The answer for an empty buffer, and the number of failures.
+fn empty_answer() -> (Result<usize, Failed>, u64) {
+    let mut input = failing_first();
+    let none = input.read_some(&mut []);
+    let failures = input.failures();
+    drop(input);
+    (none, failures)
 }
 
 #[test]
 fn an_empty_buffer_asks_nothing(rt: HostRuntime) {
-    let plan = Plan {
-        calls_before: 0,
-        failures: 1,
-        kind: ErrorKind::Other,
-    };
-    let mut input = Counted::new(ByteReader::new(BYTES, plan));
-    let none = input.read_some(&mut []);
-    let failures = input.failures();
-    drop(input);
-    assert!(rt; none == Ok(0) && failures == 0);
+    assert!(rt; empty_answer() == (Ok(0), 0));
 }

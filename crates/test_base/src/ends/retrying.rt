@@ -53,14 +53,18 @@ fn another_failure_is_not_tried_again(rt: HostRuntime) {
     assert!(rt; reads(plan) == (3, 2, Some(ErrorKind::BrokenPipe)));
 }
 
-#[test]
-fn a_read_without_a_buffer_is_tried_again(rt: HostRuntime) {
-    let plan = interrupted(0, ATTEMPTS - 1);
+// The number of bytes that are read by a call that is interrupted, and the bytes.
+fn first_read(plan: Plan) -> (usize, [u8; 2]) {
     let mut input = Retrying::new(ByteReader::new(b"abc", plan));
     let mut piece = [0; 2];
     let count = input.read(&mut piece).unwrap_or(9);
     drop(input);
-    assert!(rt; count == 1 && piece == *b"a\0");
+    (count, piece)
+}
+
+#[test]
+fn a_read_without_a_buffer_is_tried_again(rt: HostRuntime) {
+    assert!(rt; first_read(interrupted(0, ATTEMPTS - 1)) == (1, *b"a\0"));
 }
 
 // Whether four bytes are written and flushed under this plan.
@@ -82,13 +86,17 @@ fn interrupted_writes_are_tried_again(rt: HostRuntime) {
     }
 }
 
-#[test]
-fn an_interruption_within_the_bytes_is_a_failure(rt: HostRuntime) {
-    let plan = interrupted(2, ATTEMPTS);
-    let mut output = Counted::new(Retrying::new(ByteWriter::new(rt.alloc(), 4, plan)));
+// The result of writing four bytes under this plan, the number of failures, and how many bytes were written.
+fn written(alloc: Global, plan: Plan) -> (Result<(), Failed>, u64, usize) {
+    let mut output = Counted::new(Retrying::new(ByteWriter::new(alloc, 4, plan)));
     let answer = output.write_whole(b"abcd");
     let failures = output.failures();
     let len = output.get_ref().get_ref().written.len();
     drop(output);
-    assert!(rt; answer == Err(Failed) && failures == 1 && len == 2);
+    (answer, failures, len)
+}
+
+#[test]
+fn an_interruption_within_the_bytes_is_a_failure(rt: HostRuntime) {
+    assert!(rt; written(rt.alloc(), interrupted(2, ATTEMPTS)) == (Err(Failed), 1, 2));
 }

@@ -2,30 +2,21 @@
 
 use super::{CREATE_TABLE, STATUS};
 use binlog_statements::QueryEvent;
-use binlog_wire::{Error, IntoOwned};
-use std::alloc::Global;
 use std::borrow::CowSlice;
-use testkit_bodies::{by_default, is_read_as, is_same, is_written_with, told_len};
+use testkit_bodies::{by_default, is_read_as, is_written_with, told_len};
 
 /// A schema that is one byte too long.
 const LONG_SCHEMA: &[u8] = &[b's'; 256];
 
-// The statement of both, set field by field.
-fn made<'a>() -> QueryEvent<'a> {
-    QueryEvent::new(CowSlice::Borrowed(b""), CowSlice::Borrowed(b""))
-        .with_thread_id(1)
-        .with_execution_time(2)
-        .with_error_code(3)
-        .with_status_vars(CowSlice::Borrowed(b""))
-        .with_schema(CowSlice::Borrowed(b"d"))
-        .with_query(CowSlice::Borrowed(b"q"))
-}
-
-// The first statement of the sample.
+// The first statement of the sample, set field by field.
 fn create_table<'a>() -> QueryEvent<'a> {
     let query = b"create table t1(a int) engine= innodb";
-    QueryEvent::new(CowSlice::Borrowed(STATUS), CowSlice::Borrowed(b"test"))
+    QueryEvent::new(CowSlice::Borrowed(b""), CowSlice::Borrowed(b""))
         .with_thread_id(1)
+        .with_execution_time(0)
+        .with_error_code(0)
+        .with_status_vars(CowSlice::Borrowed(STATUS))
+        .with_schema(CowSlice::Borrowed(b"test"))
         .with_query(CowSlice::Borrowed(query))
 }
 
@@ -54,24 +45,4 @@ fn a_schema_counts_255_bytes(rt: HostRuntime) {
 fn a_schema_is_written_in_255_bytes(rt: HostRuntime) {
     let front = b"\0\0\0\0\0\0\0\0\xff\0\0\0\0s".as_slice();
     assert!(rt; is_written_with(rt.alloc(), with_long_schema(), 269, front));
-}
-
-// Whether a borrowed statement of this length is equal to an owned copy.
-fn is_long_query_owned(alloc: Global, len: usize) -> Result<bool, Error> {
-    let mut query = Vec::new(alloc);
-    query.resize(len, b'q')?;
-    let owned = made()
-        .with_query(CowSlice::Borrowed(query.as_slice()))
-        .into_owned(alloc);
-    let is_same = is_same(
-        owned,
-        &made().with_query(CowSlice::Borrowed(query.as_slice())),
-    );
-    drop(query);
-    is_same
-}
-
-#[test]
-fn a_statement_of_100_001_bytes_is_owned(rt: HostRuntime) {
-    assert!(rt; is_long_query_owned(rt.alloc(), 100_001) == Ok(true));
 }

@@ -1,26 +1,9 @@
 //! Splitting status variables.
-use super::STATUS;
 use binlog_consts::StatusVarKey;
-use binlog_statements::{StatusVars, StatusVarsIterator};
+use binlog_statements::StatusVars;
 use binlog_wire::{Error, RawBytes};
 use std::alloc::Global;
 use std::borrow::CowSlice;
-
-// Whether the bytes have variables of these keys, and then only None.
-fn has_keys(text: &[u8], keys: &[StatusVarKey]) -> bool {
-    let mut vars = StatusVarsIterator::new(text);
-    for key in keys.iter() {
-        match vars.next() {
-            Some(var) => {
-                if var.key() != *key {
-                    return false;
-                }
-            }
-            None => return false,
-        }
-    }
-    vars.next().is_none() && vars.next().is_none()
-}
 
 // Whether the first variable of this key has this value, or there is none.
 fn has_value(text: &[u8], key: StatusVarKey, wanted: Option<&[u8]>) -> bool {
@@ -31,17 +14,6 @@ fn has_value(text: &[u8], key: StatusVarKey, wanted: Option<&[u8]>) -> bool {
     };
     drop(vars);
     has_value
-}
-
-#[test]
-fn four_variables_of_the_sample(rt: HostRuntime) {
-    let keys = [
-        StatusVarKey::Flags2,
-        StatusVarKey::SqlMode,
-        StatusVarKey::CatalogNz,
-        StatusVarKey::Charset,
-    ];
-    assert!(rt; has_keys(STATUS, &keys));
 }
 
 #[test]

@@ -41,7 +41,9 @@ fn table_behind(alloc: Global, items: usize) -> Result<Option<u8>, Error> {
     for _ in 0..items {
         let _ = file.advance();
     }
-    Ok(table_of_rows(alloc, &file))
+    let table = table_of_rows(alloc, &file);
+    drop(file);
+    Ok(table)
 }
 
 #[test]
@@ -66,12 +68,14 @@ fn next_kind<R: BufRead + Drop>(file: &mut BinlogFile<R>) -> Option<u8> {
 fn kinds(alloc: Global, parts: &[&[u8]]) -> Result<[Option<u8>; 4], Error> {
     let mut file = file_of(alloc, parts)?;
     let first = kind(&file);
-    Ok([
+    let kinds = [
         first,
         next_kind(&mut file),
         next_kind(&mut file),
         next_kind(&mut file),
-    ])
+    ];
+    drop(file);
+    Ok(kinds)
 }
 
 #[test]
@@ -98,7 +102,9 @@ fn kinds_behind_both(alloc: Global) -> Result<[Option<u8>; 2], Error> {
     let _ = file.next_ref();
     let lent = kind(&file);
     next_item(&mut file);
-    Ok([lent, kind(&file)])
+    let owned = kind(&file);
+    drop(file);
+    Ok([lent, owned])
 }
 
 #[test]
@@ -109,7 +115,9 @@ fn next_hands_its_event_over(rt: HostRuntime) {
 // The results of three calls of `advance`: 0 for an event, the number of an error, None at the end.
 fn answers(alloc: Global, parts: &[&[u8]]) -> Result<[Option<u8>; 3], Error> {
     let mut file = file_of(alloc, parts)?;
-    Ok([answer(&mut file), answer(&mut file), answer(&mut file)])
+    let answers = [answer(&mut file), answer(&mut file), answer(&mut file)];
+    drop(file);
+    Ok(answers)
 }
 
 fn answer<R: BufRead + Drop>(file: &mut BinlogFile<R>) -> Option<u8> {

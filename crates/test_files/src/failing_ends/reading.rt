@@ -59,17 +59,20 @@ fn a_failure_in_a_stream_is_counted(rt: HostRuntime) {
 }
 
 // Whether a slice is read as one event, is at its end after it, and counts no failure.
-fn reads_slice(alloc: Global) -> Result<bool, Error> {
+fn reads_slice(alloc: Global) -> bool {
     let mut input = SliceReader::new(COUNTED_XID);
     let mut reader = EventStreamReader::new(alloc, BinlogVersion::Version4);
-    let is_event = reader.read_counted(&mut input)?.is_some();
-    let is_end = reader.read_counted(&mut input)?.is_none();
-    Ok(is_event && is_end && input.failures() == 0)
+    let is_event = matches!(reader.read_counted(&mut input), Ok(Some(_)));
+    let is_end = matches!(reader.read_counted(&mut input), Ok(None));
+    drop(reader);
+    let failures = input.failures();
+    drop(input);
+    is_event && is_end && failures == 0
 }
 
 #[test]
 fn a_slice_never_fails(rt: HostRuntime) {
-    assert!(rt; reads_slice(rt.alloc()) == Ok(true));
+    assert!(rt; reads_slice(rt.alloc()));
 }
 
 /// The type of an event, or the number of an error; None at the end.
@@ -121,15 +124,26 @@ fn wanted(taken: usize) -> [Kind; 4] {
     }
 }
 
+// Whether these are the items of a log, wherever its reader fails.
+fn are_items(alloc: Global, log: &[u8], kind: ErrorKind) -> bool {
+    for taken in 0..=log.len() {
+        if items_of(alloc, log, taken, kind) != (wanted(taken), 1) {
+            return false;
+        }
+    }
+    true
+}
+
+fn is_each_failure_an_item(alloc: Global, kind: ErrorKind) -> Result<bool, Error> {
+    let log = joined(alloc, &[FILE_HEADER, DESCRIPTION, COUNTED, COUNTED_XID])?;
+    let are_items = are_items(alloc, log.as_slice(), kind);
+    drop(log);
+    Ok(are_items)
+}
+
 #[test]
 fn a_failure_at_each_call_is_one_item(rt: HostRuntime) {
-    let parts = [FILE_HEADER, DESCRIPTION, COUNTED, COUNTED_XID];
-    if let Ok(log) = joined(rt.alloc(), &parts) {
-        for taken in 0..=log.len() {
-            for kind in [ErrorKind::Other, ErrorKind::Interrupted] {
-                let items = items_of(rt.alloc(), log.as_slice(), taken, kind);
-                assert!(rt; items == (wanted(taken), 1));
-            }
-        }
+    for kind in [ErrorKind::Other, ErrorKind::Interrupted] {
+        assert!(rt; is_each_failure_an_item(rt.alloc(), kind) == Ok(true));
     }
 }

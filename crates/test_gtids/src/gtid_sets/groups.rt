@@ -69,30 +69,3 @@ fn numbers_of_a_source_and_a_tag(rt: HostRuntime) {
     assert!(rt; is_held(rt.alloc(), A, Some(b"test"), 6) == Ok(false));
     assert!(rt; is_held(rt.alloc(), A, None, 5) == Ok(false));
 }
-
-// The gaps of a source and a tag: their number, and the first one.
-fn first_gap(
-    alloc: Global,
-    sid: [u8; 16],
-    tag: Option<&'static [u8]>,
-) -> Result<(usize, u64, u64), Error> {
-    let set = groups(alloc)?;
-    let tag = tag_of(tag)?;
-    let gaps = set.gaps(sid, tag.as_ref());
-    drop(tag);
-    drop(set);
-    let gaps = gaps?;
-    let (start, end) = match gaps.first() {
-        Some(gap) => (gap.start(), gap.end()),
-        None => (0, 0),
-    };
-    let count = gaps.len();
-    drop(gaps);
-    Ok((count, start, end))
-}
-
-#[test]
-fn gaps_begin_at_1(rt: HostRuntime) {
-    assert!(rt; first_gap(rt.alloc(), A, Some(b"test")) == Ok((2, 1, 2)));
-    assert!(rt; first_gap(rt.alloc(), A, None) == Ok((0, 0, 0)));
-}

@@ -10,13 +10,23 @@ use std::alloc::{AllocError, Global};
 // Every other number from this one on: a hundred intervals, of which no two touch. One allocation.
 fn numbers_from(alloc: Global, first: u32) -> Result<Vec<GnoInterval>, Error> {
     let mut intervals = Vec::with_capacity(alloc, 100)?;
+    match push_numbers(&mut intervals, first) {
+        Ok(()) => Ok(intervals),
+        Err(error) => {
+            drop(intervals);
+            Err(error)
+        }
+    }
+}
+
+fn push_numbers(intervals: &mut Vec<GnoInterval>, first: u32) -> Result<(), Error> {
     for index in 0..100_u64 {
         let start = u64::from(first) + 2 * index;
         intervals
             .push(GnoInterval::new(start, start + 1))
             .map_err(AllocError::from)?;
     }
-    Ok(intervals)
+    Ok(())
 }
 
 // Adds a PREVIOUS_GTIDS event with a hundred intervals of one source. Two allocations for the event.
@@ -36,26 +46,36 @@ fn add_entries(set: &mut GtidTracker, entries: Vec<PreviousGtidsSid<'_>>) -> Res
 }
 
 // Room for a hundred intervals, and as many.
-fn fills_its_room(alloc: Global) -> Result<bool, Error> {
-    let mut set = GnoSet::new(alloc);
+fn fill(set: &mut GnoSet) -> Result<(), Error> {
     set.reserve(100)?;
     for index in 0..100_u64 {
         let start = 2 * index + 1;
         set.insert(start, start + 1)?;
     }
-    Ok(set.intervals().len() == 100)
+    Ok(())
+}
+
+fn fills_its_room(alloc: Global) -> bool {
+    let mut set = GnoSet::new(alloc);
+    let answer = fill(&mut set);
+    let len = set.intervals().len();
+    drop(set);
+    answer == Ok(()) && len == 100
 }
 
 #[test]
 fn room_for_intervals_makes_one_allocation(rt: HostRuntime) {
-    assert!(rt; fills_its_room(rt.alloc()) == Ok(true));
+    assert!(rt; fills_its_room(rt.alloc()));
 }
 
 // A hundred intervals of a source that the set doesn't have: the groups and the intervals.
 fn lists_a_new_source(alloc: Global) -> Result<bool, Error> {
     let mut set = GtidTracker::new(alloc);
-    add_odd_numbers(alloc, &mut set)?;
-    Ok(set.contains(A, None, 199) && !set.contains(A, None, 198))
+    let added = add_odd_numbers(alloc, &mut set);
+    let contains = set.contains(A, None, 199) && !set.contains(A, None, 198);
+    drop(set);
+    added?;
+    Ok(contains)
 }
 
 #[test]
@@ -67,9 +87,13 @@ fn previous_gtids_of_a_new_source_make_four_allocations(rt: HostRuntime) {
 // copied, and there is room for more intervals.
 fn lists_a_known_source(alloc: Global) -> Result<bool, Error> {
     let mut set = GtidTracker::new(alloc);
-    add_gtid(&mut set, A, None, 1_000)?;
-    add_odd_numbers(alloc, &mut set)?;
-    Ok(set.contains(A, None, 199) && set.contains(A, None, 1_000))
+    let first = add_gtid(&mut set, A, None, 1_000);
+    let added = add_odd_numbers(alloc, &mut set);
+    let contains = set.contains(A, None, 199) && set.contains(A, None, 1_000);
+    drop(set);
+    first?;
+    added?;
+    Ok(contains)
 }
 
 #[test]
@@ -101,12 +125,20 @@ fn previous_gtids_with_a_source_twice_make_nine_allocations(rt: HostRuntime) {
 }
 
 // A thousand GTIDs in the order of a server: the groups and the intervals.
+fn add_in_order(set: &mut GtidTracker) -> Result<(), Error> {
+    for gno in 1..=1_000_u64 {
+        add_gtid(set, A, None, gno)?;
+    }
+    Ok(())
+}
+
 fn adds_in_order(alloc: Global) -> Result<bool, Error> {
     let mut set = GtidTracker::new(alloc);
-    for gno in 1..=1_000_u64 {
-        add_gtid(&mut set, A, None, gno)?;
-    }
-    Ok(set.contains(A, None, 1_000))
+    let added = add_in_order(&mut set);
+    let contains = set.contains(A, None, 1_000);
+    drop(set);
+    added?;
+    Ok(contains)
 }
 
 #[test]

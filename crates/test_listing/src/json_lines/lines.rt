@@ -2,15 +2,25 @@
 use binlog_file::Error;
 use binlog_json_lines::JsonLines;
 use binlog_lines::ItemLines;
+use std::alloc::Global;
 
-#[test]
-fn a_mismatch_has_both_checksums(rt: HostRuntime) {
-    let mut lines = JsonLines::new(rt.alloc());
+/// The line of an event that stores 0x1c, and has the checksum 0x1b.
+const WANTED: &[u8] =
+    b"{\"index\":1,\"error\":17,\"stored\":\"1c000000\",\"computed\":\"1b000000\"}\n";
+
+// Whether it is written.
+fn is_mismatch_written(alloc: Global) -> bool {
     let error = Error::ChecksumMismatch {
         stored: 0x1c,
         computed: 0x1b,
     };
-    let wanted: &[u8] =
-        b"{\"index\":1,\"error\":17,\"stored\":\"1c000000\",\"computed\":\"1b000000\"}\n";
-    assert!(rt; lines.error_line(rt.alloc(), 1, &error) == Ok(wanted));
+    let mut lines = JsonLines::new(alloc);
+    let is_written = lines.error_line(alloc, 1, &error) == Ok(WANTED);
+    drop(lines);
+    is_written
+}
+
+#[test]
+fn a_mismatch_has_both_checksums(rt: HostRuntime) {
+    assert!(rt; is_mismatch_written(rt.alloc()));
 }

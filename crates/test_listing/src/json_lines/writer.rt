@@ -41,8 +41,9 @@ fn written(rt: &impl AllocGlobal, log: &[u8]) -> (bool, u64, u64) {
         flushes: 0,
         lines: 0,
     };
-    let mut lines = MariaJsonWriter::new(rt.alloc(), device);
-    let _ = visit_counted(rt.alloc(), SliceReader::new(log), &mut lines);
+    let mut lines = MariaJsonWriter::new(rt.alloc(), device, false);
+    let mut input = SliceReader::new(log);
+    let _ = visit_counted(rt.alloc(), &mut input, &mut lines);
     let has_errors = lines.has_errors();
     let device = lines.into_output();
     (has_errors, device.lines, device.flushes)

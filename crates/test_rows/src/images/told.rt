@@ -26,10 +26,6 @@ pub enum Told {
     Number(u64),
     /// The length of a string.
     Length(usize),
-    /// The length of a document.
-    Document(usize),
-    /// The length of a list of diffs.
-    Diffs(usize),
     /// Another value.
     Other,
 }
@@ -44,9 +40,7 @@ pub fn told_column(column: ColumnValue<'_>) -> Told {
         ColumnValue::Null => Told::Null,
         ColumnValue::Value(Value::Integer(number)) => Told::Number(number.unsigned()),
         ColumnValue::Value(Value::Bytes(bytes)) => Told::Length(bytes.len()),
-        ColumnValue::Value(Value::Json(bytes)) => Told::Document(bytes.len()),
-        ColumnValue::Value(_) => Told::Other,
-        ColumnValue::Diffs(bytes) => Told::Diffs(bytes.len()),
+        ColumnValue::Value(_) | ColumnValue::Diffs(_) => Told::Other,
     }
 }
 

@@ -68,74 +68,78 @@ fn visited_in<E: RowsEventExt + Drop>(
     Ok(found)
 }
 
-/// Visits a row of those that are inserted.
-fn inserted(alloc: Global, body: &[u8], row: u64, index: u64) -> Result<Option<Visited>, Error> {
+// Whether the visit of a row of those that are inserted gives this.
+fn is_inserted(
+    alloc: Global,
+    body: &[u8],
+    row: u64,
+    index: u64,
+    wanted: Visited,
+) -> Result<bool, Error> {
     let event: WriteRowsEvent = read(alloc, body)?;
-    visited_in(alloc, event, row, ImageKind::After, index)
+    Ok(visited_in(alloc, event, row, ImageKind::After, index)? == Some(wanted))
 }
 
-/// Visits a row of those that are updated.
-fn updated(
+// The same of those that are updated.
+fn is_updated(
     alloc: Global,
     body: &[u8],
     row: u64,
     image: ImageKind,
     index: u64,
-) -> Result<Option<Visited>, Error> {
+    wanted: Visited,
+) -> Result<bool, Error> {
     let event: UpdateRowsEvent = read(alloc, body)?;
-    visited_in(alloc, event, row, image, index)
+    Ok(visited_in(alloc, event, row, image, index)? == Some(wanted))
 }
 
-/// A row that is read, with this column among so many.
-fn shown(told: Told, count: u64) -> Result<Option<Visited>, Error> {
-    Ok(Some((Some(Ok(())), told, count)))
-}
+/// The result of a row that is read.
+const READ: Option<Result<(), RowsError>> = Some(Ok(()));
 
-/// No row is left.
-const NONE: Visited = (None, Told::NoColumn, 0);
+/// A string that is too long.
+const BAD: Option<Result<(), RowsError>> = Some(Err(RowsError {
+    kind: RowsErrorKind::BadValue,
+    row: 0,
+    image: Some(ImageKind::After),
+    column: Some(2),
+}));
+
+/// An image that isn't there.
+const CUT: Option<Result<(), RowsError>> = Some(Err(RowsError {
+    kind: RowsErrorKind::Truncated,
+    row: 1,
+    image: Some(ImageKind::After),
+    column: None,
+}));
+
+/// Columns of inserted rows: those in front of a fault are shown, too.
+const INSERTED: &[(&[u8], u64, u64, Visited)] = &[
+    (FULL, 0, 1, (READ, Told::Null, 3)),
+    (FULL, 0, 2, (READ, Told::Length(3), 3)),
+    (FULL, 1, 1, (READ, Told::Number(2), 3)),
+    (FULL, 2, 0, (None, Told::NoColumn, 0)),
+    (LONG, 0, 1, (BAD, Told::Number(2), 2)),
+    (LONG, 1, 1, (None, Told::NoColumn, 0)),
+];
 
 #[test]
 fn all_columns_of_a_row_are_shown(rt: HostRuntime) {
-    assert!(rt; inserted(rt.alloc(), FULL, 0, 0) == shown(Told::Number(5), 3));
-    assert!(rt; inserted(rt.alloc(), FULL, 0, 1) == shown(Told::Null, 3));
-    assert!(rt; inserted(rt.alloc(), FULL, 0, 2) == shown(Told::Length(3), 3));
-    assert!(rt; inserted(rt.alloc(), FULL, 1, 1) == shown(Told::Number(2), 3));
-    assert!(rt; inserted(rt.alloc(), FULL, 2, 0) == Ok(Some(NONE)));
+    for (body, row, index, wanted) in INSERTED {
+        assert!(rt; is_inserted(rt.alloc(), body, *row, *index, *wanted) == Ok(true));
+    }
 }
+
+/// Columns of updated rows.
+const UPDATED: &[(&[u8], u64, ImageKind, u64, Visited)] = &[
+    (MOVED, 0, ImageKind::Before, 0, (READ, Told::Number(5), 6)),
+    (MOVED, 0, ImageKind::Before, 1, (READ, Told::Absent, 6)),
+    (MOVED, 0, ImageKind::After, 1, (READ, Told::Number(9), 6)),
+    (HALF, 1, ImageKind::Before, 0, (CUT, Told::Number(5), 3)),
+];
 
 #[test]
 fn both_images_are_shown(rt: HostRuntime) {
-    assert!(rt; updated(rt.alloc(), MOVED, 0, ImageKind::Before, 0) == shown(Told::Number(5), 6));
-    assert!(rt; updated(rt.alloc(), MOVED, 0, ImageKind::Before, 1) == shown(Told::Absent, 6));
-    assert!(rt; updated(rt.alloc(), MOVED, 0, ImageKind::After, 1) == shown(Told::Number(9), 6));
-}
-
-/// The refusal of a row, in front of which a column was shown, among so many.
-fn refused(
-    kind: RowsErrorKind,
-    row: u64,
-    column: Option<u64>,
-    told: Told,
-    count: u64,
-) -> Result<Option<Visited>, Error> {
-    let error = RowsError {
-        kind,
-        row,
-        image: Some(ImageKind::After),
-        column,
-    };
-    Ok(Some((Some(Err(error)), told, count)))
-}
-
-#[test]
-fn columns_in_front_of_a_fault_are_shown(rt: HostRuntime) {
-    assert!(rt;
-        inserted(rt.alloc(), LONG, 0, 1)
-            == refused(RowsErrorKind::BadValue, 0, Some(2), Told::Number(2), 2)
-    );
-    assert!(rt; inserted(rt.alloc(), LONG, 1, 1) == Ok(Some(NONE)));
-    assert!(rt;
-        updated(rt.alloc(), HALF, 1, ImageKind::Before, 0)
-            == refused(RowsErrorKind::Truncated, 1, None, Told::Number(5), 3)
-    );
+    for (body, row, image, index, wanted) in UPDATED {
+        assert!(rt; is_updated(rt.alloc(), body, *row, *image, *index, *wanted) == Ok(true));
+    }
 }

@@ -6,4 +6,4 @@ use Rattle.binlog_row_lines.proofs.members.push_members.Given as goal
 
 -- The members so far, with those to come, are all of them.
 abbrev pub invariant-members : goal.invariant-members
-invariant-members l = l.text.items ++ appended l.is_first (chosen_from l.member-index l.members l.bits) ≡ l.fn.text.items ++ joined (chosen (texts_of l.members) l.mask)
+invariant-members l = l.text.items ++ appended l.comma l.is_first (chosen_from l.member-index l.members l.bits) ≡ l.fn.text.items ++ joined l.comma (chosen (texts_of l.members) l.mask)

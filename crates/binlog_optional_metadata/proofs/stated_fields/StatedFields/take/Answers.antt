@@ -23,7 +23,13 @@ returns-in-EnumStrValue-clause-field c = sym (ap (λ (field : OptionalMetadataFi
 pub returns-in-SetStrValue-clause-field : goal.returns-in-SetStrValue-clause-field
 returns-in-SetStrValue-clause-field c = sym (ap (λ (field : OptionalMetadataField). with_field (stated_of c.args.self.now) (content_of field)) c.in-SetStrValue.is)
 
+pub returns-in-EnumAndSetDefaultCharset-clause-field : goal.returns-in-EnumAndSetDefaultCharset-clause-field
+returns-in-EnumAndSetDefaultCharset-clause-field c = sym (ap (λ (field : OptionalMetadataField). with_field (stated_of c.args.self.now) (content_of field)) c.in-EnumAndSetDefaultCharset.is)
+
+pub returns-in-EnumAndSetColumnCharset-clause-field : goal.returns-in-EnumAndSetColumnCharset-clause-field
+returns-in-EnumAndSetColumnCharset-clause-field c = sym (ap (λ (field : OptionalMetadataField). with_field (stated_of c.args.self.now) (content_of field)) c.in-EnumAndSetColumnCharset.is)
+
 pub returns-in_default-clause-field : goal.returns-in_default-clause-field
 returns-in_default-clause-field c =
     other_field (stated_of c.args.self.now) c.args.field c.in_default.not-Signedness c.in_default.not-DefaultCharset c.in_default.not-ColumnCharset c.in_default.not-ColumnName c.in_default.not-EnumStrValue
-    c.in_default.not-SetStrValue
+    c.in_default.not-SetStrValue c.in_default.not-EnumAndSetDefaultCharset c.in_default.not-EnumAndSetColumnCharset

@@ -6,4 +6,4 @@ use Rattle.binlog_optional_metadata.proofs.table_facts.TableFacts.new.Given as g
 
 -- The facts of the columns so far.
 abbrev pub invariant-columns : goal.invariant-columns
-invariant-columns l = SoFar l.fn.is_maria_log (stated_of l.stated) (columns_of l.fn.columns) (length l.yielded) l.facts.items l.numeric l.character (names_left l.names) (lists_left l.enums) (lists_left l.sets)
+invariant-columns l = SoFar l.fn.is_maria_log (stated_of l.stated) (columns_of l.fn.columns) (length l.yielded) l.facts.items l.numeric l.character l.listed (names_left l.names) (lists_left l.enums) (lists_left l.sets)

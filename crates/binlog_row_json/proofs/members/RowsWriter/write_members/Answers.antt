@@ -12,7 +12,7 @@ use Rattle.binlog_rows.specs.declared.rows_event_data.RowsEventData.{RowsEventDa
 use Rattle.binlog_mariadb.specs.Flavour.{IsMariaVersion}
 use Rattle.binlog_row_json.specs.Members.{IsFlavour, AreBodyMembers}
 use Rattle.binlog_row_json.specs.RowEvents.{is_of_rows, rows_event_of}
-use Rattle.binlog_row_json.specs.Shown.{Shows}
+use Rattle.binlog_row_json.specs.Shown.{ShowsBy}
 use Rattle.binlog_row_json.proofs.Reading.{of_other_type, read_some, read_error}
 use Rattle.binlog_row_json.proofs.Rows.{no_members, members_of}
 use Rattle.binlog_row_json.proofs.members.RowsWriter.write_members.Goals as goal
@@ -34,7 +34,7 @@ returns-in-Ok-Some c =
     let found = read_some e.fde (header_of e.frame).event_type (data_of e.fde.footer e.frame) c.in-Ok-Some.body rows reads in
     let shown =
     subst
-    (λ (f : Option RowsEventData). Shows c.write_body-written.result c.args.line.now c.write_body-written.new.line (AreBodyMembers c.is_maria_log-is_maria_log.result (option_copied c.args.table_map) f))
+    (λ (f : Option RowsEventData). ShowsBy c.write_body-written.result c.args.line.now c.write_body-written.new.line (AreBodyMembers c.is_maria_log-is_maria_log.result (option_copied c.args.table_map) f))
     (sym found) c.write_body-written.ensures in
     let flavour : IsFlavour e c.is_maria_log-is_maria_log.result =
     subst (λ (d : FormatDescriptionEvent). IsTrue c.is_maria_log-is_maria_log.result ↔ IsMariaVersion (take 50 d.server_version)) c.fde.ensures c.is_maria_log-is_maria_log.ensures in

@@ -1,0 +1,4 @@
+use Rattle.binary_json_lines.proofs.decimals.+push_digits.Given as goal
+
+abbrev pub decreases-push_digits : goal.decreases-push_digits
+decreases-push_digits l = l.count

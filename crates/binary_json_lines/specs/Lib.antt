@@ -1,0 +1,6 @@
+pub mod HasText
+pub mod Digits
+pub mod Times
+pub mod Opaques
+pub mod Parts
+pub mod Documents

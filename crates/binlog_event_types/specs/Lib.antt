@@ -1,0 +1,4 @@
+pub mod MysqlNames
+pub mod MariaNames
+pub mod NamesOfNumbers
+pub mod TypeNames

@@ -1,0 +1,268 @@
+#!/usr/bin/env python3
+"""Compares what the library reads of MySQL's binary JSON, and its text, with cases worked by hand and with a model.
+
+Usage: binary_json.py FLAG [--count N] [--seed N]
+
+FLAG is one of `programs.py`: its program answers questions, which `crates/probe_json/src/main.rt` lists. The cases are those of
+tests/cases/documents.txt. The model is `binary_json_model.py`: random documents as a server writes them, N damaged ones (100,000
+if it isn't stated), documents whose offsets name the same bytes again and again, 99 to 101 arrays within one another, offsets into
+headers, the greatest counts, and lengths of up to six bytes. All of them have to be answered within a minute. The last line is
+`N passed, M failed`; the exit status is 1 if something failed.
+"""
+
+import argparse
+import random
+import struct
+import subprocess
+import sys
+import time
+
+import binary_json_model as model
+import cases
+import programs
+import results
+from binary_json_model import Double, Integer, Members, NoText, Opaque, Refused
+
+CASES = cases.CASES / "documents.txt"
+SECONDS = 60
+
+KEYS = [b"", b"a", b"b", b"ab", b"key", "\u00e9".encode(), b"a\tb", b"k" * 300]
+STRINGS = [b"", b"x", b'"\\/\b\f\n\r\t\x00\x1f\x7f', "\u20ac\U0001f600".encode(), b"s" * 127, b"s" * 128, b"s" * 20000, b"\xff", b"\xed\xa0\x80"]
+DOUBLES = [0.0, -0.0, 1.0, 0.1, 1e15, 1e14, 123456789012345680.0, 1.5e-20, 1e-5, 1e-14, 1e-15, 1.25e-15, 9007199254740992.0, 1125899906842624.25, 2.0**-1017, 5e-324, 1.7976931348623157e308, 1e16, 12345678901234.5, 999999999999999.9, 1e22, 1e23, float("inf"), float("nan")]
+INTEGERS = [0, 1, -1, 127, 128, -128, 32767, 32768, -32768, -32769, 65535, 65536, 2**31 - 1, 2**31, -(2**31), 2**32 - 1, 2**32, 2**63 - 1, -(2**63)]
+
+
+# ---- Answers
+
+
+def answer(content):
+    """What is answered for a document."""
+    try:
+        return model.text(model.read(content))
+    except Refused as refused:
+        return f"refused {refused.name} {refused.place}"
+    except NoText:
+        return "no text"
+
+
+def question(content):
+    return f"document {content.hex() or '-'}"
+
+
+# ---- Documents
+
+
+def bits_of(number):
+    return struct.unpack("<Q", struct.pack("<d", number))[0]
+
+
+def random_double(rng):
+    if rng.random() < 0.3:
+        return Double(bits_of(rng.choice(DOUBLES)))
+    if rng.random() < 0.5:
+        return Double(bits_of(float(f"{rng.randrange(10 ** rng.randrange(1, 18))}e{rng.randrange(-25, 25)}")))
+    return Double(rng.getrandbits(64))
+
+
+def random_opaque(rng):
+    column = rng.choice([7, 10, 11, 12, 246, 246, 13, 16, 252, 255])
+    if column == model.DECIMAL:
+        scale = rng.randrange(39)
+        digits = "".join(rng.choice("0000123456789") for _ in range(rng.randrange(max(scale, 1), 82)))
+        return model.decimal(rng.random() < 0.5, digits, scale)
+    if column in model.TEMPORAL:
+        return model.packed_time(column, rng.choice([0, -1, -(2**63), rng.getrandbits(64) - 2**63, rng.getrandbits(50), -rng.getrandbits(40)]))
+    return Opaque(column, rng.randbytes(rng.choice([0, 1, 2, 3, 56, 57, 58, 114, 115, 200])))
+
+
+def random_scalar(rng):
+    return rng.choice(
+        [
+            lambda: rng.choice(model.LITERALS),
+            lambda: model.signed(rng.choice(INTEGERS)),
+            lambda: model.unsigned(abs(rng.choice(INTEGERS))),
+            lambda: random_double(rng),
+            lambda: rng.choice(STRINGS),
+            lambda: random_opaque(rng),
+        ]
+    )()
+
+
+def random_value(rng, depth):
+    if depth == 0 or rng.random() < 0.4:
+        return random_scalar(rng)
+    values = [random_value(rng, depth - 1) for _ in range(rng.randrange(5))]
+    if rng.random() < 0.5:
+        return values
+    return model.members((rng.choice(KEYS) + bytes([rng.randrange(97, 110)]), value) for value in values)
+
+
+def damaged(rng, content):
+    """A document with some bytes changed, left out or added."""
+    content = bytearray(content)
+    for _ in range(rng.randrange(1, 4)):
+        place = rng.randrange(min(len(content), 60) if rng.random() < 0.7 else len(content)) if content else 0
+        change = rng.random()
+        if change < 0.6 and content:
+            content[place] = rng.choice([rng.randrange(256), rng.randrange(16), 0, 255, content[place] ^ 1 << rng.randrange(8)])
+        elif change < 0.8:
+            del content[place : place + rng.randrange(1, 4)]
+        else:
+            content[place:place] = rng.randbytes(rng.randrange(1, 3))
+    return bytes(content)
+
+
+# ---- Crafted documents
+
+
+def array(values, size=None, width=2):
+    """An array by its entries, pairs of a type and what stands in the entry, and bytes behind them."""
+    entries, body = values
+    content = b"".join(bytes([kind]) + number.to_bytes(width, "little") for kind, number in entries) + body
+    size = 2 * width + len(content) if size is None else size
+    return len(entries).to_bytes(width, "little") + size.to_bytes(width, "little") + content
+
+
+def nested(depth):
+    """So many arrays within one another."""
+    content = array(([], b""))
+    for _ in range(depth - 1):
+        content = array(([(2, 7)], content))
+    return b"\2" + content
+
+
+def doubled(depth):
+    """Arrays of two entries, both of which name the next one."""
+    content = array(([], b""))
+    for _ in range(depth - 1):
+        content = array(([(2, 10), (2, 10)], content))
+    return b"\2" + content
+
+
+def crafted():
+    """Documents that no server writes."""
+    yield b""
+    yield from (bytes([kind]) for kind in range(256))
+    yield from (nested(depth) for depth in (1, 2, 99, 100, 101, 150))
+    yield from (doubled(depth) for depth in range(1, 40))
+    yield from (doubled(depth) + bytes(spare) for depth in range(2, 9) for spare in (1, 10, 100, 1000))
+    # Spare bytes, one less than what is read, and as many.
+    for depth in range(2, 8):
+        cost = 10 * (2 ** (depth - 1) - 1) + 4 * 2 ** (depth - 1)
+        content = doubled(depth)
+        yield from (content + bytes(max(cost + extra + 1 - len(content), 0)) for extra in (-1, 0, 1))
+    # An array that names itself, its header, or bytes beyond its size.
+    for width, large in ((2, 0), (4, 1)):
+        header = 2 * width + width + 1
+        for kind in (0, 1, 2, 3, 11, 12, 15, 13):
+            for offset in (0, 1, width, header - 1, header, header + 1, header + 2, 0xFFFF):
+                yield bytes([2 + large]) + array(([(kind, offset)], b"\1a"), width=width)
+                yield bytes([2 + large]) + array(([(kind, offset)], b"\1a"), size=header + 1, width=width)
+        # The greatest counts and sizes, and sizes from 0 on.
+        top = 256**width - 1
+        for kind in (large, 2 + large):
+            for count in (0, 1, 2, top // 11, top):
+                for size in (0, 2 * width - 1, 2 * width, header, top):
+                    yield bytes([kind]) + count.to_bytes(width, "little") + size.to_bytes(width, "little") + bytes(40)
+    # Keys: empty ones at the end, in the header, beyond the end, and shared ones.
+    for offset in (0, 10, 11, 12, 13, 14):
+        for length in (0, 1, 2, 3, 0xFFFF):
+            content = (1).to_bytes(2, "little") + (13).to_bytes(2, "little") + offset.to_bytes(2, "little") + length.to_bytes(2, "little") + b"\4\1\0ab"
+            yield b"\0" + content
+            yield b"\0" + content + bytes(3)
+    # Lengths of one to six bytes, in any spelling, and of 2^32 and more.
+    for kind, front in ((12, b""), (15, b"\x0d")):
+        for length in (b"\0", b"\1", b"\x81\0", b"\x81\x80\x80\x80\0", b"\x81\x80\x80\x80\x80\0", b"\x80", b"\xff\xff\xff\xff\x0f", b"\xff\xff\xff\xff\x10", b"\xff\xff\xff\xff\x7f", b"\x80\x80\x80\x80\x10", b"\xff" * 5, b"\xff" * 6):
+            yield from (bytes([kind]) + front + length + rest for rest in (b"", b"x", b"xyz"))
+    # Decimal numbers of each precision and scale, and temporal values of other lengths.
+    for precision in range(0, 85):
+        for scale in (0, 1, 9, 37, 38, 39, 81, precision):
+            for filling in (b"\x80", b"\xff", b"\x7f", b"\0"):
+                content = bytes([precision, scale]) + filling + (b"\xff" if filling == b"\x7f" else b"\0") * (size_of(precision, scale) - 1)
+                yield b"\x0f\xf6" + model.variable(len(content)) + content
+    yield from (b"\x0f" + bytes([column, length]) + bytes(length) for column in (7, 10, 11, 12, 13) for length in (0, 7, 8, 9))
+    # Literals in entries and by themselves.
+    yield from (b"\4" + bytes([number]) for number in range(5))
+    yield from (b"\2" + array(([(4, number)], b"")) for number in (0, 1, 2, 3, 0x102, 0x100))
+    # Integers that stand in an entry in small arrays and in large ones.
+    yield from (bytes([2 + large]) + array(([(kind, 0xFFFE)], b""), width=2 + 2 * large) for large in (0, 1) for kind in range(4, 12))
+
+
+def size_of(precision, scale):
+    whole = max(precision - scale, 0)
+    return max(sum(model.GROUP_BYTES[size] for size in (whole % 9, scale % 9)) + 4 * (whole // 9 + scale // 9), 1)
+
+
+def written(rng, count):
+    """Documents as a server writes them, with their values."""
+    for index in range(count):
+        yield random_value(rng, rng.randrange(5))
+    # Large ones: many values, and long ones.
+    yield [model.signed(number) for number in range(30000)]
+    yield [b"s" * 66000, [None], members_of(3)]
+    yield members_of(20000)
+    yield [[b"x" * 40000], [b"y" * 40000], Integer(7, -5)]
+
+
+def members_of(count):
+    return model.members((str(number).encode(), model.signed(number)) for number in range(count))
+
+
+# ---- The comparison
+
+
+def hand_made():
+    """The cases of the file, worked by hand: what is asked, and the answer."""
+    names = {}
+    for number, line in cases.whole_lines(CASES)[1:]:
+        name, head, rest = line.split(": ", 2)
+        content, wanted = rest.split(cases.ARROW)
+        yield f"{head} {cases.bytes_of(content, names).hex() or '-'}", wanted
+
+
+def compared(name, words, asked):
+    """What is wrong with the answers to pairs of a question and the answer."""
+    asked = list(asked)
+    content = "".join(f"{line}\n" for line, _ in asked).encode()
+    began = time.monotonic()
+    finished = subprocess.run(words, input=content, stdout=subprocess.PIPE, timeout=SECONDS * 5)
+    took = time.monotonic() - began
+    found = finished.stdout.decode().split("\n")[:-1]
+    is_whole = finished.returncode == 0 and len(found) == len(asked)
+    yield None if is_whole else f"{name}: {len(found)} answers to {len(asked)}, status {finished.returncode}"
+    yield None if took <= SECONDS else f"{name}: {took:.0f} seconds"
+    for (line, wanted), answered in zip(asked, found):
+        yield None if answered == wanted else f"{name}: {line[:400]}: {answered[:300]}, not {wanted[:300]}"
+
+
+def all_failures(words, count, seed):
+    rng = random.Random(seed)
+    values = list(written(rng, 3000))
+    documents = [model.document(value) for value in values]
+    yield from compared("worked by hand", words, hand_made())
+    yield from compared("written", words, zip(map(question, documents), (answer_of(value) for value in values)))
+    yield from compared("crafted", words, ((question(content), answer(content)) for content in crafted()))
+    short = [content for content in documents if len(content) < 600]
+    contents = (damaged(rng, rng.choice(short)) for _ in range(count))
+    yield from compared("damaged", words, ((question(content), answer(content)) for content in contents))
+
+
+def answer_of(value):
+    """What is answered for a document that was made of a value."""
+    try:
+        return model.text(value)
+    except NoText:
+        return "no text"
+
+
+def main():
+    parser = argparse.ArgumentParser(description="Compares documents of MySQL's binary JSON with a model.")
+    programs.add_flags(parser)
+    parser.add_argument("--count", type=int, default=100_000, help="how many damaged documents")
+    parser.add_argument("--seed", type=int, default=1)
+    arguments = programs.parsed(parser, "documents")
+    return results.report(all_failures(arguments.build.command("documents"), arguments.count, arguments.seed))
+
+
+if __name__ == "__main__":
+    sys.exit(main())
