@@ -250,8 +250,8 @@ def measure_reading(bench, lister, folder):
 def slice_row(lister, baseline, counter, folder, kind):
     """Instructions for a line, those aside that take the log into memory. The whole outputs are the same."""
     progress(f"{kind}: counting instructions of the listing over a slice")
-    compare_outputs([lister], [baseline], folder / f"{kind}_small.binlog")
-    commands = [[lister], [lister, "memory"], [baseline], [baseline, "--memory"]]
+    compare_outputs([lister, "slice-listing"], [baseline], folder / f"{kind}_small.binlog")
+    commands = [[lister, "slice-listing"], [lister, "slice-listing", "memory"], [baseline], [baseline, "--memory"]]
     counted = [counts_per_event(command, counter, folder, kind, "slice") for command in commands]
     if None in counted:
         return [kind, *["not counted"] * 3]

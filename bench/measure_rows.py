@@ -1,9 +1,9 @@
 #!/usr/bin/env python3
-"""Measures `bench rows` beside a hand-written program, and `probe_rows` beside `mariadb-binlog`; prints two Markdown tables.
+"""Measures `bench rows` beside a hand-written program, and `probe_logs rows` beside `mariadb-binlog`; prints two Markdown tables.
 
 Usage: measure_rows.py [PROGRAM [PRINTER [FOLDER]]]
 
-PROGRAM is the built bench, and PRINTER the built probe_rows, if not given. FOLDER, `work` beside this file if not given,
+PROGRAM is the built bench, and PRINTER the built probe_logs, if not given. FOLDER, `work` beside this file if not given,
 holds the logs of make_row_logs.py, which are made if they are missing. The baseline is built first.
 
 The first table is of values that are added up; the sums of both programs must be equal. The second is of rows as text: lines
@@ -102,7 +102,7 @@ def check_rows(command, path):
 def main(arguments):
     given = arguments + [None] * (3 - len(arguments))
     command = [given[0] or str(HERE.parent / "crates/bench/out/bench"), "rows"]
-    printer = given[1] or str(HERE.parent / "crates/probe_rows/out/probe_rows")
+    printer = given[1] or str(HERE.parent / "crates/probe_logs/out/probe_logs")
     folder = Path(given[2] or HERE / "work")
     folder.mkdir(parents=True, exist_ok=True)
     baseline = build_baseline("rows_baseline")
@@ -112,7 +112,7 @@ def main(arguments):
     check_rows(command, folder / "rows_maria_small.binlog")
     sums = [row(command, folder, kind, lambda path: command, lambda path: [baseline]) for kind in make_row_logs.KINDS]
     print_table("Values added up", "Baseline's", sums)
-    printed = row(command, folder, "maria", lambda path: [printer], lambda path: [*MARIADB, path])
+    printed = row(command, folder, "maria", lambda path: [printer, "rows"], lambda path: [*MARIADB, path])
     print_table("Rows as text", "mariadb-binlog's", [printed])
 
 

@@ -38,7 +38,7 @@ LISTING = b"""\
 
 # For the words of each mode a log, and the output and the status.
 RUNS = [
-    ("maria-gtids", stored("probe_events"), b"9 10 903\n", SUCCESS),
+    ("maria-gtids", stored("probe_logs"), b"9 10 903\n", SUCCESS),
     ("reading", LOG, b"20\n", SUCCESS),
     ("reading owned", LOG, b"20\n", SUCCESS),
     ("reading slice", LOG, b"20\n", SUCCESS),

@@ -208,6 +208,52 @@ def read(content):
     return Reader(content).value(content[0], 1, len(content), 0)
 
 
+# ---- Lists of diffs
+
+OPERATIONS = ("replace", "insert", "remove")
+
+
+def diffs(content):
+    """The diffs of a list: what is done, the path, and a list of the value, empty where one is removed. Raises `Refused`."""
+    found, place = [], 0
+    while place < len(content):
+        if content[place] >= len(OPERATIONS):
+            raise Refused("Operation", place)
+        operation = OPERATIONS[content[place]]
+        path, place = behind_length(content, place + 1)
+        values = []
+        if operation != "remove":
+            whole, place = behind_length(content, place)
+            values = [read(whole)]
+        found.append((operation, path, values))
+    return found
+
+
+def behind_length(content, place):
+    """The bytes behind their length, and the place behind them."""
+    mark = content[place : place + 1]
+    if not mark:
+        raise Refused("Truncated", place)
+    if mark in (b"\xfb", b"\xff"):
+        raise Refused("Length", place)
+    width = {b"\xfc": 2, b"\xfd": 3, b"\xfe": 8}.get(mark, 0)
+    start = place + 1 + width
+    length = int.from_bytes(content[place + 1 : start], "little") if width else mark[0]
+    if start + length > len(content):
+        raise Refused("Truncated", place)
+    return content[start : start + length], start + length
+
+
+def diffs_text(found):
+    """The text of diffs. Raises `NoText`."""
+    return "[" + ",".join(diff_text(*diff) for diff in found) + "]"
+
+
+def diff_text(operation, path, values):
+    members = [f'"op":"{operation}"', f'"path":{string_text(path)}', *(f'"value":{text(value)}' for value in values)]
+    return "{" + ",".join(members) + "}"
+
+
 # ---- Text
 
 
@@ -291,6 +337,16 @@ def document(value):
     """The bytes of a document."""
     kind, content = encoded(value)
     return bytes([kind]) + content
+
+
+def diff_list(found):
+    """The bytes of a list of diffs, whose lengths are below 2^16."""
+    content = b""
+    for operation, path, values in found:
+        content += bytes([OPERATIONS.index(operation)])
+        for part in (path, *map(document, values)):
+            content += (bytes([len(part)]) if len(part) < 0xFB else b"\xfc" + len(part).to_bytes(2, "little")) + part
+    return content
 
 
 def variable(number):

@@ -516,6 +516,95 @@ def maria_transactions(runner):
             yield runner.check([command, *words, *ends, "0.bin"], Result(output), [log.content])
 
 
+def maria_set_log():
+    """A log of MariaDB's with transactions of several domains and servers: the log, and the GTID of the transaction of each event,
+    "" where it can't be read, None for events of the log. A transaction is its GTID, and two statements."""
+    statement = make_sample.frame(make_sample.QUERY, make_sample.query_body(b"test", b"select 1"), 0)
+    short = maria_gtids_sample.event(maria_gtids_sample.GTID, maria_gtids_sample.gtid_body(0, 1)[:12], 1)
+    gtids = [(0, 1, 100), (0, 1, 101), (1, 1, 100), (0, 2, 100), (1, 2, 7), (2**32 - 1, 2**32 - 1, 2**64 - 1)]
+    begins = [(f"{domain}-{server}-{sequence}", maria_gtids_sample.gtid(domain, server, sequence)) for domain, server, sequence in gtids]
+    begins.insert(3, ("", short))
+    # The entries of a list are no transactions.
+    pairs = [(None, maria_gtids_sample.start()), (None, maria_gtids_sample.gtid_list((0, 1, 100)))]
+    for gtid, event in begins:
+        pairs += [(gtid, event), (gtid, statement), (gtid, statement)]
+    pairs.append((None, make_sample.frame(make_sample.ROTATE, make_sample.ROTATE_BODY, 0)))
+    return MAGIC + b"".join(event for _, event in pairs), [gtid for gtid, _ in pairs]
+
+
+def maria_gtid_filters(runner):
+    """Whole transactions of MariaDB's are taken by their GTIDs: by the domain, the server id of the header, and the sequence
+    number."""
+    log, gtids = maria_set_log()
+    every, largest = {gtid for gtid in gtids if gtid}, "4294967295-4294967295-18446744073709551615"
+    # Words, and the GTIDs of the transactions that are taken; "" is the one whose GTID can't be read.
+    cases = [
+        (["--include-gtids", "0-1-100"], {"0-1-100"}),
+        (["--include-gtids", "1-1-100"], {"1-1-100"}),
+        (["--include-gtids", "0-2-100"], {"0-2-100"}),
+        (["--include-gtids", "1-2-100"], set()),
+        (["--include-gtids", "1-2-7,0-1-101,0-1-100,1-2-7"], {"0-1-100", "0-1-101", "1-2-7"}),
+        (["--include-gtids", "00-01-0100"], {"0-1-100"}),
+        (["--include-gtids", largest], {largest}),
+        (["--include-gtids", ",".join(sorted(every))], every),
+        (["--exclude-gtids", "0-1-100"], every - {"0-1-100"} | {""}),
+        (["--exclude-gtids", "0-2-100,1-1-100"], every - {"0-2-100", "1-1-100"} | {""}),
+        (["--exclude-gtids", "2-1-100"], every | {""}),
+        (["--include-gtids", "0-1-100,0-1-101", "--exclude-gtids", "0-1-101,1-2-7"], {"0-1-100"}),
+        (["--include-gtids", "0-1-100", "--exclude-gtids", "0-1-100"], set()),
+        # A set of one server has no GTID of the other.
+        (["--include-gtids", "0-1-100", "--exclude-gtids", f"{SID}:1-9"], {"0-1-100"}),
+        (["--include-gtids", f"{SID}:1-9", "--exclude-gtids", "0-1-100"], set()),
+    ]
+    for words, wanted in cases:
+        indexes = [index for index, gtid in enumerate(gtids) if gtid is None or gtid in wanted]
+        yield runner.check(["list", *words, "0.bin"], Result(lines(log, indexes)), [log])
+        yield runner.check(["copy", *words, "-o", "-", "0.bin"], Result(copy_of(log, indexes)), [log])
+    # The event that begins the only transaction that is taken; the GTID of that at index 11 can't be read.
+    for words, index in (["--include-gtids", "0-1-101"], 5), (["--exclude-gtids", ",".join(sorted(every))], 11):
+        found = runner.run(["json", *words, "--type", "GTID", "0.bin"], [log]).stdout.splitlines()
+        yield None if [json.loads(line)["index"] for line in found] == [index] else f"json {words}: {found}"
+        found = runner.run(["stats", *words, "0.bin"], [log]).stdout
+        yield None if b"\ntransactions 1\n" in found else f"stats {words}: {found!r}"
+    # In a log of another server the event has no GTID, and its transaction none.
+    other = MAGIC + maria_gtids_sample.start(maria_gtids_sample.MYSQL) + maria_gtids_sample.gtid(0, 1, 100)
+    yield runner.check(["list", "--include-gtids", "0-1-100", "0.bin"], Result(lines(other, [0])), [other])
+    yield runner.check(["list", "--exclude-gtids", "0-1-100", "0.bin"], Result(lines(other, [0, 1])), [other])
+    mysql = transactions(1, 2)
+    yield runner.check(["list", "--include-gtids", "0-1-1", "0.bin"], Result(lines(mysql, [0])), [mysql])
+
+
+# Texts that are no set of GTIDs, and the messages. A text with a `-` and no `:` is read as MariaDB's.
+NO_SETS = [
+    ("no_uuid", "no UUID at byte 0"),
+    ("no-uuid:1", "no UUID at byte 0"),
+    (f"0-1-100,{SID}:1", "no UUID at byte 0"),
+    (f"{SID}:1-5,0-1-100", "no UUID at byte 41"),
+    (SID, "no number in GTID 1"),
+    ("0-1", "fewer than two hyphens in GTID 1"),
+    ("0-1-100,", "fewer than two hyphens in GTID 2"),
+    ("0-1-100,,0-1-101", "fewer than two hyphens in GTID 2"),
+    ("0-1-", "no number in GTID 1"),
+    ("-1-100", "no number in GTID 1"),
+    ("0-1-100-", "no number in GTID 1"),
+    ("0-1-100-101", "no number in GTID 1"),
+    ("0-1-+100", "no number in GTID 1"),
+    ("0-1-100, 0-1-101", "no number in GTID 2"),
+    ("0x1-1-100", "no number in GTID 1"),
+    ("4294967296-1-100", "a number out of range in GTID 1"),
+    ("0-1-100,0-4294967296-1", "a number out of range in GTID 2"),
+    ("0-1-18446744073709551616", "a number out of range in GTID 1"),
+]
+
+
+def no_sets(runner):
+    """Texts that are no set of GTIDs have a message, and nothing is read."""
+    for text, why in NO_SETS:
+        for option in "--include-gtids", "--exclude-gtids":
+            message_of = f"binlog: {option}: {re.escape(why)}\n"
+            yield runner.check(["list", f"{option}={text}", "0.bin"], Result(b"", USAGE, message_of), [SAMPLE])
+
+
 # ---- words and ends
 
 
@@ -692,7 +781,7 @@ def installs(runner):
 
 
 PARTS = (models, damaged, cut_logs, cut_ends, reported, several, filters, gtid_filters, names, gtids, maria_gtids, samples, stats)
-PARTS += (copies, maria, maria_transactions, stored_rows, words, ends, progress, followed, installs)
+PARTS += (copies, maria, maria_transactions, maria_gtid_filters, no_sets, stored_rows, words, ends, progress, followed, installs)
 
 
 def results_of(build, part):

@@ -4,7 +4,7 @@
 Usage: character_sets.py FLAG
        character_sets.py --tables
 
-FLAG is one of `programs.py`: its program answers questions, which `crates/probe_characters/src/main.rt` lists. Each byte of each
+FLAG is one of `programs.py`: its program answers questions, which `crates/probe_texts/src/main.rt` lists. Each byte of each
 single-byte set is compared with tests/cases/character_sets.tsv, and so is a text of all characters of each set, and one of a byte that is
 none; with Python's codecs where these are known to be as the servers'. Texts of the Unicode sets are compared with Python's codecs:
 all single units, edges of the planes and of the surrogates, random texts, and damaged ones. All numbers of collations are compared with

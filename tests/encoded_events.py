@@ -184,10 +184,10 @@ def explicit_defaults(byte):
 # ---- statements
 
 
-def statement(head, load, *, status_vars=(), tail=b"", schema="", text="", between=0):
+def statement(head, load, *, status_vars=(), tail=b"", schema="", text="", query=None, between=0):
     """The common part of QUERY and EXECUTE_LOAD_QUERY: a body whose head ends with `load`, and its members.
 
-    `tail` comes after the last whole status variable, and isn't one.
+    `tail` comes after the last whole status variable, and isn't one. `query` is what a text in another character set is.
     """
     status = b"".join(content for content, _ in status_vars) + tail
     body = number(head["thread_id"], 4) + number(head["execution_time"], 4)
@@ -197,7 +197,7 @@ def statement(head, load, *, status_vars=(), tail=b"", schema="", text="", betwe
     variables = {"status_vars": [member for _, member in status_vars]}
     if tail:
         variables["status_vars_rest"] = tail.hex()
-    return body, head | variables | {"schema": shown(schema), "query": shown(text)}
+    return body, head | variables | {"schema": shown(schema), "query": shown(text if query is None else query)}
 
 
 def query(*, thread_id=0, execution_time=0, error_code=0, skipped=b"", **texts):

@@ -117,6 +117,44 @@ def each_variable():
 TAILS = ["15 00", "00 01 02 03", "05 02 61", "02 01 61", "0b 03 61", "0b 00 01", "0c 01 61", "ff"]
 
 
+# Collations of clients, and texts by Python's codecs of their character sets.
+CLIENTS = [
+    (4, "cp850", "caf\u00e9 \u2551"),
+    (6, "hp-roman8", "caf\u00e9 \u20a4"),
+    (7, "koi8-r", "\u041f\u0440\u0438\u0432\u0435\u0442"),
+    (8, "cp1252", "na\u00efve \u20ac"),
+    (9, "iso8859-2", "\u017elu\u0165ou\u010dk\u00fd"),
+    (11, "ascii", "a"),
+    (18, "tis-620", "\u0e2a\u0e27\u0e31\u0e2a\u0e14\u0e35"),
+    (26, "cp1250", "\u017elu\u0165ou\u010dk\u00fd"),
+    (30, "iso8859-9", "\u0131\u015f\u0131k"),
+    (33, "utf-8", "caf\u00e9 \u20ac"),
+    (36, "cp866", "\u043f\u0440\u0438\u0432\u0435\u0442"),
+    (38, "mac_latin2", "\u010d\u0159"),
+    (39, "mac_roman", "caf\u00e9"),
+    (40, "cp852", "\u010d\u0159"),
+    (41, "iso8859-13", "\u0105\u017e"),
+    (45, "utf-8", "\U0001f600\n"),
+    (51, "cp1251", '\u041f"\\'),
+    (59, "cp1257", "\u0105\u017e"),
+    (255, "utf-8", "\U0001f600"),
+]
+
+# Collations of clients, and texts by Python's codecs, that are written as hexadecimal digits: the set isn't decoded, or the bytes are no
+# text in it.
+UNDECODED = [(number, "\u6f22\u5b57".encode(codec)) for number, codec in ((1, "big5"), (12, "euc_jp"), (13, "shift_jis"), (19, "euc_kr"))]
+UNDECODED += [(24, b"select 1"), (28, "\u6f22\u5b57".encode("gbk")), (248, "\u6f22\u5b57".encode("gb18030"))]
+UNDECODED += [(11, b"\x80"), (33, b"\xf0\x9f\x98\x80"), (45, b"\xe9"), (51, b"\x98"), (63, b"\xe9")]
+
+
+def queries_of_clients(skipped):
+    for number, codec, text in CLIENTS:
+        client = [encode.charset(number, 33, 33)]
+        yield encode.query(status_vars=client, schema="\u00e9", text=text.encode(codec), query=text, skipped=skipped)
+    for number, content in UNDECODED:
+        yield encode.query(status_vars=[encode.charset(number, 8, 8)], text=content, skipped=skipped)
+
+
 def queries(lengths):
     skipped = b"\xaa" * max(0, lengths[2] - 13)
     variables = list(each_variable())
@@ -132,6 +170,7 @@ def queries(lengths):
     yield encode.query(status_vars=variables, schema="d", text="q", skipped=skipped)
     for tail in map(bytes.fromhex, TAILS):
         yield encode.query(status_vars=variables[:3], tail=tail, text="q", skipped=skipped)
+    yield from queries_of_clients(skipped)
 
 
 def load_queries(_lengths):

@@ -165,6 +165,10 @@ def queries():
             yield query_compressed(text, stored(text, level=level))
         yield query_compressed(text, stored(text, width=4))
     yield query_compressed("select 1", None, status_vars=[encode.number_variable("SqlMode", 1)], schema=b"\xff")
+    # Collations of MariaDB's latin1 and big5, of which MySQL has none.
+    text = "caf\u00e9 \u20ac"
+    yield query_compressed(text, stored(text.encode("cp1252")), status_vars=[encode.charset(1032, 33, 33)])
+    yield query_compressed(b"select 1", None, status_vars=[encode.charset(1025, 33, 33)])
     whole = query_compressed("select 1", None)
     text = stored("select 1")
     damaged = text[:-1] + bytes([text[-1] ^ 1])

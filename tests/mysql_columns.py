@@ -176,19 +176,22 @@ def members_of_set(column, mask):
 
 
 def of_line(column, value):
-    """The value of a line, floats rounded and documents read; a list of diffs is `Diffs`."""
+    """The value of a line, floats rounded; a document is a `Document`, and a list of diffs is `Diffs`."""
     if value is None:
         return None
     if column.kind == "json" and isinstance(value, dict):
-        ((name, digits),) = value.items()
-        return Diffs(bytes.fromhex(digits)) if name == "diffs" else Document(mysql_documents.of_bytes(bytes.fromhex(digits)))
+        ((name, shown_value),) = value.items()
+        document = mysql_documents.of_json(shown_value)
+        return Diffs(mysql_documents.diffs(document)) if name == "diffs" else Document(document)
     if column.kind == "float":
         return struct.unpack("<f", struct.pack("<f", value))[0]
+    if column.kind == "double":
+        return float(value)
     return list(value.items()) if isinstance(value, dict) else value
 
 
 class Diffs(NamedTuple):
-    content: bytes
+    found: list
 
 
 class Document(NamedTuple):

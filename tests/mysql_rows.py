@@ -106,7 +106,7 @@ def matches(row, image):
 
 
 def with_diffs(value, before):
-    return Document(changed(before.value, value.content)) if isinstance(value, Diffs) else value
+    return Document(changed(before.value, value.found)) if isinstance(value, Diffs) else value
 
 
 def in_order(columns, rows):

@@ -31,6 +31,7 @@ from typing import NamedTuple
 import gtid_model
 import json_model
 import listing_model
+import mysql_documents
 import mysql_metadata
 import mysql_printed
 import results
@@ -61,7 +62,7 @@ class Log(NamedTuple):
 def read_log(program, programs, path):
     output = mysql_printed.output_of(programs, path)
     is_cut = listing_model.is_cut(path.read_bytes())
-    lines = [json.loads(line) for line in output_of(program, "json", path, is_cut=is_cut).splitlines()]
+    lines = [json.loads(line, parse_float=mysql_documents.Number) for line in output_of(program, "json", path, is_cut=is_cut).splitlines()]
     return Log(path, is_cut, lines, output, list(mysql_printed.events(output)))
 
 

@@ -54,7 +54,7 @@ LOGS = {
     "GTIDs": gtids_sample.sample(),
     "MariaDB's GTIDs": maria_gtids_sample.sample(),
     "long events": make_sample.sample() + 3 * LONG_EVENT,
-    "MariaDB's events": (programs.CRATES / "probe_events/stdin").read_bytes(),
+    "MariaDB's events": (programs.CRATES / "probe_logs/stdin").read_bytes(),
 }
 
 
@@ -104,6 +104,12 @@ def listing_fault(content):
     return lines_fault(listing_model, content)
 
 
+def mode_listing_fault(content):
+    """As `listing_fault`, of a program with a mode: where its words can't be read it lists nothing, and its status is 1."""
+    fault = listing_fault(content)
+    return lambda run: None if (run.status, run.output) == (FAILURE, b"") else fault(run)
+
+
 def written_back_fault(content):
     def fault(run):
         if not content.startswith(run.output):
@@ -120,10 +126,10 @@ def failure_fault(_content):
 # What is wrong with a run of each program, a crate's with its arguments.
 PROGRAMS = {
     "binlog_list": listing_fault,
-    "probe_slice_listing": listing_fault,
+    "probe_logs slice-listing": mode_listing_fault,
     "bench write-back": written_back_fault,
     "bench typed": failure_fault,
-    "probe_events": failure_fault,
+    "probe_logs events": failure_fault,
     "bench reading owned": failure_fault,
     "bench maria-gtids": failure_fault,
     "bench rows": failure_fault,

@@ -1,13 +1,15 @@
 """An encoder of rows: for each type of column contents of values, extremes among them, and their JSON.
 
-Written from `docs/ROW_VALUES.md`; nothing here reads bytes. A floating-point number is a `Float` of `row_model`.
+Written from `docs/ROW_VALUES.md`; nothing here reads bytes. A floating-point number is a `Float` of `row_model`, and the value of
+a document a `Json`.
 """
 
 import struct
 from collections import namedtuple
 
+import binary_json_model as model
 from encoded_events import length_encoded, number
-from row_model import Float
+from row_model import Float, Json
 
 # The type of a column, its metadata, and pairs of a content and its JSON; those of an UNSIGNED column, if they differ.
 Kind = namedtuple("Kind", "type metadata values unsigned", defaults=[None])
@@ -154,15 +156,55 @@ def strings():
     for kind in (252, 249, 250, 251):
         for width in range(1, 5):
             yield Kind(kind, bytes([width]), [(counted(content, width), text) for content, text in TEXTS])
-    for kind, value_of in ((245, lambda content: [("jsonb", content.hex())]), (255, bytes.hex), (140, lambda content: [("stored", content.hex())])):
+    for kind, value_of in ((255, bytes.hex), (140, lambda content: [("stored", content.hex())])):
         yield Kind(kind, b"\4", [(counted(content, 4), value_of(content)) for content, _ in TEXTS])
     yield Kind(242, b"\4", [(counted(content, 4), content.hex()) for content in (b"", b"abcd", bytes(range(8)))])
     yield Kind(141, b"\x0a\0", [(counted(content, 1), [("stored", content.hex())]) for content, _ in TEXTS])
     yield Kind(6, b"", [(b"", None)])
 
 
+def packed(year, month, day, hour=0, minute=0, second=0, micros=0):
+    """The number into which the parts of a date and a time are packed in a document."""
+    return ((((year * 13 + month) << 5 | day) << 17) + (hour << 12 | minute << 6 | second)) << 24 | micros
+
+
+# Values of documents, and their texts.
+DOCUMENTS = [
+    (None, "null"),
+    (True, "true"),
+    (False, "false"),
+    (model.signed(-32768), "-32768"),
+    (model.unsigned((1 << 64) - 1), "18446744073709551615"),
+    (model.signed(-(1 << 63)), "-9223372036854775808"),
+    (model.Double(0x3FF0_0000_0000_0000), "1.0"),
+    (model.Double(0x8000_0000_0000_0000), "-0.0"),
+    (model.Double(0x430C_6BF5_2634_0000), "1e15"),
+    (b"", '""'),
+    ('h\u00e4"\n\x1f\u2603'.encode(), '"h\u00e4\\"\\n\\u001f\u2603"'),
+    (model.decimal(True, "01250", 2), "-12.50"),
+    (model.packed_time(10, packed(2026, 11, 25)), '"2026-11-25"'),
+    (model.packed_time(11, -packed(0, 0, 0, 6, 30, 0, 250)), '"-06:30:00.000250"'),
+    (model.packed_time(12, packed(2026, 11, 25, 6, 30, 0, 250)), '"2026-11-25 06:30:00.000250"'),
+    (model.Opaque(16, b"\1"), '"base64:type16:AQ=="'),
+    ([], "[]"),
+    (model.members([(b"a", model.signed(1)), (b"b", [None, "\u00e4".encode()]), (b"", model.members([]))]), '{"":{},"a":1,"b":[null,"\u00e4"]}'),
+    ([[[model.members([(b"k" * 300, [])])]]], '[[[{"' + "k" * 300 + '":[]}]]]'),
+]
+# Values of documents that have no text.
+WITHOUT_TEXT = [b"\xff", [b"\xed\xa0\x80"], model.Double(0x7FF0_0000_0000_0000), model.members([(b"\xff", None)])]
+
+
+def documents():
+    values = [(model.document(value), [("json", Json(text))]) for value, text in DOCUMENTS]
+    # Bytes behind a document are ignored, and no bytes are null.
+    values += [(b"", [("json", Json("null"))]), (b"\4\1abc", [("json", Json("true"))])]
+    others = [model.document(value) for value in WITHOUT_TEXT] + [b"abc", b"\4", b"\4\3", model.document([b"abc"])[:-1]]
+    values += [(content, [("jsonb", content.hex())]) for content in others]
+    yield Kind(245, b"\4", [(counted(content, 4), shown) for content, shown in values])
+
+
 def kinds():
-    for group in (integers, floats, decimals, dates, older_times, newer_times, bits_and_members, strings):
+    for group in (integers, floats, decimals, dates, older_times, newer_times, bits_and_members, strings, documents):
         yield from group()
 
 

@@ -2,20 +2,24 @@
 as JSON.
 
 Written from `docs/ROW_VALUES.md`, on its own. An object is a list of pairs, since the names of columns may repeat, and a
-floating-point number is a `Float`, since its text isn't fixed.
+floating-point number is a `Float`, since its text isn't fixed; the value of a document is a `Json`.
 """
 
 import struct
 from collections import namedtuple
 from datetime import datetime, timezone
 
+import binary_json_model
 import character_model
 
 # A floating-point number by its bits: the format of its bytes, and the bytes.
 Float = namedtuple("Float", "format bytes")
 
-# A column: how its values are read, its real type, and what that needs to know.
-Column = namedtuple("Column", "read real", defaults=[None])
+# A value of a document by its text.
+Json = namedtuple("Json", "text")
+
+# A column: how its values are read, its real type, and how lists of diffs are read, if it may have any.
+Column = namedtuple("Column", "read real read_diffs", defaults=[None, None])
 
 # What the table map states of a column.
 Facts = namedtuple("Facts", "name is_unsigned character_set members", defaults=[None, False, None, None])
@@ -275,6 +279,22 @@ def named(name):
     return lambda content, _facts: [(name, content.hex())]
 
 
+def document(content, _facts):
+    """The value of a document of binary JSON; its digits where it is none, or has no text."""
+    try:
+        return [("json", Json(binary_json_model.text(binary_json_model.read(content))))]
+    except (binary_json_model.Refused, binary_json_model.NoText):
+        return [("jsonb", content.hex())]
+
+
+def diff_list(content, _facts):
+    """The diffs of a list; its digits where it is none, or has no text."""
+    try:
+        return [("diffs", Json(binary_json_model.diffs_text(binary_json_model.diffs(content))))]
+    except (binary_json_model.Refused, binary_json_model.NoText):
+        return [("diffs", content.hex())]
+
+
 # ---- columns
 
 
@@ -320,13 +340,14 @@ def fraction_column(width, value_of):
 
 
 def blob_column(kind):
-    value_of = {JSON: named("jsonb"), GEOMETRY: digits_alone, VECTOR: digits_alone, 140: named("stored")}.get(kind, string)
+    value_of = {JSON: document, GEOMETRY: digits_alone, VECTOR: digits_alone, 140: named("stored")}.get(kind, string)
     is_length = (lambda length: length % 4 == 0) if kind == VECTOR else (lambda length: True)
 
     def read(data):
         width = data.number(1)
         allowed(1 <= width <= 4, "BadMetadata")
-        return Column(counted(width, 256**width - 1, value_of, is_length))
+        read_diffs = counted(width, 256**width - 1, diff_list) if kind == JSON else None
+        return Column(counted(width, 256**width - 1, value_of, is_length), read_diffs=read_diffs)
 
     return read
 
@@ -518,17 +539,13 @@ def diff_columns(found, data):
     return {place for order, place in enumerate(documents) if diff_bits[order // 8] >> order % 8 & 1 == 1}
 
 
-def shown_as_diffs(read):
-    return lambda data, facts: [("diffs", digits) for _, digits in read(data, facts)]
-
-
 def with_diffs(found, data):
     """The columns of the image after of a partial update, behind its options and diff bits."""
     try:
         diffs = diff_columns(found, data)
     except Fault as fault:
         raise Fault(fault.args[0], None)
-    return [column._replace(read=shown_as_diffs(column.read)) if place in diffs else column for place, column in enumerate(found)]
+    return [column._replace(read=column.read_diffs) if place in diffs else column for place, column in enumerate(found)]
 
 
 def rows(found, stated, images, data, is_partial=False):

@@ -9,6 +9,7 @@ column, with extremes, and the rows that they have, which each program has to pr
 """
 
 import argparse
+import functools
 import json
 import math
 import random
@@ -17,6 +18,8 @@ import subprocess
 import sys
 from concurrent.futures import ProcessPoolExecutor
 
+import binary_json
+import binary_json_model
 import encoded_events as encode
 import encoded_logs
 import event_data_model
@@ -25,7 +28,7 @@ import programs
 import results
 import row_events
 import row_model
-from row_model import Facts, Fault, Float
+from row_model import Facts, Fault, Float, Json
 
 EVENTS_OF_A_LOG = 2_000
 EVENTS_OF_A_PART = 20_000
@@ -109,6 +112,8 @@ def is_same(found, wanted):
         if not math.isfinite(value):
             return found is None
         return isinstance(found, float) and struct.pack(wanted.format, found) == wanted.bytes
+    if isinstance(wanted, Json):
+        return is_same(found, json.loads(wanted.text, object_pairs_hook=list))
     if isinstance(wanted, (list, tuple)):
         return type(found) is type(wanted) and len(found) == len(wanted) and all(map(is_same, found, wanted))
     return type(found) is type(wanted) and found == wanted
@@ -262,10 +267,14 @@ def partial_image(present, nulls, diffs, size):
     content, members = encode.bits(nulls), []
     places = [place for place, is_there in enumerate(present) if is_there]
     for place, is_null in zip(places, nulls):
-        document = bytes([place]) * size
-        name = "diffs" if place % 2 and diffs[place // 2] else "jsonb"
-        value = [(name, document.hex())] if place % 2 else place
-        content += b"" if is_null else encode.number(size, 1) + document if place % 2 else bytes([place])
+        text = size * chr(97 + place % 26)
+        if place % 2 and diffs[place // 2]:
+            document = binary_json_model.diff_list([("insert", b"$." + text.encode(), [text.encode()]), ("remove", b"$[0]", [])])
+            value = [("diffs", Json(f'[{{"op":"insert","path":"$.{text}","value":"{text}"}},{{"op":"remove","path":"$[0]"}}]'))]
+        else:
+            document = binary_json_model.document(text.encode())
+            value = [("json", Json(f'"{text}"'))] if place % 2 else place
+        content += b"" if is_null else row_events.counted(document, 1) if place % 2 else bytes([place])
         members.append((f"@{place + 1}", None if is_null else value))
     return content, members
 
@@ -353,8 +362,37 @@ CODECS = ("utf-8", "utf-16-be", "utf-16-le", "utf-32-be", "ascii", "cp1252", "ko
 LETTERS = "aZ\"\n~\u00e4\u00df\u0434\u20ac\u65e5\ufffd\U0001f600"
 
 
+@functools.cache
+def short_documents():
+    """Documents of JSON columns, as a server writes them."""
+    chance = random.Random(59)
+    contents = (binary_json_model.document(binary_json.random_value(chance, chance.randrange(4))) for _ in range(2_000))
+    return [content for content in contents if len(content) < 400]
+
+
+# Paths of diffs, of which one is no text.
+PATHS = (b"$", b"$.a", b'$."a b"[0]', b"$[12]", "$.\u00e4".encode(), b"$.\xff", b"$." + b"k" * 260)
+
+
+def random_diffs(chance):
+    """A list of diffs."""
+    content = b""
+    for _ in range(chance.randrange(4)):
+        operation = chance.randrange(3)
+        parts = [chance.choice(PATHS)] + [chance.choice(short_documents()) for _ in range(operation < 2)]
+        content += bytes([operation]) + b"".join(encode.length_encoded(len(part)) + part for part in parts)
+    return content
+
+
+def random_document(chance):
+    content = random_diffs(chance) if chance.random() < 0.3 else chance.choice(short_documents())
+    return binary_json.damaged(chance, content) if chance.random() < 0.4 else content
+
+
 def random_content(chance, kind):
-    """One of the contents of a kind, or a short string of any bytes or of letters in some codec."""
+    """One of the contents of a kind, a document, or a short string of any bytes or of letters in some codec."""
+    if kind.type == JSON and chance.random() < 0.8:
+        return row_events.counted(random_document(chance), 4)
     if (kind.type, kind.metadata) not in SHORT or chance.random() < 0.3:
         return chance.choice(kind.values)[0]
     letters = "".join(chance.choice(LETTERS) for _ in range(chance.randint(0, 5)))
@@ -464,6 +502,8 @@ def encoded_failures(words):
 
 
 def is_same_with_floats(found, wanted):
+    if isinstance(wanted, Json):
+        return found == wanted
     if isinstance(wanted, (list, tuple)):
         return len(found) == len(wanted) and all(map(is_same_with_floats, found, wanted))
     return found == wanted or isinstance(found, Float) and wanted is None

@@ -26,15 +26,16 @@ LIBRARY = [
     "binlog_maria_gtids",
     "binlog_file",
     "json_line",
+    "binary_json",
+    "binary_json_lines",
     "binlog_row_lines",
 ]
 TOOLS = [
-    "binlog_lines",
+    "binlog_visits",
     "binlog_listing",
     "binlog_gtid_listing",
     "binlog_json_lines",
     "binlog_row_json",
-    "binlog_visits",
     "binlog_filters",
     "binlog_commands",
     "binlog_maria_json",
@@ -44,7 +45,7 @@ TOOLS = [
 
 # The crates of programs, and the programs' names; and those of programs that the scripts of `tests` run.
 PROGRAMS = {"binlog": "binlog"}
-PROBES = {"probe_events": "events", "probe_inflate": "texts", "probe_rows": "rows"}
+PROBES = {"probe_inflate": "texts", "probe_logs": "logs"}
 
 # The crates of tests, and their helpers.
 TESTKITS = ["testkit_bodies", "testkit_logs"]

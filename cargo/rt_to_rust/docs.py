@@ -19,6 +19,8 @@ REWORDED = {
     re.compile(r",? with memory from this set's allocator\b"): "",
     re.compile(r": it has no allocator\b"): "",
     re.compile(r"\bwithout an allocator\b"): "without memory of their own",
+    # A file's code needn't import what its documentation links to.
+    re.compile(r"\[`GtidTracker::group`\](?!\()"): "[`GtidTracker::group`](binlog::GtidTracker::group)",
 }
 
 # Words that a user of the packages doesn't know.

@@ -34,7 +34,8 @@ def models(source):
 
 def tactics(source):
     """Attributes that only the prover reads."""
-    for index in source.places("tactic"):
+    for index in source.places("tactic") + source.places("[", "cycle", "("):
+        index += source.is_at(index, "[")
         if source.code[index - 1].text != "[":
             raise source.refusal(index, "`tactic` outside of an attribute")
         first = index - 3 if source.is_at(index - 3, "#", "!") else index - 2

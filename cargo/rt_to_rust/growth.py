@@ -15,6 +15,8 @@ CALLS = {
     "push_str": "try_push_str",
 }
 TEXT_CALLS = ("push_str",)
+# The call of texts that has the name of one of vectors.
+PUSH, PUSH_CHARACTER = "push", "try_push_char"
 # Calls that make a vector or text with memory, and the functions of the library's module for memory in their place.
 CONSTRUCTORS = {
     ("Vec", "with_capacity"): "vec_with_capacity",
@@ -33,13 +35,22 @@ def growing_calls(source):
         end = source.partner[index + 1]
         if source.is_at(end + 1, ".", "unwrap", "(", ")"):
             yield source.span(end + 1, end + 4)
+        elif token.text == PUSH and is_text(source, index):
+            yield source.span(index, index, PUSH_CHARACTER)
         else:
             yield source.span(index, index, CALLS[token.text])
 
 
 def grows(source, index):
     """Whether this call's receiver is a vector or a text, and not a type of the crates with a call of that name."""
+    if source.code[index].text == PUSH and is_text(source, index):
+        return True
     return kind_of(source, index - 1) == ("String" if source.code[index].text in TEXT_CALLS else "Vec")
+
+
+def is_text(source, index):
+    """Whether this call's receiver is a text."""
+    return kind_of(source, index - 1) == "String"
 
 
 def constructors(source):
@@ -75,6 +86,12 @@ def filled(source):
         yield source.span(close, close, ")")
 
 
+def collected(source):
+    """Vectors of the items of an iterator, which are made with memory."""
+    for index in source.places(".", "collect", "("):
+        yield source.span(index + 1, index + 1, "try_collect_vec")
+
+
 def failures(source):
     """A failed growth holds no value: conversions of its error to `AllocError` are none."""
     for index in source.places(".", "map_err", "(", "AllocError", "::", "from", ")"):
@@ -99,4 +116,4 @@ def kept_values(source):
 def grown(source):
     """The source with growth that may be refused."""
     source = source.changed(kept_values(source))
-    return source.changed([*growing_calls(source), *constructors(source), *formatted(source), *filled(source), *failures(source)])
+    return source.changed([*growing_calls(source), *constructors(source), *formatted(source), *filled(source), *collected(source), *failures(source)])

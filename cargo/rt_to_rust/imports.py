@@ -35,6 +35,9 @@ STAND_INS = {
     "std::time::Clock": "TOOLS::host::Clock",
     "itoa::write_digits": "LIBRARY::digits::write_digits",
     "json::Writer": "crate::json::Writer",
+    "json::is_number": "crate::json::is_number",
+    "base64::engine::general_purpose::STANDARD": "crate::base64::STANDARD",
+    "fast_float::parse": "crate::fast_float::parse",
     "jiff_core::civil::Date": "crate::calendar::Date",
     "bitflags::Flag": "crate::bitflags::Flag",
     "bitflags::Flags": "crate::bitflags::Flags",
@@ -54,7 +57,8 @@ SAME = re.compile(
 # The calls of the module for memory, by the name that a file has to import.
 MEMORY = {
     "TryGrow": ["try_push", "try_insert", "try_resize", "try_extend_from_slice"],
-    "TryGrowText": ["try_push_str"],
+    "TryGrowText": ["try_push_str", "try_push_char"],
+    "TryCollect": ["try_collect_vec"],
     "string_from": ["string_from"],
     "try_format": ["try_format"],
     "try_lossy_text": ["try_lossy_text"],

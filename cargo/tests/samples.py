@@ -16,7 +16,7 @@ PUBLIC = {
     "Retrying": "binlog::counted::Retrying",
 }
 LIBRARY = Place("binlog_wire", None, is_test=False)
-TOOL = Place("binlog_lines", PUBLIC, is_test=False)
+TOOL = Place("binlog_visits", PUBLIC, is_test=False)
 PROGRAM = Place(None, PUBLIC, is_test=False)
 TEST = Place("test_base", PUBLIC, is_test=True)
 

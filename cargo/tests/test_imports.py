@@ -17,7 +17,7 @@ class Imports(Case):
 
     def test_other_packages_name_the_library_by_its_public_paths(self):
         text = "use binlog_file::{Error, Held};\nuse binlog_consts::Kind;\nuse crate::a::B;"
-        wanted = "use binlog::Error; use binlog::events::Held; use binlog::consts::Kind; use crate::binlog_lines::a::B;"
+        wanted = "use binlog::Error; use binlog::events::Held; use binlog::consts::Kind; use crate::binlog_visits::a::B;"
         self.gives(text, wanted, place=TOOL)
 
     def test_a_name_that_two_crates_have_is_that_of_its_crate(self):
@@ -26,7 +26,7 @@ class Imports(Case):
 
     def test_programs_name_the_packages_modules(self):
         for place in (PROGRAM, TEST):
-            self.gives("use binlog_lines::status;", "use binlog_tools::binlog_lines::status;", place=place)
+            self.gives("use binlog_visits::status;", "use binlog_tools::binlog_visits::status;", place=place)
 
     def test_a_name_that_is_not_public_is_refused(self):
         message = "sample.rt:1: binlog_file::Hidden isn't public in the library"

@@ -46,6 +46,10 @@ class Growth(Case):
     def test_vectors_of_copies(self):
         self.has("fn f() {\n    vec![in alloc; 0; 1 << bits]?;\n}", "vec_filled(0, 1 << bits)?;")
 
+    def test_items_of_an_iterator(self):
+        text = "fn f(alloc: Global) {\n    a.split(',').collect(alloc)?;\n}"
+        self.gives(text, "use crate::memory::TryCollect; fn f() { a.split(',').try_collect_vec()?; }")
+
     def test_texts_with_arguments(self):
         self.has('fn f() {\n    format!(in self.alloc; "@{}", a + 1)?;\n}', 'try_format(format_args!("@{}", a + 1))?;')
 
@@ -109,6 +113,10 @@ class BothForms(Case):
         text = "use std::fmt::Write;\nfn f(a: &mut String, b: B) {\n    a.push_str(c)?;\n    write!(a, \"{c}\")?;\n}"
         wanted = 'use crate::memory::TryGrowText; use crate::memory::TryWrite; fn f(a: &mut String, b: B) { a.try_push_str(c)?; write!(a, "{c}")?; }'
         self.gives(text, wanted)
+
+    def test_texts_grow_by_characters(self):
+        text = "fn f(a: &mut String, b: &mut Vec<char>, c: &mut B) {\n    a.push('c')?;\n    b.push('c')?;\n    c.push('c');\n}"
+        self.has(text, "a.try_push_char('c')?; b.try_push('c')?; c.push('c');")
 
 
 class Borrowing(Case):

@@ -27,6 +27,9 @@ class Proofs(Case):
         text = "#![tactic(auto)]\nuse std::marker::Model;\nimpl Model for A {\n    ghost view = { λ a. a };\n}\nfn f() {}"
         self.gives(text, "fn f() {}")
 
+    def test_names_of_cycles_go(self):
+        self.gives("#[cycle(a)]\nfn f() {\n    g().cycle();\n}", "fn f() { g().cycle(); }")
+
     def test_laws_go_with_their_calls(self):
         text = "mod laws;\nuse binlog_consts::laws::are_codes;\nfn f() {\n    are_codes();\n    g();\n}"
         self.gives(text, "fn f() { g(); }")

@@ -6,7 +6,7 @@
         print(event.position, event.event_type, len(event.data))
 """
 
-from ._bodies import Body
+from ._bodies import Body, Diffs
 from ._errors import BinlogError, InvalidLog, LogError, RowsError
 from ._library import library_version
 from ._log import Cursor, Damage, Event, Log, open
@@ -19,6 +19,7 @@ __all__ = [
     "Cursor",
     "Damage",
     "DamagedEvent",
+    "Diffs",
     "Event",
     "EventType",
     "InvalidLog",

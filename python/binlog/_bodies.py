@@ -37,6 +37,15 @@ class Body(dict[str, Any]):
             raise AttributeError(f"the data of the event has no member {name!r}") from None
 
 
+class Diffs(list[dict[str, Any]]):
+    """How a document of a JSON column was changed by a partial update: its diffs, in order.
+
+    Each is a dict of `op`, which is "replace", "insert" or "remove", of `path`, and but for a removal of `value`.
+    """
+
+    __slots__ = ()
+
+
 def _is_bytes(members: dict[str, Any], name: str) -> bool:
     """Whether a member is bytes: of the members named `value` those of some status variables, and that of a user variable."""
     if name == "value":
@@ -56,9 +65,14 @@ def value_of(found: Any) -> Any:
 
 
 def _cell_of(found: Any) -> Any:
-    """The value of a column. The bytes of what is no text in its character set, of JSON documents and of compressed values are objects of
-    one member in the line."""
-    return bytes.fromhex(*found.values()) if isinstance(found, dict) else found
+    """The value of a column. In the line a JSON document is an object of one member, and so are a list of diffs, and the bytes of what
+    is no text in its character set, of what is no document or no such list, and of compressed values."""
+    if not isinstance(found, dict):
+        return found
+    ((name, value),) = found.items()
+    if name == "json":
+        return value
+    return Diffs(value) if isinstance(value, list) else bytes.fromhex(value)
 
 
 def _image_of(found: Optional[dict[str, Any]]) -> dict[str, Any]:

@@ -208,7 +208,8 @@ class Event(_Item):
         names, or by `@1`, `@2` and so on where the table map has no names. None if this is no row event, no table map is in
         force for it, or its rows aren't decoded.
 
-        A value is None, an int, a float, a str or bytes, as docs/ROW_VALUES.md has it.
+        A value is None, an int, a float, a str or bytes, and that of a JSON column what `json.loads` makes of the document, as
+        docs/ROW_VALUES.md has it.
 
         Raises RowsError where a row, or the table map, isn't right.
         """

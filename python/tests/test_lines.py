@@ -14,6 +14,7 @@ import encoded_logs
 import json_model
 import listing_model
 import make_sample
+import row_values
 
 SAMPLE = make_sample.sample()
 CHECKSUMMED = checksummed_sample.sample()
@@ -120,6 +121,29 @@ class Bodies(unittest.TestCase):
         with self.assertRaises(binlog.LogError) as raised:
             event.body
         self.assertEqual((raised.exception.name, raised.exception.position), ("EndOfBody", len(MAGIC)))
+
+
+class Rows(unittest.TestCase):
+    def test_documents(self):
+        member = b"\0\1\0\x13\0\x0b\0\1\0\2\x0c\0a\1\0\7\0\4\1\0"
+        documents = [(b"\4\1", True), (b"", None), (b"\5\xfe\xff", -2), (member, {"a": [True]}), (b"\x0c\1\xff", b"\x0c\1\xff")]
+        contents = b"".join(b"\0" + len(document).to_bytes(4, "little") + document for document, _ in documents) + b"\1"
+        events = [row_values.table_map(7, bytes([row_values.JSON]), b"\4"), row_values.row_event(row_values.WHOLE[3], 7, [True], [True], contents)]
+        content = row_values.start("8.0.36") + b"".join(row_values.framed(*event) for event in events)
+        *_, event = binlog.Log(content)
+        self.assertEqual([row["after"]["@1"] for row in event.rows], [value for _, value in documents] + [None])
+
+    def test_diffs(self):
+        lists = [b"\0\4$[0]\2\4\1\2\3$.a", b"", b"\3"]
+        rows = b"".join(b"\1\1\0" + len(diffs).to_bytes(4, "little") + diffs for diffs in lists)
+        (partial,) = (kind for kind in row_values.encode.ROWS_KINDS if kind[0] == 39)
+        events = [row_values.table_map(7, bytes([row_values.JSON]), b"\4"), row_values.row_event(partial, 7, [False], [True], rows)]
+        content = row_values.start("8.0.36") + b"".join(row_values.framed(*event) for event in events)
+        *_, event = binlog.Log(content)
+        changed, empty, other = (row["after"]["@1"] for row in event.rows)
+        self.assertEqual(changed, [{"op": "replace", "path": "$[0]", "value": True}, {"op": "remove", "path": "$.a"}])
+        self.assertIsInstance(changed, binlog.Diffs)
+        self.assertEqual((empty, other), (binlog.Diffs(), b"\3"))
 
 
 if __name__ == "__main__":

@@ -1,7 +1,7 @@
 //! Verifying the checksums of a log.
 use crate::BUFFER_SIZE;
 use binlog_file::Error;
-use binlog_lines::status;
+use binlog_visits::status;
 use examples::verifying::{count_mismatches, list_by_crc32};
 use std::io;
 use std::io::{BufReader, BufWriter, Write};

@@ -12,3 +12,5 @@ pub mod Documents
 pub mod Reading
 pub mod Left
 pub mod Keys
+pub mod DiffLists
+pub mod DiffGrammar

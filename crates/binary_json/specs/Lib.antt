@@ -6,3 +6,4 @@ pub mod Refusals
 pub mod Decoding
 pub mod Views
 pub mod Iterators
+pub mod Diffs

@@ -5,6 +5,7 @@ mod check;
 mod container;
 mod containers;
 pub mod decimal;
+mod diffs;
 mod document;
 mod error;
 mod iterators;
@@ -15,6 +16,7 @@ mod value;
 
 pub use containers::{Array, Object};
 pub use decimal::Decimal;
+pub use diffs::{JsonDiff, JsonDiffError, JsonDiffOperation, JsonDiffs};
 pub use document::Document;
 pub use error::{JsonError, Refusal};
 pub use iterators::{Elements, Members};

@@ -4,4 +4,7 @@ pub mod NumberTexts
 pub mod DoubleLemmas
 pub mod PartLemmas
 pub mod Every
+pub mod TextTests
 pub mod Trees
+pub mod DiffLemmas
+pub mod TextDiffLemmas

@@ -4,3 +4,5 @@ pub mod Times
 pub mod Opaques
 pub mod Parts
 pub mod Documents
+pub mod Diffs
+pub mod TextDiffs

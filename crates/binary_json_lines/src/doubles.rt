@@ -7,6 +7,7 @@ ghost use Rattle.json.specs.Print.{IsNumber};
 ghost use Rattle.binary_json_lines.specs.Parts.{Writes, reading_back};
 
 use binary_json::Double;
+use fast_float::parse;
 use json::is_number;
 use json_line::Line;
 use ryu::Buffer;
@@ -80,7 +81,7 @@ fn reads_as(text: &str, shortest: &str, number: f64) -> bool
     requires { parse_float binary64 shortest.now ≡ Some number }
     ensures { OnTrue result (parse_float binary64 text.now ≡ Some number) }
 {
-    let Ok(read) = fast_float::parse::<f64, &str>(text) else {
+    let Ok(read) = parse::<f64, &str>(text) else {
         return false;
     };
     let mut buffer = Buffer::new();

@@ -2,6 +2,7 @@
 #![tactic(auto)]
 
 mod decimals;
+mod diffs;
 mod documents;
 mod doubles;
 pub mod laws;
@@ -9,5 +10,6 @@ mod opaques;
 mod texts;
 mod times;
 
+pub use diffs::{diffs_have_text, write_diffs};
 pub use documents::write_document;
 pub use texts::has_text;

@@ -8,8 +8,8 @@ ghost use Rattle.binary_json_lines.specs.HasText.{HasText, ElementsHaveText, Mem
 use binary_json::{Array, Document, Object, Value};
 use std::str;
 
-// Whether the bytes are UTF-8.
-fn is_utf8(bytes: &[u8]) -> bool
+/// Whether the bytes are UTF-8.
+pub(crate) fn is_utf8(bytes: &[u8]) -> bool
     ensures is { OnTrue result (IsUtf8 bytes.now) }
     ensures isnt { OnFalse result (¬ (IsUtf8 bytes.now)) }
 {

@@ -4,3 +4,4 @@ pub mod Gtids
 pub mod Verifying
 pub mod Commands
 pub mod Requests
+pub mod Ends

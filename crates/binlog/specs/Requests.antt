@@ -1,9 +1,13 @@
 -- What the words of the command line ask for.
-use Rattle.std.specs.Prelude.{◌≡◌, ◌≢◌, ℕ, Bool, true, false, List, Option, Some, None, codes}
+use Rattle.std.specs.Prelude.{◌≡◌, ◌≢◌, ℕ, Bool, true, false, List, Option, Some, None, codes, if◌then◌else◌}
 
 -- A flag that has this text, if it is there, is set or not.
 abbrev pub Flags : Option (List ℕ) → Bool → Type 0
 Flags text is_set = (text ≡ None → is_set ≡ false) × (text ≡ Some (codes "true") → is_set ≡ true) × (text ≡ Some (codes "false") → is_set ≡ false)
+
+-- The size of the buffer of lines, in bytes: none if they have to be seen at once.
+abbrev pub lines_capacity : (is_followed : Bool) → ℕ
+lines_capacity is_followed = if is_followed then 0 else 65536
 
 -- No command has this name.
 abbrev pub IsNoCommand : List ℕ → Type 0

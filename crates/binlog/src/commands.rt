@@ -1,24 +1,24 @@
 //! The commands that list and count events, and what all commands read. Each is generic over the files that it reads and its
 //! writer, which it gives back with its status. A status in place of a result is that of a command that can't begin.
-ghost use Rattle.std.specs.Prelude.{◌≡◌, ◌⊎◌, ⊤, IfErr, IfOk};
+ghost use Rattle.std.specs.Prelude.{◌≡◌, IfErr, IfOk};
+ghost use Rattle.std.specs.Io.Buffered.{writer_capacity};
 ghost use Rattle.clap.specs.Matches.{found_of};
 ghost use Rattle.binlog_filters.specs.declared.filter.Filter.{Filter};
-ghost use Rattle.binlog_cli.specs.FilterWords.{StatesFilter};
-ghost use Rattle.binlog_cli.specs.declared.exit_status.Status.TheVariants.{Failed, Usage};
+ghost use Rattle.binlog_cli.specs.FilterWords.{NeverBegins, StatesFilter};
 ghost use Rattle.binlog.specs.Commands.{outcome_of_text, WritesShown, WritesCounts};
 ghost use Rattle.binlog.specs.Reading.{ShowsTaken};
+ghost use Rattle.binlog.specs.Requests.{lines_capacity};
 
 use crate::files::read_files;
 use crate::inputs::Inputs;
 use crate::request::{Reading, Request};
 use binlog_cli::{BUFFER_SIZE, Outcome, Output, Reported, Status, filter, write_stats};
 use binlog_commands::Stats;
-use binlog_file::Retrying;
+use binlog_file::{Counted, Retrying};
 use binlog_filters::{Filter, Filtered};
-use binlog_lines::ItemLines;
 use binlog_listing::TextLines;
 use binlog_maria_json::MariaJsonWriter;
-use binlog_visits::{LineWriter, Refusing, Visitor};
+use binlog_visits::{ItemLines, LineWriter, Refusing, Visitor};
 use std::io;
 use std::io::{BufWriter, Write};
 use std::time::Clock;
@@ -32,9 +32,10 @@ pub(crate) fn list<'a, S: Inputs, R: Clock + Eprint + AllocGlobal, W: Write + Dr
 ) -> Result<(Status, W), Status>
     ensures ok { IfOk result (λ ended. WritesShown ⟦<BufWriter<Retrying<W>> as Write>⟧.contents (found_of request.now.options.now) request.now.reading.is_verified request.now.reading.is_followed
         (λ name. S.bytes inputs.now name.now) request.now.files.now
-        ⟦<LineWriter<TextLines, Output<BufWriter<Retrying<W>>>> as Visitor>⟧.visits ⟦<LineWriter<TextLines, Output<BufWriter<Retrying<W>>>> as Visitor>⟧.refuses (λ lines. lines.output) (λ lines. ⊤)
+        ⟦<LineWriter<TextLines, Counted<Output<BufWriter<Retrying<W>>>>> as Visitor>⟧.visits ⟦<LineWriter<TextLines, Counted<Output<BufWriter<Retrying<W>>>>> as Visitor>⟧.refuses (λ lines. lines.output.inner)
+        (λ lines. writer_capacity lines.output.inner.inner ≡ lines_capacity request.now.reading.is_followed)
         (W.contents writer) ended.0 (W.contents ended.1)) }
-    ensures err { IfErr result (λ status. (status ≡ Usage) ⊎ (status ≡ Failed)) }
+    ensures err { IfErr result (λ status. NeverBegins (found_of request.now.options.now) status) }
 {
     write_lines(rt, inputs, request, TextLines::new(), writer)
 }
@@ -49,8 +50,9 @@ pub(crate) fn json<'a, S: Inputs, R: Clock + Eprint + AllocGlobal, W: Write + Dr
     ensures ok { IfOk result (λ ended. WritesShown ⟦<BufWriter<Retrying<W>> as Write>⟧.contents (found_of request.now.options.now) request.now.reading.is_verified request.now.reading.is_followed
         (λ name. S.bytes inputs.now name.now) request.now.files.now
         ⟦<MariaJsonWriter<Output<BufWriter<Retrying<W>>>> as Visitor>⟧.visits ⟦<MariaJsonWriter<Output<BufWriter<Retrying<W>>>> as Visitor>⟧.refuses (λ lines. lines.output)
-        (λ lines. lines.keeps_stored ≡ request.now.keeps_stored) (W.contents writer) ended.0 (W.contents ended.1)) }
-    ensures err { IfErr result (λ status. (status ≡ Usage) ⊎ (status ≡ Failed)) }
+        (λ lines. (lines.keeps_stored ≡ request.now.keeps_stored) × (writer_capacity lines.output.inner ≡ lines_capacity request.now.reading.is_followed))
+        (W.contents writer) ended.0 (W.contents ended.1)) }
+    ensures err { IfErr result (λ status. NeverBegins (found_of request.now.options.now) status) }
 {
     let output = Output::new(rt, request.reading.output_capacity(), writer)?;
     let lines = MariaJsonWriter::new(rt.alloc(), output, request.keeps_stored);
@@ -74,14 +76,15 @@ fn write_lines<
 ) -> Result<(Status, W), Status>
     ensures ok { IfOk result (λ ended. WritesShown ⟦<BufWriter<Retrying<W>> as Write>⟧.contents (found_of request.now.options.now) request.now.reading.is_verified request.now.reading.is_followed
         (λ name. S.bytes inputs.now name.now) request.now.files.now
-        ⟦<LineWriter<L, Output<BufWriter<Retrying<W>>>> as Visitor>⟧.visits ⟦<LineWriter<L, Output<BufWriter<Retrying<W>>>> as Visitor>⟧.refuses (λ lines. lines.output) (λ lines. ⊤)
+        ⟦<LineWriter<L, Counted<Output<BufWriter<Retrying<W>>>>> as Visitor>⟧.visits ⟦<LineWriter<L, Counted<Output<BufWriter<Retrying<W>>>>> as Visitor>⟧.refuses (λ lines. lines.output.inner)
+        (λ lines. writer_capacity lines.output.inner.inner ≡ lines_capacity request.now.reading.is_followed)
         (W.contents writer) ended.0 (W.contents ended.1)) }
-    ensures err { IfErr result (λ status. (status ≡ Usage) ⊎ (status ≡ Failed)) }
+    ensures err { IfErr result (λ status. NeverBegins (found_of request.now.options.now) status) }
 {
     let output = Output::new(rt, request.reading.output_capacity(), writer)?;
-    let lines = LineWriter::new(rt.alloc(), lines, output);
+    let lines = LineWriter::new(rt.alloc(), lines, Counted::new(output));
     let (outcome, lines) = read_all(rt, inputs, request, lines)?;
-    Ok(lines.into_output().finish(rt, outcome))
+    Ok(lines.into_output().into_inner().finish(rt, outcome))
 }
 
 /// Shows a visitor what the filter of the words takes of all files.
@@ -93,7 +96,7 @@ pub(crate) fn read_all<
 >(rt: &'a R, inputs: &S, request: &Request<'_, 'a>, visitor: T) -> Result<(Outcome, T), Status>
     ensures ok { IfOk result (λ shown. (filter : Filter) × StatesFilter (found_of request.now.options.now) filter × ShowsTaken T.visits T.refuses T.refusals filter request.now.reading.is_verified request.now.reading.is_followed
         (λ name. S.bytes inputs.now name.now) request.now.files.now visitor shown.0 shown.1) }
-    ensures err { IfErr result (λ status. (status ≡ Usage) ⊎ (status ≡ Failed)) }
+    ensures err { IfErr result (λ status. NeverBegins (found_of request.now.options.now) status) }
 {
     let filter = filter(rt, request.options)?;
     Ok(read_taken(rt, inputs, request.files, request.reading, filter, visitor))
@@ -129,7 +132,7 @@ pub(crate) fn stats<'a, S: Inputs, R: Clock + Eprint + AllocGlobal, W: Write + D
 ) -> Result<(Status, W), Status>
     ensures ok { IfOk result (λ ended. WritesCounts ⟦<BufWriter<Retrying<W>> as Write>⟧.contents (found_of request.now.options.now) request.now.reading.is_verified request.now.reading.is_followed
         (λ name. S.bytes inputs.now name.now) request.now.files.now (W.contents writer) ended.0 (W.contents ended.1)) }
-    ensures err { IfErr result (λ status. (status ≡ Usage) ⊎ (status ≡ Failed)) }
+    ensures err { IfErr result (λ status. NeverBegins (found_of request.now.options.now) status) }
 {
     let mut output = Output::new(rt, BUFFER_SIZE, writer)?;
     let (read, stats) = read_all(rt, inputs, request, Stats::new())?;

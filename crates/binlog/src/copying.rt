@@ -1,7 +1,7 @@
 //! The command that copies logs.
-ghost use Rattle.std.specs.Prelude.{◌≡◌, ◌≢◌, ◌⊎◌, codes, IfErr, IfOk};
+ghost use Rattle.std.specs.Prelude.{◌≡◌, ◌≢◌, codes, IfErr, IfOk};
 ghost use Rattle.clap.specs.Matches.{found_of};
-ghost use Rattle.binlog_cli.specs.declared.exit_status.Status.TheVariants.{Failed, Usage};
+ghost use Rattle.binlog_cli.specs.FilterWords.{NeverBegins};
 ghost use Rattle.binlog.specs.Commands.{Copied, CopiesOr};
 ghost use Rattle.binlog.specs.Copying.{CopiesFiles};
 
@@ -28,7 +28,7 @@ pub(crate) fn copy<'a, S: Inputs, R: Files + Clock + Eprint + AllocGlobal, W: Wr
         request.now.reading.is_verified request.now.reading.is_followed (λ name. S.bytes inputs.now name.now) request.now.files.now (W.contents writer) status) }
     ensures file { request.now.output.now ≢ codes "-" → IfOk result (λ status. (file : R.File) × Copied ⟦<BufWriter<Retrying<R::File>> as Write>⟧.contents (found_of request.now.options.now)
         request.now.reading.is_verified request.now.reading.is_followed (λ name. S.bytes inputs.now name.now) request.now.files.now (R.File.contents file) status) }
-    ensures err { IfErr result (λ status. (status ≡ Usage) ⊎ (status ≡ Failed)) }
+    ensures err { IfErr result (λ status. NeverBegins (found_of request.now.options.now) status) }
 {
     if request.output == "-" {
         return copy_whole(rt, inputs, request, writer);
@@ -53,7 +53,7 @@ fn copy_whole<'a, S: Inputs, R: Clock + Eprint + AllocGlobal, W: Write + Drop>(
 ) -> Result<Status, Status>
     ensures ok { IfOk result (λ status. Copied ⟦<BufWriter<Retrying<W>> as Write>⟧.contents (found_of request.now.options.now)
         request.now.reading.is_verified request.now.reading.is_followed (λ name. S.bytes inputs.now name.now) request.now.files.now (W.contents writer) status) }
-    ensures err { IfErr result (λ status. (status ≡ Usage) ⊎ (status ≡ Failed)) }
+    ensures err { IfErr result (λ status. NeverBegins (found_of request.now.options.now) status) }
 {
     let (status, _) = copy_to(rt, inputs, request, writer)?;
     Ok(status)
@@ -68,7 +68,7 @@ fn copy_to<'a, S: Inputs, R: Clock + Eprint + AllocGlobal, W: Write + Drop>(
 ) -> Result<(Status, W), Status>
     ensures ok { IfOk result (λ ended. CopiesOr ⟦<BufWriter<Retrying<W>> as Write>⟧.contents (found_of request.now.options.now) request.now.reading.is_verified request.now.reading.is_followed
         (λ name. S.bytes inputs.now name.now) request.now.files.now (W.contents writer) ended.0 (W.contents ended.1)) }
-    ensures err { IfErr result (λ status. (status ≡ Usage) ⊎ (status ≡ Failed)) }
+    ensures err { IfErr result (λ status. NeverBegins (found_of request.now.options.now) status) }
 {
     let filter = filter(rt, request.options)?;
     let output = Output::new(rt, BUFFER_SIZE, writer)?;

@@ -1,7 +1,7 @@
 //! The command that prints the GTIDs of logs.
-ghost use Rattle.std.specs.Prelude.{◌≡◌, ◌⊎◌, IfErr, IfOk};
+ghost use Rattle.std.specs.Prelude.{◌≡◌, IfErr, IfOk};
 ghost use Rattle.clap.specs.Matches.{found_of};
-ghost use Rattle.binlog_cli.specs.declared.exit_status.Status.TheVariants.{Failed, Usage};
+ghost use Rattle.binlog_cli.specs.FilterWords.{NeverBegins};
 ghost use Rattle.binlog.specs.Commands.{WritesGtids};
 ghost use Rattle.binlog.specs.Gtids.{outcome_of_lines, is_unread, status_read, WritesSet, WritesDifference, WritesUnless, WritesMissing, WritesWanted};
 
@@ -27,7 +27,7 @@ pub(crate) fn gtids<'a, S: Inputs, R: Clock + Eprint + AllocGlobal, W: Write + D
 ) -> Result<(Status, W), Status>
     ensures ok { IfOk result (λ ended. WritesGtids ⟦<BufWriter<Retrying<W>> as Write>⟧.contents (found_of request.now.options.now) request.now.reading.is_verified request.now.reading.is_followed
         (λ name. S.bytes inputs.now name.now) request.now.files.now request.now.missing_in (W.contents writer) ended.0 (W.contents ended.1)) }
-    ensures err { IfErr result (λ status. (status ≡ Usage) ⊎ (status ≡ Failed)) }
+    ensures err { IfErr result (λ status. NeverBegins (found_of request.now.options.now) status) }
 {
     let output = Output::new(rt, BUFFER_SIZE, writer)?;
     let collector = GtidCollector::new(rt.alloc(), Counted::new(output));

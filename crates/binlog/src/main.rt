@@ -3,6 +3,8 @@
 
 ghost use Rattle.std.specs.Prelude.{◌≡◌};
 ghost use Rattle.binlog_cli.specs.declared.exit_status.Status.TheVariants.{Usage};
+ghost use Rattle.clap.specs.Values.{kind_of};
+ghost use Rattle.binlog.specs.Ends.{EndsRefused, EndsUnread, status_of};
 ghost use Rattle.binlog.specs.Requests.{IsNoCommand};
 
 mod commands;
@@ -42,7 +44,9 @@ fn run<R: Files + Env + Clock + Input + Print + Eprint + AllocGlobal>(
 }
 
 // The status if the words can't be read.
-fn unread<E: Eprint>(rt: &E, error: &io::Error) -> Status {
+fn unread<E: Eprint>(rt: &E, error: &io::Error) -> Status
+    ensures { EndsUnread error.now result }
+{
     if error.kind() == io::ErrorKind::OutOfMemory {
         return out_of_memory(rt);
     }
@@ -69,7 +73,9 @@ fn run_words<'a, R: Files + Clock + Input + Print + Eprint + AllocGlobal>(
 }
 
 // Prints the help, the version, or what is wrong with the words.
-fn refused<R: Print + Eprint>(rt: &R, error: &clap::Error) -> Status {
+fn refused<R: Print + Eprint>(rt: &R, error: &clap::Error) -> Status
+    ensures { EndsRefused (kind_of error.now) result }
+{
     let printed = error.print(rt);
     match error.kind() {
         ErrorKind::DisplayHelp | ErrorKind::DisplayVersion => match printed {
@@ -106,7 +112,9 @@ fn run_command<'a, R: Files + Clock + Input + Print + Eprint + AllocGlobal>(
 }
 
 // The status of a command that ended, or of one that can't begin.
-fn status_of<W: Drop>(ended: Result<(Status, W), Status>) -> Status {
+fn status_of<W: Drop>(ended: Result<(Status, W), Status>) -> Status
+    ensures { result ≡ status_of ended }
+{
     match ended {
         Ok((status, _)) | Err(status) => status,
     }

@@ -1,7 +1,7 @@
 //! What a command is asked for.
-ghost use Rattle.std.specs.Prelude.{◌≡◌, ◌↔◌, ◌&&◌, false, [], IsTrue, map, option_map, unwrap_or, codes, if◌then◌else◌};
+ghost use Rattle.std.specs.Prelude.{◌≡◌, ◌↔◌, ◌&&◌, false, [], IsTrue, map, option_map, unwrap_or, codes};
 ghost use Rattle.clap.specs.Matches.{found_of, matched_of, one_text, first_value, raw_values};
-ghost use Rattle.binlog.specs.Requests.{Flags};
+ghost use Rattle.binlog.specs.Requests.{Flags, lines_capacity};
 
 use binlog_cli::BUFFER_SIZE;
 use clap::ArgMatches;
@@ -57,7 +57,7 @@ impl Reading {
 
     /// The size of the buffer of the lines, in bytes: none if they have to be seen at once.
     pub(crate) fn output_capacity(self) -> usize
-        ensures { result ≡ (if self.is_followed then 0 else 65536) }
+        ensures { result ≡ lines_capacity self.is_followed }
     {
         if self.is_followed { 0 } else { BUFFER_SIZE }
     }

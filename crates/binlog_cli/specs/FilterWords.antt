@@ -1,16 +1,14 @@
 -- The filter that the options of a command state.
-use Rattle.std.specs.Prelude.{◌≡◌, ℕ, ◌<◌, ◌≤◌, ◌^◌, false, List, [], Option, Some, None, option_map, unwrap_or, codes}
+use Rattle.std.specs.Prelude.{◌≡◌, ◌⊎◌, ℕ, ◌<◌, ◌≤◌, ◌^◌, false, List, [], Option, Some, None, option_map, unwrap_or, codes}
 use Rattle.std.specs.Str.Parse.{IsNumeral, without_leading_plus, digits_value}
 use Rattle.clap.specs.Matches.{first_value, matched_of, one_text, raw_values}
 use Rattle.clap.specs.declared.parser.matches.Found.{Found}
-use Rattle.binlog_gtid_sets.specs.declared.gtid_group.GtidGroup.{GtidGroup}
-use Rattle.binlog_gtid_sets.specs.GtidGroups.{Pair, is_tracked}
-use Rattle.binlog_gtid_text.specs.Pieces.{IsInvalid, IsText, is_in_text}
-use Rattle.binlog_gtid_text.specs.declared.error.GtidTextError.{GtidTextError}
-use Rattle.binlog_gtid_text.specs.declared.piece.Piece.{Piece}
 use Rattle.binlog_filters.specs.declared.filter.Filter.{Filter}
-use Rattle.binlog_cli.specs.Times.{StatesTime}
-use Rattle.binlog_event_types.specs.TypeNames.{AreNamed}
+use Rattle.binlog_cli.specs.declared.exit_status.Status.{Status}
+use Rattle.binlog_cli.specs.declared.exit_status.Status.TheVariants.{Failed, Usage}
+use Rattle.binlog_cli.specs.GtidWords.{StatesGtids, StatesNoGtids}
+use Rattle.binlog_cli.specs.Times.{StatesNoTime, StatesTime}
+use Rattle.binlog_event_types.specs.TypeNames.{AreNamed, HasNoType}
 
 -- A text is a number below 2^64 in decimal; a plus may stand before it.
 pub record IsNumber (text : List ℕ) (n : ℕ) : Type 0 where
@@ -23,17 +21,6 @@ abbrev pub StatesNumber : Option (List ℕ) → Option ℕ → Type 0
 StatesNumber None number = number ≡ None
 StatesNumber (Some text) (Some n) = IsNumber text n
 StatesNumber (Some text) None = (n : ℕ) → IsNumber text n → ⊥
-
--- The set of GTIDs of an option with this text, if it is given.
-abbrev pub StatesGtids : Option (List ℕ) → Option (List GtidGroup) → Type 0
-StatesGtids None set = set ≡ None
-StatesGtids (Some text) (Some set) = (pieces : List Piece) × IsText text pieces × ((pair : Pair) (n : ℕ) → is_tracked set pair n ≡ is_in_text pieces pair n)
-StatesGtids (Some text) None = ⊥
-
--- An option is given with a text that is no set of GTIDs.
-abbrev pub StatesNoGtids : Option (List ℕ) → Type 0
-StatesNoGtids None = ⊥
-StatesNoGtids (Some text) = (error : GtidTextError) × IsInvalid text error
 
 -- The names of types that are asked for.
 abbrev pub type_names : Found → List (List ℕ)
@@ -54,3 +41,18 @@ pub record StatesFilter (found : Found) (filter : Filter) : Type 0 where
 -- The number of the server id is too large for one.
 abbrev pub StatesNoServer : Option (List ℕ) → Type 0
 StatesNoServer text = (n : ℕ) × StatesNumber text (Some n) × (2 ^ 32 ≤ n)
+
+-- An option is given with a value that can't be read: no time, a server id that is too large, a name that no type has, no set of
+-- GTIDs.
+abbrev pub StatesNoFilter : Found → Type 0
+StatesNoFilter found =
+    StatesNoTime (first_value found (codes "start-datetime"))
+    ⊎ (StatesNoTime (first_value found (codes "stop-datetime"))
+    ⊎ (StatesNoServer (one_text found (codes "server-id"))
+    ⊎ (HasNoType (type_names found)
+    ⊎ (StatesNoGtids (first_value found (codes "include-gtids"))
+    ⊎ StatesNoGtids (first_value found (codes "exclude-gtids"))))))
+
+-- The status of a command that can't begin: its options state no filter, or memory or its output failed.
+abbrev pub NeverBegins : Found → Status → Type 0
+NeverBegins found status = ((status ≡ Usage) × StatesNoFilter found) ⊎ (status ≡ Failed)

@@ -4,4 +4,5 @@ pub mod Reports
 pub mod TallyText
 pub mod StatsText
 pub mod Times
+pub mod GtidWords
 pub mod FilterWords

@@ -51,6 +51,7 @@ fn json<'a>(alloc: Global) -> Result<Command<'a>, AllocError> {
             "Examples:\n  \
              binlog json --type QUERY mysql-bin.000007 | jq -r .data.query\n  \
              binlog json --include-gtids 3e11fa47-71ca-11e1-9e33-c80aa9429562:5 mysql-bin.000007\n  \
+             binlog json --include-gtids 0-1-100,0-1-101 mariadb-bin.000007\n  \
              binlog json --follow --type QUERY mysql-bin.000008 | jq -r .data.query",
         )
         .arg(follow(alloc))?
@@ -186,9 +187,9 @@ fn with_filters<'a>(alloc: Global, command: Command<'a>) -> Result<Command<'a>, 
                 ),
         )?
         .arg(
-            text(alloc, "include-gtids")
-                .value_name("GTIDS")
-                .help("Whole transactions with one of these GTIDs"),
+            text(alloc, "include-gtids").value_name("GTIDS").help(
+                "Whole transactions with one of these GTIDs of MySQL or MariaDB",
+            ),
         )?
         .arg(
             text(alloc, "exclude-gtids")

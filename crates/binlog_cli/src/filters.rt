@@ -1,21 +1,25 @@
 //! The filter that the words of `binlog`'s command line state.
 ghost use Rattle.std.specs.Prelude.{◌≡◌, ◌⊎◌, codes, IfErr, IfOk};
-ghost use Rattle.clap.specs.Matches.{found_of, first_value, one_text};
+ghost use Rattle.clap.specs.Matches.{found_of, one_text};
 ghost use Rattle.binlog_cli.specs.declared.exit_status.Status.TheVariants.{Failed, Usage};
-ghost use Rattle.binlog_cli.specs.FilterWords.{StatesFilter, StatesGtids, StatesNoGtids, StatesNoServer, StatesNumber};
+ghost use Rattle.binlog_cli.specs.FilterWords.{NeverBegins, StatesFilter, StatesNoServer, StatesNumber};
 
-use crate::exit_status::{Status, out_of_memory};
+use crate::exit_status::Status;
+use crate::gtid_sets::gtids;
 use crate::times::time;
 use crate::type_names::types;
-use binlog_file::GtidTracker;
 use binlog_filters::Filter;
-use binlog_gtid_text::{GtidTextError, parse};
 use clap::ArgMatches;
 
-/// The filter. An option that can't be read has a message, and is the status of the run.
+/// The filter.
+///
+/// # Errors
+///
+/// The status of a run that can't begin, after its message: [`Status::Usage`] if an option can't be read, [`Status::Failed`] if
+/// there is no memory.
 pub fn filter<R: Eprint + AllocGlobal>(rt: &R, matches: &ArgMatches<'_>) -> Result<Filter, Status>
     ensures ok { IfOk result (λ filter. StatesFilter (found_of matches.now) filter) }
-    ensures err { IfErr result (λ status. (status ≡ Usage) ⊎ (status ≡ Failed)) }
+    ensures err { IfErr result (λ status. NeverBegins (found_of matches.now) status) }
 {
     let start_time = time(rt, matches, "start-datetime")?;
     let stop_time = time(rt, matches, "stop-datetime")?;
@@ -57,27 +61,5 @@ fn server_id<R: Eprint>(rt: &R, matches: &ArgMatches<'_>) -> Result<Option<u32>,
                 Err(Status::Usage)
             }
         },
-    }
-}
-
-// The set of GTIDs of an option, if it is given.
-fn gtids<R: Eprint + AllocGlobal>(
-    rt: &R,
-    matches: &ArgMatches<'_>,
-    option: &str,
-) -> Result<Option<GtidTracker>, Status>
-    ensures ok { IfOk result (λ set. StatesGtids (first_value (found_of matches.now) option.now) set) }
-    ensures err { IfErr result (λ status. ((status ≡ Usage) × StatesNoGtids (first_value (found_of matches.now) option.now)) ⊎ (status ≡ Failed)) }
-{
-    let Some(text) = matches.get_str(option) else {
-        return Ok(None);
-    };
-    match parse(rt.alloc(), text) {
-        Ok(gtids) => Ok(Some(gtids)),
-        Err(GtidTextError::Memory) => Err(out_of_memory(rt)),
-        Err(error) => {
-            let _ = eprintln!(rt; "binlog: --{option}: {error}");
-            Err(Status::Usage)
-        }
     }
 }

@@ -5,6 +5,7 @@
 mod arguments;
 mod exit_status;
 mod filters;
+mod gtid_sets;
 mod output;
 mod progress;
 mod reported;

@@ -1,6 +1,6 @@
 //! The output of a command.
 ghost use Rattle.std.specs.Prelude.{◌≡◌, [], Some, None, IfErr, IfOk, IfSome, OnOk};
-ghost use Rattle.std.specs.Io.Buffered.{writer_buffer};
+ghost use Rattle.std.specs.Io.Buffered.{writer_buffer, writer_capacity};
 ghost use Rattle.std.specs.Io.{WritesAtMost};
 ghost use Rattle.std.specs.Io.KnownBytes.{Keeps, WriteAppends};
 ghost use Rattle.binlog_cli.specs.declared.exit_status.Status.TheVariants.{Failed};
@@ -26,6 +26,7 @@ impl<W: Write + Drop> Output<BufWriter<Retrying<W>>> {
     /// Writes to this writer by a buffer of its own, of this capacity in bytes. An interrupted call is retried.
     pub fn new<R: Eprint + AllocGlobal>(rt: &R, capacity: usize, inner: W) -> Result<Self, Status>
         ensures bytes { IfOk result (λ output. ⟦<BufWriter<Retrying<W>> as Write>⟧.contents output.inner ≡ W.contents inner) }
+        ensures capacity { IfOk result (λ output. writer_capacity output.inner ≡ capacity) }
         ensures fine { IfOk result (λ output. output.failure ≡ None) }
         ensures err { IfErr result (λ status. status ≡ Failed) }
     {

@@ -1,5 +1,5 @@
 //! The progress in a file, on a terminal.
-ghost use Rattle.std.specs.Prelude.{◌≡◌, ◌<◌, ◌≤◌, true, false, IsNone, IfSome};
+ghost use Rattle.std.specs.Prelude.{◌≡◌, ◌<◌, ◌≤◌, ◌+◌, ◌^◌, ◌-◌, min, nat_lt, true, false, IsNone, IfSome, if◌then◌else◌};
 
 // The size in bytes above which the progress in a file is shown, and the bytes between two of its lines.
 const LARGE_FILE: u64 = 100_000_000;
@@ -20,7 +20,7 @@ pub struct Progress {
 impl Progress {
     /// Shows nothing.
     pub fn hidden() -> Progress
-        ensures { result.is_shown ≡ false }
+        ensures { result ≡ record { size = 0; due = 2 ^ 64 - 1; is_shown = false } }
     {
         Progress {
             size: 0,
@@ -31,8 +31,7 @@ impl Progress {
 
     /// Shows the progress in a file of this size in bytes if it is above 100,000,000.
     pub fn in_file(size: u64) -> Progress
-        ensures size { result.size ≡ size }
-        ensures shown { result.is_shown ≡ false }
+        ensures { result ≡ record { size = size; due = if nat_lt 100000000 size then 16777216 else 2 ^ 64 - 1; is_shown = false } }
     {
         let due = if size > LARGE_FILE {
             BYTES_BETWEEN
@@ -52,7 +51,7 @@ impl Progress {
     pub fn note<E: Eprint>(&mut self, rt: &E, position: Option<u64>, events: u64)
         ensures unknown { IsNone position → self.new ≡ self.old }
         ensures early { IfSome position (λ n. n < self.old.due → self.new ≡ self.old) }
-        ensures due { IfSome position (λ n. self.old.due ≤ n → self.new.is_shown ≡ true) }
+        ensures due { IfSome position (λ n. self.old.due ≤ n → self.new ≡ record self.old { due = min (n + 16777216) (2 ^ 64 - 1); is_shown = true }) }
     {
         let Some(position) = position else {
             return;
@@ -65,7 +64,7 @@ impl Progress {
     // Writes the line. It isn't inlined, so that it costs nothing where no line is due.
     #[inline(never)]
     fn show<E: Eprint>(&mut self, rt: &E, position: u64, events: u64)
-        ensures { self.new.is_shown ≡ true }
+        ensures { self.new ≡ record self.old { due = min (position + 16777216) (2 ^ 64 - 1); is_shown = true } }
     {
         self.due = position.saturating_add(BYTES_BETWEEN);
         self.is_shown = true;

@@ -12,7 +12,7 @@ use clap::ArgMatches;
 /// The raw types that are asked for, in ascending order. A name that no type has, has a message.
 pub fn types<R: Eprint + AllocGlobal>(rt: &R, matches: &ArgMatches<'_>) -> Result<Vec<u8>, Status>
     ensures ok { IfOk result (λ types. AreNamed (type_names (found_of matches.now)) types.items) }
-    ensures err { IfErr result (λ status. (status ≡ Usage) ⊎ (status ≡ Failed)) }
+    ensures err { IfErr result (λ status. ((status ≡ Usage) × HasNoType (type_names (found_of matches.now))) ⊎ (status ≡ Failed)) }
 {
     let types = types_with_names(rt, matches.get_strs("type").unwrap_or(&[]))?;
     Ok(types)
@@ -21,7 +21,7 @@ pub fn types<R: Eprint + AllocGlobal>(rt: &R, matches: &ArgMatches<'_>) -> Resul
 // The raw types that have one of these names.
 fn types_with_names<R: Eprint + AllocGlobal>(rt: &R, names: &[&str]) -> Result<Vec<u8>, Status>
     ensures ok { IfOk result (λ types. AreNamed (map (λ name. name.now) names.now) types.items) }
-    ensures err { IfErr result (λ status. (status ≡ Usage) ⊎ (status ≡ Failed)) }
+    ensures err { IfErr result (λ status. ((status ≡ Usage) × HasNoType (map (λ name. name.now) names.now)) ⊎ (status ≡ Failed)) }
 {
     check_names(rt, names)?;
     match numbers_with_names(rt.alloc(), names) {

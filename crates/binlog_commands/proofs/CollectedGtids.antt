@@ -7,7 +7,7 @@ use Rattle.binlog_events.specs.Events.{EventView}
 use Rattle.binlog_file.specs.TableMapsInForce.{TableMaps}
 use Rattle.binlog_visits.specs.TableMaps.{maps_behind}
 use Rattle.binlog_visits.specs.Visits.{Visits}
-use Rattle.binlog_lines.specs.Lines.{listing}
+use Rattle.binlog_visits.specs.Lines.{listing}
 use Rattle.binlog_gtid_sets.specs.GtidGroups.{Pair, is_tracked}
 use Rattle.binlog_mariadb.specs.declared.maria_gtid.MariaGtid.{MariaGtid}
 use Rattle.binlog_maria_gtids.specs.LastGtids.{last_of, Origin, KeepLast}
@@ -45,8 +45,7 @@ none_more index c = record {
 
 one_more : (index : ℕ) (item : Result EventView Error) (items : List (Result EventView Error)) (old mid new : Collection) → Collects index item old mid → CollectsMore (index + 1) items mid new
     → CollectsMore index (item ∷ items) old new
-one_more index item items old mid new (None, tracks, refused) rest = absurd tracks
-one_more index item items old mid new (Some is_error, tracks, refused) rest = record {
+one_more index item items old mid new (is_error, tracks, refused) rest = record {
   same = λ pair n.
       rest.same pair n ∙ ap (λ (b : Bool). are_added items pair n || b) (tracks.0 pair n)
       ∙ or_swap (are_added items pair n) (adds (gtids_in item) pair n) (is_tracked old.tracking.gtids.mysql pair n);

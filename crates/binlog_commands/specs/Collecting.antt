@@ -1,5 +1,5 @@
 -- Collecting the GTIDs of the items of a log.
-use Rattle.std.specs.Prelude.{◌≡◌, ℕ, Bool, List, [], ◌∷◌, Option, Some, Result, Ok, Err}
+use Rattle.std.specs.Prelude.{◌≡◌, ℕ, Bool, List, [], ◌∷◌, Option, Result, Ok, Err}
 use Rattle.std.specs.Io.KnownBytes.{Appends}
 use Rattle.binlog_wire.specs.declared.error.Error.{Error}
 use Rattle.binlog_events.specs.Events.{EventView}
@@ -30,11 +30,11 @@ refused_behind (Err error) refused = refused
 
 -- The sets grow by what the item adds, the line of an error is written, and an event whose GTIDs are refused is counted.
 abbrev pub Collects : (index : ℕ) (item : Result EventView Error) (old new : Collection) → Type 0
-Collects index item old new = (answer : Option Bool) × TracksLogItem index (Some item) old.tracking new.tracking (Ok answer) × (new.refused ≡ refused_behind item old.refused)
+Collects index item old new = (answer : Bool) × TracksLogItem index item old.tracking new.tracking (Ok answer) × (new.refused ≡ refused_behind item old.refused)
 
 -- Memory ran out, or the writer failed. Nothing is counted.
 abbrev pub RefusesCollected : (index : ℕ) (item : Result EventView Error) (old : Collection) (error : Error) (new : Collection) → Type 0
-RefusesCollected index item old error new = TracksLogItem index (Some item) old.tracking new.tracking (Err error) × (new.refused ≡ old.refused)
+RefusesCollected index item old error new = TracksLogItem index item old.tracking new.tracking (Err error) × (new.refused ≡ old.refused)
 
 -- ---- all items
 

@@ -3,7 +3,7 @@ ghost use Rattle.std.specs.Prelude.{◌≡◌, []};
 ghost use Rattle.binlog_gtid_listing.specs.LogItems.{log_gtids};
 
 use binlog_file::{Error, EventRef, EventStreamReader, WriteCounted};
-use binlog_gtid_listing::{LogGtids, list_refused, track_log_event};
+use binlog_gtid_listing::{LogGtids, track_log_event, write_error};
 use binlog_visits::{Refusing, Visitor};
 use std::alloc::Global;
 
@@ -50,14 +50,10 @@ impl<W: WriteCounted> Visitor for GtidCollector<W> {
         event: &EventRef<'_>,
         _reader: &EventStreamReader,
     ) -> Result<(), Error> {
-        match track_log_event(self.alloc, index, event, &mut self.gtids, &mut self.output) {
-            Ok(Some(true)) => {
-                self.refused = self.refused.saturating_add(1);
-                Ok(())
-            }
-            Ok(_) => Ok(()),
-            Err(error) => Err(error),
+        if track_log_event(self.alloc, index, event, &mut self.gtids, &mut self.output)? {
+            self.refused = self.refused.saturating_add(1);
         }
+        Ok(())
     }
 
     fn visit_error(
@@ -66,10 +62,8 @@ impl<W: WriteCounted> Visitor for GtidCollector<W> {
         error: &Error,
         _reader: &EventStreamReader,
     ) -> Result<(), Error> {
-        match list_refused(self.alloc, index, error, &mut self.output) {
-            Ok(_) => Ok(()),
-            Err(error) => Err(error),
-        }
+        write_error(self.alloc, index, error, &mut self.output)?;
+        Ok(())
     }
 }
 

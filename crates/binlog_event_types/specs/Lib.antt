@@ -2,3 +2,4 @@ pub mod MysqlNames
 pub mod MariaNames
 pub mod NamesOfNumbers
 pub mod TypeNames
+pub mod MariaVersions

@@ -1,2 +1,3 @@
+pub mod Followed
 pub mod PassedOn
 pub mod TakenLines

@@ -4,13 +4,13 @@ use Rattle.std.specs.List.{list_any}
 use Rattle.binlog_wire.specs.declared.error.Error.{Error}
 use Rattle.binlog_wire.specs.declared.error.Error.TheVariants.{Memory}
 use Rattle.binlog_description.specs.Headers.{header_of}
-use Rattle.binlog_event_data.specs.declared.event_data.EventData.{EventData}
-use Rattle.binlog_event_data.specs.declared.event_data.EventData.TheVariants.{GtidEvent}
-use Rattle.binlog_events.specs.Events.{EventView, ReadsEventData}
+use Rattle.binlog_events.specs.Events.{EventView}
 use Rattle.binlog_events.specs.Parts.{is_description}
-use Rattle.binlog_gtid_sets.specs.declared.gtid_group.GtidGroup.{GtidGroup}
-use Rattle.binlog_gtid_sets.specs.GtidGroups.{Pair, pair_of, is_tracked}
+use Rattle.binlog_file.specs.LogData.{ReadsLogData}
+use Rattle.binlog_file.specs.declared.log_data.LogEventData.{LogEventData}
+use Rattle.binlog_filters.specs.GtidFilters.{has_gtid_of}
 use Rattle.binlog_filters.specs.Places.{start_of, behind}
+use Rattle.binlog_filters.specs.declared.gtid_set.GtidSet.{GtidSet}
 use Rattle.binlog_filters.specs.declared.filter.Filter.{Filter}
 
 -- ---- the conditions
@@ -78,36 +78,37 @@ pub record HasNoCondition (filter : Filter) : Type 0 where
 abbrev pub begins_transaction : ℕ → Bool
 begins_transaction type = (type == 33) || ((type == 34) || ((type == 42) || (type == 162)))
 
--- The GTID is in the set, or there is no set.
-abbrev pub is_included : Option (List GtidGroup) → Pair → ℕ → Bool
-is_included None pair gno = true
-is_included (Some groups) pair gno = is_tracked groups pair gno
+-- The data has a GTID of the set, or there is no set.
+abbrev pub is_included : Option GtidSet → (server_id : ℕ) → LogEventData → Bool
+is_included None server_id x = true
+is_included (Some set) server_id x = has_gtid_of set server_id x
 
--- The GTID is in the set.
-abbrev pub is_excluded : Option (List GtidGroup) → Pair → ℕ → Bool
-is_excluded None pair gno = false
-is_excluded (Some groups) pair gno = is_tracked groups pair gno
+-- The data has a GTID of the set.
+abbrev pub is_excluded : Option GtidSet → (server_id : ℕ) → LogEventData → Bool
+is_excluded None server_id x = false
+is_excluded (Some set) server_id x = has_gtid_of set server_id x
 
--- A transaction is wanted that begins with this data: its GTID is included and not excluded. One without a GTID is wanted
--- if no GTIDs are asked for.
-abbrev pub wants : Filter → EventData → Bool
-wants filter (GtidEvent event) =
-    is_included filter.include_gtids (pair_of event.sid event.tag) event.gno && not (is_excluded filter.exclude_gtids (pair_of event.sid event.tag) event.gno)
-wants filter _ = is_none filter.include_gtids
+-- A transaction is wanted that begins with this data, where `server_id` is that of the event's header: its GTID is included and not
+-- excluded. One without a GTID is in no set, so it is wanted if no GTIDs are asked for.
+abbrev pub wants : Filter → (server_id : ℕ) → LogEventData → Bool
+wants filter server_id x = is_included filter.include_gtids server_id x && not (is_excluded filter.exclude_gtids server_id x)
 
 -- The same for the result of reading the data.
-abbrev pub wants_read : Filter → Result (Option EventData) Error → Bool
-wants_read filter (Ok (Some x)) = wants filter x
-wants_read filter (Ok None) = is_none filter.include_gtids
-wants_read filter (Err error) = is_none filter.include_gtids
+abbrev pub wants_read : Filter → (server_id : ℕ) → Result (Option LogEventData) Error → Bool
+wants_read filter server_id (Ok (Some x)) = wants filter server_id x
+wants_read filter server_id (Ok None) = is_none filter.include_gtids
+wants_read filter server_id (Err error) = is_none filter.include_gtids
 
--- Whether the transaction is wanted that begins with this event: by the data of the event, or by the error that its bytes give. A
--- lack of memory says nothing of the data.
-pub record WantsEvent (filter : Filter) (event : EventView) (now : Bool) : Type 0 where
-  pub read : Result (Option EventData) Error
-  pub reads : ReadsEventData event read
+-- This follows from what was read, which isn't a lack of memory: that says nothing of the data.
+pub record IsReadAs (answers : Result (Option LogEventData) Error → Bool) (read : Result (Option LogEventData) Error) (now : Bool) : Type 0 where
   pub is_read : ¬ (read ≡ Err Memory)
-  pub is : now ≡ wants_read filter read
+  pub is : now ≡ answers read
+
+-- Whether the transaction is wanted that begins with this event: by the data of the event, or by the error that its bytes give.
+pub record WantsEvent (filter : Filter) (event : EventView) (now : Bool) : Type 0 where
+  pub read : Result (Option LogEventData) Error
+  pub reads : ReadsLogData event read
+  pub wanted : IsReadAs (wants_read filter (header_of event.frame).server_id) read now
 
 -- Whether the transaction of an event is wanted, if `was` says so of the event before it.
 abbrev pub FollowsEvent : Filter → Bool → EventView → Result Bool Error → Type 0

@@ -4,18 +4,17 @@ ghost use Rattle.binlog_wire.specs.declared.error.Error.{Error};
 ghost use Rattle.binlog_events.specs.Events.{EventView};
 ghost use Rattle.binlog_file.specs.TableMapsInForce.{TableMaps};
 ghost use Rattle.binlog_visits.specs.Visits.{Visits};
-ghost use Rattle.binlog_visits.specs.declared.lines.LineWriter.{LineWriter};
+ghost use Rattle.binlog_visits.specs.declared.line_writer.LineWriter.{LineWriter};
 ghost use Rattle.binlog_filters.specs.TakenLines.{WritesTaken};
 ghost use Rattle.binlog_filters.specs.declared.filtered.Filtered.{Filtered};
 
 use crate::filtered::Filtered;
-use binlog_lines::ItemLines;
-use binlog_visits::{LineWriter, Visitor};
-use std::io::Write;
+use binlog_file::WriteCounted;
+use binlog_visits::{ItemLines, LineWriter, Visitor};
 
 /// The lines of what a filter takes. If the visits of items, one after another, are Ok, the output has grown by the lines of
 /// the items that the filter takes, in order, each with its index in the log.
-pub fn taken_lines<L: ItemLines, W: Write>()
+pub fn taken_lines<L: ItemLines, W: WriteCounted>()
     ensures { (maps : TableMaps) (index : ℕ) (items : List (Result EventView Error)) (old new : Filtered (LineWriter L W))
         → Visits ⟦<Filtered<LineWriter<L, W>> as Visitor>⟧.visits maps index items old new
         → WritesTaken (λ maps index item line. line ≡ L.line index item) old.filter old.place.position old.is_wanted maps index items (W.contents old.visitor.output) (W.contents new.visitor.output) }

@@ -4,9 +4,11 @@
 
 mod filter;
 mod filtered;
+mod gtid_set;
 pub mod laws;
 mod place;
 
 pub use filter::{Filter, begins_transaction};
 pub use filtered::Filtered;
+pub use gtid_set::GtidSet;
 pub use place::Place;

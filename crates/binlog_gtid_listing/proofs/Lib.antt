@@ -1,11 +1,9 @@
 pub mod Added
 pub mod Writing
 pub mod Groups
-pub mod Counting
 pub mod Tracked
 pub mod Numbers
 pub mod Listings
-pub mod Versions
 pub mod MariaAdded
 pub mod MariaLines
 pub mod Logged

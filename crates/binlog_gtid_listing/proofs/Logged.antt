@@ -4,6 +4,7 @@ use Rattle.std.specs.Io.KnownBytes.{Appends}
 use Rattle.std.proofs.lemmas.Bool.Decides.{nat_tests}
 use Rattle.std.proofs.KnownBytes.{Appends-nil}
 use Rattle.binlog_wire.specs.declared.error.Error.{Error}
+use Rattle.binlog_wire.specs.declared.error.Error.TheVariants.{Writer}
 use Rattle.binlog_wire.specs.Errors.{is_environment_error}
 use Rattle.binlog_description.specs.Headers.{header_of}
 use Rattle.binlog_events.specs.Events.{EventView}
@@ -42,22 +43,14 @@ kept_of_mysql event last other =
     subst (λ (gs : List MariaGtid). KeepLast (last ++ gs) last) (sym (ap (λ (b : Bool). cond b (event_gtids event) []) other)) (keeps_none last)
 
 -- What `track_event` does is what listing the event does.
-pub mysql_event : (index : ℕ) (event : EventView) (before after : List GtidGroup) (last : List MariaGtid) (old new : Option (List ℕ)) (answer : Result (Option Bool) Error) → has_maria_gtids event ≡ false
-    → TracksItem index (Some (Ok event)) (tracked before old) (tracked after new) answer
-    → TracksLogItem index (Some (Ok event)) (log_tracked (log_gtids before last) old) (log_tracked (log_gtids after last) new) answer
-mysql_event index event before after last old new (Ok None) other tracks = absurd tracks
-mysql_event index event before after last old new (Ok (Some e)) other tracks = (
-  tracks.0,
-  kept_of_mysql event last other,
-  subst (Appends old new) (line_of_mysql index event other) tracks.1,
-  tracks.2 ∙ refused_of_mysql event other,
-  tracks.3,
-)
+pub mysql_event : (index : ℕ) (event : EventView) (before after : List GtidGroup) (last : List MariaGtid) (old new : Option (List ℕ)) (answer : Result Bool Error) → has_maria_gtids event ≡ false
+    → TracksItem index (Ok event) (tracked before old) (tracked after new) answer
+    → TracksLogItem index (Ok event) (log_tracked (log_gtids before last) old) (log_tracked (log_gtids after last) new) answer
+mysql_event index event before after last old new (Ok e) other tracks =
+    (tracks.0, kept_of_mysql event last other, subst (Appends old new) (line_of_mysql index event other) tracks.1, tracks.2 ∙ refused_of_mysql event other)
 mysql_event index event before after last old new (Err error) other (kept, inl writer) =
-    (same_log before after last kept, inl (writer.0, writer.1, subst (AppendsFront old new) (line_of_mysql index event other) writer.2))
-mysql_event index event before after last old new (Err error) other (kept, inr (inl memory)) = (same_log before after last kept, inr (inl (memory.0, memory.1, memory.2, inl memory.3)))
-mysql_event index event before after last old new (Err error) other (kept, inr (inr outside)) =
-    absurd (let is : ◌≡◌ {A = Result EventView Error} (Ok event) (Err error) = outside.0 in cc)
+    (same_log before after last kept, inl (writer.0, subst (AppendsFront old new) (line_of_mysql index event other) writer.1))
+mysql_event index event before after last old new (Err error) other (kept, inr memory) = (same_log before after last kept, inr (memory.0, inl memory.1, memory.2))
 
 -- ---- an event of MariaDB's
 
@@ -85,19 +78,18 @@ no_error index (Err error) out fine = absurd cc
 
 -- Its GTIDs were added.
 pub maria_added : (index : ℕ) (event : EventView) (groups : List GtidGroup) (before after : List MariaGtid) (out : Option (List ℕ)) → has_maria_gtids event ≡ true
-    → AddsMariaGtids event before (Ok tt) after → TracksLogItem index (Some (Ok event)) (log_tracked (log_gtids groups before) out) (log_tracked (log_gtids groups after) out) (Ok (Some false))
+    → AddsMariaGtids event before (Ok tt) after → TracksLogItem index (Ok event) (log_tracked (log_gtids groups before) out) (log_tracked (log_gtids groups after) out) (Ok false)
 maria_added index event groups before after out has added = (
   grows_none event groups has,
   subst (λ (gs : List MariaGtid). KeepLast (before ++ gs) after) (gtids_of_maria event has) added.1,
   subst (Appends out out) (line_of_maria index event has) (no_error index (maria_data_of event) out added.0),
   sym added.0 ∙ refused_of_maria event has,
-  tt,
 )
 
 -- Memory ran out for them.
 pub maria_memory : (index : ℕ) (event : EventView) (groups : List GtidGroup) (before after : List MariaGtid) (out : Option (List ℕ)) (e : Error) → has_maria_gtids event ≡ true
-    → AddsMariaGtids event before (Err e) after → is_environment_error e ≡ true → TracksLogItem index (Some (Ok event)) (log_tracked (log_gtids groups before) out) (log_tracked (log_gtids groups after) out) (Err e)
-maria_memory index event groups before after out e has (same, inl memory) outside = (same_last groups before after same, inr (inl (memory, tt, refl, inr has)))
+    → AddsMariaGtids event before (Err e) after → is_environment_error e ≡ true → TracksLogItem index (Ok event) (log_tracked (log_gtids groups before) out) (log_tracked (log_gtids groups after) out) (Err e)
+maria_memory index event groups before after out e has (same, inl memory) outside = (same_last groups before after same, inr (memory, inr has, refl))
 maria_memory index event groups before after out e has (same, inr why) outside = absurd (let inside : is_environment_error e ≡ false = why.1 in cc)
 
 why_of : (event : EventView) (before after : List MariaGtid) (e : Error) → AddsMariaGtids event before (Err e) after → is_environment_error e ≡ false → maria_data_of event ≡ Err e
@@ -112,38 +104,30 @@ kept_of_refused event before after e has why same =
     subst (λ (es : List MariaGtid). KeepLast (before ++ item_gtids (Ok event)) es) (sym same)
     (subst (λ (gs : List MariaGtid). KeepLast (before ++ gs) before) none (keeps_none before))
 
--- The line of an error is written, or a front of it.
-pub maria_refused : (index : ℕ) (event : EventView) (groups : List GtidGroup) (before after : List MariaGtid) (old new : Option (List ℕ)) (e : Error) (answer : Result (Option Bool) Error)
-    → has_maria_gtids event ≡ true → AddsMariaGtids event before (Err e) after → is_environment_error e ≡ false
-    → TracksItem index (Some (Err e)) (tracked groups old) (tracked groups new) answer
-    → TracksLogItem index (Some (Ok event)) (log_tracked (log_gtids groups before) old) (log_tracked (log_gtids groups after) new) answer
-maria_refused index event groups before after old new e (Ok None) has added inside tracks = absurd tracks
-maria_refused index event groups before after old new e (Ok (Some is_error)) has added inside tracks =
-    let why = why_of event before after e added inside in
-    let line : error_line index e ≡ log_line index (Ok event) = sym (ap (maria_error_line index) why) ∙ line_of_maria index event has in (
-      grows_none event groups has,
-      kept_of_refused event before after e has why added.0,
-      subst (Appends old new) line tracks.1,
-      tracks.2 ∙ sym (ap is_err why) ∙ refused_of_maria event has,
-      tt,
-    )
-maria_refused index event groups before after old new e (Err failure) has added inside (kept, inl writer) =
+-- The line of the error is written.
+pub maria_refused : (index : ℕ) (event : EventView) (groups : List GtidGroup) (before after : List MariaGtid) (old new : Option (List ℕ)) (e : Error) → has_maria_gtids event ≡ true
+    → AddsMariaGtids event before (Err e) after → is_environment_error e ≡ false → Appends old new (error_line index e)
+    → TracksLogItem index (Ok event) (log_tracked (log_gtids groups before) old) (log_tracked (log_gtids groups after) new) (Ok true)
+maria_refused index event groups before after old new e has added inside wrote =
     let why = why_of event before after e added inside in
     let line : error_line index e ≡ log_line index (Ok event) = sym (ap (maria_error_line index) why) ∙ line_of_maria index event has in
-    (same_last groups before after added.0, inl (writer.0, tt, subst (AppendsFront old new) line writer.2))
-maria_refused index event groups before after old new e (Err failure) has added inside (kept, inr (inl memory)) = absurd memory.3
-maria_refused index event groups before after old new e (Err failure) has added inside (kept, inr (inr outside)) =
-    absurd (
-    let same : e ≡ failure = (let whole : ◌≡◌ {A = Result EventView Error} (Err e) (Err failure) = outside.0 in cc) in
-    let env : is_environment_error e ≡ true = ap is_environment_error same ∙ outside.2 in cc)
+    (grows_none event groups has, kept_of_refused event before after e has why added.0, subst (Appends old new) line wrote, sym (ap is_err why) ∙ refused_of_maria event has)
+
+-- The writer failed in it.
+pub maria_stops : (index : ℕ) (event : EventView) (groups : List GtidGroup) (before after : List MariaGtid) (old new : Option (List ℕ)) (e failure : Error) → has_maria_gtids event ≡ true
+    → AddsMariaGtids event before (Err e) after → is_environment_error e ≡ false → (failure ≡ Writer) × AppendsFront old new (error_line index e)
+    → TracksLogItem index (Ok event) (log_tracked (log_gtids groups before) old) (log_tracked (log_gtids groups after) new) (Err failure)
+maria_stops index event groups before after old new e failure has added inside wrote =
+    let why = why_of event before after e added inside in
+    let line : error_line index e ≡ log_line index (Ok event) = sym (ap (maria_error_line index) why) ∙ line_of_maria index event has in
+    (same_last groups before after added.0, inl (wrote.0, subst (AppendsFront old new) line wrote.1))
 
 -- ---- an item that is an error
 
-pub error_item : (index : ℕ) (error : Error) (groups : List GtidGroup) (last : List MariaGtid) (old new : Option (List ℕ)) (answer : Result (Option Bool) Error)
-    → TracksItem index (Some (Err error)) (tracked groups old) (tracked groups new) answer
-    → TracksLogItem index (Some (Err error)) (log_tracked (log_gtids groups last) old) (log_tracked (log_gtids groups last) new) answer
-error_item index error groups last old new (Ok None) tracks = absurd tracks
-error_item index error groups last old new (Ok (Some e)) tracks = (tracks.0, keeps_none last, tracks.1, tracks.2, tracks.3)
-error_item index error groups last old new (Err failure) (kept, inl writer) = (refl, inl writer)
-error_item index error groups last old new (Err failure) (kept, inr (inl memory)) = absurd memory.3
-error_item index error groups last old new (Err failure) (kept, inr (inr outside)) = (refl, inr (inr outside))
+pub error_item : (index : ℕ) (error : Error) (groups : List GtidGroup) (last : List MariaGtid) (old new : Option (List ℕ)) → Appends old new (error_line index error)
+    → TracksLogItem index (Err error) (log_tracked (log_gtids groups last) old) (log_tracked (log_gtids groups last) new) (Ok true)
+error_item index error groups last old new wrote = (λ pair n. refl, keeps_none last, wrote, refl)
+
+pub error_item_stops : (index : ℕ) (error failure : Error) (groups : List GtidGroup) (last : List MariaGtid) (old new : Option (List ℕ)) → (failure ≡ Writer) × AppendsFront old new (error_line index error)
+    → TracksLogItem index (Err error) (log_tracked (log_gtids groups last) old) (log_tracked (log_gtids groups last) new) (Err failure)
+error_item_stops index error failure groups last old new wrote = (refl, inl wrote)

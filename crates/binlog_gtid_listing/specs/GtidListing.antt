@@ -1,5 +1,5 @@
 -- The listing of the GTIDs of a log: the lines of its errors, and then those of the groups of its GTIDs.
-use Rattle.std.specs.Prelude.{◌≡◌, ◌≢◌, ◌⊎◌, ℕ, ◌<◌, ◌≤◌, Bool, List, [], ◌++◌, length, take, Option, Some, None, Result, Ok, Err}
+use Rattle.std.specs.Prelude.{◌≡◌, ◌≢◌, ◌⊎◌, ℕ, ◌<◌, ◌≤◌, Bool, ◌||◌, List, [], ◌++◌, length, take, Option, Some, None, Result, Ok, Err}
 use Rattle.std.specs.List.{list_any}
 use Rattle.std.specs.Io.KnownBytes.{Appends}
 use Rattle.binlog_wire.specs.declared.error.Error.{Error}
@@ -10,30 +10,15 @@ use Rattle.binlog_file.specs.State.{Handles}
 use Rattle.binlog_gtid_sets.specs.declared.gtid_group.GtidGroup.{GtidGroup}
 use Rattle.binlog_gtid_sets.specs.GtidGroups.{Pair, is_tracked, AreGroups}
 use Rattle.binlog_ends.specs.Counts.{AppendsFront}
-use Rattle.binlog_lines.specs.Places.{Place, first_place, GivesFrom, LeavesLooked}
-use Rattle.binlog_lines.specs.Lines.{listing, HasLine, ListsItem, ListsItems}
+use Rattle.binlog_visits.specs.Places.{Place, first_place, LeavesLooked}
+use Rattle.binlog_visits.specs.LineVisits.{WritesNoItem}
+use Rattle.binlog_visits.specs.Lines.{listing, ListsItems}
 use Rattle.binlog_gtid_listing.specs.GtidItems.{gtids_in, gtid_line, is_refused, are_added, MayGrow, GrowsBy}
 use Rattle.binlog_gtid_listing.specs.GroupLines.{AreGroupLines}
 
 -- The lines of the items with errors, in order.
 abbrev pub error_lines : List (Result EventView Error) → List ℕ
 error_lines items = listing gtid_line 0 items
-
--- ---- the items
-
--- All items that are left are read: the lines of their errors are written, and the set has what they add.
-pub record TracksAll (start : Place) (old new : Option (List ℕ)) (groups : List GtidGroup) (has_errors : Bool) : Type 0 where
-  pub items : List (Result EventView Error)
-  pub are : LeavesLooked start items
-  pub written : Appends old new (error_lines items)
-  pub errors : has_errors ≡ list_any is_refused items
-  pub same : (pair : Pair) (n : ℕ) → is_tracked groups pair n ≡ are_added items pair n
-
--- What reading the items that are left at `start` may answer. After an error the lines of all items before it are written, or
--- a front of the items' lines where the writer failed.
-abbrev pub TracksItems : (start : Place) (old : Option (List ℕ)) (answer : Result Bool Error) (after : Place) (new : Option (List ℕ)) (groups : List GtidGroup) → Type 0
-TracksItems start old (Ok has_errors) after new groups = TracksAll start old new groups has_errors
-TracksItems start old (Err error) after new groups = ListsItems Handles LeavesLooked gtid_line MayGrow start old (Err error) after new
 
 -- ---- the whole listing
 
@@ -98,16 +83,14 @@ pub record Tracking : Type 0 where
 abbrev pub tracked : (groups : List GtidGroup) (written : Option (List ℕ)) → Tracking
 tracked groups written = record { groups = groups; written = written }
 
--- What is written, added and answered for an answer of `next_ref`.
-abbrev pub TracksItem : (index : ℕ) (item : Option (Result EventView Error)) (old new : Tracking) (answer : Result (Option Bool) Error) → Type 0
-TracksItem index None old new (Ok None) = (new.groups ≡ old.groups) × (new.written ≡ old.written)
-TracksItem index (Some item) old new (Ok (Some is_error)) =
-    GrowsBy (gtids_in item) old.groups new.groups × Appends old.written new.written (gtid_line index item) × (is_error ≡ is_refused item) × HasLine item
-TracksItem index item old new (Err error) = (new.groups ≡ old.groups) × ListsItem gtid_line MayGrow index item old.written new.written (Err error)
-TracksItem index item old new answer = ⊥
+-- What is written, added and answered for an item.
+abbrev pub TracksItem : (index : ℕ) (item : Result EventView Error) (old new : Tracking) (answer : Result Bool Error) → Type 0
+TracksItem index item old new (Ok is_error) = GrowsBy (gtids_in item) old.groups new.groups × Appends old.written new.written (gtid_line index item) × (is_error ≡ is_refused item)
+TracksItem index item old new (Err error) = (new.groups ≡ old.groups) × WritesNoItem gtid_line MayGrow index item old.written error new.written
 
--- The next item is given, and its line written or what it adds added.
-pub record TracksNext (index : ℕ) (before : Place) (old : Tracking) (answer : Result (Option Bool) Error) (after : Place) (new : Tracking) : Type 0 where
-  pub item : Option (Result EventView Error)
-  pub gives : GivesFrom Handles before item after
-  pub tracks : TracksItem index item old new answer
+-- ---- a visitor
+
+-- The set grows by what the item adds, or the line of its error is written and noted.
+abbrev pub ListsItemGtids : (index : ℕ) (item : Result EventView Error) (old : Tracking) (had_errors : Bool) (new : Tracking) (has_errors : Bool) → Type 0
+ListsItemGtids index item old had_errors new has_errors =
+    GrowsBy (gtids_in item) old.groups new.groups × Appends old.written new.written (gtid_line index item) × (has_errors ≡ (had_errors || is_refused item))

@@ -1,7 +1,6 @@
 pub mod GtidItems
 pub mod GroupLines
 pub mod GtidListing
-pub mod MariaVersions
 pub mod MariaItems
 pub mod MariaLines
 pub mod LogItems

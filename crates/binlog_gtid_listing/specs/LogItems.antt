@@ -1,10 +1,11 @@
 -- What an item of a log adds to its GTIDs, MySQL's or MariaDB's, or the line of its error.
-use Rattle.std.specs.Prelude.{◌≡◌, ◌⊎◌, ℕ, Bool, true, List, [], ◌++◌, Option, Some, Result, Ok, Err, is_err, if◌then◌else◌}
+use Rattle.std.specs.Prelude.{◌≡◌, ◌⊎◌, ℕ, Bool, true, List, [], ◌++◌, Option, Result, Ok, Err, is_err, if◌then◌else◌}
 use Rattle.std.specs.Io.KnownBytes.{Appends}
 use Rattle.binlog_wire.specs.declared.error.Error.{Error}
 use Rattle.binlog_events.specs.Events.{EventView}
 use Rattle.binlog_gtid_sets.specs.declared.gtid_group.GtidGroup.{GtidGroup}
-use Rattle.binlog_lines.specs.Lines.{listing, HasLine, ListsItem}
+use Rattle.binlog_visits.specs.LineVisits.{WritesNoItem}
+use Rattle.binlog_visits.specs.Lines.{listing}
 use Rattle.binlog_listing.specs.Listing.{error_line}
 use Rattle.binlog_gtid_listing.specs.GtidItems.{has_gtids, gtids_in, gtid_line, is_refused, GrowsBy}
 use Rattle.binlog_mariadb.specs.declared.maria_gtid.MariaGtid.{MariaGtid}
@@ -55,9 +56,8 @@ abbrev pub log_tracked : (gtids : LogGtids) (written : Option (List ℕ)) → Lo
 log_tracked gtids written = record { gtids = gtids; written = written }
 
 -- What is written, added and answered for an item.
-abbrev pub TracksLogItem : (index : ℕ) (item : Option (Result EventView Error)) (old new : LogTracking) (answer : Result (Option Bool) Error) → Type 0
-TracksLogItem index (Some item) old new (Ok (Some is_error)) =
+abbrev pub TracksLogItem : (index : ℕ) (item : Result EventView Error) (old new : LogTracking) (answer : Result Bool Error) → Type 0
+TracksLogItem index item old new (Ok is_error) =
     GrowsBy (gtids_in item) old.gtids.mysql new.gtids.mysql × KeepLast (old.gtids.maria ++ item_gtids item) new.gtids.maria × Appends old.written new.written (log_line index item)
-    × (is_error ≡ is_log_refused item) × HasLine item
-TracksLogItem index (Some item) old new (Err error) = (new.gtids ≡ old.gtids) × ListsItem log_line MayTake index (Some item) old.written new.written (Err error)
-TracksLogItem index item old new answer = ⊥
+    × (is_error ≡ is_log_refused item)
+TracksLogItem index item old new (Err error) = (new.gtids ≡ old.gtids) × WritesNoItem log_line MayTake index item old.written error new.written

@@ -16,7 +16,7 @@ use Rattle.binlog_mariadb.specs.declared.event_type.UnknownMariaEventType.{Unkno
 use Rattle.binlog_mariadb.specs.declared.event_data.MariaEventData.{MariaEventData}
 use Rattle.binlog_maria_gtids.specs.AddedGtids.{gtids_of}
 use Rattle.binlog_maria_gtids.specs.LastGtids.{KeepLast}
-use Rattle.binlog_gtid_listing.specs.MariaVersions.{is_maria}
+use Rattle.binlog_event_types.specs.MariaVersions.{is_maria}
 
 -- The types of MariaDB's whose events have GTIDs: GTID_EVENT and GTID_LIST_EVENT.
 abbrev pub is_maria_gtid_type : ℕ → Bool

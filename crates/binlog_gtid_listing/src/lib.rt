@@ -7,6 +7,7 @@
 mod adding;
 mod group_lines;
 pub mod laws;
+mod lister;
 mod listing;
 mod log_gtids;
 mod log_lines;
@@ -18,4 +19,5 @@ mod tracking;
 pub use listing::{list_gtids, list_gtids_counted};
 pub use log_gtids::LogGtids;
 pub use log_lines::write_log_gtids;
-pub use tracking::{list_refused, track_log_event};
+pub use parts::write_error;
+pub use tracking::track_log_event;

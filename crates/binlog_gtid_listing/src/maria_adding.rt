@@ -1,14 +1,12 @@
 //! What the events of a log add to the last of MariaDB's GTIDs.
-ghost use Rattle.std.specs.Prelude.{◌≡◌, take};
-ghost use Rattle.binlog_description.specs.DescriptionRefs.{description_of};
+ghost use Rattle.std.specs.Prelude.{◌≡◌};
 ghost use Rattle.binlog_events.specs.EventRefs.{view_of};
 ghost use Rattle.binlog_gtid_listing.specs.MariaItems.{is_maria_gtid_type, has_maria_gtids, ReadsMaria, AddsMariaGtids};
-ghost use Rattle.binlog_gtid_listing.specs.MariaVersions.{is_maria};
 
-use binlog_description::DescriptionRef;
+use binlog_event_types::is_of_maria;
 use binlog_file::{Error, EventRef};
 use binlog_maria_gtids::MariaGtidTracker;
-use binlog_mariadb::{MariaEventData, MariaEventType, is_maria_log, read_maria_data};
+use binlog_mariadb::{MariaEventData, MariaEventType, read_maria_data};
 use std::alloc::Global;
 
 /// Whether an event is one of MariaDB's with GTIDs. Only in a log of MariaDB's are its types those of `binlog_mariadb`.
@@ -51,11 +49,4 @@ fn is_maria_gtid_type(number: u8) -> bool
     ensures { result ≡ is_maria_gtid_type number }
 {
     number == MariaEventType::GTID_EVENT as u8 || number == MariaEventType::GTID_LIST_EVENT as u8
-}
-
-// Whether a description states a server of MariaDB's.
-fn is_of_maria(fde: &DescriptionRef<'_>) -> bool
-    ensures { result ≡ is_maria (take 50 (description_of fde.now).server_version) }
-{
-    is_maria_log(fde)
 }

@@ -7,8 +7,8 @@ ghost use Rattle.binlog_listing.specs.Listing.{error_line};
 ghost use Rattle.binlog_gtid_listing.specs.GroupLines.{HasTag, Writes, tag_suffix, interval_text, intervals_text};
 
 use binlog_file::{Error, GnoInterval, Tag, WriteCounted};
-use binlog_lines::{ItemLines, write_line};
 use binlog_listing::TextLines;
+use binlog_visits::{ItemLines, write_line};
 use hex::encode_to_slice;
 use itoa::Buffer;
 use std::alloc::Global;
@@ -22,9 +22,13 @@ pub(crate) fn write_part<W: WriteCounted>(part: &[u8], output: &mut W) -> Result
     write_line(output, part)
 }
 
-/// Writes the line of an error.
+/// Writes the line of an error: `index error E<number>`, with the number of [`Error::number`].
+///
+/// # Errors
+///
+/// [`Error::Writer`] if the writer failed; a prefix of the line is written.
 #[inline(never)]
-pub(crate) fn write_error<W: WriteCounted>(
+pub fn write_error<W: WriteCounted>(
     alloc: Global,
     index: u64,
     error: &Error,

@@ -1,6 +1,5 @@
 //! What an item of a log adds to its GTIDs, or the line of its error.
-ghost use Rattle.std.specs.Prelude.{◌≡◌, List, false, true, Ok, Err, Some};
-ghost use Rattle.binlog_wire.specs.Errors.{is_environment_error};
+ghost use Rattle.std.specs.Prelude.{◌≡◌, List, true, Ok};
 ghost use Rattle.binlog_events.specs.EventRefs.{view_of};
 ghost use Rattle.binlog_events.specs.Writing.{CountsWriter};
 ghost use Rattle.binlog_gtid_sets.specs.declared.gtid_group.GtidGroup.{GtidGroup};
@@ -16,25 +15,6 @@ use binlog_file::{Error, EventRef, GtidTracker, WriteCounted};
 use binlog_maria_gtids::MariaGtidTracker;
 use std::alloc::Global;
 
-/// Writes the line of an item that is an error, which isn't a failure of memory or of the reader. The result is Some(true).
-///
-/// # Errors
-///
-/// [`Error::Writer`] if the writer failed; a prefix of the line is written.
-pub fn list_refused<W: WriteCounted>(
-    alloc: Global,
-    index: u64,
-    error: &Error,
-    output: &mut W,
-) -> Result<Option<bool>, Error>
-    requires { is_environment_error error.now ≡ false }
-    ensures tracks { (groups : List GtidGroup) → TracksItem index (Some (Err error.now)) (tracked groups (W.contents output.old)) (tracked groups (W.contents output.new)) result }
-    ensures writer { CountsWriter result (W.count output.old) (W.count output.new) }
-{
-    write_error(alloc, index, error, output)?;
-    Ok(Some(true))
-}
-
 /// Adds the GTIDs that an event adds to the set, or writes the line of the error of its data. The result is whether it
 /// wrote a line.
 ///
@@ -42,24 +22,24 @@ pub fn list_refused<W: WriteCounted>(
 ///
 /// [`Error::Memory`] if an allocation failed, and [`Error::Writer`] if the writer failed. An error leaves the set unchanged.
 #[inline(always)]
-pub fn track_event<W: WriteCounted>(
+pub(crate) fn track_event<W: WriteCounted>(
     alloc: Global,
     index: u64,
     event: &EventRef<'_>,
     gtids: &mut GtidTracker,
     output: &mut W,
-) -> Result<Option<bool>, Error>
-    ensures tracks { TracksItem index (Some (Ok (view_of event.now))) (tracked gtids.old (W.contents output.old)) (tracked gtids.new (W.contents output.new)) result }
+) -> Result<bool, Error>
+    ensures tracks { TracksItem index (Ok (view_of event.now)) (tracked gtids.old (W.contents output.old)) (tracked gtids.new (W.contents output.new)) result }
     ensures writer { CountsWriter result (W.count output.old) (W.count output.new) }
 {
     match add_gtids(alloc, event, gtids) {
-        Ok(()) => Ok(Some(false)),
+        Ok(()) => Ok(false),
         Err(error) => {
             if error.is_environment_error() {
                 return Err(error);
             }
             write_error(alloc, index, &error, output)?;
-            Ok(Some(true))
+            Ok(true)
         }
     }
 }
@@ -78,8 +58,8 @@ pub fn track_log_event<W: WriteCounted>(
     event: &EventRef<'_>,
     gtids: &mut LogGtids,
     output: &mut W,
-) -> Result<Option<bool>, Error>
-    ensures tracks { TracksLogItem index (Some (Ok (view_of event.now))) (log_tracked gtids.old (W.contents output.old)) (log_tracked gtids.new (W.contents output.new)) result }
+) -> Result<bool, Error>
+    ensures tracks { TracksLogItem index (Ok (view_of event.now)) (log_tracked gtids.old (W.contents output.old)) (log_tracked gtids.new (W.contents output.new)) result }
     ensures writer { CountsWriter result (W.count output.old) (W.count output.new) }
 {
     if has_maria_gtids(event) {
@@ -96,19 +76,20 @@ fn track_maria<W: WriteCounted>(
     event: &EventRef<'_>,
     gtids: &mut MariaGtidTracker,
     output: &mut W,
-) -> Result<Option<bool>, Error>
+) -> Result<bool, Error>
     requires { has_maria_gtids (view_of event.now) ≡ true }
-    ensures tracks { (groups : List GtidGroup) → TracksLogItem index (Some (Ok (view_of event.now))) (log_tracked (log_gtids groups gtids.old) (W.contents output.old))
+    ensures tracks { (groups : List GtidGroup) → TracksLogItem index (Ok (view_of event.now)) (log_tracked (log_gtids groups gtids.old) (W.contents output.old))
         (log_tracked (log_gtids groups gtids.new) (W.contents output.new)) result }
     ensures writer { CountsWriter result (W.count output.old) (W.count output.new) }
 {
     match add_maria_gtids(alloc, event, gtids) {
-        Ok(()) => Ok(Some(false)),
+        Ok(()) => Ok(false),
         Err(error) => {
             if error.is_environment_error() {
                 return Err(error);
             }
-            list_refused(alloc, index, &error, output)
+            write_error(alloc, index, &error, output)?;
+            Ok(true)
         }
     }
 }

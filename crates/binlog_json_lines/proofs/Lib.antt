@@ -1,3 +1,5 @@
 pub mod Tokens
 pub mod StatusVars
 pub mod BitTokens
+pub mod ClientSets
+pub mod OtherValues

@@ -1,5 +1,5 @@
 -- The `data` member of an event.
-use Rattle.std.specs.Prelude.{ℕ, List, [], ◌∷◌, codes, Result, Ok, Err}
+use Rattle.std.specs.Prelude.{ℕ, Bool, List, [], ◌∷◌, codes, Result, Ok, Err}
 use Rattle.json.specs.Token.{Token, begin_object, end_object, null, string}
 use Rattle.binlog_file.specs.Reading.{Read, Refusal, ends, invalid, other_type}
 use Rattle.binlog_file.specs.declared.EventType.{EventType}
@@ -11,6 +11,7 @@ use Rattle.binlog_file.specs.declared.EventData.TheVariants as variants
 use Rattle.json_line.specs.Tokens.{number_value, bytes_value, member, object}
 use Rattle.binlog_event_types.specs.MysqlNames.{type_name}
 use Rattle.binlog_json_lines.specs.Bodies.{rotate_object, intvar_object, rand_object, xid_object, begin_load_query_object, incident_object, rows_query_object, description_object}
+use Rattle.binlog_json_lines.specs.ClientSets.{is_of_maria}
 use Rattle.binlog_json_lines.specs.Statements.{query_object, execute_load_query_object, user_var_object}
 use Rattle.binlog_json_lines.specs.Gtids.{gtid_object, previous_gtids_object}
 use Rattle.binlog_json_lines.specs.Rows.{table_map_object, rows_object, short_rows_object}
@@ -27,48 +28,48 @@ raw_object bytes = object (member (codes "raw") (bytes_value bytes))
 abbrev pub error_object : ℕ → List Token
 error_object n = object (member (codes "error") (number_value n))
 
--- The object of event data.
-abbrev pub data_object : EventData → List Token
-data_object variants.UnknownEvent = empty_object
-data_object (variants.StartEventV3 s) = raw_object s
-data_object (variants.QueryEvent e) = query_object e
-data_object variants.StopEvent = empty_object
-data_object (variants.RotateEvent e) = rotate_object e
-data_object (variants.IntvarEvent e) = intvar_object e
-data_object (variants.LoadEvent s) = raw_object s
-data_object variants.SlaveEvent = empty_object
-data_object (variants.CreateFileEvent s) = raw_object s
-data_object (variants.AppendBlockEvent s) = raw_object s
-data_object (variants.ExecLoadEvent s) = raw_object s
-data_object (variants.DeleteFileEvent s) = raw_object s
-data_object (variants.NewLoadEvent s) = raw_object s
-data_object (variants.RandEvent e) = rand_object e
-data_object (variants.UserVarEvent e) = user_var_object e
-data_object (variants.FormatDescriptionEvent e) = description_object e
-data_object (variants.XidEvent e) = xid_object e
-data_object (variants.BeginLoadQueryEvent e) = begin_load_query_object e
-data_object (variants.ExecuteLoadQueryEvent e) = execute_load_query_object e
-data_object (variants.TableMapEvent e) = table_map_object e
-data_object (variants.PreGaWriteRowsEvent s) = raw_object s
-data_object (variants.PreGaUpdateRowsEvent s) = raw_object s
-data_object (variants.PreGaDeleteRowsEvent s) = raw_object s
-data_object (variants.RowsEvent e) = rows_object e
-data_object (variants.IncidentEvent e) = incident_object e
-data_object variants.HeartbeatEvent = empty_object
-data_object (variants.IgnorableEvent s) = raw_object s
-data_object (variants.RowsQueryEvent e) = rows_query_object e
-data_object (variants.GtidEvent e) = gtid_object e
-data_object (variants.AnonymousGtidEvent e) = gtid_object e.0
-data_object (variants.PreviousGtidsEvent e) = previous_gtids_object e
-data_object (variants.TransactionContextEvent s) = raw_object s
-data_object (variants.ViewChangeEvent s) = raw_object s
-data_object (variants.XaPrepareLogEvent s) = raw_object s
-data_object (variants.TransactionPayloadEvent s) = raw_object s
+-- The object of event data in a log that MariaDB wrote, or MySQL.
+abbrev pub data_object : (is_maria : Bool) → EventData → List Token
+data_object is_maria variants.UnknownEvent = empty_object
+data_object is_maria (variants.StartEventV3 s) = raw_object s
+data_object is_maria (variants.QueryEvent e) = query_object is_maria e
+data_object is_maria variants.StopEvent = empty_object
+data_object is_maria (variants.RotateEvent e) = rotate_object e
+data_object is_maria (variants.IntvarEvent e) = intvar_object e
+data_object is_maria (variants.LoadEvent s) = raw_object s
+data_object is_maria variants.SlaveEvent = empty_object
+data_object is_maria (variants.CreateFileEvent s) = raw_object s
+data_object is_maria (variants.AppendBlockEvent s) = raw_object s
+data_object is_maria (variants.ExecLoadEvent s) = raw_object s
+data_object is_maria (variants.DeleteFileEvent s) = raw_object s
+data_object is_maria (variants.NewLoadEvent s) = raw_object s
+data_object is_maria (variants.RandEvent e) = rand_object e
+data_object is_maria (variants.UserVarEvent e) = user_var_object e
+data_object is_maria (variants.FormatDescriptionEvent e) = description_object e
+data_object is_maria (variants.XidEvent e) = xid_object e
+data_object is_maria (variants.BeginLoadQueryEvent e) = begin_load_query_object e
+data_object is_maria (variants.ExecuteLoadQueryEvent e) = execute_load_query_object is_maria e
+data_object is_maria (variants.TableMapEvent e) = table_map_object e
+data_object is_maria (variants.PreGaWriteRowsEvent s) = raw_object s
+data_object is_maria (variants.PreGaUpdateRowsEvent s) = raw_object s
+data_object is_maria (variants.PreGaDeleteRowsEvent s) = raw_object s
+data_object is_maria (variants.RowsEvent e) = rows_object e
+data_object is_maria (variants.IncidentEvent e) = incident_object e
+data_object is_maria variants.HeartbeatEvent = empty_object
+data_object is_maria (variants.IgnorableEvent s) = raw_object s
+data_object is_maria (variants.RowsQueryEvent e) = rows_query_object e
+data_object is_maria (variants.GtidEvent e) = gtid_object e
+data_object is_maria (variants.AnonymousGtidEvent e) = gtid_object e.0
+data_object is_maria (variants.PreviousGtidsEvent e) = previous_gtids_object e
+data_object is_maria (variants.TransactionContextEvent s) = raw_object s
+data_object is_maria (variants.ViewChangeEvent s) = raw_object s
+data_object is_maria (variants.XaPrepareLogEvent s) = raw_object s
+data_object is_maria (variants.TransactionPayloadEvent s) = raw_object s
 
 -- The object of event data, that of a row event without its stored rows.
-abbrev pub short_data_object : EventData → List Token
-short_data_object (variants.RowsEvent e) = short_rows_object e
-short_data_object body = data_object body
+abbrev pub short_data_object : (is_maria : Bool) → EventData → List Token
+short_data_object is_maria (variants.RowsEvent e) = short_rows_object e
+short_data_object is_maria body = data_object is_maria body
 
 -- The error number of a refusal.
 abbrev pub refusal_number : Refusal → ℕ
@@ -77,16 +78,16 @@ refusal_number (invalid why) = 6
 refusal_number (other_type number) = 8
 
 -- The object of a value that all the bytes encode, or the error number.
-abbrev pub read_value : Read EventData → List Token
-read_value (Ok (v, [])) = data_object v
-read_value (Ok (v, b ∷ rest)) = error_object 7
-read_value (Err why) = error_object (refusal_number why)
+abbrev pub read_value : (is_maria : Bool) → Read EventData → List Token
+read_value is_maria (Ok (v, [])) = data_object is_maria v
+read_value is_maria (Ok (v, b ∷ rest)) = error_object 7
+read_value is_maria (Err why) = error_object (refusal_number why)
 
 -- The same with the object that has no stored rows.
-abbrev pub short_read_value : Read EventData → List Token
-short_read_value (Ok (v, [])) = short_data_object v
-short_read_value (Ok (v, b ∷ rest)) = error_object 7
-short_read_value (Err why) = error_object (refusal_number why)
+abbrev pub short_read_value : (is_maria : Bool) → Read EventData → List Token
+short_read_value is_maria (Ok (v, [])) = short_data_object is_maria v
+short_read_value is_maria (Ok (v, b ∷ rest)) = error_object 7
+short_read_value is_maria (Err why) = error_object (refusal_number why)
 
 -- The name of an event type; null for an unknown type.
 abbrev pub name_value : Result EventType UnknownEventType → List Token
@@ -96,9 +97,9 @@ name_value (Ok type) = string (type_name type) ∷ []
 -- The data of this type, under a description; null for an unknown type.
 abbrev pub data_value : FormatDescriptionEvent → List ℕ → Result EventType UnknownEventType → List Token
 data_value d s (Err unknown) = null ∷ []
-data_value d s (Ok type) = read_value (data_read d s type)
+data_value d s (Ok type) = read_value (is_of_maria d) (data_read d s type)
 
 -- The same, that of a row event without its stored rows.
 abbrev pub short_data_value : FormatDescriptionEvent → List ℕ → Result EventType UnknownEventType → List Token
 short_data_value d s (Err unknown) = null ∷ []
-short_data_value d s (Ok type) = short_read_value (data_read d s type)
+short_data_value d s (Ok type) = short_read_value (is_of_maria d) (data_read d s type)

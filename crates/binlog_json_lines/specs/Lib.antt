@@ -1,6 +1,7 @@
 pub mod Bodies
 pub mod Statements
 pub mod StatusVars
+pub mod ClientSets
 pub mod Gtids
 pub mod Rows
 pub mod Data

@@ -1,5 +1,5 @@
 -- The objects of statements and user variables.
-use Rattle.std.specs.Prelude.{ℤ, pos, List, [], ◌∷◌, ◌++◌, take, codes, is_none, Result, Ok, Err}
+use Rattle.std.specs.Prelude.{ℕ, ℤ, pos, Bool, List, [], ◌∷◌, ◌++◌, take, codes, is_none, Option, Result, Ok, Err}
 use Rattle.std.specs.Fmt.{signed_decimal}
 use Rattle.std.specs.Int.{cast_signed, w8}
 use Rattle.json.specs.Token.{Token, number, boolean}
@@ -11,8 +11,10 @@ use Rattle.binlog_file.specs.Types.{Statement}
 use Rattle.binlog_file.specs.declared.QueryEvent.{QueryEvent}
 use Rattle.binlog_file.specs.declared.ExecuteLoadQueryEvent.{ExecuteLoadQueryEvent}
 use Rattle.binlog_file.specs.declared.UserVarEvent.{UserVarEvent}
-use Rattle.json_line.specs.Tokens.{number_value, text_value, bytes_value, member, object}
+use Rattle.json_line.specs.Tokens.{number_value, text_value, text_value_in_stated, bytes_value, member, object}
+use Rattle.character_sets.specs.declared.character_set.CharacterSet.{CharacterSet}
 use Rattle.binlog_json_lines.specs.StatusVars.{status_vars_members}
+use Rattle.binlog_json_lines.specs.ClientSets.{client_set}
 
 -- ---- statements
 
@@ -23,16 +25,22 @@ statement_head s =
     ++ member (codes "execution_time") (number_value s.execution_time)
     ++ member (codes "error_code") (number_value s.error_code)
 
--- The status variables and the bytes after them, the schema name and the statement.
-abbrev pub statement_texts : Statement → List Token
-statement_texts s =
-    status_vars_members (take 65535 s.texts.status_vars.0)
-    ++ member (codes "schema") (text_value (take 255 s.texts.schema))
-    ++ member (codes "query") (text_value s.texts.query)
+-- The schema name and the statement, which is a text in this character set.
+abbrev pub schema_and_query : Option CharacterSet → (schema query : List ℕ) → List Token
+schema_and_query client schema query = member (codes "schema") (text_value schema) ++ member (codes "query") (text_value_in_stated client query)
+
+-- The status variables and the bytes after them, the schema name and the statement, in the client's character set.
+abbrev pub texts_members : (is_maria : Bool) → (status_vars schema query : List ℕ) → List Token
+texts_members is_maria status_vars schema query =
+    status_vars_members status_vars ++ schema_and_query (client_set is_maria status_vars) schema query
+
+-- The same of a statement in a log that MariaDB wrote, or MySQL.
+abbrev pub statement_texts : (is_maria : Bool) → Statement → List Token
+statement_texts is_maria s = texts_members is_maria (take 65535 s.texts.status_vars.0) (take 255 s.texts.schema) s.texts.query
 
 -- The object of a QUERY event.
-abbrev pub query_object : QueryEvent → List Token
-query_object e = object (statement_head e.statement ++ statement_texts e.statement)
+abbrev pub query_object : (is_maria : Bool) → QueryEvent → List Token
+query_object is_maria e = object (statement_head e.statement ++ statement_texts is_maria e.statement)
 
 -- The fields of the file that is loaded.
 abbrev pub loaded_file : ExecuteLoadQueryEvent → List Token
@@ -43,8 +51,8 @@ loaded_file e =
     ++ member (codes "dup_handling") (number_value (dup_handling_number e.dup_handling))
 
 -- The object of an EXECUTE_LOAD_QUERY event.
-abbrev pub execute_load_query_object : ExecuteLoadQueryEvent → List Token
-execute_load_query_object e = object (statement_head e.statement ++ loaded_file e ++ statement_texts e.statement)
+abbrev pub execute_load_query_object : (is_maria : Bool) → ExecuteLoadQueryEvent → List Token
+execute_load_query_object is_maria e = object (statement_head e.statement ++ loaded_file e ++ statement_texts is_maria e.statement)
 
 -- ---- user variables
 

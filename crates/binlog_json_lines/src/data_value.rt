@@ -9,6 +9,7 @@ ghost use Rattle.binlog_file.specs.Headers.{header_of};
 ghost use Rattle.binlog_file.specs.EventRefs.{view_of};
 ghost use Rattle.binlog_file.specs.Parts.{data_of};
 ghost use Rattle.json_line.specs.Tokens.{Adds};
+ghost use Rattle.binlog_json_lines.specs.ClientSets.{is_of_maria};
 ghost use Rattle.binlog_json_lines.specs.Data.{empty_object, raw_object, error_object, data_object, short_data_object, name_value, data_value, short_data_value};
 
 use crate::bodies::{
@@ -60,7 +61,7 @@ fn write_other_data(line: &mut Line, alloc: Global, event: &EventRef<'_>) -> Res
 {
     match event.read_data(alloc) {
         Ok(Some(body)) => {
-            let written = write_object(line, alloc, &body);
+            let written = write_object(line, alloc, event, &body);
             drop(body);
             written
         }
@@ -80,7 +81,7 @@ pub(crate) fn write_data_without_rows(
 {
     match event.read_data(alloc) {
         Ok(Some(body)) => {
-            let written = write_short_object(line, alloc, &body);
+            let written = write_short_object(line, alloc, event, &body);
             drop(body);
             written
         }
@@ -96,7 +97,7 @@ fn write_statement(line: &mut Line, alloc: Global, event: &EventRef<'_>) -> Resu
         (data_of (view_of event.now).fde.footer (view_of event.now).frame) (Ok QUERY_EVENT)) }
 {
     match event.read_event::<QueryEvent<'_>>(alloc) {
-        Ok(statement) => write_query(line, alloc, &statement),
+        Ok(statement) => write_query(line, alloc, event, &statement),
         Err(refusal) => write_refusal(line, &refusal),
     }
 }
@@ -141,19 +142,25 @@ fn write_raw(line: &mut Line, bytes: &[u8]) -> Result<(), AllocError>
 fn write_short_object(
     line: &mut Line,
     alloc: Global,
+    event: &EventRef<'_>,
     body: &EventData<'_>,
 ) -> Result<(), AllocError>
-    ensures { Adds result line.old line.new (short_data_object body.now) }
+    ensures { Adds result line.old line.new (short_data_object (is_of_maria (view_of event.now).fde) body.now) }
 {
     match body {
-        EventData::RowsEvent(event) => write_short_rows(line, event),
-        _ => write_object(line, alloc, body),
+        EventData::RowsEvent(rows) => write_short_rows(line, rows),
+        _ => write_object(line, alloc, event, body),
     }
 }
 
 // Writes event data, by its variant.
-fn write_object(line: &mut Line, alloc: Global, body: &EventData<'_>) -> Result<(), AllocError>
-    ensures { Adds result line.old line.new (data_object body.now) }
+fn write_object(
+    line: &mut Line,
+    alloc: Global,
+    event: &EventRef<'_>,
+    body: &EventData<'_>,
+) -> Result<(), AllocError>
+    ensures { Adds result line.old line.new (data_object (is_of_maria (view_of event.now).fde) body.now) }
 {
     match body {
         EventData::UnknownEvent
@@ -175,21 +182,23 @@ fn write_object(line: &mut Line, alloc: Global, body: &EventData<'_>) -> Result<
         | EventData::ViewChangeEvent(bytes)
         | EventData::XaPrepareLogEvent(bytes)
         | EventData::TransactionPayloadEvent(bytes) => write_raw(line, bytes.as_bytes()),
-        EventData::QueryEvent(event) => write_query(line, alloc, event),
-        EventData::RotateEvent(event) => write_rotate(line, event),
-        EventData::IntvarEvent(event) => write_intvar(line, event),
-        EventData::RandEvent(event) => write_rand(line, event),
-        EventData::UserVarEvent(event) => write_user_var(line, event),
-        EventData::FormatDescriptionEvent(event) => write_description(line, event),
-        EventData::XidEvent(event) => write_xid(line, event),
-        EventData::BeginLoadQueryEvent(event) => write_begin_load_query(line, event),
-        EventData::ExecuteLoadQueryEvent(event) => write_execute_load_query(line, alloc, event),
-        EventData::TableMapEvent(event) => write_table_map(line, event),
-        EventData::RowsEvent(event) => write_rows(line, event),
-        EventData::IncidentEvent(event) => write_incident(line, event),
-        EventData::RowsQueryEvent(event) => write_rows_query(line, event),
-        EventData::GtidEvent(event) => write_gtid(line, event),
-        EventData::AnonymousGtidEvent(event) => write_gtid(line, &event.0),
-        EventData::PreviousGtidsEvent(event) => write_previous_gtids(line, event),
+        EventData::QueryEvent(data) => write_query(line, alloc, event, data),
+        EventData::RotateEvent(data) => write_rotate(line, data),
+        EventData::IntvarEvent(data) => write_intvar(line, data),
+        EventData::RandEvent(data) => write_rand(line, data),
+        EventData::UserVarEvent(data) => write_user_var(line, data),
+        EventData::FormatDescriptionEvent(data) => write_description(line, data),
+        EventData::XidEvent(data) => write_xid(line, data),
+        EventData::BeginLoadQueryEvent(data) => write_begin_load_query(line, data),
+        EventData::ExecuteLoadQueryEvent(data) => write_execute_load_query(
+            line, alloc, event, data,
+        ),
+        EventData::TableMapEvent(data) => write_table_map(line, data),
+        EventData::RowsEvent(data) => write_rows(line, data),
+        EventData::IncidentEvent(data) => write_incident(line, data),
+        EventData::RowsQueryEvent(data) => write_rows_query(line, data),
+        EventData::GtidEvent(data) => write_gtid(line, data),
+        EventData::AnonymousGtidEvent(data) => write_gtid(line, &data.0),
+        EventData::PreviousGtidsEvent(data) => write_previous_gtids(line, data),
     }
 }

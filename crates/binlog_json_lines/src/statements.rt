@@ -1,31 +1,36 @@
 //! The objects of statements and user variables.
 #![tactic(auto, using(std::proofs::Common::append_assoc))]
 
-ghost use Rattle.std.specs.Prelude.{◌∷◌, []};
+ghost use Rattle.std.specs.Prelude.{◌∷◌, [], true};
 ghost use Rattle.std.specs.Fmt.{signed_decimal};
 ghost use Rattle.json.specs.Token.{number};
+ghost use Rattle.binlog_file.specs.EventRefs.{view_of};
 ghost use Rattle.json_line.specs.Tokens.{Adds};
-ghost use Rattle.binlog_json_lines.specs.Statements.{query_object, execute_load_query_object, loaded_file, user_var_object, user_var_value, statement_head, statement_texts, value_type_number};
+ghost use Rattle.binlog_json_lines.specs.ClientSets.{is_of_maria};
+ghost use Rattle.binlog_json_lines.specs.Statements.{query_object, execute_load_query_object, loaded_file, user_var_object, user_var_value, statement_head, statement_texts, schema_and_query, value_type_number};
 
+use crate::client_sets::{client_set, maria_client_set};
 use crate::status_vars::write_status_vars;
 use binlog_file::{
-    ExecuteLoadQueryEvent, ItemResult, QueryEvent, UnknownItemResultType, UserVarEvent,
+    EventRef, ExecuteLoadQueryEvent, ItemResult, QueryEvent, UnknownItemResultType, UserVarEvent,
 };
+use character_sets::CharacterSet;
 use json_line::Line;
 use std::alloc::{AllocError, Global};
 
-/// Writes the object of a QUERY event.
+/// Writes the object of a QUERY event with this statement.
 #[inline(always)]
 pub(crate) fn write_query(
     line: &mut Line,
     alloc: Global,
-    event: &QueryEvent<'_>,
+    event: &EventRef<'_>,
+    statement: &QueryEvent<'_>,
 ) -> Result<(), AllocError>
-    ensures { Adds result line.old line.new (query_object event.now) }
+    ensures { Adds result line.old line.new (query_object (is_of_maria (view_of event.now).fde) statement.now) }
 {
     line.begin_object()?;
-    write_query_head(line, event)?;
-    write_query_texts(line, alloc, event)?;
+    write_query_head(line, statement)?;
+    write_query_texts(line, alloc, event, statement)?;
     line.end_object()?;
     Ok(())
 }
@@ -45,37 +50,68 @@ pub fn write_query_head(line: &mut Line, event: &QueryEvent<'_>) -> Result<(), A
     Ok(())
 }
 
-/// Writes the status variables, the schema and the text of a statement, as members of its object.
+fn write_query_texts(
+    line: &mut Line,
+    alloc: Global,
+    event: &EventRef<'_>,
+    statement: &QueryEvent<'_>,
+) -> Result<(), AllocError>
+    ensures { Adds result line.old line.new (statement_texts (is_of_maria (view_of event.now).fde) statement.now.statement) }
+{
+    let collation = write_status_vars(line, alloc, statement.status_vars_raw())?;
+    let client = client_set(event, collation);
+    write_schema_and_query(line, client, statement.schema_raw(), statement.query_raw())?;
+    Ok(())
+}
+
+/// Writes the status variables, the schema and the text of a statement in a log that MariaDB wrote, as members of its
+/// object.
 ///
 /// # Errors
 ///
 /// [`AllocError`] if an allocation fails.
-#[inline(always)]
-pub fn write_query_texts(
+pub fn write_maria_query_texts(
     line: &mut Line,
     alloc: Global,
-    event: &QueryEvent<'_>,
+    statement: &QueryEvent<'_>,
 ) -> Result<(), AllocError>
-    ensures { Adds result line.old line.new (statement_texts event.now.statement) }
+    ensures { Adds result line.old line.new (statement_texts true statement.now.statement) }
 {
-    write_status_vars(line, alloc, event.status_vars_raw())?;
-    line.text_member("schema", event.schema_raw())?;
-    line.text_member("query", event.query_raw())?;
+    let collation = write_status_vars(line, alloc, statement.status_vars_raw())?;
+    let client = maria_client_set(collation);
+    write_schema_and_query(line, client, statement.schema_raw(), statement.query_raw())?;
     Ok(())
 }
 
-/// Writes the object of an EXECUTE_LOAD_QUERY event.
+// Writes the schema name, and the statement as a text in the client's character set, if that is known.
+#[inline(always)]
+fn write_schema_and_query(
+    line: &mut Line,
+    client: Option<CharacterSet>,
+    schema: &[u8],
+    query: &[u8],
+) -> Result<(), AllocError>
+    ensures { Adds result line.old line.new (schema_and_query client schema.now query.now) }
+{
+    line.text_member("schema", schema)?;
+    line.key("query")?;
+    line.text_in_stated(client, query)?;
+    Ok(())
+}
+
+/// Writes the object of an EXECUTE_LOAD_QUERY event with this statement.
 pub(crate) fn write_execute_load_query(
     line: &mut Line,
     alloc: Global,
-    event: &ExecuteLoadQueryEvent<'_>,
+    event: &EventRef<'_>,
+    statement: &ExecuteLoadQueryEvent<'_>,
 ) -> Result<(), AllocError>
-    ensures { Adds result line.old line.new (execute_load_query_object event.now) }
+    ensures { Adds result line.old line.new (execute_load_query_object (is_of_maria (view_of event.now).fde) statement.now) }
 {
     line.begin_object()?;
-    write_load_query_head(line, event)?;
-    write_loaded_file(line, event)?;
-    write_load_query_texts(line, alloc, event)?;
+    write_load_query_head(line, statement)?;
+    write_loaded_file(line, statement)?;
+    write_load_query_texts(line, alloc, event, statement)?;
     line.end_object()?;
     Ok(())
 }
@@ -105,13 +141,14 @@ fn write_loaded_file(line: &mut Line, event: &ExecuteLoadQueryEvent<'_>) -> Resu
 fn write_load_query_texts(
     line: &mut Line,
     alloc: Global,
-    event: &ExecuteLoadQueryEvent<'_>,
+    event: &EventRef<'_>,
+    statement: &ExecuteLoadQueryEvent<'_>,
 ) -> Result<(), AllocError>
-    ensures { Adds result line.old line.new (statement_texts event.now.statement) }
+    ensures { Adds result line.old line.new (statement_texts (is_of_maria (view_of event.now).fde) statement.now.statement) }
 {
-    write_status_vars(line, alloc, event.status_vars_raw())?;
-    line.text_member("schema", event.schema_raw())?;
-    line.text_member("query", event.query_raw())?;
+    let collation = write_status_vars(line, alloc, statement.status_vars_raw())?;
+    let client = client_set(event, collation);
+    write_schema_and_query(line, client, statement.schema_raw(), statement.query_raw())?;
     Ok(())
 }
 

@@ -8,54 +8,83 @@ ghost use Rattle.binlog_file.specs.StatusVarValues.{Has};
 ghost use Rattle.binlog_file.specs.StatusVars.{variable_of};
 ghost use Rattle.json_line.specs.Lines.{IsPlainText};
 ghost use Rattle.json_line.specs.Tokens.{Adds, text_value, number_value, bytes_value, member, object, array};
+ghost use Rattle.binlog_json_lines.specs.ClientSets.{collation_in, client_collation};
 ghost use Rattle.binlog_json_lines.specs.StatusVars.{entry, variable_object, status_vars_value, status_vars_members};
 
 use binlog_file::{NullBytes, RawBytes, StatusVar, StatusVarVal, StatusVarsIterator};
 use json_line::Line;
 use std::alloc::{AllocError, Global};
 
-/// Writes the member with the status variables, and the member with the bytes after them, if any.
+// What is found in status variables.
+#[derive(Drop)]
+struct Found {
+    // How many bytes they have.
+    len: usize,
+    // The number of the client's collation, if one states it.
+    collation: Option<u16>,
+}
+
+/// Writes the member with the status variables, and the member with the bytes after them, if any. The result is the
+/// number of the client's collation, if they state one.
 pub(crate) fn write_status_vars(
     line: &mut Line,
     alloc: Global,
     text: &[u8],
-) -> Result<(), AllocError>
-    ensures { Adds result line.old line.new (status_vars_members text.now) }
+) -> Result<Option<u16>, AllocError>
+    ensures members { Adds result line.old line.new (status_vars_members text.now) }
+    ensures client { IfOk result (λ collation. collation ≡ client_collation text.now) }
 {
     line.key("status_vars")?;
-    let len = write_variables(line, alloc, text)?;
-    line.bytes_member_if_any("status_vars_rest", &text[len..])?;
-    Ok(())
+    let found = write_variables(line, alloc, text)?;
+    line.bytes_member_if_any("status_vars_rest", &text[found.len..])?;
+    Ok(found.collation)
 }
 
-// Writes an array of the variables, in order, and returns how many bytes they have.
+// Writes an array of the variables, in order.
 #[inline(always)]
-fn write_variables(line: &mut Line, alloc: Global, text: &[u8]) -> Result<usize, AllocError>
+fn write_variables(line: &mut Line, alloc: Global, text: &[u8]) -> Result<Found, AllocError>
     ensures list { Adds result line.old line.new (status_vars_value text.now) }
-    ensures len { IfOk result (λ len. len ≡ length (flat_map variable_bytes (variables text.now))) }
-    ensures fits { IfOk result (λ len. len ≤ length text.now) }
+    ensures len { IfOk result (λ found. found.len ≡ length (flat_map variable_bytes (variables text.now))) }
+    ensures fits { IfOk result (λ found. found.len ≤ length text.now) }
+    ensures client { IfOk result (λ found. found.collation ≡ client_collation text.now) }
 {
     let mut len = 0;
+    let mut collation = None;
     line.begin_array()?;
     'variables: for variable in StatusVarsIterator::new(text) {
-        write_variable(line, alloc, &variable)?;
+        collation = write_variable(line, alloc, &variable)?.or(collation);
         len += 1 + variable.raw().len();
     }
     line.end_array()?;
-    Ok(len)
+    Ok(Found { len, collation })
 }
 
-// Writes a variable. It fails if the allocation for its value fails.
+// Writes a variable. It fails if the allocation for its value fails. The result is the number of the client's collation,
+// if this is the variable that states it.
 fn write_variable(
     line: &mut Line,
     alloc: Global,
     variable: &StatusVar<'_>,
-) -> Result<(), AllocError>
-    ensures { Adds result line.old line.new (variable_object (variable_of variable.now)) }
+) -> Result<Option<u16>, AllocError>
+    ensures object { Adds result line.old line.new (variable_object (variable_of variable.now)) }
+    ensures client { IfOk result (λ collation. collation ≡ collation_in (variable_of variable.now)) }
 {
     match variable.get_value(alloc) {
-        Ok(value) => write_entry(line, &value),
+        Ok(value) => {
+            write_entry(line, &value)?;
+            Ok(client_collation(&value))
+        }
         Err(_) => Err(AllocError),
+    }
+}
+
+// The number of the client's collation, if this value states it.
+fn client_collation(value: &StatusVarVal<'_>) -> Option<u16>
+    ensures { (variable : Variable) → Has variable value.now → result ≡ collation_in variable }
+{
+    match value {
+        StatusVarVal::Charset { charset_client, .. } => Some(*charset_client),
+        _ => None,
     }
 }
 

@@ -2,8 +2,8 @@
 #![tactic(auto)]
 
 use binlog_file::{Counted, Error, Retrying, WriteCounted};
-use binlog_lines::status;
 use binlog_listing::list_counted;
+use binlog_visits::status;
 use std::io;
 use std::io::BufWriter;
 use std::process::ExitCode;

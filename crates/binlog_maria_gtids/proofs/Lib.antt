@@ -1,2 +1,5 @@
 pub mod LastGtids
 pub mod LastEntries
+pub mod GtidOrder
+pub mod GtidParts
+pub mod GtidGrammar

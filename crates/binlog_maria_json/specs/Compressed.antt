@@ -21,7 +21,7 @@ compressed_member = member (codes "compressed") (boolean true ∷ [])
 
 -- The object of a compressed statement with this text.
 abbrev pub query_object : QueryEvent → (text : List ℕ) → List Token
-query_object e text = object (statement_head (with_query e.statement text) ++ statement_texts (with_query e.statement text) ++ compressed_member)
+query_object e text = object (statement_head (with_query e.statement text) ++ statement_texts true (with_query e.statement text) ++ compressed_member)
 
 -- The object of a compressed row event with these rows.
 abbrev pub rows_object : RowsCompressedEvent → (rows : List ℕ) → List Token

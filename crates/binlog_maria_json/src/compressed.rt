@@ -14,7 +14,7 @@ ghost use Rattle.binlog_row_json.specs.Shown.{Shows};
 ghost use Rattle.binlog_maria_json.specs.Compressed.{most_bytes, compressed_member, query_object, rows_object, IsOfText};
 
 use binlog_file::{BitView, QueryEvent};
-use binlog_json_lines::{write_bits, write_query_head, write_query_texts};
+use binlog_json_lines::{write_bits, write_maria_query_texts, write_query_head};
 use binlog_mariadb::{CompressionError, RowsCompressedEvent, uncompress};
 use json_line::Line;
 use std::alloc::{AllocError, Global};
@@ -43,7 +43,7 @@ fn write_query(line: &mut Line, alloc: Global, event: &QueryEvent<'_>) -> Result
 {
     line.begin_object()?;
     write_query_head(line, event)?;
-    write_query_texts(line, alloc, event)?;
+    write_maria_query_texts(line, alloc, event)?;
     write_compressed(line)?;
     line.end_object()?;
     Ok(())

@@ -15,9 +15,9 @@ use crate::data::write_data;
 use binlog_event_types::maria_name_of;
 use binlog_file::{Error, EventRef, TableMapEvent};
 use binlog_json_lines::{JsonLines, write_data_member, write_event_head, write_header};
-use binlog_lines::ItemLines;
 use binlog_mariadb::{MariaEventType, is_maria_log};
 use binlog_row_json::{RowsWriter, is_row_event};
+use binlog_visits::ItemLines;
 use json_line::Line;
 use std::alloc::{AllocError, Global};
 

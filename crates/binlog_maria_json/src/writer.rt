@@ -6,9 +6,8 @@ ghost use Rattle.binlog_maria_json.specs.Lines.{map_of_event};
 
 use crate::lines::MariaJsonLines;
 use binlog_file::{CountedRef, Error, EventRef, EventStreamReader, TableMapEvent};
-use binlog_lines::write_line;
 use binlog_row_json::table_id;
-use binlog_visits::{Refusing, Visitor};
+use binlog_visits::{Refusing, Visitor, write_line};
 use std::alloc::Global;
 use std::io::Write;
 

@@ -4,7 +4,7 @@ use Rattle.std.specs.Prelude.{◌≡◌, ℕ, ◌<◌, ◌==◌, ◌&&◌, Bool,
 use Rattle.std.specs.List.{find}
 use Rattle.std.specs.Option.{option_and_then, option_or}
 use Rattle.std.specs.Str.{is_utf8}
-use Rattle.character_sets.specs.Collations.{set_of_collation, set_of_mariadb_collation}
+use Rattle.character_sets.specs.Collations.{set_of_collation_in}
 use Rattle.character_sets.specs.declared.character_set.CharacterSet.{CharacterSet}
 use Rattle.binlog_columns.specs.Metadata.{Typed, real_number, string_length}
 use Rattle.binlog_columns.specs.RealTypes.{real_type}
@@ -63,8 +63,7 @@ collation_in _ index = 0
 
 -- The character set of a collation, by its number, which has 16 bits, and by the server that wrote the log.
 unfoldable pub set_numbered : Bool → ℕ → Option CharacterSet
-set_numbered is_maria_log number =
-    if nat_lt number 0x1_0000 then (if is_maria_log then set_of_mariadb_collation number else set_of_collation number) else None
+set_numbered is_maria_log number = if nat_lt number 0x1_0000 then set_of_collation_in is_maria_log number else None
 
 -- The character set of the column with this index in its class.
 abbrev pub set_stated : Bool → Option Content → ℕ → Option CharacterSet

@@ -37,12 +37,7 @@ fn set_numbered(is_maria_log: bool, collation: u64) -> Option<CharacterSet>
     if collation >= 0x1_0000 {
         return None;
     }
-    let number = collation as u16;
-    if is_maria_log {
-        CharacterSet::from_mariadb_collation(number)
-    } else {
-        CharacterSet::from_collation(number)
-    }
+    CharacterSet::from_collation_in(is_maria_log, collation as u16)
 }
 
 /// The sets, where each column has this collation.

@@ -6,4 +6,6 @@ mod Padding
 mod PlainTexts
 mod SetTexts
 mod EnumTexts
-mod ColumnTexts
+mod Commas
+mod JsonDocuments
+mod DiffLists

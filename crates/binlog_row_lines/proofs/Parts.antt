@@ -1,7 +1,8 @@
 -- Parts that are written one after the other.
-use Rattle.std.proofs.Common.{◌≡◌, Result, Ok, Err, OnOk, List, [], ◌∷◌, ◌++◌, refl, ap, ◌∙◌, append_assoc}
+use Rattle.std.proofs.Common.{◌≡◌, Result, Ok, Err, OnOk, List, [], ◌∷◌, ◌++◌, map, refl, ap, ◌∙◌, append_assoc}
 use Rattle.json.specs.Token.{Token}
-use Rattle.binlog_row_lines.specs.Parts.{Part, IsPart, AreParts, Shows, exact}
+use Rattle.binary_json_lines.specs.Parts as documents
+use Rattle.binlog_row_lines.specs.Parts.{Part, in_document, IsPart, AreParts, Shows, exact}
 
 are_exact : (tokens : List Token) → AreParts (exact tokens) tokens
 are_exact [] = tt
@@ -49,3 +50,15 @@ then_exactly (Err e) old mid new parts tokens before is = is
 pub then_written : {A E : Type 0} (result : Result A E) (old mid new : List Token) (a b : List Part) → Shows old mid a → OnOk result (Shows mid new b) → OnOk result (Shows old new (a ++ b))
 then_written (Ok x) old mid new a b before shown = shows_both before shown
 then_written (Err e) old mid new a b before shown = shown
+
+-- ---- parts of documents
+
+are_in_document : (parts : List documents.Part) (tokens : List Token) → documents.AreParts parts tokens → AreParts (map in_document parts) tokens
+are_in_document [] [] are = tt
+are_in_document [] (token ∷ tokens) are = absurd are
+are_in_document (part ∷ parts) [] are = absurd are
+are_in_document (part ∷ parts) (token ∷ tokens) are = (are.0, are_in_document parts tokens are.1)
+
+-- Parts of a document that are written.
+pub shows_document : (old new : List Token) (parts : List documents.Part) → documents.Shows old new parts → Shows old new (map in_document parts)
+shows_document old new parts shown = record { tokens = shown.tokens; are = are_in_document parts shown.tokens shown.are; is = shown.is }

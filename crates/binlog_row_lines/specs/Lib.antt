@@ -3,6 +3,7 @@ pub mod Numbers
 pub mod Texts
 pub mod Members
 pub mod Times
+pub mod Documents
 pub mod Values
 pub mod Rows
 pub mod Written

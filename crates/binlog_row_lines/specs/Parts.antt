@@ -6,6 +6,7 @@ use Rattle.ryu.specs.Plain.{IsPlainNumber}
 use Rattle.jiff_core.specs.Date.{epoch_day}
 use Rattle.jiff_core.specs.declared.civil.date.Date.{Date}
 use Rattle.json.specs.Token.{Token, number, string}
+use Rattle.binary_json_lines.specs.Parts as documents
 use Rattle.binlog_row_lines.specs.Times.{date_text, clock_text, fraction_text}
 
 pub data Part : Type 0 where
@@ -15,6 +16,8 @@ pub data Part : Type 0 where
   reading_back : Format → Float → Part
   -- A date and a time in UTC: the seconds since 1970, the decimal digits of the fraction, and the microseconds.
   utc : ℕ → ℕ → ℕ → Part
+  -- A part of the value of a document.
+  in_document : documents.Part → Part
 
 -- The date and the time of so many seconds since the start of 1970: the date has this day number in the calendar.
 abbrev pub IsUtcText : ℕ → ℕ → ℕ → List ℕ → Type 0
@@ -34,6 +37,7 @@ abbrev pub IsPart : Part → Token → Type 0
 IsPart (exactly token) written = written ≡ token
 IsPart (reading_back f x) written = (text : List ℕ) × (written ≡ number text) × IsPlainNumber text × (parse_float f text ≡ Some x)
 IsPart (utc seconds digits microseconds) written = (text : List ℕ) × (written ≡ string text) × IsUtcText seconds digits microseconds text
+IsPart (in_document part) written = documents.IsPart part written
 
 -- The tokens are what the parts say, one by one.
 abbrev pub AreParts : List Part → List Token → Type 0

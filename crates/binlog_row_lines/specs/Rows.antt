@@ -13,7 +13,8 @@ use Rattle.binlog_images.specs.declared.rows_error.RowsErrorKind.TheVariants.{Tr
 use Rattle.binlog_optional_metadata.specs.declared.column_facts.ColumnFacts.{ColumnFacts}
 use Rattle.binlog_optional_metadata.specs.Facts.{Facts, facts_of}
 use Rattle.binlog_row_lines.specs.Parts.{Part, exactly, exact}
-use Rattle.binlog_row_lines.specs.Values.{encoded_value, value_parts}
+use Rattle.binlog_row_lines.specs.Documents.{diff_list_parts}
+use Rattle.binlog_row_lines.specs.Values.{value_parts}
 
 -- The name of the column with this index: the stated one, else `@` and the number from 1.
 abbrev pub column_name : Facts → ℕ → List ℕ
@@ -24,7 +25,7 @@ abbrev pub cell_parts : Facts → ℕ → Cell → List Part
 cell_parts facts index absent = []
 cell_parts facts index cells.null = exactly (key (column_name facts index)) ∷ exactly null ∷ []
 cell_parts facts index (value meaning content) = exactly (key (column_name facts index)) ∷ value_parts facts meaning content
-cell_parts facts index (diff_list content) = exactly (key (column_name facts index)) ∷ exact (encoded_value (codes "diffs") (bytes_in content))
+cell_parts facts index (diff_list content) = exactly (key (column_name facts index)) ∷ diff_list_parts (bytes_in content)
 
 -- The member of the first of these columns.
 abbrev pub first_parts : Facts → ℕ → List Cell → List Part

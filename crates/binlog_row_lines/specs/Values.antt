@@ -1,7 +1,7 @@
 -- Values as tokens, by what they mean.
-use Rattle.std.specs.Prelude.{ℕ, ◌+◌, ◌-◌, ◌/◌, ◌%◌, ◌^◌, ◌==◌, ◌&&◌, Bool, List, [], ◌∷◌, ◌++◌, length, replicate, codes, nat_le, nat_lt, if◌then◌else◌}
+use Rattle.std.specs.Prelude.{ℕ, ◌-◌, ◌/◌, ◌%◌, ◌^◌, ◌==◌, ◌&&◌, Bool, List, [], ◌∷◌, ◌++◌, length, replicate, codes, nat_le, nat_lt, if◌then◌else◌}
 use Rattle.json.specs.Token.{Token, null, string}
-use Rattle.json_line.specs.Tokens.{number_value, bytes_value, member, object}
+use Rattle.json_line.specs.Tokens.{number_value, bytes_value}
 use Rattle.binlog_values.specs.Contents.{Content, number_in, bytes_in, before_fraction, time2_zero, time2_distance}
 use Rattle.binlog_values.specs.Decimals.{decimal_text}
 use Rattle.binlog_values.specs.Texts.{sign_text}
@@ -13,6 +13,7 @@ use Rattle.binlog_row_lines.specs.Parts.{Part, exactly, utc, exact}
 use Rattle.binlog_row_lines.specs.Numbers.{integer_value, single_parts, double_parts}
 use Rattle.binlog_row_lines.specs.Texts.{column_text}
 use Rattle.binlog_row_lines.specs.Members.{enum_value, set_value}
+use Rattle.binlog_row_lines.specs.Documents.{encoded_value, json_parts}
 use Rattle.binlog_row_lines.specs.Times.{date_text, clock_text, fraction_text}
 
 -- A DATE.
@@ -71,10 +72,6 @@ abbrev pub string_value : Facts → List ℕ → List Token
 string_value facts s =
     if is_binary facts.character_set then bytes_value (padded facts.padded_length s) else column_text facts.character_set s
 
--- An object with one member, the hexadecimal digits of bytes that aren't decoded.
-abbrev pub encoded_value : List ℕ → List ℕ → List Token
-encoded_value name s = object (member name (bytes_value s))
-
 -- Values whose text is fixed.
 abbrev pub value_tokens : Facts → Meaning → Content → List Token
 value_tokens facts meanings.null content = null ∷ []
@@ -94,7 +91,7 @@ value_tokens facts (meanings.bit count) content = number_value (number_in conten
 value_tokens facts meanings.enumeration content = enum_value facts.character_set facts.members (number_in content)
 value_tokens facts meanings.members content = set_value facts.character_set facts.members (number_in content)
 value_tokens facts meanings.string content = string_value facts (bytes_in content)
-value_tokens facts meanings.json content = encoded_value (codes "jsonb") (bytes_in content)
+value_tokens facts meanings.json content = []
 value_tokens facts meanings.geometry content = bytes_value (bytes_in content)
 value_tokens facts meanings.vector content = bytes_value (bytes_in content)
 value_tokens facts meanings.compressed content = encoded_value (codes "stored") (bytes_in content)
@@ -106,4 +103,5 @@ value_parts facts meanings.double content = double_parts (number_in content)
 value_parts facts meanings.timestamp content = timestamp_parts 0 (number_in content) 0
 value_parts facts (meanings.timestamp2 digits) content =
     timestamp_parts digits (before_fraction digits (number_in content)) (microseconds_of digits (number_in content))
+value_parts facts meanings.json content = json_parts (bytes_in content)
 value_parts facts meaning content = exact (value_tokens facts meaning content)

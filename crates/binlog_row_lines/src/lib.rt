@@ -6,6 +6,8 @@
 #![tactic(auto)]
 
 mod digits;
+mod documents;
+pub mod laws;
 mod members;
 mod names;
 mod numbers;

@@ -6,7 +6,7 @@ ghost use Rattle.binlog_optional_metadata.specs.Facts.{texts_of};
 ghost use Rattle.binlog_row_lines.specs.Texts.{comma_in};
 ghost use Rattle.binlog_row_lines.specs.Members.{text_or_number, enum_text, enum_value, chosen, joined, set_text, set_value};
 
-use crate::texts::{comma_in, write_text};
+use crate::texts::comma_in;
 use character_sets::CharacterSet;
 use json_line::Line;
 use std::alloc::AllocError;
@@ -36,7 +36,7 @@ fn write_stated_enum(
     ensures { Adds result line.old line.new (text_or_number character_set (enum_text index (texts_of members.now)) index) }
 {
     match enum_text(members, index) {
-        Some(text) => write_text(line, character_set, text),
+        Some(text) => line.text_in_stated(character_set, text),
         None => line.number(index),
     }
 }
@@ -83,7 +83,7 @@ fn write_stated_set(
     }
     memory.clear();
     push_members(memory, comma_in(character_set), members, mask)?;
-    write_text(line, character_set, memory)
+    line.text_in_stated(character_set, memory)
 }
 
 /// Whether a bit beyond the first bits, this many, is set.

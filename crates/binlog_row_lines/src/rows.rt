@@ -15,7 +15,8 @@ ghost use Rattle.binlog_row_lines.specs.Parts.{Writes};
 ghost use Rattle.binlog_row_lines.specs.Rows.{column_name, cell_parts, first_parts, image_parts, image_member, row_parts, kind_name, image_name, fault_image, fault_column, refusal_tokens, item_parts};
 ghost use Rattle.binlog_row_lines.specs.Written.{ShowsRows};
 
-use crate::values::{ValueWriter, write_encoded};
+use crate::documents::write_diff_list;
+use crate::values::ValueWriter;
 use binlog_images::{ColumnValue, Image, ImageKind, Row, Rows, RowsError, RowsErrorKind};
 use binlog_optional_metadata::ColumnFacts;
 use json_line::Line;
@@ -120,7 +121,7 @@ impl ValueWriter {
             }
             ColumnValue::Diffs(bytes) => {
                 self.write_name(line, facts, index)?;
-                write_encoded(line, "diffs", bytes)
+                write_diff_list(line, &mut self.text, bytes)
             }
         }
     }

@@ -5,7 +5,6 @@ ghost use Rattle.json_line.specs.Tokens.{Adds, bytes_value};
 ghost use Rattle.binlog_optional_metadata.specs.Facts.{facts_of};
 ghost use Rattle.binlog_row_lines.specs.Values.{padded, string_value};
 
-use crate::texts::write_text;
 use binlog_optional_metadata::ColumnFacts;
 use json_line::Line;
 use std::alloc::AllocError;
@@ -22,7 +21,7 @@ pub(crate) fn write_string(
     if facts.is_binary() {
         write_padded(line, memory, facts.padded_length as usize, bytes)
     } else {
-        write_text(line, facts.character_set, bytes)
+        line.text_in_stated(facts.character_set, bytes)
     }
 }
 

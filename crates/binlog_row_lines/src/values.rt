@@ -3,14 +3,14 @@
 
 ghost use Rattle.std.specs.Prelude.{◌≡◌, ◌++◌, ◌∷◌, []};
 ghost use Rattle.json.specs.Token.{string};
-ghost use Rattle.json_line.specs.Lines.{IsPlainText};
 ghost use Rattle.json_line.specs.Tokens.{Adds};
 ghost use Rattle.binlog_values.specs.Decimals.{decimal_text};
 ghost use Rattle.binlog_values.specs.Values.{meaning_of, content_of};
 ghost use Rattle.binlog_optional_metadata.specs.Facts.{facts_of};
 ghost use Rattle.binlog_row_lines.specs.Parts.{Writes};
-ghost use Rattle.binlog_row_lines.specs.Values.{date_of, time_of, datetime_of, datetime2_of, time2_of, encoded_value, value_tokens, value_parts};
+ghost use Rattle.binlog_row_lines.specs.Values.{date_of, time_of, datetime_of, datetime2_of, time2_of, value_tokens, value_parts};
 
+use crate::documents::{write_encoded, write_json};
 use crate::members::{write_enum, write_set};
 use crate::names::NumberedNames;
 use crate::numbers::{write_double, write_integer, write_single};
@@ -26,7 +26,7 @@ use std::alloc::{AllocError, Global};
 /// Writes values, in memory that is reused from value to value.
 #[derive(Drop)]
 pub struct ValueWriter {
-    text: String,
+    pub(crate) text: String,
     bytes: Vec<u8>,
     pub(crate) names: NumberedNames,
 }
@@ -65,6 +65,7 @@ impl ValueWriter {
                 time.seconds(),
                 time.microseconds(),
             ),
+            Value::Json(bytes) => write_json(line, &mut self.text, bytes),
             _ => self.write_fixed(line, facts, value),
         }
     }
@@ -81,9 +82,11 @@ impl ValueWriter {
         let text = &mut self.text;
         let bytes = &mut self.bytes;
         match value {
-            Value::Float(_) | Value::Double(_) | Value::Timestamp(_) | Value::Timestamp2(_) => {
-                Ok(())
-            }
+            Value::Float(_)
+            | Value::Double(_)
+            | Value::Timestamp(_)
+            | Value::Timestamp2(_)
+            | Value::Json(_) => Ok(()),
             Value::Null => line.null(),
             Value::Integer(integer) => write_integer(line, facts.is_unsigned, integer),
             Value::Decimal(decimal) => write_decimal(line, text, decimal),
@@ -100,7 +103,6 @@ impl ValueWriter {
             }
             Value::Bytes(string) => write_string(line, bytes, facts, string),
             Value::Geometry(bytes) | Value::Vector(bytes) => line.bytes(bytes),
-            Value::Json(bytes) => write_encoded(line, "jsonb", bytes),
             Value::Compressed(bytes) => write_encoded(line, "stored", bytes),
         }
     }
@@ -205,14 +207,4 @@ fn write_time2(line: &mut Line, text: &mut String, time: &Time2) -> Result<(), A
     )?;
     push_fraction(text, time.digits(), time.microseconds())?;
     line.string(text.as_str())
-}
-
-/// Writes an object with one member: bytes that aren't decoded.
-pub(crate) fn write_encoded(line: &mut Line, name: &str, bytes: &[u8]) -> Result<(), AllocError>
-    requires { IsPlainText name.now }
-    ensures { Adds result line.old line.new (encoded_value name.now bytes.now) }
-{
-    line.begin_object()?;
-    line.bytes_member(name, bytes)?;
-    line.end_object()
 }

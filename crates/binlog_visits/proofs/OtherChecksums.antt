@@ -5,9 +5,9 @@ use Rattle.binlog_wire.specs.declared.error.Error.{Error}
 use Rattle.binlog_events.specs.Events.{EventView}
 use Rattle.binlog_file.specs.Verifications.{HandlesVerified}
 use Rattle.binlog_file.proofs.OtherChecksums.{handles_other, gives_other}
-use Rattle.binlog_lines.specs.Places.{Place, first_place, LeavesVerified, AreFirst}
-use Rattle.binlog_lines.proofs.Places.{first_along}
-use Rattle.binlog_lines.proofs.OtherChecksums.{left_other}
+use Rattle.binlog_visits.specs.Places.{Place, first_place, LeavesVerified, AreFirst}
+use Rattle.binlog_visits.proofs.Places.{first_along}
+use Rattle.binlog_visits.proofs.OtherListings.{left_other}
 use Rattle.binlog_visits.specs.Visits.{VisitRelation, RefusalRelation, VisitsAll, VisitsBefore, VisitsUntil, VisitsItems, VisitsFile, VisitsVerifiedLog}
 
 module _ {T : Type 0} (visits : VisitRelation T) (refuses : RefusalRelation T)

@@ -9,3 +9,4 @@ pub mod LawsOfTexts
 pub mod Reading
 pub mod AsciiTexts
 pub mod AsciiKept
+pub mod CollationNumbers

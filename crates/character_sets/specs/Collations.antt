@@ -1,5 +1,5 @@
 -- The character sets of collations, by their numbers.
-use Rattle.std.specs.Prelude.{◌&&◌, ℕ, Bool, List, Option, Some, None, nat_le, find}
+use Rattle.std.specs.Prelude.{◌&&◌, ℕ, Bool, List, Option, Some, None, nat_le, find, if◌then◌else◌}
 use Rattle.std.specs.Option.{option_map}
 use Rattle.character_sets.specs.declared.character_set.CharacterSet.{CharacterSet}
 use Rattle.character_sets.specs.declared.collations.TheConstants.{COLLATIONS, MARIADB_COLLATIONS}
@@ -31,3 +31,7 @@ or_else (Some set) other = Some set
 
 abbrev pub set_of_mariadb_collation : ℕ → Option CharacterSet
 set_of_mariadb_collation number = or_else (set_of_collation number) (set_in mariadb_collations number)
+
+-- The set of a number by the server that numbers collations.
+abbrev pub set_of_collation_in : (is_mariadb : Bool) → ℕ → Option CharacterSet
+set_of_collation_in is_mariadb number = if is_mariadb then set_of_mariadb_collation number else set_of_collation number

@@ -3,15 +3,21 @@
 //! MariaDB's `information_schema.COLLATION_CHARACTER_SET_APPLICABILITY` has its numbers, MySQL's `information_schema.COLLATIONS` those of
 //! MySQL. `tests/character_sets.py` compares the tables with what servers answered.
 ghost use Rattle.std.specs.Prelude.{◌≡◌};
-ghost use Rattle.character_sets.specs.Collations.{set_in, collations, mariadb_collations, set_of_collation, set_of_mariadb_collation};
+ghost use Rattle.character_sets.specs.Collations.{set_in, collations, mariadb_collations, set_of_collation, set_of_mariadb_collation, set_of_collation_in};
 
 use crate::character_set::CharacterSet;
 
 /// The first and the last number of collations of one character set.
 type Collations = (u16, u16, CharacterSet);
 
-/// The collations of MySQL, and those of MariaDB with such numbers, in order.
+/// The collations of MySQL, and those of MariaDB with such numbers: first those of most clients, since a search begins there, then the
+/// others in order.
 static COLLATIONS: [Collations; 100] = [
+    (45, 46, CharacterSet::Utf8mb4),
+    (255, 271, CharacterSet::Utf8mb4),
+    (224, 247, CharacterSet::Utf8mb4),
+    (33, 33, CharacterSet::Utf8mb3),
+    (8, 8, CharacterSet::Latin1),
     (1, 1, CharacterSet::Big5),
     (2, 2, CharacterSet::Latin2),
     (3, 3, CharacterSet::Dec8),
@@ -19,7 +25,6 @@ static COLLATIONS: [Collations; 100] = [
     (5, 5, CharacterSet::Latin1),
     (6, 6, CharacterSet::Hp8),
     (7, 7, CharacterSet::Koi8r),
-    (8, 8, CharacterSet::Latin1),
     (9, 9, CharacterSet::Latin2),
     (10, 10, CharacterSet::Swe7),
     (11, 11, CharacterSet::Ascii),
@@ -43,7 +48,6 @@ static COLLATIONS: [Collations; 100] = [
     (30, 30, CharacterSet::Latin5),
     (31, 31, CharacterSet::Latin1),
     (32, 32, CharacterSet::Armscii8),
-    (33, 33, CharacterSet::Utf8mb3),
     (34, 34, CharacterSet::Cp1250),
     (35, 35, CharacterSet::Ucs2),
     (36, 36, CharacterSet::Cp866),
@@ -54,7 +58,6 @@ static COLLATIONS: [Collations; 100] = [
     (41, 42, CharacterSet::Latin7),
     (43, 43, CharacterSet::Macce),
     (44, 44, CharacterSet::Cp1250),
-    (45, 46, CharacterSet::Utf8mb4),
     (47, 49, CharacterSet::Latin1),
     (50, 52, CharacterSet::Cp1251),
     (53, 53, CharacterSet::Macroman),
@@ -104,9 +107,7 @@ static COLLATIONS: [Collations; 100] = [
     (160, 183, CharacterSet::Utf32),
     (192, 215, CharacterSet::Utf8mb3),
     (223, 223, CharacterSet::Utf8mb3),
-    (224, 247, CharacterSet::Utf8mb4),
     (248, 250, CharacterSet::Gb18030),
-    (255, 271, CharacterSet::Utf8mb4),
     (273, 275, CharacterSet::Utf8mb4),
     (277, 294, CharacterSet::Utf8mb4),
     (296, 298, CharacterSet::Utf8mb4),
@@ -114,9 +115,10 @@ static COLLATIONS: [Collations; 100] = [
     (303, 323, CharacterSet::Utf8mb4),
 ];
 
-/// The other collations of MariaDB, in order: some of Croatian and Myanmar, those that don't pad with spaces (1024 more than the
+/// The other collations of MariaDB, first that of most clients, then in order: some of Croatian and Myanmar, those that don't pad with spaces (1024 more than the
 /// number of the one that does), and from 2048 on those of the Unicode Collation Algorithm 14.0.0.
 static MARIADB_COLLATIONS: [Collations; 95] = [
+    (2304, 2471, CharacterSet::Utf8mb4),
     (576, 578, CharacterSet::Utf8mb3),
     (608, 610, CharacterSet::Utf8mb4),
     (640, 642, CharacterSet::Ucs2),
@@ -204,7 +206,6 @@ static MARIADB_COLLATIONS: [Collations; 95] = [
     (1270, 1270, CharacterSet::Utf8mb4),
     (2048, 2215, CharacterSet::Utf8mb3),
     (2232, 2247, CharacterSet::Utf8mb3),
-    (2304, 2471, CharacterSet::Utf8mb4),
     (2488, 2503, CharacterSet::Utf8mb4),
     (2560, 2727, CharacterSet::Ucs2),
     (2744, 2759, CharacterSet::Ucs2),
@@ -213,6 +214,9 @@ static MARIADB_COLLATIONS: [Collations; 95] = [
     (3072, 3239, CharacterSet::Utf32),
     (3256, 3271, CharacterSet::Utf32),
 ];
+
+/// The greatest number in [`COLLATIONS`].
+const LAST_COLLATION: u16 = 323;
 
 #[tactic(auto, unfolding(crate::specs::Collations::collations))]
 fn collations() -> &'static [Collations]
@@ -241,9 +245,13 @@ impl CharacterSet {
     /// The character set of a collation, by its number in `information_schema.COLLATIONS`: of MySQL's collations, and of MariaDB's up
     /// to 323, where no number has another character set in the other server. `None` for any other number. MySQL leaves 1024 to
     /// 2047 to collations that users define.
+    #[tactic(auto, using(crate::proofs::CollationNumbers::none_beyond))]
     pub fn from_collation(number: u16) -> Option<CharacterSet>
         ensures { result ≡ set_of_collation number }
     {
+        if number > LAST_COLLATION {
+            return None;
+        }
         set_in(collations(), number)
     }
 
@@ -252,9 +260,21 @@ impl CharacterSet {
     pub fn from_mariadb_collation(number: u16) -> Option<CharacterSet>
         ensures { result ≡ set_of_mariadb_collation number }
     {
-        match set_in(collations(), number) {
+        match CharacterSet::from_collation(number) {
             Some(set) => Some(set),
             None => set_in(mariadb_collations(), number),
+        }
+    }
+
+    /// The character set of a collation by the server that numbers it: [`CharacterSet::from_mariadb_collation`] of a MariaDB
+    /// server, else [`CharacterSet::from_collation`].
+    pub fn from_collation_in(is_mariadb: bool, number: u16) -> Option<CharacterSet>
+        ensures { result ≡ set_of_collation_in is_mariadb number }
+    {
+        if is_mariadb {
+            CharacterSet::from_mariadb_collation(number)
+        } else {
+            CharacterSet::from_collation(number)
         }
     }
 }

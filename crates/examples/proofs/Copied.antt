@@ -24,8 +24,8 @@ use Rattle.binlog_file.proofs.WholeFiles.{events_inside}
 use Rattle.binlog_file.proofs.VerifiedItems.{unverified, yields_verified}
 use Rattle.binlog_file.proofs.VerifiedFiles.{all_verified, verified_copied}
 use Rattle.binlog_file.proofs.OtherChecksums.{gives_other}
-use Rattle.binlog_lines.specs.Places.{Place, GivesFrom}
-use Rattle.binlog_lines.proofs.Places.{place_at, verified_from}
+use Rattle.binlog_visits.specs.Places.{Place, GivesFrom}
+use Rattle.binlog_visits.proofs.Places.{place_at, verified_from}
 use Rattle.crc32_ieee.specs.Checksums.{IsCrc32}
 use Rattle.examples.specs.Copying.{IsByCrc32, IsRefusedAs, StopsAtItem, IsNotCopied, Copies, CopiesItem, CopiesNext}
 

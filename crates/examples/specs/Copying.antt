@@ -13,7 +13,7 @@ use Rattle.binlog_file.specs.StreamItems.{AreItems}
 use Rattle.binlog_file.specs.Verifications.{Handling, HandlesVerified}
 use Rattle.binlog_file.specs.VerifiedFiles.{AreVerifiedItems}
 use Rattle.binlog_file.specs.Checksums.{WritesEvent, write_refusal}
-use Rattle.binlog_lines.specs.Places.{Place, first_place, GivesFrom, LeavesVerified, AreFirst}
+use Rattle.binlog_visits.specs.Places.{Place, first_place, GivesFrom, LeavesVerified, AreFirst}
 use Rattle.crc32_ieee.specs.Checksums.{IsCrc32}
 
 -- What a frame does is what it does where checksums are verified by CRC-32.

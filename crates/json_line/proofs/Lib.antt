@@ -5,3 +5,4 @@ pub mod OneMore
 pub mod PlainTexts
 pub mod Members
 pub mod Passed
+pub mod StatedTexts

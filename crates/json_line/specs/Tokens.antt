@@ -2,6 +2,7 @@
 use Rattle.std.specs.Prelude.{◌≡◌, ℕ, List, [], ◌∷◌, ◌++◌, length, cond, nat_eq, codes, decimal, Option, Some, None, Result, OnOk}
 use Rattle.std.specs.Str.Lossy.{utf8_valid_len}
 use Rattle.character_sets.specs.declared.character_set.CharacterSet.{CharacterSet}
+use Rattle.character_sets.specs.declared.character_set.CharacterSet.TheVariants.{Binary}
 use Rattle.character_sets.specs.Characters.{utf8_of}
 use Rattle.hex.specs.Hex.{encode_lower}
 use Rattle.uuid.specs.Text.{hyphenated_text, lower}
@@ -37,6 +38,12 @@ string_or_hex None bytes = hex_value bytes
 -- A text in a character set: a string of its characters if the bytes are one, else an object with their hexadecimal digits.
 abbrev pub text_value_in : CharacterSet → List ℕ → List Token
 text_value_in set text = string_or_hex (utf8_of set text) text
+
+-- A text in the character set that is stated. Where none is, or it is `binary`, bytes that are UTF-8 are a string.
+abbrev pub text_value_in_stated : Option CharacterSet → List ℕ → List Token
+text_value_in_stated None text = text_value text
+text_value_in_stated (Some Binary) text = text_value text
+text_value_in_stated (Some set) text = text_value_in set text
 
 -- A UUID: a string of 36 characters.
 abbrev pub uuid_value : List ℕ → List Token

@@ -5,7 +5,7 @@ ghost use Rattle.json.specs.Lex.{tokens as read_tokens};
 ghost use Rattle.json.specs.Print.{escape, print, token_text, IsNumber};
 ghost use Rattle.json.specs.Token as tokens;
 ghost use Rattle.json_line.specs.Lines.{IsPlainText};
-ghost use Rattle.json_line.specs.Tokens.{Adds, number_value, bytes_value, text_value, text_value_in, hex_value, uuid_value, or_null, member, bytes_member_if_any};
+ghost use Rattle.json_line.specs.Tokens.{Adds, number_value, bytes_value, text_value, text_value_in, text_value_in_stated, hex_value, uuid_value, or_null, member, bytes_member_if_any};
 
 use crate::buffer::Buffer;
 use crate::plain::is_plain;
@@ -60,7 +60,8 @@ fn token_writer(token: &mut Vec<u8>, alloc: Global) -> Writer<Global>
 
 /// Each writing call appends its tokens, or fails with [`AllocError`] if an allocation fails. After a failure the line
 /// is unchanged, except in calls that write several tokens one after another: [`Line::text`] with bytes that aren't
-/// UTF-8, [`Line::text_in`] with bytes that are no text, and the members with a text or with bytes. There the first tokens may have been written.
+/// UTF-8, [`Line::text_in`] with bytes that are no text, [`Line::text_in_stated`] with either, and the members with a text or with bytes. There
+/// the first tokens may have been written.
 ///
 /// The calls don't check that the tokens form a JSON value: a caller has to end what it begins.
 impl Line {
@@ -366,13 +367,30 @@ impl Line {
         }
     }
 
+    /// Writes a text in the character set that is stated, as [`Line::text_in`] does. Where none is stated, or it is
+    /// [`CharacterSet::Binary`], the text is written as by [`Line::text`].
+    #[inline]
+    #[tactic(auto, using(crate::proofs::StatedTexts::other_text))]
+    pub fn text_in_stated(
+        &mut self,
+        set: Option<CharacterSet>,
+        text: &[u8],
+    ) -> Result<(), AllocError>
+        ensures { Adds result self.old self.new (text_value_in_stated set text.now) }
+    {
+        match set {
+            None | Some(CharacterSet::Binary) => self.text(text),
+            Some(set) => self.text_in(set, text),
+        }
+    }
+
     /// Writes a string of these characters, escaped where needed.
     pub fn characters(&mut self, characters: &Characters<'_>) -> Result<(), AllocError>
         ensures added { Adds result self.old self.new (tokens.string (encode_utf8_all characters.now) ∷ []) }
         ensures unchanged { OnErr result (self.new ≡ self.old) }
     {
         match characters.as_str() {
-            Some(text) => self.string(text),
+            Some(text) => self.escaped_string(text),
             None => self.encoded_characters(characters),
         }
     }

@@ -1,4 +1,4 @@
-//! Tests of `binlog_listing`, `binlog_lines`, `binlog_gtid_listing`, `binlog_maria_gtids` and of lines of JSON: logs whose checksums are
+//! Tests of `binlog_listing`, `binlog_visits`, `binlog_gtid_listing`, `binlog_maria_gtids` and of lines of JSON: logs whose checksums are
 //! verified, what events add to GTIDs, and the ends of readers and writers. The lines of logs stand in `tests/cases/listings.txt`.
 #![tactic(auto)]
 

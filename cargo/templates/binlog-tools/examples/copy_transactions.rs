@@ -1,7 +1,7 @@
-//! Copies the transactions that have one of some GTIDs: `copy_transactions GTIDS FROM TO`
+//! Copies the transactions that have one of some GTIDs of MySQL's: `copy_transactions GTIDS FROM TO`
 use binlog::BinlogFileHeader;
 use binlog::consts::BinlogVersion;
-use binlog_tools::{Copier, Filter, Filtered, visit};
+use binlog_tools::{Copier, Filter, Filtered, GtidSet, visit};
 use std::error::Error;
 use std::fs::File;
 use std::io::{BufReader, BufWriter, Write};
@@ -12,7 +12,7 @@ fn main() -> Result<(), Box<dyn Error>> {
         return Err("usage: copy_transactions GTIDS FROM TO".into());
     };
     let mut filter = Filter::new();
-    filter.include_gtids = Some(gtids.parse()?);
+    filter.include_gtids = Some(GtidSet::Mysql(gtids.parse()?));
     // The other events are read under the format descriptions.
     filter.takes_descriptions = true;
     let mut output = BufWriter::new(File::create(to)?);

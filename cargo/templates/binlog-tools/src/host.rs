@@ -144,7 +144,7 @@ impl Clock for Host {
 impl Env for Host {
     fn args(&self) -> io::Result<env::Args> {
         let words: Option<Vec<String>> = std::env::args_os().map(|word| word.into_string().ok()).collect();
-        words.map(env::Args).ok_or_else(|| io::ErrorKind::InvalidData.into())
+        words.map(|words| env::Args(words.into_iter())).ok_or_else(|| io::ErrorKind::InvalidData.into())
     }
 }
 
@@ -153,15 +153,24 @@ pub mod env {
     use super::Env;
     use binlog::AllocError;
     use std::io;
+    use std::vec::IntoIter;
 
     /// The arguments, the program's name first.
     #[derive(Debug)]
-    pub struct Args(pub(super) Vec<String>);
+    pub struct Args(pub(super) IntoIter<String>);
 
     impl Args {
         /// The arguments in a collection.
         pub fn collect<C: FromIterator<String>>(self) -> Result<C, AllocError> {
-            Ok(self.0.into_iter().collect())
+            Ok(self.0.collect())
+        }
+    }
+
+    impl Iterator for Args {
+        type Item = String;
+
+        fn next(&mut self) -> Option<String> {
+            self.0.next()
         }
     }
 

@@ -9,7 +9,6 @@ pub mod binlog_event_types;
 pub mod binlog_filters;
 pub mod binlog_gtid_listing;
 pub mod binlog_json_lines;
-pub mod binlog_lines;
 pub mod binlog_listing;
 // Of some functions a contract alone reads a parameter.
 #[allow(unused_variables)]
@@ -25,5 +24,5 @@ pub mod host;
 mod jiff;
 
 pub use crate::binlog_commands::{Copier, GtidCollector, Largest, Stats, Tally};
-pub use crate::binlog_filters::{Filter, Filtered, Place, begins_transaction};
+pub use crate::binlog_filters::{Filter, Filtered, GtidSet, Place, begins_transaction};
 pub use crate::binlog_visits::{LineWriter, Visitor, visit, visit_counted, visit_verified, visit_verified_counted};

@@ -2,6 +2,7 @@
 //! memory, and compare no sets.
 use crate::binlog_gtid_sets::GtidTracker;
 use crate::binlog_gtid_text::{GtidTextError, parse, to_text};
+use crate::binlog_maria_gtids::{MariaGtidSet, MariaGtidTextError, parse_set};
 use crate::binlog_mariadb::MariaGtid;
 use crate::binlog_numbers::{GnoInterval, Tag};
 use std::fmt;
@@ -66,5 +67,26 @@ impl fmt::Display for MariaGtid {
     fn fmt(&self, f: &mut fmt::Formatter<'_>) -> fmt::Result {
         let text = format!("{}-{}-{}", self.domain(), self.server_id(), self.sequence());
         f.pad(&text)
+    }
+}
+
+/// As [`parse_set`](crate::mariadb::parse_set) reads it.
+///
+/// # Example
+///
+/// ```
+/// use binlog::mariadb::{MariaGtid, MariaGtidSet};
+///
+/// let gtids: MariaGtidSet = "0-1-100,1-2-7".parse()?;
+/// assert!(gtids.contains(MariaGtid::new(1, 2, 7)));
+/// assert!(!gtids.contains(MariaGtid::new(0, 2, 7)));
+/// assert!("0-1".parse::<MariaGtidSet>().is_err());
+/// # Ok::<(), binlog::mariadb::MariaGtidTextError>(())
+/// ```
+impl FromStr for MariaGtidSet {
+    type Err = MariaGtidTextError;
+
+    fn from_str(text: &str) -> Result<Self, MariaGtidTextError> {
+        parse_set(text)
     }
 }

@@ -1,6 +1,28 @@
 //! Texts, members' names and signed numbers as JSON.
 use crate::memory::{AllocError, TryGrow};
 
+/// Whether a text is a number of JSON.
+pub fn is_number(text: &str) -> bool {
+    let size = text.strip_prefix('-').unwrap_or(text);
+    let (mantissa, exponent) = parts(size, &['e', 'E']);
+    let (whole, fraction) = parts(mantissa, &['.']);
+    let has_zeros = whole.len() > 1 && whole.starts_with('0');
+    let exponent = exponent.map(|text| text.strip_prefix(['+', '-']).unwrap_or(text));
+    !has_zeros && [Some(whole), fraction, exponent].into_iter().flatten().all(are_digits)
+}
+
+/// What is in front of the first of these characters, and what is behind it, if there is one.
+fn parts<'a>(text: &'a str, between: &[char]) -> (&'a str, Option<&'a str>) {
+    match text.split_once(between) {
+        Some((front, behind)) => (front, Some(behind)),
+        None => (text, None),
+    }
+}
+
+fn are_digits(text: &str) -> bool {
+    !text.is_empty() && text.bytes().all(|byte| byte.is_ascii_digit())
+}
+
 /// Writes JSON behind the bytes of a vector.
 pub struct Writer(Vec<u8>);
 

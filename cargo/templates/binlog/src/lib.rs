@@ -31,6 +31,12 @@
 //! ```
 #![forbid(unsafe_code)]
 
+mod base64;
+// Of a loop and of a function a proof alone reads a name.
+#[allow(unused_variables)]
+mod binary_json;
+#[allow(unused_variables)]
+mod binary_json_lines;
 mod binlog_bodies;
 mod binlog_columns;
 mod binlog_consts;
@@ -65,6 +71,7 @@ mod crc32_ieee;
 #[doc(hidden)]
 pub mod digits;
 mod display;
+mod fast_float;
 mod gtids;
 mod inflate;
 mod json;
@@ -147,9 +154,10 @@ pub mod counted {
     pub use crate::binlog_ends::{Retrying, SliceReader, WriteCounted};
 }
 
-/// MariaDB's own events, the texts of compressed ones, and the last of its GTIDs.
+/// MariaDB's own events, the texts of compressed ones, and sets and the last of its GTIDs.
 pub mod mariadb {
-    pub use crate::binlog_maria_gtids::MariaGtidTracker;
+    pub use crate::binlog_maria_gtids::{MariaGtidFault, MariaGtidSet, MariaGtidTextError};
+    pub use crate::binlog_maria_gtids::{MariaGtidTracker, parse_set};
     pub use crate::binlog_mariadb::{AnnotateRowsEvent, BinlogCheckpointEvent, GtidExtra, GtidHead};
     pub use crate::binlog_mariadb::{GtidListEvent, MariaEvent, MariaEventData, MariaEventType};
     pub use crate::binlog_mariadb::{MariaGtid, MariaGtidEvent, MariaGtidFlags, RowsCompressedEvent};
@@ -181,6 +189,20 @@ pub mod values {
     pub use crate::character_sets::{CHARACTER_SETS, CharacterSet, Characters};
     #[doc(hidden)]
     pub use crate::binlog_values::text;
+}
+
+/// The documents of JSON columns: MySQL's binary JSON.
+///
+/// [`Document::read`](jsonb::Document::read) checks the bytes of [`Value::Json`](values::Value::Json), and
+/// [`Document::value`](jsonb::Document::value) is what they say.
+pub mod jsonb {
+    pub use crate::binary_json::{Array, Decimal, Document, Double, Elements, JsonError, Members};
+    pub use crate::binary_json::{Object, OpaqueValue, Refusal, Value};
+}
+
+/// The diffs of partial updates of JSON columns.
+pub mod jsondiff {
+    pub use crate::binary_json::{JsonDiff, JsonDiffError, JsonDiffOperation, JsonDiffs};
 }
 
 /// Lines of JSON in memory that is reused, for `binlog-tools`.

@@ -85,6 +85,9 @@ impl<T> TryGrow<T> for Vec<T> {
 pub trait TryGrowText {
     /// Appends a text.
     fn try_push_str(&mut self, more: &str) -> Result<(), AllocError>;
+
+    /// Appends a character.
+    fn try_push_char(&mut self, character: char) -> Result<(), AllocError>;
 }
 
 impl TryGrowText for String {
@@ -94,7 +97,28 @@ impl TryGrowText for String {
         self.push_str(more);
         Ok(())
     }
+
+    #[inline]
+    fn try_push_char(&mut self, character: char) -> Result<(), AllocError> {
+        self.try_reserve(character.len_utf8())?;
+        self.push(character);
+        Ok(())
+    }
 }
+
+/// Iterators whose items are made a vector, which may be refused.
+pub trait TryCollect: Iterator + Sized {
+    /// The items, in order.
+    fn try_collect_vec(self) -> Result<Vec<Self::Item>, AllocError> {
+        let mut items = Vec::new();
+        for item in self {
+            items.try_push(item)?;
+        }
+        Ok(items)
+    }
+}
+
+impl<T: Iterator> TryCollect for T {}
 
 /// Texts to which `write!` appends, and may be refused; what came before the refusal is appended then.
 pub trait TryWrite {

@@ -58,14 +58,14 @@ fn is_flush_counted(alloc: Global) -> bool {
     let plan = Plan {
         calls_before: 1,
         failures: 1,
-        kind: ErrorKind::Other,
+        kind: ErrorKind::BrokenPipe,
     };
     let mut output = Counted::new(ByteWriter::new(alloc, 0, plan));
     let first = output.flush_counted() == Ok(());
     let second = flush(&mut &mut output) == Err(Failed);
     let (failures, last) = (output.failures(), output.last_failure());
     drop(output);
-    first && second && (failures, last) == (1, Some(ErrorKind::Other))
+    first && second && (failures, last) == (1, Some(ErrorKind::BrokenPipe))
 }
 
 #[test]

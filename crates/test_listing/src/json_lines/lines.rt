@@ -1,7 +1,7 @@
 //! Lines of items that are errors.
 use binlog_file::Error;
 use binlog_json_lines::JsonLines;
-use binlog_lines::ItemLines;
+use binlog_visits::ItemLines;
 use std::alloc::Global;
 
 /// The line of an event that stores 0x1c, and has the checksum 0x1b.

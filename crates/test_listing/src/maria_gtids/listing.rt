@@ -32,8 +32,7 @@ fn write_lines<W: WriteCounted>(alloc: Global, output: &mut W) -> Result<bool, E
     let mut has_errors = false;
     for index in 0..5 {
         if let Some(item) = file.next_ref() {
-            let tracked = track_log_event(alloc, index, &item?, &mut gtids, output)?;
-            has_errors |= tracked == Some(true);
+            has_errors |= track_log_event(alloc, index, &item?, &mut gtids, output)?;
         }
     }
     let none = MariaGtidTracker::new(alloc);

@@ -2,6 +2,7 @@
 //! aren't those that their `Display` shows.
 use binlog::consts::BinlogVersion;
 use binlog::events::{EventData, RowsEventData, TableMapEvent};
+use binlog::jsondiff::{JsonDiffOperation, JsonDiffs};
 use binlog::mariadb::is_maria_log;
 use binlog::json_lines::{Line, ValueWriter};
 use binlog::memory::AllocError;
@@ -103,8 +104,49 @@ fn displayed(facts: &ColumnFacts<'_>, value: ColumnValue<'_>) -> Option<String> 
         ColumnValue::Absent => None,
         ColumnValue::Null => Some(Value::Null.to_string()),
         ColumnValue::Value(value) => Some(value.display(facts).to_string()),
-        ColumnValue::Diffs(bytes) => Some(format!("{{\"diffs\":{}}}", Value::Geometry(bytes))),
+        ColumnValue::Diffs(bytes) => Some(match displayed_diffs(bytes) {
+            Some(diffs) => format!("{{\"diffs\":[{diffs}]}}"),
+            None => format!("{{\"diffs\":{}}}", Value::Geometry(bytes)),
+        }),
     }
+}
+
+/// The diffs of a list, if each of them has a text. Their documents are cut out of the bytes here.
+fn displayed_diffs(mut bytes: &[u8]) -> Option<String> {
+    let mut texts = Vec::new();
+    for diff in JsonDiffs::new(bytes) {
+        let diff = diff.ok()?;
+        let operation = match diff.operation() {
+            JsonDiffOperation::Replace => "replace",
+            JsonDiffOperation::Insert => "insert",
+            JsonDiffOperation::Remove => "remove",
+        };
+        let path = std::str::from_utf8(diff.path()).ok()?;
+        let head = format!("\"op\":\"{operation}\",\"path\":{}", Value::Bytes(path.as_bytes()));
+        (_, bytes) = counted(&bytes[1..])?;
+        if diff.document().is_none() {
+            texts.push(format!("{{{head}}}"));
+            continue;
+        }
+        let document;
+        (document, bytes) = counted(bytes)?;
+        let shown = Value::Json(document).to_string();
+        let value = shown.strip_prefix("{\"json\":")?.strip_suffix('}')?;
+        texts.push(format!("{{{head},\"value\":{value}}}"));
+    }
+    Some(texts.join(","))
+}
+
+/// The bytes behind their length, as MySQL encodes it, and those behind them.
+fn counted(bytes: &[u8]) -> Option<(&[u8], &[u8])> {
+    let (&first, rest) = bytes.split_first()?;
+    let (len, rest) = match first {
+        0..=250 => (first.into(), rest),
+        252 => (u16::from_le_bytes(*rest.first_chunk()?).into(), &rest[2..]),
+        253 => (u32::from_le_bytes([rest[0], rest[1], rest[2], 0]) as usize, &rest[3..]),
+        _ => (u64::from_le_bytes(*rest.first_chunk()?).try_into().ok()?, &rest[8..]),
+    };
+    rest.split_at_checked(len)
 }
 
 /// The name of a refusal.

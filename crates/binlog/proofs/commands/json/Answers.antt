@@ -1,3 +1,4 @@
+use Rattle.std.proofs.Common.{◌∙◌}
 use Rattle.binlog.proofs.commands.json.Goals as goal
 
 pub returns-clause-ok : goal.returns-clause-ok
@@ -6,7 +7,7 @@ returns-clause-ok g c = record {
   states = c.in_ok-outcome.ensures.ok.1;
   start = c.new-lines.result;
   begins = record { has = rw c.new-lines.ensures.output c.in_ok-output.ensures.bytes; fine = rw c.new-lines.ensures.output c.in_ok-output.ensures.fine };
-  made = c.new-lines.ensures.stored;
+  made = (c.new-lines.ensures.stored, rw c.new-lines.ensures.output (c.in_ok-output.ensures.capacity ∙ c.output_capacity.ensures));
   outcome = c.in_ok-outcome.outcome;
   behind = c.in_ok-outcome.lines;
   shown = c.in_ok-outcome.ensures.ok.2;

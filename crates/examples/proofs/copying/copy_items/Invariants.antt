@@ -2,7 +2,7 @@ use Rattle.std.proofs.Common.{◌≡◌}
 use Rattle.std.specs.Io.KnownBytes.{prepend_known}
 use Rattle.binlog_file.specs.FileHeader.{file_header}
 use Rattle.binlog_file.specs.Files.{unread, verification_of}
-use Rattle.binlog_lines.specs.Places.{place_of}
+use Rattle.binlog_visits.specs.Places.{place_of}
 use Rattle.examples.proofs.Copied.{IsWrittenSoFar}
 use Rattle.examples.proofs.copying.copy_items.Given as goal
 

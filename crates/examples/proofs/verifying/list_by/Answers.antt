@@ -1,7 +1,7 @@
 use Rattle.std.proofs.Common.{List, ℕ}
 use Rattle.std.specs.Fn.{FnReturnsAt}
 use Rattle.binlog_listing.specs.Listing.{item_line, MayGrow}
-use Rattle.binlog_lines.proofs.OtherChecksums.{known_listed_other}
+use Rattle.binlog_visits.proofs.OtherListings.{known_listed_other}
 use Rattle.crc32_ieee.specs.Checksums.{IsCrc32}
 use Rattle.examples.proofs.verifying.list_by.Goals as goal
 

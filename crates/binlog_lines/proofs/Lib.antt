@@ -1,5 +1,0 @@
-pub mod Places
-pub mod Listed
-pub mod OtherChecksums
-pub mod SliceListed
-pub mod Counting

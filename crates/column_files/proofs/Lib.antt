@@ -1,0 +1,7 @@
+pub mod Encodings
+pub mod FieldTexts
+pub mod Numbers
+pub mod Headers
+pub mod Lines
+pub mod Readings
+pub mod Spellings

@@ -1,0 +1,5 @@
+pub mod Faults
+pub mod Fields
+pub mod Reading
+pub mod Files
+pub mod Places

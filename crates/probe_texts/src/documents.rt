@@ -1,0 +1,70 @@
+//! Answers to questions of documents of binary JSON.
+use binary_json::{Document, JsonError, Refusal};
+use binary_json_lines::{has_text, write_document};
+use json_line::Line;
+use std::alloc::Global;
+use std::io;
+use std::io::Write;
+
+/// Answers questions, in memory that is used again.
+#[derive(Drop)]
+pub(crate) struct Documents {
+    line: Line,
+    memory: String,
+}
+
+impl Documents {
+    /// No memory is allocated.
+    pub(crate) fn new(alloc: Global) -> Self {
+        Documents {
+            line: Line::new(alloc),
+            memory: String::new(alloc),
+        }
+    }
+
+    /// Writes the answer for these bytes.
+    ///
+    /// # Errors
+    ///
+    /// Those of memory and of the output.
+    pub(crate) fn answer<W: Write>(&mut self, bytes: &[u8], output: &mut W) -> io::Result<()> {
+        match Document::read(bytes) {
+            Ok(document) => self.write_text(&document, output),
+            Err(error) => write_refusal(error, output),
+        }
+    }
+
+    fn write_text<W: Write>(&mut self, document: &Document<'_>, output: &mut W) -> io::Result<()> {
+        if !has_text(document) {
+            return writeln!(output, "no text");
+        }
+        self.line.clear();
+        write_document(&mut self.line, &mut self.memory, document)?;
+        output.write_all(self.line.end()?)
+    }
+}
+
+fn write_refusal<W: Write>(error: JsonError, output: &mut W) -> io::Result<()> {
+    writeln!(
+        output,
+        "refused {} {}",
+        refusal_name(error.refusal),
+        error.place
+    )
+}
+
+fn refusal_name(refusal: Refusal) -> &'static str {
+    match refusal {
+        Refusal::Depth => "Depth",
+        Refusal::Short => "Short",
+        Refusal::Size => "Size",
+        Refusal::Entries => "Entries",
+        Refusal::Work => "Work",
+        Refusal::Key => "Key",
+        Refusal::Offset => "Offset",
+        Refusal::Literal => "Literal",
+        Refusal::Length => "Length",
+        Refusal::Opaque => "Opaque",
+        Refusal::UnknownType => "UnknownType",
+    }
+}

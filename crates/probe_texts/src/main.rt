@@ -1,0 +1,68 @@
+//! Answers the questions on standard input, a line for each, on standard output, for the scripts of `tests`:
+//!
+//! - `text SET BYTES` is answered with the code points of the text, and with its UTF-8, in hexadecimal digits: `20ac e282ac`, or with
+//!   `none` where the bytes are no text in the set. No characters are `-`.
+//! - `collation NUMBER` and `mariadb NUMBER` are answered with the name of the collation's character set, or `none`.
+//! - `name NAME` is answered with the name of the set of this name, or `none`, and with `decoded` if it is decoded.
+//! - `document BYTES` is answered with the text of the document of binary JSON, with `no text` where it has none, or with `refused`,
+//!   why, and the place where: `refused Short 1`.
+//! - `file BYTES` is answered with the columns of the file, or with `refused`, why, and the line and the column where:
+//!   `refused Position 2 5`. A column is its six fields with commas between, which are hexadecimal digits but the position; columns
+//!   have a `;` between, and no columns are `none`.
+//!
+//! Bytes are hexadecimal digits, and no bytes are `-`. Any other line is answered with `unknown`. The exit status is 1 where input, output
+//! or memory failed.
+#![tactic(auto)]
+
+mod bytes;
+mod characters;
+mod columns;
+mod documents;
+
+use bytes::bytes_of;
+use documents::Documents;
+use std::alloc::Global;
+use std::io;
+use std::io::{BufRead, BufReader, BufWriter, Write};
+use std::process::ExitCode;
+
+/// The size of the input buffer and of the output buffer, in bytes.
+const BUFFER_SIZE: usize = 65_536;
+
+// Writes the answer to a question.
+fn answer<W: Write>(
+    alloc: Global,
+    question: &str,
+    documents: &mut Documents,
+    output: &mut W,
+) -> io::Result<()> {
+    match question.split_once(' ') {
+        Some(("document", digits)) => match bytes_of(alloc, digits) {
+            Some(bytes) => documents.answer(&bytes, output),
+            None => writeln!(output, "unknown"),
+        },
+        Some(("file", digits)) => match bytes_of(alloc, digits) {
+            Some(bytes) => writeln!(output, "{}", columns::answer(alloc, &bytes)?),
+            None => writeln!(output, "unknown"),
+        },
+        _ => writeln!(output, "{}", characters::answer(alloc, question)?),
+    }
+}
+
+fn run(rt: &(impl Input + Print + AllocGlobal)) -> io::Result<()> {
+    let input = BufReader::with_capacity(rt.alloc(), BUFFER_SIZE, rt.reader())?;
+    let mut output = BufWriter::with_capacity(rt.alloc(), BUFFER_SIZE, io::writer(rt))?;
+    let mut documents = Documents::new(rt.alloc());
+    for question in input.lines(rt.alloc()) {
+        let question = question?;
+        answer(rt.alloc(), &question, &mut documents, &mut output)?;
+    }
+    output.flush()
+}
+
+fn main(rt: HostRuntime) -> ExitCode {
+    match run(&rt) {
+        Ok(()) => ExitCode::SUCCESS,
+        Err(_) => ExitCode::FAILURE,
+    }
+}
