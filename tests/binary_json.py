@@ -112,6 +112,103 @@ def damaged(rng, content):
     return bytes(content)
 
 
+# ---- Documents that are built
+
+
+def words_of(value):
+    """The words of which the program builds a value."""
+    if value is None or isinstance(value, bool):
+        yield {None: "null", True: "true", False: "false"}[value]
+    elif isinstance(value, Integer):
+        yield f"{'i' if value.kind in model.SIGNED else 'u'}:{value.number}"
+    elif isinstance(value, Double):
+        yield f"d:{value.bits}"
+    elif isinstance(value, bytes):
+        yield f"s:{value.hex() or '-'}"
+    elif isinstance(value, Members):
+        yield "{"
+        for key, member in value.pairs:
+            yield f"k:{key.hex() or '-'}"
+            yield from words_of(member)
+        yield "}"
+    else:
+        yield "["
+        for element in value:
+            yield from words_of(element)
+        yield "]"
+
+
+def building(words):
+    return f"built {','.join(words)}"
+
+
+def is_built(value):
+    """Whether the program builds such values: integers of the least width, and no opaque values."""
+    if isinstance(value, Members):
+        return all(is_built(member) for _, member in value.pairs)
+    if isinstance(value, list):
+        return all(map(is_built, value))
+    if isinstance(value, Integer):
+        return value == (model.signed if value.kind in model.SIGNED else model.unsigned)(value.number)
+    return not isinstance(value, Opaque)
+
+
+def refused_members(pairs):
+    """Why members are refused, in this order; None if they aren't."""
+    before = None
+    for key, _ in pairs:
+        if len(key) > 0xFFFF:
+            return "KeyTooLong"
+        if before is not None and (len(before), before) >= (len(key), key):
+            return "KeyOrder"
+        before = key
+    return None
+
+
+def built(rng, values):
+    """Questions of documents that are built, with their answers."""
+    for value in values:
+        if is_built(value):
+            yield building(words_of(value)), model.document(value).hex()
+    # Members in any order, equal keys, and keys of the greatest length and of one byte more.
+    keys = [b"", b"a", b"b", b"aa", b"ab", b"b\0", b"\xff", b"k" * 0xFFFF, b"k" * 0x10000]
+    for _ in range(2000):
+        pairs = [(rng.choice(keys[:7]) if rng.random() < 0.98 else rng.choice(keys), None) for _ in range(rng.randrange(5))]
+        if rng.random() < 0.5:
+            pairs.sort(key=lambda pair: (len(pair[0]), pair[0]))
+        why = refused_members(pairs)
+        yield building(words_of(Members(pairs))), f"refused {why}" if why else model.document(Members(pairs)).hex()
+    # 99 to 102 arrays and objects within one another.
+    for depth in range(99, 103):
+        for front, back in (("[", "]"), ("{,k:61", "}")):
+            words = [front] * depth + ["u:7"] + [back] * depth
+            value = Integer(6, 7)
+            for _ in range(depth):
+                value = [value] if front == "[" else Members([(b"a", value)])
+            yield building(words), model.document(value).hex() if depth <= 100 else "refused TooDeep"
+    # Arrays and objects about the greatest small size: of long values, of many short ones, and of integers in their entries.
+    for size in range(65_520, 65_545):
+        yield from ((building(words_of(value)), model.document(value).hex()) for value in about(size))
+
+
+def rewritten(content):
+    """What is answered for a document that is written anew: its value is read and written by the model."""
+    try:
+        return model.document(model.read(content)).hex()
+    except Refused as refused:
+        return f"refused {refused.name} {refused.place}"
+
+
+def about(size):
+    """Values whose small form has about this many bytes."""
+    yield [b"s" * (size - 10)]
+    yield [Integer(5, -3), Integer(6, 40_000), Integer(7, -40_000), Integer(8, 2**31), None, True, b"s" * (size - 40)]
+    yield Members([(b"k", Integer(5, -1)), (b"key", b"s" * (size - 30))])
+    yield [Integer(5, -1)] * (size // 3)
+    yield [[b"s" * (size - 20)], Integer(5, -2), Integer(7, 2**30)]
+    yield [[[b"s" * (size - 26)]], Members([(b"a", None)])]
+
+
 # ---- Crafted documents
 
 
@@ -241,7 +338,10 @@ def all_failures(words, count, seed):
     documents = [model.document(value) for value in values]
     yield from compared("worked by hand", words, hand_made())
     yield from compared("written", words, zip(map(question, documents), (answer_of(value) for value in values)))
+    yield from compared("built", words, built(rng, values))
     yield from compared("crafted", words, ((question(content), answer(content)) for content in crafted()))
+    contents = [*documents, *crafted()]
+    yield from compared("rewritten", words, ((f"rewritten {content.hex() or '-'}", rewritten(content)) for content in contents))
     short = [content for content in documents if len(content) < 600]
     contents = (damaged(rng, rng.choice(short)) for _ in range(count))
     yield from compared("damaged", words, ((question(content), answer(content)) for content in contents))

@@ -641,9 +641,11 @@ def ends(runner):
         full = re.escape("binlog: the output: No space left on device (os error 28)\n")
         yield difference(f"{command} to a full device", finished, Result(b"", FAILED, full))
     piped = f"{runner.program} list 0.bin | head -n 1"
-    finished = runner.run(["list", "0.bin"], [long_log])
-    first = subprocess.run(["bash", "-c", f"set -o pipefail; {piped}"], cwd=runner.folder, capture_output=True)
-    yield difference("head", first, Result(finished.stdout.splitlines(keepends=True)[0]))
+    first, _ = listing_model.expected(MAGIC + EVENT)
+    every = b"".join(b"%d%s" % (index, first.removeprefix(b"0")) for index in range(20_000))
+    yield runner.check(["list", "0.bin"], Result(every), [long_log])
+    finished = subprocess.run(["bash", "-c", f"set -o pipefail; {piped}"], cwd=runner.folder, capture_output=True)
+    yield difference("head", finished, Result(first))
 
 
 def write_large(path):
@@ -776,6 +778,8 @@ def installs(runner):
     words = [REPOSITORY / "bin/package", runner.folder / "binlog.deb", f"program={runner.program}"]
     finished = subprocess.run(words, capture_output=True)
     yield None if finished.returncode == 0 else f"bin/package: {finished.stderr!r}"
+    if finished.returncode:
+        return
     subprocess.run(["dpkg-deb", "-x", runner.folder / "binlog.deb", runner.folder / "unpacked"], check=True)
     yield from laid_out(runner, runner.folder / "unpacked/usr")
 

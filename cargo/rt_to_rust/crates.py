@@ -5,8 +5,8 @@ LIBRARY = [
     "binlog_wire",
     "character_sets",
     "binlog_consts",
-    "binlog_numbers",
-    "binlog_description",
+    "binlog_variable_fields",
+    "binlog_event_format",
     "binlog_bodies",
     "binlog_statements",
     "binlog_gtids",
@@ -27,19 +27,19 @@ LIBRARY = [
     "binlog_file",
     "json_line",
     "binary_json",
+    "binary_json_writing",
     "binary_json_lines",
-    "binlog_row_lines",
+    "binlog_json_values",
 ]
 TOOLS = [
     "binlog_visits",
     "binlog_listing",
     "binlog_gtid_listing",
-    "binlog_json_lines",
-    "binlog_row_json",
     "binlog_filters",
     "binlog_commands",
-    "binlog_maria_json",
     "binlog_event_types",
+    "binlog_json_bodies",
+    "binlog_json_lines",
     "binlog_cli",
 ]
 
@@ -47,17 +47,9 @@ TOOLS = [
 PROGRAMS = {"binlog": "binlog"}
 PROBES = {"probe_inflate": "texts", "probe_logs": "logs"}
 
-# The crates of tests, and their helpers.
-TESTKITS = ["testkit_bodies", "testkit_logs"]
-TESTS = [
-    "test_base",
-    "test_bodies",
-    "test_gtids",
-    "test_rows",
-    "test_files",
-    "test_events",
-    "test_listing",
-]
+# The crates of tests, and what only they use: helpers, and the recipes of CALLING.md.
+TESTKITS = ["testkit_logs", "examples"]
+TESTS = ["test_base", "test_bodies", "test_logs", "test_listing"]
 
 # The sources that are written by hand in the packages, in `templates`: what real devices are there isn't what the proved
 # sources know of them (`devices.py`).

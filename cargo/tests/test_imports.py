@@ -10,9 +10,9 @@ from tests.samples import Case, PROGRAM, TEST, TOOL, converted, refusal, source
 
 class Imports(Case):
     def test_crates_are_modules(self):
-        text = "use binlog_consts::{A, B};\nuse crate::c::D;\nfn f() {\n    binlog_numbers::g();\n    crate::h();\n}"
+        text = "use binlog_consts::{A, B};\nuse crate::c::D;\nfn f() {\n    binlog_variable_fields::g();\n    crate::h();\n}"
         wanted = "use crate::binlog_consts::{A, B}; use crate::binlog_wire::c::D; "
-        wanted += "fn f() { crate::binlog_numbers::g(); crate::binlog_wire::h(); }"
+        wanted += "fn f() { crate::binlog_variable_fields::g(); crate::binlog_wire::h(); }"
         self.gives(text, wanted)
 
     def test_other_packages_name_the_library_by_its_public_paths(self):

@@ -16,8 +16,8 @@ use binlog_cli::{BUFFER_SIZE, Outcome, Output, Reported, Status, filter, write_s
 use binlog_commands::Stats;
 use binlog_file::{Counted, Retrying};
 use binlog_filters::{Filter, Filtered};
+use binlog_json_lines::JsonWriter;
 use binlog_listing::TextLines;
-use binlog_maria_json::MariaJsonWriter;
 use binlog_visits::{ItemLines, LineWriter, Refusing, Visitor};
 use std::io;
 use std::io::{BufWriter, Write};
@@ -49,13 +49,13 @@ pub(crate) fn json<'a, S: Inputs, R: Clock + Eprint + AllocGlobal, W: Write + Dr
 ) -> Result<(Status, W), Status>
     ensures ok { IfOk result (λ ended. WritesShown ⟦<BufWriter<Retrying<W>> as Write>⟧.contents (found_of request.now.options.now) request.now.reading.is_verified request.now.reading.is_followed
         (λ name. S.bytes inputs.now name.now) request.now.files.now
-        ⟦<MariaJsonWriter<Output<BufWriter<Retrying<W>>>> as Visitor>⟧.visits ⟦<MariaJsonWriter<Output<BufWriter<Retrying<W>>>> as Visitor>⟧.refuses (λ lines. lines.output)
+        ⟦<JsonWriter<Output<BufWriter<Retrying<W>>>> as Visitor>⟧.visits ⟦<JsonWriter<Output<BufWriter<Retrying<W>>>> as Visitor>⟧.refuses (λ lines. lines.output)
         (λ lines. (lines.keeps_stored ≡ request.now.keeps_stored) × (writer_capacity lines.output.inner ≡ lines_capacity request.now.reading.is_followed))
         (W.contents writer) ended.0 (W.contents ended.1)) }
     ensures err { IfErr result (λ status. NeverBegins (found_of request.now.options.now) status) }
 {
     let output = Output::new(rt, request.reading.output_capacity(), writer)?;
-    let lines = MariaJsonWriter::new(rt.alloc(), output, request.keeps_stored);
+    let lines = JsonWriter::new(rt.alloc(), output, request.keeps_stored);
     let (outcome, lines) = read_all(rt, inputs, request, lines)?;
     Ok(lines.into_output().finish(rt, outcome))
 }

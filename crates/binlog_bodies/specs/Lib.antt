@@ -8,4 +8,4 @@ pub mod Xid
 pub mod ShortBodies
 pub mod Ranges
 pub use Rattle.binlog_wire.specs.Errors
-pub use Rattle.binlog_description.specs.Bodies
+pub use Rattle.binlog_event_format.specs.Bodies

@@ -6,7 +6,7 @@
 mod events;
 pub mod laws;
 
-pub use binlog_description::{
+pub use binlog_event_format::{
     BinlogCtx, BinlogEvent, BinlogStruct, BinlogVersion, Error, Field, Invalid, read_body,
 };
 pub use events::begin_load_query::BeginLoadQueryEvent;

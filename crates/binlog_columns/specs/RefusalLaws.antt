@@ -1,34 +1,51 @@
 -- Laws of refusals of columns, one column at a time.
-use Rattle.std.proofs.Common.{◌≡◌, ℕ, suc, ◌+◌, ◌<◌, List, [], ◌∷◌, length, get_or, drop, Option, Some, None, Ok, Err, refl, ap, add-one}
+use Rattle.std.proofs.Common.{◌≡◌, ℕ, suc, ◌+◌, ◌<◌, List, [], ◌∷◌, length, get_or, drop, Option, Some, None, Ok, Err, refl, ap, add-one, ◌∙◌}
 use Rattle.binlog_wire.specs.declared.error.Error.{Error}
 use Rattle.binlog_wire.specs.declared.error.Error.TheVariants as errors
 use Rattle.binlog_wire.specs.Reading.{Refusal, Read, ends, invalid, other_type, Refuses}
-use Rattle.binlog_numbers.specs.Laws.RepeatedLoops.{drop_item}
+use Rattle.binlog_variable_fields.specs.Laws.RepeatedLoops.{drop_item}
 use Rattle.binlog_columns.specs.Metadata.{Typed, column}
 use Rattle.binlog_columns.specs.Kinds.{kind_as, kind_of}
 use Rattle.binlog_columns.specs.Refusals.{refused_or, refusal, given_and, columns_in}
 use Rattle.binlog_columns.specs.declared.column_error.ColumnError.{ColumnError}
 
+-- The error of a refusal.
+abbrev pub error_as : Refusal → Error
+error_as ends = errors.EndOfBody
+error_as (invalid why) = errors.InvalidData why
+error_as (other_type number) = errors.WrongEventType number
+
+-- An error of reading that takes no memory is that of a refusal.
+pub refusal_of : {V : Type 0} (e : Error) (read : Read V) → Refuses ⊥ e read → (d : Refusal) × (read ≡ Err d) × (e ≡ error_as d)
+refusal_of errors.EndOfBody read h = (ends, h, refl)
+refusal_of (errors.InvalidData why) read h = (invalid why, h, refl)
+refusal_of (errors.WrongEventType number) read h = (other_type number, h, refl)
+refusal_of errors.Memory read h = absurd h
+refusal_of errors.EndOfInput read h = absurd h
+refusal_of errors.InvalidFileHeader read h = absurd h
+refusal_of (errors.EventSizeTooSmall size) read h = absurd h
+refusal_of errors.TooShortForChecksum read h = absurd h
+refusal_of (errors.RemainingBytes count) read h = absurd h
+refusal_of (errors.UnknownChecksumAlg algorithm) read h = absurd h
+refusal_of errors.EventTooLong read h = absurd h
+refusal_of (errors.Unwritable field) read h = absurd h
+refusal_of errors.FrameMemory read h = absurd h
+refusal_of errors.Reader read h = absurd h
+refusal_of errors.ReaderInFrame read h = absurd h
+refusal_of errors.Writer read h = absurd h
+refusal_of (errors.ChecksumMismatch stored computed) read h = absurd h
+refusal_of (errors.BadGno number) read h = absurd h
+
+kind_of_error : (d : Refusal) → kind_of (error_as d) ≡ kind_as d
+kind_of_error ends = refl
+kind_of_error (invalid why) = refl
+kind_of_error (other_type number) = refl
+
 -- The error of reading a column has the kind of its refusal.
-pub kind_is : (e : Error) (read : Read Typed) → Refuses ⊥ e read → (d : Refusal) × (read ≡ Err d) × (kind_of e ≡ kind_as d)
-kind_is errors.EndOfBody read h = (ends, h, refl)
-kind_is (errors.InvalidData why) read h = (invalid why, h, refl)
-kind_is (errors.WrongEventType number) read h = (other_type number, h, refl)
-kind_is errors.Memory read h = absurd h
-kind_is errors.EndOfInput read h = absurd h
-kind_is errors.InvalidFileHeader read h = absurd h
-kind_is (errors.EventSizeTooSmall size) read h = absurd h
-kind_is errors.TooShortForChecksum read h = absurd h
-kind_is (errors.RemainingBytes count) read h = absurd h
-kind_is (errors.UnknownChecksumAlg algorithm) read h = absurd h
-kind_is errors.EventTooLong read h = absurd h
-kind_is (errors.Unwritable field) read h = absurd h
-kind_is errors.FrameMemory read h = absurd h
-kind_is errors.Reader read h = absurd h
-kind_is errors.ReaderInFrame read h = absurd h
-kind_is errors.Writer read h = absurd h
-kind_is (errors.ChecksumMismatch stored computed) read h = absurd h
-kind_is (errors.BadGno number) read h = absurd h
+kind_is : (e : Error) (read : Read Typed) → Refuses ⊥ e read → (d : Refusal) × (read ≡ Err d) × (kind_of e ≡ kind_as d)
+kind_is e read h =
+    let r = refusal_of e read h in
+    (r.0, r.1, ap kind_of r.2 ∙ kind_of_error r.0)
 
 -- One more column is read.
 pub refusal_step : (types : List ℕ) (i number : ℕ) (m : List ℕ) (typed : Typed) (rest : List ℕ) → i < length types → number ≡ get_or types i 0

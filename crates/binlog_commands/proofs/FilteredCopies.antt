@@ -6,10 +6,10 @@ use Rattle.std.proofs.KnownBytes.{Appends-nil, Appends-trans}
 use Rattle.binlog_wire.specs.declared.error.Error.{Error}
 use Rattle.binlog_wire.specs.declared.error.Error.TheVariants.{TooShortForChecksum, EventSizeTooSmall}
 use Rattle.binlog_consts.specs.declared.version.BinlogVersion.TheVariants.{Version4}
-use Rattle.binlog_description.specs.declared.footer.BinlogEventFooter.{BinlogEventFooter}
-use Rattle.binlog_description.specs.declared.format_description.FormatDescriptionEvent.{FormatDescriptionEvent}
-use Rattle.binlog_description.specs.FormatDescription.{format_description_at, default_description}
-use Rattle.binlog_description.specs.Footers.{footer_of}
+use Rattle.binlog_event_format.specs.declared.footer.BinlogEventFooter.{BinlogEventFooter}
+use Rattle.binlog_event_format.specs.declared.format_description.FormatDescriptionEvent.{FormatDescriptionEvent}
+use Rattle.binlog_event_format.specs.FormatDescription.{format_description_at, default_description}
+use Rattle.binlog_event_format.specs.Footers.{footer_of}
 use Rattle.binlog_events.specs.FileHeader.{file_header}
 use Rattle.binlog_events.specs.Frames.{is_undersized, stated_size}
 use Rattle.binlog_events.specs.Events.{EventView, event_of}

@@ -3,7 +3,7 @@ use Rattle.std.specs.Prelude.{◌≡◌, ℕ, Bool, List, ◌++◌, map, Option,
 use Rattle.std.specs.Io.KnownBytes.{Appends}
 use Rattle.binlog_wire.specs.declared.error.Error.{Error}
 use Rattle.binlog_consts.specs.declared.version.BinlogVersion.TheVariants.{Version4}
-use Rattle.binlog_description.specs.FormatDescription.{default_description}
+use Rattle.binlog_event_format.specs.FormatDescription.{default_description}
 use Rattle.binlog_events.specs.FileHeader.{file_header}
 use Rattle.binlog_events.specs.Events.{EventView}
 use Rattle.binlog_file.specs.StreamItems.{AreItems}

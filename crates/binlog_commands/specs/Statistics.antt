@@ -2,7 +2,7 @@
 use Rattle.std.specs.Prelude.{◌≡◌, ℕ, List, length, slice_set, slice_index_or, replicate, Option, Some, None, unwrap_or, Result, Ok, Err, nat_lt, if◌then◌else◌}
 use Rattle.std.specs.List.{sum}
 use Rattle.binlog_wire.specs.declared.error.Error.{Error}
-use Rattle.binlog_description.specs.Headers.{header_of}
+use Rattle.binlog_event_format.specs.Headers.{header_of}
 use Rattle.binlog_events.specs.Events.{EventView}
 use Rattle.binlog_filters.specs.Taking.{begins_transaction}
 use Rattle.binlog_commands.specs.Counting.{saturated, counted, counted_if}

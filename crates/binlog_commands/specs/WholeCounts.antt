@@ -2,7 +2,7 @@
 use Rattle.std.specs.Prelude.{◌≡◌, ℕ, ◌-◌, ◌<◌, ◌≤◌, ◌==◌, Bool, List, [], ◌∷◌, ◌++◌, length, slice_get, slice_index, filter, filter_map, All, count_by, sum_by, Option, MatchOption, option_map, is_some, Result, Ok, is_err}
 use Rattle.std.specs.Result.{result_ok}
 use Rattle.binlog_wire.specs.declared.error.Error.{Error}
-use Rattle.binlog_description.specs.Headers.{header_of}
+use Rattle.binlog_event_format.specs.Headers.{header_of}
 use Rattle.binlog_events.specs.Events.{EventView}
 use Rattle.binlog_events.specs.Parts.{checksum_of}
 use Rattle.binlog_filters.specs.Taking.{begins_transaction}

@@ -1,7 +1,7 @@
 //! Laws of collecting, counting and copying. Each is a function without effect whose contract states it.
 ghost use Rattle.std.specs.Prelude.{◌≡◌, ℕ, List, [], All, map, Option, Result, Ok, true};
 ghost use Rattle.binlog_wire.specs.declared.error.Error.{Error};
-ghost use Rattle.binlog_description.specs.declared.format_description.FormatDescriptionEvent.{FormatDescriptionEvent};
+ghost use Rattle.binlog_event_format.specs.declared.format_description.FormatDescriptionEvent.{FormatDescriptionEvent};
 ghost use Rattle.binlog_events.specs.Frames.{IsFrame};
 ghost use Rattle.binlog_events.specs.Events.{EventView};
 ghost use Rattle.binlog_file.specs.StreamItems.{AreItems};

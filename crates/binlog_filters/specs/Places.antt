@@ -1,8 +1,8 @@
 -- Where the items of a file begin, as far as it is known.
 use Rattle.std.specs.Prelude.{ℕ, ◌+◌, ◌-◌, ◌^◌, length, Option, Some, None, Result, Ok, Err, nat_le, nat_lt, if◌then◌else◌}
 use Rattle.binlog_wire.specs.declared.error.Error.{Error}
-use Rattle.binlog_description.specs.Headers.{header_of}
-use Rattle.binlog_description.specs.declared.header.BinlogEventHeader.{BinlogEventHeader}
+use Rattle.binlog_event_format.specs.Headers.{header_of}
+use Rattle.binlog_event_format.specs.declared.header.BinlogEventHeader.{BinlogEventHeader}
 use Rattle.binlog_events.specs.Events.{EventView}
 
 -- Where a header states that its event begins.

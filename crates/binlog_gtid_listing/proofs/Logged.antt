@@ -6,7 +6,7 @@ use Rattle.std.proofs.KnownBytes.{Appends-nil}
 use Rattle.binlog_wire.specs.declared.error.Error.{Error}
 use Rattle.binlog_wire.specs.declared.error.Error.TheVariants.{Writer}
 use Rattle.binlog_wire.specs.Errors.{is_environment_error}
-use Rattle.binlog_description.specs.Headers.{header_of}
+use Rattle.binlog_event_format.specs.Headers.{header_of}
 use Rattle.binlog_events.specs.Events.{EventView}
 use Rattle.binlog_gtid_sets.specs.declared.gtid_group.GtidGroup.{GtidGroup}
 use Rattle.binlog_ends.specs.Counts.{AppendsFront}

@@ -5,9 +5,9 @@ use Rattle.binlog_wire.specs.Reading.{Read}
 use Rattle.binlog_wire.specs.declared.error.Error.{Error}
 use Rattle.binlog_wire.specs.declared.error.Error.TheVariants as errors
 use Rattle.binlog_wire.specs.Errors.{is_environment_error}
-use Rattle.binlog_description.specs.Bodies.{GivesWhole}
-use Rattle.binlog_description.specs.Headers.{header_of}
-use Rattle.binlog_description.specs.declared.format_description.FormatDescriptionEvent.{FormatDescriptionEvent}
+use Rattle.binlog_event_format.specs.Bodies.{GivesWhole}
+use Rattle.binlog_event_format.specs.Headers.{header_of}
+use Rattle.binlog_event_format.specs.declared.format_description.FormatDescriptionEvent.{FormatDescriptionEvent}
 use Rattle.binlog_events.specs.Events.{EventView}
 use Rattle.binlog_events.specs.Parts.{data_of}
 use Rattle.binlog_mariadb.specs.EventTypes.{maria_event_type_of}

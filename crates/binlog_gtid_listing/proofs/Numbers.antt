@@ -2,7 +2,7 @@
 use Rattle.std.proofs.Common.{◌≡◌, ◌⊎◌, inl, inr, ℕ, ◌<◌, ◌≤◌, Bool, true, false, List, [], ◌∷◌, Option, refl, sym, ap, ◌∙◌, arith}
 use Rattle.std.proofs.lemmas.Bool.{cases_lt, lt-ltb, le-leb}
 use Rattle.std.proofs.lemmas.Bool.Decides.{nat_tests}
-use Rattle.binlog_numbers.specs.declared.gno_interval.GnoInterval.{GnoInterval}
+use Rattle.binlog_variable_fields.specs.declared.gno_interval.GnoInterval.{GnoInterval}
 use Rattle.binlog_gtids.specs.GnoSets.{is_within, is_held, is_missing, AreApart}
 use Rattle.binlog_gtids.proofs.GnoSets.{interval, held_above}
 use Rattle.binlog_gtid_listing.specs.GroupLines.{group_line, IsGroupLine}

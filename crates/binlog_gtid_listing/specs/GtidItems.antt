@@ -7,8 +7,8 @@ use Rattle.binlog_wire.specs.Errors.{is_environment_error}
 use Rattle.binlog_consts.specs.EventTypes.{event_type_of}
 use Rattle.binlog_consts.specs.declared.event_type.EventType.{EventType}
 use Rattle.binlog_consts.specs.declared.event_type.UnknownEventType.{UnknownEventType}
-use Rattle.binlog_description.specs.Headers.{header_of}
-use Rattle.binlog_description.specs.declared.format_description.FormatDescriptionEvent.{FormatDescriptionEvent}
+use Rattle.binlog_event_format.specs.Headers.{header_of}
+use Rattle.binlog_event_format.specs.declared.format_description.FormatDescriptionEvent.{FormatDescriptionEvent}
 use Rattle.binlog_event_data.specs.ReadData.{data_read}
 use Rattle.binlog_event_data.specs.declared.event_data.EventData.{EventData}
 use Rattle.binlog_events.specs.Events.{EventView}

@@ -4,8 +4,8 @@ use Rattle.binlog_wire.specs.Reading.{Read, ends, invalid, other_type}
 use Rattle.binlog_wire.specs.declared.error.Error.{Error}
 use Rattle.binlog_wire.specs.declared.error.Error.TheVariants.{EndOfBody, InvalidData, RemainingBytes, WrongEventType, Memory}
 use Rattle.binlog_wire.specs.Errors.{is_environment_error}
-use Rattle.binlog_description.specs.Headers.{header_of}
-use Rattle.binlog_description.specs.declared.format_description.FormatDescriptionEvent.{FormatDescriptionEvent}
+use Rattle.binlog_event_format.specs.Headers.{header_of}
+use Rattle.binlog_event_format.specs.declared.format_description.FormatDescriptionEvent.{FormatDescriptionEvent}
 use Rattle.binlog_events.specs.Events.{EventView}
 use Rattle.binlog_events.specs.Parts.{data_of}
 use Rattle.binlog_mariadb.specs.EventTypes.{maria_event_type_of}

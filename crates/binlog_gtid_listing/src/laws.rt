@@ -1,7 +1,7 @@
 //! Laws of the listing of GTIDs. Each is a function without effect whose contract states it.
 ghost use Rattle.std.specs.Prelude.{◌≡◌, ℕ, List, Option, Result};
 ghost use Rattle.binlog_wire.specs.declared.error.Error.{Error};
-ghost use Rattle.binlog_numbers.specs.declared.gno_interval.GnoInterval.{GnoInterval};
+ghost use Rattle.binlog_variable_fields.specs.declared.gno_interval.GnoInterval.{GnoInterval};
 ghost use Rattle.binlog_gtids.specs.GnoSets.{is_held};
 ghost use Rattle.binlog_gtid_sets.specs.declared.gtid_group.GtidGroup.{GtidGroup};
 ghost use Rattle.binlog_events.specs.Events.{EventView};

@@ -5,7 +5,7 @@ use Rattle.std.specs.declared.cmp.Ordering.TheVariants.{Less}
 use Rattle.std.specs.Ordering.{is_eq}
 use Rattle.std.proofs.lemmas.Bool.{cases_lt}
 use Rattle.std.proofs.lemmas.List.{get_or_read}
-use Rattle.binlog_numbers.specs.declared.gno_interval.GnoInterval.{GnoInterval}
+use Rattle.binlog_variable_fields.specs.declared.gno_interval.GnoInterval.{GnoInterval}
 use Rattle.binlog_gtids.specs.declared.previous_gtids_sid.PreviousGtidsSid.{PreviousGtidsSid}
 use Rattle.binlog_gtids.specs.GnoSets.{is_held}
 use Rattle.binlog_gtid_sets.specs.declared.gtid_group.GtidGroup.{GtidGroup}

@@ -1,7 +1,7 @@
 -- The GTIDs that an event adds to a set.
 use Rattle.std.specs.Prelude.{ℕ, ◌+◌, ◌^◌, Bool, false, ◌&&◌, ◌||◌, List, [], ◌∷◌, Option, Some, None, nat_lt, nat_le, if◌then◌else◌}
 use Rattle.std.specs.Option.{option_or}
-use Rattle.binlog_numbers.specs.declared.gno_interval.GnoInterval.{GnoInterval}
+use Rattle.binlog_variable_fields.specs.declared.gno_interval.GnoInterval.{GnoInterval}
 use Rattle.binlog_gtids.specs.declared.previous_gtids_sid.PreviousGtidsSid.{PreviousGtidsSid}
 use Rattle.binlog_gtids.specs.GnoSets.{is_within, is_held}
 use Rattle.binlog_event_data.specs.declared.event_data.EventData.{EventData}

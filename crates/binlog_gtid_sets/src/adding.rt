@@ -10,7 +10,7 @@ use crate::gtid_tracker::GtidTracker;
 use crate::rooms::Rooms;
 use binlog_event_data::EventData;
 use binlog_gtids::{GtidEvent, PreviousGtidsEvent, PreviousGtidsSid};
-use binlog_numbers::{GnoInterval, Tag};
+use binlog_variable_fields::{GnoInterval, Tag};
 use binlog_wire::Error;
 
 impl GtidTracker {

@@ -3,7 +3,7 @@ ghost use Rattle.std.specs.Prelude.{◌≡◌};
 ghost use Rattle.binlog_gtid_sets.specs.AddedGtids.{only, bad_gno_in, bad_gno, bad_gno_listed};
 
 use binlog_gtids::PreviousGtidsSid;
-use binlog_numbers::GnoInterval;
+use binlog_variable_fields::GnoInterval;
 
 /// The number after the greatest transaction number.
 const GNO_END: u64 = 1 << 63;

@@ -5,7 +5,7 @@ ghost use Rattle.binlog_gtids.specs.GnoSets.{is_within, is_held};
 ghost use Rattle.binlog_gtid_sets.specs.GtidGroups.{tag_text, pair_in, compare_pairs};
 
 use binlog_gtids::GnoSet;
-use binlog_numbers::Tag;
+use binlog_variable_fields::Tag;
 use binlog_wire::{Error, IntoOwned, TryClone};
 use std::alloc::Global;
 use std::cmp::Ordering;

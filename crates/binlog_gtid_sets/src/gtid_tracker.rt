@@ -12,7 +12,7 @@ mod listed;
 use crate::gtid_group::{GtidGroup, tag_text};
 use crate::rooms::Rooms;
 use binlog_gtids::{GnoSet, PreviousGtidsSid};
-use binlog_numbers::{GnoInterval, Tag};
+use binlog_variable_fields::{GnoInterval, Tag};
 use binlog_wire::{Error, TryClone};
 use std::alloc::{AllocError, Global};
 use std::cmp::Ordering;

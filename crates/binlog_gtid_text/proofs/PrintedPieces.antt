@@ -11,8 +11,8 @@ use Rattle.std.proofs.lemmas.Map.Lookups.{exact_bytes}
 use Rattle.uuid.specs.Text.{hyphenated_text, lower, parsed_hyphenated, hex_digit, nibble, digit_place, is_hyphen_place}
 use Rattle.uuid.proofs.TextLemmas.{by_index_length, by_index_at}
 use Rattle.uuid.proofs.RoundTrips.{parses_hyphenated_text}
-use Rattle.binlog_numbers.specs.Tags.{is_tag}
-use Rattle.binlog_numbers.specs.declared.gno_interval.GnoInterval.{GnoInterval}
+use Rattle.binlog_variable_fields.specs.Tags.{is_tag}
+use Rattle.binlog_variable_fields.specs.declared.gno_interval.GnoInterval.{GnoInterval}
 use Rattle.binlog_gtids.specs.GnoSets.{is_within, is_held, AreApart}
 use Rattle.binlog_gtid_sets.specs.declared.gtid_group.GtidGroup.{GtidGroup}
 use Rattle.binlog_gtid_sets.specs.GtidGroups.{Pair, pair_of, pair_in, tag_text, compare_pairs, is_same, intervals_of, is_tracked, AreGroups}

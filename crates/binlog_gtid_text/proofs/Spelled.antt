@@ -8,8 +8,8 @@ use Rattle.std.proofs.lemmas.Bool.Decides.{nat_tests}
 use Rattle.std.proofs.lemmas.List.Sums.{prefix_len-le-length}
 use Rattle.std.proofs.lemmas.Option.{cond_some}
 use Rattle.uuid.specs.Text.{parsed_hyphenated}
-use Rattle.binlog_numbers.specs.Tags.{is_later, is_tag}
-use Rattle.binlog_numbers.specs.declared.gno_interval.GnoInterval.{GnoInterval}
+use Rattle.binlog_variable_fields.specs.Tags.{is_later, is_tag}
+use Rattle.binlog_variable_fields.specs.declared.gno_interval.GnoInterval.{GnoInterval}
 use Rattle.binlog_gtid_text.specs.declared.error.Fault.{Fault}
 use Rattle.binlog_gtid_text.specs.declared.error.GtidTextFault.TheVariants as faults
 use Rattle.binlog_gtid_text.specs.declared.piece.Piece.{Piece}

@@ -6,8 +6,8 @@ use Rattle.std.proofs.lemmas.Bool.Decides.{nat_tests}
 use Rattle.std.proofs.lemmas.List.{take_at, drop_at}
 use Rattle.uuid.specs.Text.{parsed_hyphenated, parsed_simple, has_hyphens, digits_of, is_hex_digit, hyphen_place, by_index, byte_of_digits}
 use Rattle.uuid.proofs.TextLemmas.{by_index_length, by_index_at}
-use Rattle.binlog_numbers.specs.Tags.{is_later, is_tag}
-use Rattle.binlog_numbers.specs.declared.gno_interval.GnoInterval.{GnoInterval}
+use Rattle.binlog_variable_fields.specs.Tags.{is_later, is_tag}
+use Rattle.binlog_variable_fields.specs.declared.gno_interval.GnoInterval.{GnoInterval}
 use Rattle.binlog_gtid_text.specs.declared.error.Fault.{Fault}
 use Rattle.binlog_gtid_text.specs.declared.error.GtidTextFault.TheVariants as faults
 use Rattle.binlog_gtid_text.specs.declared.piece.Piece.{Piece}

@@ -4,8 +4,8 @@ use Rattle.std.specs.Char.{is_ascii_digit}
 use Rattle.std.specs.List.{prefix_len}
 use Rattle.std.specs.Str.Parse.{digits_value}
 use Rattle.uuid.specs.Text.{parsed_hyphenated}
-use Rattle.binlog_numbers.specs.Tags.{is_first, is_later, is_tag}
-use Rattle.binlog_numbers.specs.declared.gno_interval.GnoInterval.{GnoInterval}
+use Rattle.binlog_variable_fields.specs.Tags.{is_first, is_later, is_tag}
+use Rattle.binlog_variable_fields.specs.declared.gno_interval.GnoInterval.{GnoInterval}
 use Rattle.binlog_gtid_text.specs.declared.error.Fault.{Fault}
 use Rattle.binlog_gtid_text.specs.declared.error.GtidTextFault.TheVariants as faults
 use Rattle.binlog_gtid_text.specs.declared.piece.Piece.{Piece}

@@ -4,8 +4,8 @@ use Rattle.std.specs.List.{AllByRecursion}
 use Rattle.std.specs.Str.{all_ascii_digits}
 use Rattle.std.specs.Str.Parse.{digits_value}
 use Rattle.uuid.specs.Text.{parsed_hyphenated}
-use Rattle.binlog_numbers.specs.Tags.{is_tag}
-use Rattle.binlog_numbers.specs.declared.gno_interval.GnoInterval.{GnoInterval}
+use Rattle.binlog_variable_fields.specs.Tags.{is_tag}
+use Rattle.binlog_variable_fields.specs.declared.gno_interval.GnoInterval.{GnoInterval}
 use Rattle.binlog_gtid_text.specs.declared.piece.Piece.{Piece}
 use Rattle.binlog_gtid_text.specs.declared.piece.Piece.TheVariants as pieces
 use Rattle.binlog_gtid_text.specs.Reading.{is_space}

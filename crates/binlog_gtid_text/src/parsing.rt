@@ -14,7 +14,7 @@ use crate::error::GtidTextError;
 use crate::piece::{Piece, Under};
 use crate::reading::{piece_at, skip_spaces, uuid_at};
 use binlog_gtid_sets::GtidTracker;
-use binlog_numbers::{GnoInterval, Tag};
+use binlog_variable_fields::{GnoInterval, Tag};
 use std::alloc::Global;
 
 /// Reads the text of a set of GTIDs: sources with `,` between. A source is its UUID, with a `:` before each interval of

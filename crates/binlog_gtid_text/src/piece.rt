@@ -1,5 +1,5 @@
 //! The parts of the text of a set.
-use binlog_numbers::{GnoInterval, Tag};
+use binlog_variable_fields::{GnoInterval, Tag};
 
 /// A part of the text of a set, with the separator before it.
 #[derive(Drop)]

@@ -11,7 +11,7 @@ ghost use Rattle.binlog_gtid_text.specs.Printing.{interval_text, tag_part, sid_p
 ghost use Rattle.binlog_gtid_text.specs.Laws.Printing.{IsTagIfAny, IsWritable, AreWritable};
 
 use binlog_gtid_sets::GtidTracker;
-use binlog_numbers::{GnoInterval, Tag};
+use binlog_variable_fields::{GnoInterval, Tag};
 use binlog_wire::Error;
 use std::alloc::Global;
 use std::cmp::Ordering;

@@ -3,12 +3,12 @@ ghost use Rattle.std.specs.Prelude.{◌≡◌, ◌^◌, ◌<◌, ◌≤◌, ℕ,
 ghost use Rattle.std.specs.Char.{is_ascii_digit};
 ghost use Rattle.std.specs.List.{prefix_len};
 ghost use Rattle.std.specs.Str.{all_ascii_digits};
-ghost use Rattle.binlog_numbers.specs.Tags.{is_first, is_later};
+ghost use Rattle.binlog_variable_fields.specs.Tags.{is_first, is_later};
 ghost use Rattle.binlog_gtid_text.specs.Reading.{Gives, is_space, skip, after, uuid_at, value_in, number_at, interval_at, IsInRange, begins_tag, named_at, tag_at, source_at, numbers_at, piece_at};
 
 use crate::error::{Fault, GtidTextFault};
 use crate::piece::Piece;
-use binlog_numbers::{GnoInterval, Tag};
+use binlog_variable_fields::{GnoInterval, Tag};
 use uuid::Uuid;
 
 /// The length of a UUID's text.

@@ -4,7 +4,7 @@ use Rattle.std.specs.Prelude.{IsTrue}
 use Rattle.std.proofs.lemmas.Bool.{cases_lt, ltb-true, le-leb, leb-true, false≢true}
 use Rattle.std.proofs.lemmas.Bool.Decides.{nat_tests}
 use Rattle.std.proofs.lemmas.Grind.{common_steps}
-use Rattle.binlog_numbers.specs.declared.gno_interval.GnoInterval.{GnoInterval}
+use Rattle.binlog_variable_fields.specs.declared.gno_interval.GnoInterval.{GnoInterval}
 use Rattle.binlog_gtids.specs.GnoSets.{is_within, is_held, AreApart, ending_below, starting_up_to}
 use Rattle.binlog_gtids.proofs.GnoSets.{interval, apart_lower, ends_above, held_above, held_nowhere, held_in_last, to_most}
 

@@ -6,7 +6,7 @@ use Rattle.std.proofs.lemmas.List.{get_or_read, drop_all}
 use Rattle.std.proofs.lemmas.Bool.{cases_lt, ltb-true, lt-ltb, le-ltb, le-leb, leb-true, true≢false, false≢true}
 use Rattle.std.proofs.lemmas.Bool.Decides.{nat_tests}
 use Rattle.std.proofs.lemmas.Grind.{common_steps}
-use Rattle.binlog_numbers.specs.declared.gno_interval.GnoInterval.{GnoInterval}
+use Rattle.binlog_variable_fields.specs.declared.gno_interval.GnoInterval.{GnoInterval}
 use Rattle.binlog_gtids.specs.GnoSets.{is_within, is_held, is_up_to_last, AreApart, leading, ending_below, starting_up_to}
 
 abbrev pub interval : ℕ → ℕ → GnoInterval

@@ -1,6 +1,6 @@
 -- Sets of transaction numbers (GNOs) of one source, as lists of intervals.
 use Rattle.std.specs.Prelude.{ℕ, Bool, ◌&&◌, nat_lt, nat_le, false, ◌||◌, List, [], ◌∷◌, ◌^◌, ◌<◌, ◌≤◌, ⊤, not, suc, if◌then◌else◌}
-use Rattle.binlog_numbers.specs.declared.gno_interval.GnoInterval.{GnoInterval}
+use Rattle.binlog_variable_fields.specs.declared.gno_interval.GnoInterval.{GnoInterval}
 
 -- n is in the interval.
 abbrev pub is_within : GnoInterval → ℕ → Bool

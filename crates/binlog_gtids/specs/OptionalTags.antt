@@ -2,7 +2,7 @@
 use Rattle.std.proofs.Common.{ℕ, cond, Option, None, Some, List, [], ◌∷◌, Result, Ok, Err, ◌≡◌, true}
 use Rattle.binlog_wire.specs.declared.error.Invalid.{Invalid}
 use Rattle.binlog_wire.specs.declared.error.Invalid.TheVariants as kinds
-use Rattle.binlog_numbers.specs.Tags.{is_tag}
+use Rattle.binlog_variable_fields.specs.Tags.{is_tag}
 
 -- ---- an optional tag, as a text that may be empty
 

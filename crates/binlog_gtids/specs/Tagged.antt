@@ -5,9 +5,9 @@ use Rattle.std.proofs.Common.{ℕ, List, eqb, Option, None, Some, cond, [], ◌�
 use Rattle.binlog_wire.specs.Formats.{last, Format, anywhere, allowed, ◌⨾◌}
 use Rattle.binlog_wire.specs.declared.error.Invalid.{Invalid}
 use Rattle.binlog_wire.specs.declared.error.Invalid.TheVariants as kinds
-use Rattle.binlog_numbers.specs.Formats.{until, varlen, within}
-use Rattle.binlog_numbers.specs.Repeated.{each_written, EachFits}
-use Rattle.binlog_numbers.specs.Sized.{least_size}
+use Rattle.binlog_variable_fields.specs.Formats.{until, varlen, within}
+use Rattle.binlog_variable_fields.specs.Repeated.{each_written, EachFits}
+use Rattle.binlog_variable_fields.specs.Sized.{least_size}
 use Rattle.binlog_gtids.specs.FieldIds.{flags_id, sid_id, gno_id, tag_id, last_committed_id, sequence_number_id, immediate_commit_timestamp_id, original_commit_timestamp_id, transaction_length_id, immediate_server_version_id, original_server_version_id, commit_group_ticket_id}
 use Rattle.binlog_gtids.specs.TaggedFields.{Entry, entry}
 use Rattle.binlog_gtids.specs.TaggedValues.{IsTail, is_tail, Value, number_in, bytes_in}

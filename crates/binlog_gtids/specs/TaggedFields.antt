@@ -3,10 +3,10 @@
 use Rattle.std.proofs.Common.{ℕ, suc, ltb, refl, ◌*◌, ◌^◌, ◌<◌, inl, inr, List, eqb, [], ◌∷◌}
 use Rattle.binlog_wire.specs.Formats.{anywhere, Format, made, then}
 use Rattle.binlog_wire.specs.declared.error.Invalid.TheVariants as kinds
-use Rattle.binlog_numbers.specs.Formats.{varlen, tested, chosen, times}
-use Rattle.binlog_numbers.specs.Chosen.{choose}
-use Rattle.binlog_numbers.specs.Tags.{is_tag}
-use Rattle.binlog_numbers.specs.VarlenTexts.{varlen_text}
+use Rattle.binlog_variable_fields.specs.Formats.{varlen, tested, chosen, times}
+use Rattle.binlog_variable_fields.specs.Chosen.{choose}
+use Rattle.binlog_variable_fields.specs.Tags.{is_tag}
+use Rattle.binlog_variable_fields.specs.VarlenTexts.{varlen_text}
 use Rattle.binlog_gtids.specs.FieldIds.{flags_id, sid_id, gno_id, tag_id, last_committed_id, sequence_number_id, immediate_server_version_id, original_server_version_id, last_known_id}
 use Rattle.binlog_gtids.specs.TaggedValues.{halved, Value, number_in, bytes_in, is_any, known}
 use Rattle.binlog_gtids.specs.Laws.TaggedValues.{halved_choice, known_choice}

@@ -2,7 +2,7 @@
 use Rattle.std.proofs.Common.{ℕ, ◌+◌, cond, ltb, List, length, take, drop, Ok, Err}
 use Rattle.binlog_wire.specs.Reading.{ends, invalid, Read, ◌>>=◌}
 use Rattle.binlog_wire.specs.declared.error.Invalid.TheVariants as kinds
-use Rattle.binlog_numbers.specs.Within.{left_within}
+use Rattle.binlog_variable_fields.specs.Within.{left_within}
 use Rattle.binlog_gtids.specs.Tagged.{Head, head, payload_size}
 
 -- The head that was read, and the bytes after it that the payload size counts, of `whole` bytes.

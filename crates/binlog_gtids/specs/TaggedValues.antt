@@ -4,7 +4,7 @@ use Rattle.std.proofs.Common.{ℕ, ◌/◌, ◌%◌, cond, eqb, Result, Ok, Err,
 use Rattle.binlog_wire.specs.declared.error.Invalid.{Invalid}
 use Rattle.binlog_wire.specs.Reading.{Read}
 use Rattle.binlog_wire.specs.declared.error.Invalid.TheVariants as kinds
-use Rattle.binlog_numbers.specs.Varlen.{IsVarlen, varlen_at}
+use Rattle.binlog_variable_fields.specs.Varlen.{IsVarlen, varlen_at}
 use Rattle.binlog_gtids.specs.FieldIds.{last_known_id}
 
 -- ---- values

@@ -1,7 +1,7 @@
 -- A GTID with a tag, written part by part.
 use Rattle.std.proofs.Common.{ℕ, ◌+◌, List, ◌++◌, cond, eqb, [], length, ◌*◌}
-use Rattle.binlog_numbers.specs.Varlen.{varlen_written}
-use Rattle.binlog_numbers.specs.Repeated.{each_written}
+use Rattle.binlog_variable_fields.specs.Varlen.{varlen_written}
+use Rattle.binlog_variable_fields.specs.Repeated.{each_written}
 use Rattle.binlog_gtids.specs.FieldIds.{flags_id, sid_id, gno_id, tag_id, last_committed_id, sequence_number_id, immediate_commit_timestamp_id, original_commit_timestamp_id, transaction_length_id, immediate_server_version_id, original_server_version_id, commit_group_ticket_id}
 use Rattle.binlog_gtids.specs.declared.gtid_event.GtidEvent.{GtidEvent}
 

@@ -4,7 +4,7 @@
 use Rattle.std.proofs.Common.{ℕ, List, refl, Option, Bool, true, false, None, Some, Result, Ok, ◌≡◌, cond, eqb}
 use Rattle.binlog_wire.specs.Formats.{Format, anywhere, number, block, unit, ◌⨾◌, last, if_left}
 use Rattle.binlog_wire.specs.declared.error.Invalid.{Invalid}
-use Rattle.binlog_numbers.specs.Formats.{announced, lenenc, behind}
+use Rattle.binlog_variable_fields.specs.Formats.{announced, lenenc, behind}
 use Rattle.binlog_gtids.specs.declared.gtid_event.GtidEvent.{GtidEvent}
 
 -- Flags, source UUID, GNO.

@@ -4,7 +4,7 @@ use Rattle.binlog_wire.specs.declared.error.Error.{Error}
 use Rattle.binlog_wire.specs.declared.error.Error.TheVariants.{Unwritable}
 use Rattle.binlog_wire.specs.declared.error.Field.{Field}
 use Rattle.binlog_wire.specs.declared.error.Field.TheVariants as which
-use Rattle.binlog_numbers.specs.Repeated.{EachFits}
+use Rattle.binlog_variable_fields.specs.Repeated.{EachFits}
 use Rattle.binlog_gtids.specs.FieldIds.{sid_id}
 use Rattle.binlog_gtids.specs.declared.gtid_event.GtidEvent.{GtidEvent}
 use Rattle.binlog_gtids.specs.TaggedFields.{at_most}

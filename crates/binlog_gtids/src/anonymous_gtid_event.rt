@@ -6,7 +6,7 @@ ghost use Rattle.binlog_gtids.specs.Formats.{untagged};
 
 use crate::gtid_event::GtidEvent;
 use binlog_consts::EventType;
-use binlog_description::{BinlogCtx, BinlogEvent};
+use binlog_event_format::{BinlogCtx, BinlogEvent};
 use binlog_wire::{Error, Field, IntoOwned, MyDeserialize, ParseBuf, Put, TryClone};
 use std::alloc::Global;
 

@@ -2,10 +2,10 @@
 ghost use Rattle.std.specs.Prelude.{◌≡◌, ◌++◌, ◌+◌, ◌≤◌, ◌<◌, length, vec_len, vec_capacity};
 ghost use Rattle.binlog_wire.specs.Putting.{Puts};
 ghost use Rattle.binlog_wire.specs.Reading.{Gives};
-ghost use Rattle.binlog_numbers.specs.Announced.{announced_written};
+ghost use Rattle.binlog_variable_fields.specs.Announced.{announced_written};
 ghost use Rattle.binlog_gtids.specs.Untagged.{logical_times, times_if_left, length_if_left, versions_if_left};
 
-use binlog_numbers::LenEnc;
+use binlog_variable_fields::LenEnc;
 use binlog_wire::{Error, IntRepr, LeU32, LeU56, LeU64, ParseBuf};
 
 /// The bit of an immediate commit timestamp that says that an original one follows.

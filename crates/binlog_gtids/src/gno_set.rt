@@ -2,13 +2,13 @@
 ghost use Rattle.std.specs.Prelude.{◌≡◌, ◌++◌, ◌∷◌, ◌^◌, ◌<◌, ◌≤◌, ◌||◌, ◌↔◌, ℕ, [], true, false, length, take, drop, slice_index_or, IfOk, OnOk, OnErr, IsOkUnless, IsTrue};
 ghost use Rattle.std.specs.List.{insert};
 ghost use Rattle.binlog_wire.specs.declared.error.Error.TheVariants.{Memory};
-ghost use Rattle.binlog_numbers.specs.declared.gno_interval.GnoInterval.{GnoInterval};
+ghost use Rattle.binlog_variable_fields.specs.declared.gno_interval.GnoInterval.{GnoInterval};
 ghost use Rattle.binlog_gtids.specs.GnoSets.{is_within, is_held, is_missing, AreApart, ending_below, starting_up_to};
 
 mod difference;
 pub mod laws;
 
-use binlog_numbers::GnoInterval;
+use binlog_variable_fields::GnoInterval;
 use binlog_wire::Error;
 use std::alloc::{AllocError, Global};
 use std::marker::Model;
@@ -24,7 +24,7 @@ pub struct GnoSet {
 
 impl Model for GnoSet {
     ghost use Rattle.std.specs.Prelude.{List};
-    ghost use Rattle.binlog_numbers.specs.declared.gno_interval.GnoInterval.{GnoInterval};
+    ghost use Rattle.binlog_variable_fields.specs.declared.gno_interval.GnoInterval.{GnoInterval};
     ghost use Rattle.binlog_gtids.specs.GnoSets.{AreApart};
 
     ghost Value = { List GnoInterval };

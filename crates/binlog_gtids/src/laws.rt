@@ -1,10 +1,10 @@
 //! Laws of the definitions. Each is a function without effect whose contract states it.
 ghost use Rattle.std.specs.Prelude.{◌≡◌, ◌+◌, ◌<◌, ◌≤◌, ℕ, List, [], None, Some, length};
 ghost use Rattle.binlog_consts.specs.declared.version.BinlogVersion.{BinlogVersion};
-ghost use Rattle.binlog_description.specs.FormatDescription.{default_description};
-ghost use Rattle.binlog_numbers.specs.Sized.{Solves, least_size};
-ghost use Rattle.binlog_numbers.specs.Varlen.{IsVarlen};
-ghost use Rattle.binlog_numbers.specs.Repeated.{EachFits};
+ghost use Rattle.binlog_event_format.specs.FormatDescription.{default_description};
+ghost use Rattle.binlog_variable_fields.specs.Sized.{Solves, least_size};
+ghost use Rattle.binlog_variable_fields.specs.Varlen.{IsVarlen};
+ghost use Rattle.binlog_variable_fields.specs.Repeated.{EachFits};
 ghost use Rattle.binlog_gtids.specs.PreviousGtids.{FitsSid, unwritable_sids};
 ghost use Rattle.binlog_gtids.specs.Formats.{sids_format};
 ghost use Rattle.binlog_gtids.specs.Gtids.{gtid, anonymous, raw_type_of, unwritable, unwritable_anonymous, HasTag};
@@ -21,7 +21,7 @@ use crate::gtid_flags::GtidFlags;
 use crate::previous_gtids_event::PreviousGtidsEvent;
 use crate::previous_gtids_sid::PreviousGtidsSid;
 use binlog_consts::EventType;
-use binlog_description::BinlogEvent;
+use binlog_event_format::BinlogEvent;
 use binlog_wire::MyDeserialize;
 use bitflags::Flags;
 

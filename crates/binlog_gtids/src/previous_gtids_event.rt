@@ -2,14 +2,14 @@
 ghost use Rattle.std.specs.Prelude.{◌≡◌, ◌++◌, ◌+◌, ◌≤◌, ⊤, min, length, refl, IfOk, IsOkUnless, OnOk, MatchOption, Ok, Err, ◌∷◌, [], vec_len, vec_capacity};
 ghost use Rattle.binlog_wire.specs.Putting.{Puts};
 ghost use Rattle.binlog_wire.specs.declared.error.Error.TheVariants.{Memory};
-ghost use Rattle.binlog_numbers.specs.Repeated.{each_written};
+ghost use Rattle.binlog_variable_fields.specs.Repeated.{each_written};
 ghost use Rattle.binlog_gtids.specs.Formats.{previous_gtids};
 ghost use Rattle.binlog_gtids.specs.PreviousGtids.{has_tags, count_in, any_tagged, first_number, sid_written, sids_written, unwritable_sids};
 
 use crate::previous_gtids_sid::PreviousGtidsSid;
 use binlog_consts::{BinlogVersion, EventType};
-use binlog_description::{BinlogCtx, BinlogEvent, BinlogStruct, MAX_BODY_LEN};
-use binlog_numbers::ValueList;
+use binlog_event_format::{BinlogCtx, BinlogEvent, BinlogStruct, MAX_BODY_LEN};
+use binlog_variable_fields::ValueList;
 use binlog_wire::{
     Error, Field, IntRepr, IntoOwned, LeU64, MyDeserialize, MySerialize, ParseBuf, TryClone,
     reserve,

@@ -3,12 +3,14 @@ ghost use Rattle.std.specs.Prelude.{◌≡◌, ◌++◌, ◌+◌, ◌≤◌, ⊤
 ghost use Rattle.binlog_wire.specs.declared.error.Error.TheVariants.{Memory};
 ghost use Rattle.binlog_wire.specs.Putting.{Puts};
 ghost use Rattle.binlog_wire.specs.Reading.{Gives};
-ghost use Rattle.binlog_numbers.specs.GnoIntervals.{gno_interval};
-ghost use Rattle.binlog_numbers.specs.Repeated.{each_written};
+ghost use Rattle.binlog_variable_fields.specs.GnoIntervals.{gno_interval};
+ghost use Rattle.binlog_variable_fields.specs.Repeated.{each_written};
 ghost use Rattle.binlog_gtids.specs.PreviousGtids.{tag_if_any, tag_in, intervals, sid_in, tag_written, sid_written};
 
 use crate::sid::read_sid;
-use binlog_numbers::{GnoInterval, Tag, ValueList, Varlen, read_varlen_text, varlen_uint_size};
+use binlog_variable_fields::{
+    GnoInterval, Tag, ValueList, Varlen, read_varlen_text, varlen_uint_size,
+};
 use binlog_wire::{Error, IntRepr, IntoOwned, LeU64, MyDeserialize, ParseBuf, Put, TryClone};
 use std::alloc::Global;
 

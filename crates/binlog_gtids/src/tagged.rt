@@ -9,7 +9,7 @@ ghost use Rattle.binlog_gtids.specs.TaggedReading.{payload_at};
 
 use crate::gtid_event::GtidEvent;
 use crate::tagged_fields::TaggedFields;
-use binlog_numbers::Varlen;
+use binlog_variable_fields::Varlen;
 use binlog_wire::{Error, IntRepr, IntoOwned, Invalid, ParseBuf};
 use std::alloc::Global;
 

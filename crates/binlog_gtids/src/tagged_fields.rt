@@ -3,18 +3,18 @@ ghost use Rattle.std.specs.Prelude.{◌≡◌, ◌≤◌, ◌<◌, refl, ◌⊎�
 ghost use Rattle.binlog_wire.specs.declared.error.Error.TheVariants.{InvalidData};
 ghost use Rattle.binlog_wire.specs.Reading.{Gives, Refuses};
 ghost use Rattle.binlog_wire.specs.declared.error.Invalid.TheVariants as kinds;
-ghost use Rattle.binlog_numbers.specs.Formats.{tested};
-ghost use Rattle.binlog_numbers.specs.Repeated.{times_at};
-ghost use Rattle.binlog_numbers.specs.Tags.{is_tag};
-ghost use Rattle.binlog_numbers.specs.Varlen.{varlen_at};
-ghost use Rattle.binlog_numbers.specs.VarlenTexts.{varlen_text};
+ghost use Rattle.binlog_variable_fields.specs.Formats.{tested};
+ghost use Rattle.binlog_variable_fields.specs.Repeated.{times_at};
+ghost use Rattle.binlog_variable_fields.specs.Tags.{is_tag};
+ghost use Rattle.binlog_variable_fields.specs.Varlen.{varlen_at};
+ghost use Rattle.binlog_variable_fields.specs.VarlenTexts.{varlen_text};
 ghost use Rattle.binlog_gtids.specs.TaggedFields.{Entry, value_of_id, at_most, not_negative};
 ghost use Rattle.binlog_gtids.specs.TaggedValues.{Value, is_tail};
 ghost use Rattle.binlog_gtids.specs.Tagged.{fields};
 ghost use Rattle.binlog_gtids.specs.Taking.{no_fields, with_entry, taken};
 
 use crate::field_id;
-use binlog_numbers::{Tag, Varlen, read_varlen_text};
+use binlog_variable_fields::{Tag, Varlen, read_varlen_text};
 use binlog_wire::{Error, IntRepr, Invalid, ParseBuf};
 
 /// The greatest server version.

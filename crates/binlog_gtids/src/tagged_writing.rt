@@ -1,9 +1,9 @@
 //! Writing a GTID with a tag.
 ghost use Rattle.std.specs.Prelude.{◌≡◌, ◌++◌, ◌+◌, ◌*◌, ◌<◌, ◌≤◌, Some, length, MatchOption, IsOk, Err, vec_len, vec_capacity};
 ghost use Rattle.binlog_wire.specs.Putting.{Puts};
-ghost use Rattle.binlog_numbers.specs.Repeated.{each_written};
-ghost use Rattle.binlog_numbers.specs.Sized.{least_size};
-ghost use Rattle.binlog_numbers.specs.Varlen.{varlen_written};
+ghost use Rattle.binlog_variable_fields.specs.Repeated.{each_written};
+ghost use Rattle.binlog_variable_fields.specs.Sized.{least_size};
+ghost use Rattle.binlog_variable_fields.specs.Varlen.{varlen_written};
 ghost use Rattle.binlog_gtids.specs.Formats.{tagged};
 ghost use Rattle.binlog_gtids.specs.Tagged.{written_size, entries_written};
 ghost use Rattle.binlog_gtids.specs.Writable.{unwritable_tagged};
@@ -11,7 +11,7 @@ ghost use Rattle.binlog_gtids.specs.TaggedWriting.{number_field, changed_field, 
 
 use crate::field_id;
 use crate::gtid_event::GtidEvent;
-use binlog_numbers::{Tag, Varlen, varlen_uint_size};
+use binlog_variable_fields::{Tag, Varlen, varlen_uint_size};
 use binlog_wire::{Error, Field, IntRepr};
 
 /// The last non-ignorable field id that is written.

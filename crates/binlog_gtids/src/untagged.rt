@@ -12,7 +12,7 @@ use crate::clock::{
 };
 use crate::gtid_event::GtidEvent;
 use crate::sid::read_sid;
-use binlog_numbers::LenEnc;
+use binlog_variable_fields::LenEnc;
 use binlog_wire::{Error, Field, IntRepr, LeU64, ParseBuf};
 
 /// The number of bytes before the clock code.

@@ -4,8 +4,8 @@ use Rattle.std.specs.Prelude.{◌≡◌, ℕ, ◌+◌, ◌==◌, ◌&&◌, nat_l
 use Rattle.std.proofs.Common.{arith}
 use Rattle.binlog_wire.specs.declared.error.Invalid.{Invalid}
 use Rattle.binlog_wire.specs.Formats.{Format, anywhere, silent, then, made}
-use Rattle.binlog_numbers.specs.Chosen.{IsChoice}
-use Rattle.binlog_numbers.specs.Formats.{chosen, lenenc}
+use Rattle.binlog_variable_fields.specs.Chosen.{IsChoice}
+use Rattle.binlog_variable_fields.specs.Formats.{chosen, lenenc}
 use Rattle.binlog_columns.specs.Metadata.{Typed}
 use Rattle.binlog_columns.specs.declared.column_type.ColumnType.{ColumnType}
 use Rattle.binlog_columns.specs.declared.column_type.ColumnType.TheVariants.{MYSQL_TYPE_JSON}

@@ -8,7 +8,7 @@ ghost use Rattle.binlog_images.specs.DiffsOf.{diffs_of, answer_diffs};
 
 use crate::image_bits::{is_set, read_bitmap};
 use binlog_columns::{Column, ColumnType};
-use binlog_numbers::LenEnc;
+use binlog_variable_fields::LenEnc;
 use binlog_wire::{BitView, Error, IntRepr, Invalid, ParseBuf};
 
 /// The diff bits of an image after, and the place of the next JSON column's.

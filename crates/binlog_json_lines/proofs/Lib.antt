@@ -1,5 +1,4 @@
-pub mod Tokens
-pub mod StatusVars
-pub mod BitTokens
-pub mod ClientSets
-pub mod OtherValues
+pub mod Reading
+pub mod Rows
+pub mod Output
+pub mod Kept

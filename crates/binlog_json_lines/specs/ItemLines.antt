@@ -1,5 +1,5 @@
 -- The line of an item: a JSON object.
-use Rattle.std.specs.Prelude.{ℕ, Bool, true, false, List, [], ◌++◌, codes, Result, Ok, Err, ⊤}
+use Rattle.std.specs.Prelude.{ℕ, Bool, true, false, List, [], ◌++◌, codes, Result, Ok, Err}
 use Rattle.std.specs.Int.{w32, to_le_bytes}
 use Rattle.json.specs.Print.{print}
 use Rattle.json.specs.Token.{Token}
@@ -12,7 +12,7 @@ use Rattle.binlog_file.specs.declared.BinlogEventHeader.{BinlogEventHeader}
 use Rattle.binlog_file.specs.Events.{EventView}
 use Rattle.binlog_file.specs.Parts.{data_of, checksum_of}
 use Rattle.json_line.specs.Tokens.{number_value, bytes_value, or_null, member, object}
-use Rattle.binlog_json_lines.specs.Data.{name_value, data_value, short_data_value}
+use Rattle.binlog_json_bodies.specs.Data.{name_value, data_value, short_data_value}
 
 -- The raw type and the type's name.
 unfoldable pub type_members : ℕ → List Token
@@ -72,7 +72,3 @@ item_object index (Err error) = error_object index error
 -- The line of an item: its object as text, and a line feed.
 abbrev pub item_line : ℕ → Result EventView Error → List ℕ
 item_line index item = print (item_object index item) ++ codes "\n"
-
--- The line of any item may need an allocation.
-abbrev pub MayGrow : Result EventView Error → Type 0
-MayGrow item = ⊤

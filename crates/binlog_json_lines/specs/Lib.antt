@@ -1,9 +1,6 @@
-pub mod Bodies
-pub mod Statements
-pub mod StatusVars
-pub mod ClientSets
-pub mod Gtids
-pub mod Rows
-pub mod Data
 pub mod ItemLines
-pub mod Bits
+pub mod RowEvents
+pub mod Refusals
+pub mod RowMembers
+pub mod Lines
+pub mod Output

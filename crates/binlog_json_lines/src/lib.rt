@@ -1,17 +1,17 @@
-//! The items of a binary log as lines of JSON, one object for each.
+//! The items of a binary log as lines of JSON, an object for each, with the rows of row events.
+//!
+//! In a log that MariaDB wrote, events of the types 160 to 171 have an object of their own, and compressed statements and
+//! rows that of the uncompressed event. `specs/RowMembers` defines the members `table`, `metadata` and `rows` of a row event.
 #![tactic(auto)]
 
-mod bits;
-mod bodies;
-mod client_sets;
-mod data_value;
-mod gtids;
-mod json_lines;
-mod rows;
-mod statements;
-mod status_vars;
+mod event_members;
+pub mod laws;
+mod lines;
+mod refusals;
+mod row_events;
+mod row_members;
+mod writer;
 
-pub use bits::write_bits;
-pub use data_value::write_refusal;
-pub use json_lines::{JsonLines, write_data_member, write_event_head, write_header};
-pub use statements::{write_maria_query_texts, write_query_head};
+pub use lines::JsonLines;
+pub use row_events::{is_row_event, table_id};
+pub use writer::JsonWriter;

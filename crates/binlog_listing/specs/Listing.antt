@@ -4,7 +4,7 @@ use Rattle.std.specs.Int.{w16, to_be_bytes}
 use Rattle.hex.specs.Hex.{encode_lower}
 use Rattle.binlog_wire.specs.declared.error.Error.{Error}
 use Rattle.binlog_wire.specs.Errors.{error_number}
-use Rattle.binlog_description.specs.Headers.{header_of}
+use Rattle.binlog_event_format.specs.Headers.{header_of}
 use Rattle.binlog_events.specs.Parts.{data_of, checksum_of}
 use Rattle.binlog_events.specs.Events.{EventView}
 use Rattle.binlog_listing.specs.Words.{word_text, word_of, TakesMemoryFor}

@@ -7,9 +7,9 @@ use Rattle.binlog_wire.specs.Reading.{Read, read_as}
 use Rattle.binlog_wire.specs.declared.error.Error.{Error}
 use Rattle.binlog_consts.specs.declared.event_type.EventType.{EventType}
 use Rattle.binlog_consts.specs.declared.event_type.EventType.TheVariants as mysql
-use Rattle.binlog_description.specs.Bodies.{GivesWhole}
-use Rattle.binlog_description.specs.PostHeaders.{post_header}
-use Rattle.binlog_description.specs.declared.format_description.FormatDescriptionEvent.{FormatDescriptionEvent}
+use Rattle.binlog_event_format.specs.Bodies.{GivesWhole}
+use Rattle.binlog_event_format.specs.PostHeaders.{post_header}
+use Rattle.binlog_event_format.specs.declared.format_description.FormatDescriptionEvent.{FormatDescriptionEvent}
 use Rattle.binlog_statements.specs.Query.{query}
 use Rattle.binlog_rows.specs.Rows.{rows}
 use Rattle.binlog_rows.specs.RowsData.{data_written}

@@ -12,10 +12,10 @@ use Rattle.binlog_wire.specs.declared.error.Error.{Error}
 use Rattle.binlog_wire.specs.declared.error.Error.TheVariants.{Unwritable}
 use Rattle.binlog_wire.specs.declared.error.Field.TheVariants as which
 use Rattle.binlog_wire.specs.Formats.{Format, anywhere, last, number, unit, silent, skip_then, then, ◌⨾◌, seen_as}
-use Rattle.binlog_numbers.specs.Chosen.{IsChoice, choose}
-use Rattle.binlog_numbers.specs.Formats.{chosen}
-use Rattle.binlog_numbers.specs.Formats.{times}
-use Rattle.binlog_numbers.specs.Repeated.{each_written, each_normal, EachFits}
+use Rattle.binlog_variable_fields.specs.Chosen.{IsChoice, choose}
+use Rattle.binlog_variable_fields.specs.Formats.{chosen}
+use Rattle.binlog_variable_fields.specs.Formats.{times}
+use Rattle.binlog_variable_fields.specs.Repeated.{each_written, each_normal, EachFits}
 use Rattle.binlog_mariadb.specs.declared.maria_gtid.MariaGtid.{MariaGtid}
 use Rattle.binlog_mariadb.specs.declared.gtid_list.GtidListEvent.{GtidListEvent}
 

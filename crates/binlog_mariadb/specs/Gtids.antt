@@ -8,7 +8,7 @@ use Rattle.std.specs.Prelude.{◌≡◌, ℕ, ◌+◌, ◌-◌, ◌≤◌, Bool,
 use Rattle.std.proofs.Common.{ap, arith, ◌∙◌}
 use Rattle.std.proofs.lemmas.List.{take_all, length-take}
 use Rattle.binlog_wire.specs.Formats.{Format, anywhere, last, number, block, then, ◌⨾◌, seen_as, made}
-use Rattle.binlog_numbers.specs.Chosen.{choose}
+use Rattle.binlog_variable_fields.specs.Chosen.{choose}
 use Rattle.binlog_mariadb.specs.Parts.{has_bit, part, supplied, optional, padding}
 use Rattle.binlog_mariadb.specs.declared.xa_id.XaId.{XaId}
 use Rattle.binlog_mariadb.specs.declared.gtid_extra.GtidExtra.{GtidExtra}

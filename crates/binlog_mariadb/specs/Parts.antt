@@ -8,7 +8,7 @@ use Rattle.binlog_wire.specs.Reading.{Read, ends, read_as}
 use Rattle.binlog_wire.specs.Fields.{IsBytes, IsRest}
 use Rattle.binlog_wire.specs.Laws.{KeepsTo, bind_ok, guard_ok}
 use Rattle.binlog_wire.specs.Formats.{Place, last, Format, silent, made}
-use Rattle.binlog_numbers.specs.Chosen.{choose}
+use Rattle.binlog_variable_fields.specs.Chosen.{choose}
 
 -- Whether this bit of the flags is set.
 abbrev pub has_bit : ℕ → ℕ → Bool

@@ -4,7 +4,7 @@ use Rattle.std.specs.Prelude.{IfSome}
 use Rattle.std.proofs.lemmas.List.{length-take}
 use Rattle.binlog_wire.specs.Fields.{IsBytes}
 use Rattle.binlog_wire.specs.Formats.{anywhere, number}
-use Rattle.binlog_numbers.specs.Repeated.{EachFits}
+use Rattle.binlog_variable_fields.specs.Repeated.{EachFits}
 use Rattle.binlog_mariadb.specs.Parts.{part}
 use Rattle.binlog_mariadb.specs.Gtids.{xa, no_xa, extra, no_extra, has_engines, has_alter, has_thread, has_commit_id, has_xa, is_short, tail_by, maria_gtid}
 use Rattle.binlog_mariadb.specs.GtidLists.{gtid_entry, gtid_list, unwritable_list, few_entries}

@@ -7,7 +7,7 @@ ghost use Rattle.binlog_mariadb.specs.AnnotateRows.{annotate_rows};
 
 use crate::event_type::MariaEventType;
 use crate::traits::MariaEvent;
-use binlog_description::BinlogCtx;
+use binlog_event_format::BinlogCtx;
 use binlog_wire::{EofBytes, Error, IntoOwned, MyDeserialize, ParseBuf, Put, RawBytes, TryClone};
 use std::alloc::Global;
 use std::borrow::{CowSlice, CowStr};

@@ -1,10 +1,10 @@
 //! Which server wrote a log.
 ghost use Rattle.std.specs.Prelude.{◌≡◌, ◌↔◌, IsTrue, take};
 ghost use Rattle.std.specs.List.{prefix_len};
-ghost use Rattle.binlog_description.specs.DescriptionRefs.{description_of};
+ghost use Rattle.binlog_event_format.specs.DescriptionRefs.{description_of};
 ghost use Rattle.binlog_mariadb.specs.Flavour.{is_text_byte, version_text, Contains, IsMariaVersion};
 
-use binlog_description::DescriptionRef;
+use binlog_event_format::DescriptionRef;
 use memchr::memmem;
 
 /// Whether a byte isn't zero, so that it doesn't end the text of a version.

@@ -13,7 +13,7 @@ use crate::gtid_extra::GtidExtra;
 use crate::gtid_flags::{MariaGtidFlags, has_bit};
 use crate::traits::MariaEvent;
 use crate::xa_id::XaId;
-use binlog_description::BinlogCtx;
+use binlog_event_format::BinlogCtx;
 use binlog_wire::{
     Error, IntRepr, IntoOwned, LeU32, LeU64, MyDeserialize, ParseBuf, Put, RawFlags, TryClone,
 };

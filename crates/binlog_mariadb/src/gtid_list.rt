@@ -2,15 +2,15 @@
 ghost use Rattle.std.specs.Prelude.{◌≡◌, ◌++◌, ◌+◌, ◌*◌, ◌<◌, ◌≤◌, ⊤, [], min, length, refl, IfOk, IsOkUnless, MatchOption, Ok, Err, vec_len, vec_capacity};
 ghost use Rattle.binlog_wire.specs.declared.error.Error.TheVariants.{Memory};
 ghost use Rattle.binlog_wire.specs.Reading.{Gives};
-ghost use Rattle.binlog_numbers.specs.Repeated.{each_written};
+ghost use Rattle.binlog_variable_fields.specs.Repeated.{each_written};
 ghost use Rattle.binlog_mariadb.specs.GtidLists.{gtid_entry, gtid_list, entries_of, entries_written, first_number, list_written, unwritable_list};
 
 use crate::event_type::MariaEventType;
 use crate::maria_gtid::{ENTRY_LEN, MariaGtid};
 use crate::traits::MariaEvent;
 use binlog_consts::BinlogVersion;
-use binlog_description::{BinlogCtx, BinlogStruct, MAX_BODY_LEN};
-use binlog_numbers::ValueList;
+use binlog_event_format::{BinlogCtx, BinlogStruct, MAX_BODY_LEN};
+use binlog_variable_fields::ValueList;
 use binlog_wire::{
     Error, Field, IntRepr, IntoOwned, LeU32, MyDeserialize, MySerialize, ParseBuf, Put, Skip,
     TryClone, reserve,

@@ -6,7 +6,7 @@ ghost use Rattle.binlog_mariadb.specs.StartEncryption.{start_encryption};
 
 use crate::event_type::MariaEventType;
 use crate::traits::MariaEvent;
-use binlog_description::BinlogCtx;
+use binlog_event_format::BinlogCtx;
 use binlog_wire::{Error, IntRepr, LeU32, MyDeserialize, ParseBuf, Put};
 use std::alloc::Global;
 

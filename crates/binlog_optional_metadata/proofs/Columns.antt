@@ -4,9 +4,9 @@ use Rattle.std.specs.Prelude.{nat_lt}
 use Rattle.binlog_wire.specs.Fields.{meant}
 use Rattle.binlog_wire.specs.Laws.{bind_ok}
 use Rattle.binlog_wire.specs.Reading.{◌>>=◌}
-use Rattle.binlog_numbers.specs.Chosen.{passes}
-use Rattle.binlog_numbers.specs.LenEnc.{lenenc_at}
-use Rattle.binlog_numbers.specs.Laws.Chosen.{meant_ok, passes_ok}
+use Rattle.binlog_variable_fields.specs.Chosen.{passes}
+use Rattle.binlog_variable_fields.specs.LenEnc.{lenenc_at}
+use Rattle.binlog_variable_fields.specs.Laws.Chosen.{meant_ok, passes_ok}
 use Rattle.binlog_optional_metadata.specs.Columns.{no_column, column_index, indexed_number, any_indexed}
 
 pub index_is_number : (columns : ℕ) (s : List ℕ) (x : ℕ × List ℕ) → (column_index columns).reads s ≡ Ok x → lenenc_at s ≡ Ok x

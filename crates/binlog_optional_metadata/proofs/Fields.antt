@@ -1,35 +1,25 @@
 -- Fields, one at a time.
-use Rattle.std.proofs.Common.{◌≡◌, ℕ, ◌<◌, List, [], ◌∷◌, length, Some, None, Ok, Err, refl, arith}
+use Rattle.std.proofs.Common.{◌≡◌, ℕ, ◌<◌, List, [], ◌∷◌, length, Some, None, Ok, Err, refl, arith, ap, ◌∙◌}
 use Rattle.binlog_wire.specs.declared.error.Error.{Error}
-use Rattle.binlog_wire.specs.declared.error.Error.TheVariants as errors
 use Rattle.binlog_wire.specs.Fields.{IsBytes}
 use Rattle.binlog_wire.specs.Reading.{Refusal, Read, ends, invalid, other_type, Refuses}
+use Rattle.binlog_columns.specs.RefusalLaws.{error_as, refusal_of}
 use Rattle.binlog_optional_metadata.specs.Fields.{Content, content, field}
 use Rattle.binlog_optional_metadata.specs.FieldsLeft.{FieldContent, whole_content, field_taken}
 use Rattle.binlog_optional_metadata.specs.Kinds.{kind_as, kind_of}
 use Rattle.binlog_optional_metadata.specs.declared.class_counts.ClassCounts.{ClassCounts}
 use Rattle.binlog_optional_metadata.specs.declared.metadata_error.OptionalMetadataErrorKind.TheVariants.{LeftOver}
 
+kind_of_error : (d : Refusal) → kind_of (error_as d) ≡ kind_as d
+kind_of_error ends = refl
+kind_of_error (invalid why) = refl
+kind_of_error (other_type number) = refl
+
 -- An error is of the kind of its refusal.
 pub kind_is : {V : Type 0} (e : Error) (read : Read V) → Refuses ⊥ e read → (d : Refusal) × (read ≡ Err d) × (kind_of e ≡ kind_as d)
-kind_is errors.EndOfBody read h = (ends, h, refl)
-kind_is (errors.InvalidData why) read h = (invalid why, h, refl)
-kind_is (errors.WrongEventType number) read h = (other_type number, h, refl)
-kind_is errors.Memory read h = absurd h
-kind_is errors.EndOfInput read h = absurd h
-kind_is errors.InvalidFileHeader read h = absurd h
-kind_is (errors.EventSizeTooSmall size) read h = absurd h
-kind_is errors.TooShortForChecksum read h = absurd h
-kind_is (errors.RemainingBytes count) read h = absurd h
-kind_is (errors.UnknownChecksumAlg algorithm) read h = absurd h
-kind_is errors.EventTooLong read h = absurd h
-kind_is (errors.Unwritable which) read h = absurd h
-kind_is errors.FrameMemory read h = absurd h
-kind_is errors.Reader read h = absurd h
-kind_is errors.ReaderInFrame read h = absurd h
-kind_is errors.Writer read h = absurd h
-kind_is (errors.ChecksumMismatch stored computed) read h = absurd h
-kind_is (errors.BadGno number) read h = absurd h
+kind_is e read h =
+    let r = refusal_of e read h in
+    (r.0, r.1, ap kind_of r.2 ∙ kind_of_error r.0)
 
 -- A content is refused.
 pub content_refused : (number : ℕ) (read : Read Content) (e : Error) → Refuses ⊥ e read

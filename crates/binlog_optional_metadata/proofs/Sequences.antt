@@ -3,8 +3,8 @@ use Rattle.std.proofs.Common.{◌≡◌, ℕ, zero, suc, ◌+◌, ◌-◌, ◌<�
 use Rattle.std.specs.Prelude.{is_ok}
 use Rattle.binlog_wire.specs.declared.error.Error.{Error}
 use Rattle.binlog_wire.specs.Reading.{Read, Refusal, Refuses, read_as}
-use Rattle.binlog_numbers.specs.Repeated.{times_at}
-use Rattle.binlog_numbers.specs.Laws.Refusing.{refused_as}
+use Rattle.binlog_variable_fields.specs.Repeated.{times_at}
+use Rattle.binlog_variable_fields.specs.Laws.Refusing.{refused_as}
 use Rattle.binlog_optional_metadata.proofs.Fields.{kind_is}
 use Rattle.binlog_optional_metadata.specs.Sequences.{values}
 

@@ -8,11 +8,11 @@ use Rattle.binlog_wire.specs.Fields.{IsBytes}
 use Rattle.binlog_wire.specs.Formats.{Format, anywhere}
 use Rattle.binlog_wire.specs.Laws.{bind_ok}
 use Rattle.binlog_wire.specs.Reading.{Read, Refuses, ◌>>=◌}
-use Rattle.binlog_numbers.specs.Laws.Refusing.{refused_as}
-use Rattle.binlog_numbers.specs.Laws.RepeatedLoops.{behind_values}
-use Rattle.binlog_numbers.specs.Laws.UntilLoops.{shorter, until_more, until_stops, until_refused}
-use Rattle.binlog_numbers.specs.Repeated.{times_at}
-use Rattle.binlog_numbers.specs.Within.{until_at, until_in}
+use Rattle.binlog_variable_fields.specs.Laws.Refusing.{refused_as}
+use Rattle.binlog_variable_fields.specs.Laws.RepeatedLoops.{behind_values}
+use Rattle.binlog_variable_fields.specs.Laws.UntilLoops.{shorter, until_more, until_stops, until_refused}
+use Rattle.binlog_variable_fields.specs.Repeated.{times_at}
+use Rattle.binlog_variable_fields.specs.Within.{until_at, until_in}
 use Rattle.binlog_optional_metadata.specs.Sequences.{IsCount}
 use Rattle.binlog_optional_metadata.specs.ToEnd.{IsNil, is_nil, nil_is_end}
 

@@ -5,7 +5,7 @@ use Rattle.std.specs.Prelude.{nat_lt}
 use Rattle.binlog_wire.specs.Formats.{Format, anywhere, last, ◌⨾◌}
 use Rattle.binlog_wire.specs.declared.error.Invalid.{Invalid}
 use Rattle.binlog_wire.specs.declared.error.Invalid.TheVariants.{FieldRange}
-use Rattle.binlog_numbers.specs.Formats.{lenenc, tested}
+use Rattle.binlog_variable_fields.specs.Formats.{lenenc, tested}
 use Rattle.binlog_optional_metadata.specs.ToEnd.{to_end}
 
 -- There is no column with the index.

@@ -3,8 +3,8 @@
 use Rattle.std.specs.Prelude.{ℕ, List, [], Result, Ok, Err, refl}
 use Rattle.binlog_wire.specs.Bits.{bytes_of_bits}
 use Rattle.binlog_wire.specs.Formats.{Format, anywhere, last, number, block, rest, made, ◌⨾◌}
-use Rattle.binlog_numbers.specs.Formats.{lenenc, times}
-use Rattle.binlog_numbers.specs.LenEncTexts.{lenenc_text}
+use Rattle.binlog_variable_fields.specs.Formats.{lenenc, times}
+use Rattle.binlog_variable_fields.specs.LenEncTexts.{lenenc_text}
 use Rattle.binlog_optional_metadata.specs.Columns.{column_indexes, indexed_numbers, default_and_others}
 use Rattle.binlog_optional_metadata.specs.FieldTypes.{field_type_of}
 use Rattle.binlog_optional_metadata.specs.Lists.{text_list}

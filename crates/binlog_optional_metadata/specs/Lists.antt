@@ -2,10 +2,10 @@
 -- Source: MySQL's documentation of its source code, `mysql::binlog::event::Table_map_event::Optional_metadata_fields`.
 use Rattle.std.proofs.Common.{ℕ, List, length, ap}
 use Rattle.binlog_wire.specs.Formats.{Format, anywhere, then, made, unit}
-use Rattle.binlog_numbers.specs.Formats.{lenenc, times}
-use Rattle.binlog_numbers.specs.LenEncTexts.{lenenc_text}
-use Rattle.binlog_numbers.specs.Laws.Repeated.{length-each_normal}
-use Rattle.binlog_numbers.specs.Repeated.{each_normal}
+use Rattle.binlog_variable_fields.specs.Formats.{lenenc, times}
+use Rattle.binlog_variable_fields.specs.LenEncTexts.{lenenc_text}
+use Rattle.binlog_variable_fields.specs.Laws.Repeated.{length-each_normal}
+use Rattle.binlog_variable_fields.specs.Repeated.{each_normal}
 
 -- This many texts. There have to be as many bytes, before the first is looked at.
 abbrev pub texts : ℕ → Format anywhere (List (List ℕ))

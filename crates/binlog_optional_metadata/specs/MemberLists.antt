@@ -1,7 +1,7 @@
 -- Lists of members as contracts see them.
 use Rattle.std.specs.Prelude.{ℕ, List, Result, Ok, Err}
 use Rattle.binlog_wire.specs.declared.error.Error.{Error}
-use Rattle.binlog_numbers.specs.Repeated.{times_at}
+use Rattle.binlog_variable_fields.specs.Repeated.{times_at}
 use Rattle.binlog_optional_metadata.specs.Lists.{text_list}
 use Rattle.binlog_optional_metadata.specs.Sequences.{values}
 use Rattle.binlog_optional_metadata.specs.declared.member_lists.MemberLists.{MemberLists}

@@ -1,8 +1,8 @@
 -- Names as contracts see them.
 use Rattle.std.specs.Prelude.{ℕ, List, Result, Ok, Err}
 use Rattle.binlog_wire.specs.declared.error.Error.{Error}
-use Rattle.binlog_numbers.specs.LenEncTexts.{lenenc_text}
-use Rattle.binlog_numbers.specs.Repeated.{times_at}
+use Rattle.binlog_variable_fields.specs.LenEncTexts.{lenenc_text}
+use Rattle.binlog_variable_fields.specs.Repeated.{times_at}
 use Rattle.binlog_optional_metadata.specs.Sequences.{values}
 use Rattle.binlog_optional_metadata.specs.declared.names.Names.{Names}
 

@@ -1,6 +1,6 @@
 -- Values in sequence.
 use Rattle.std.specs.Prelude.{◌≡◌, ℕ, true, is_ok, List, [], Ok, Err}
-use Rattle.binlog_numbers.specs.Repeated.{times_at}
+use Rattle.binlog_variable_fields.specs.Repeated.{times_at}
 use Rattle.binlog_wire.specs.Reading.{Read}
 
 -- The values that were read.

@@ -2,8 +2,8 @@
 use Rattle.std.proofs.Common.{◌≡◌, ◌≤◌, ℕ, Bool, true, false, List, [], ◌∷◌, refl, arith}
 use Rattle.binlog_wire.specs.Fields.{IsBytes}
 use Rattle.binlog_wire.specs.Formats.{Format, anywhere, last}
-use Rattle.binlog_numbers.specs.Formats.{until}
-use Rattle.binlog_numbers.specs.Within.{IsEnd}
+use Rattle.binlog_variable_fields.specs.Formats.{until}
+use Rattle.binlog_variable_fields.specs.Within.{IsEnd}
 
 -- No bytes are left.
 abbrev pub IsNil : List ℕ → Type 0

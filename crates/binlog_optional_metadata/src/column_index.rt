@@ -2,7 +2,7 @@
 ghost use Rattle.binlog_wire.specs.Reading.{Gives};
 ghost use Rattle.binlog_optional_metadata.specs.Columns.{column_index};
 
-use binlog_numbers::LenEnc;
+use binlog_variable_fields::LenEnc;
 use binlog_wire::{Error, IntRepr, Invalid, ParseBuf};
 
 /// There is no column with the index.

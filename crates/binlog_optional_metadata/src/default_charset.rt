@@ -4,7 +4,7 @@ ghost use Rattle.binlog_wire.specs.Reading.{Gives};
 ghost use Rattle.binlog_optional_metadata.specs.Columns.{default_and_others};
 
 use crate::indexed_numbers::IndexedNumbers;
-use binlog_numbers::LenEnc;
+use binlog_variable_fields::LenEnc;
 use binlog_wire::{Error, IntRepr, ParseBuf};
 
 /// The number of the collation of the columns of a class, and those of the columns that have another one.

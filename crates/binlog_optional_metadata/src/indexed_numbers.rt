@@ -1,12 +1,12 @@
 //! Numbers of columns that are named by their indexes.
 ghost use Rattle.std.specs.Prelude.{◌≡◌, is_ok, true, length, MatchResult};
 ghost use Rattle.binlog_wire.specs.Reading.{Gives, Refuses};
-ghost use Rattle.binlog_numbers.specs.Repeated.{times_at};
+ghost use Rattle.binlog_variable_fields.specs.Repeated.{times_at};
 ghost use Rattle.binlog_optional_metadata.specs.Columns.{any_indexed, indexed_number, indexed_numbers};
 ghost use Rattle.binlog_optional_metadata.specs.Sequences.{IsCount};
 
 use crate::column_index::read_column_index;
-use binlog_numbers::LenEnc;
+use binlog_variable_fields::LenEnc;
 use binlog_wire::{Error, IntRepr, ParseBuf};
 
 /// Numbers of some columns, each with the index of its column: an iterator over pairs of an index and a number, which

@@ -1,12 +1,12 @@
 //! The members of ENUM and SET columns.
 ghost use Rattle.std.specs.Prelude.{◌≡◌, is_ok, true, length};
 ghost use Rattle.binlog_wire.specs.Reading.{Gives};
-ghost use Rattle.binlog_numbers.specs.Repeated.{times_at};
+ghost use Rattle.binlog_variable_fields.specs.Repeated.{times_at};
 ghost use Rattle.binlog_optional_metadata.specs.Lists.{text_list};
 ghost use Rattle.binlog_optional_metadata.specs.Names.{answer_names};
 
 use crate::names::Names;
-use binlog_numbers::LenEnc;
+use binlog_variable_fields::LenEnc;
 use binlog_wire::{Error, IntRepr, ParseBuf};
 
 /// The members of each ENUM or of each SET column: an iterator over the lists, which borrows their bytes and allocates

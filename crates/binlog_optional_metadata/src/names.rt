@@ -1,10 +1,10 @@
 //! Names of columns, and of members of ENUM and SET columns.
 ghost use Rattle.std.specs.Prelude.{◌≡◌, is_ok, true, length};
 ghost use Rattle.binlog_wire.specs.Reading.{Gives};
-ghost use Rattle.binlog_numbers.specs.LenEncTexts.{lenenc_text};
-ghost use Rattle.binlog_numbers.specs.Repeated.{times_at};
+ghost use Rattle.binlog_variable_fields.specs.LenEncTexts.{lenenc_text};
+ghost use Rattle.binlog_variable_fields.specs.Repeated.{times_at};
 
-use binlog_numbers::LenEncBytes;
+use binlog_variable_fields::LenEncBytes;
 use binlog_wire::{BytesRepr, Error, ParseBuf};
 
 /// Names in sequence: an iterator over their bytes, which borrows them and allocates nothing.

@@ -1,13 +1,13 @@
 //! Numbers of columns.
 ghost use Rattle.std.specs.Prelude.{◌≡◌, is_ok, true, length, MatchResult};
 ghost use Rattle.binlog_wire.specs.Reading.{Gives, Refuses};
-ghost use Rattle.binlog_numbers.specs.LenEnc.{lenenc_at};
-ghost use Rattle.binlog_numbers.specs.Repeated.{times_at};
+ghost use Rattle.binlog_variable_fields.specs.LenEnc.{lenenc_at};
+ghost use Rattle.binlog_variable_fields.specs.Repeated.{times_at};
 ghost use Rattle.binlog_optional_metadata.specs.Columns.{column_indexes};
 ghost use Rattle.binlog_optional_metadata.specs.Sequences.{IsCount};
 
 use crate::column_index::read_column_index;
-use binlog_numbers::LenEnc;
+use binlog_variable_fields::LenEnc;
 use binlog_wire::{Error, IntRepr, ParseBuf};
 
 /// Numbers in sequence: an iterator over them, which borrows their bytes and allocates nothing.

@@ -13,7 +13,7 @@ use crate::field::OptionalMetadataField;
 use crate::field_type::OptionalMetadataFieldType;
 use crate::metadata_error::{OptionalMetadataError, OptionalMetadataErrorKind, kind_of};
 use binlog_columns::TableColumns;
-use binlog_numbers::LenEncBytes;
+use binlog_variable_fields::LenEncBytes;
 use binlog_wire::{BytesRepr, EofBytes, Error, IntRepr, ParseBuf};
 
 /// The optional metadata of a table map: an iterator over its fields. It borrows the bytes of the table map and allocates

@@ -4,7 +4,7 @@ use Rattle.std.specs.Prelude.{◌&&◌, ◌==◌, nat_lt, nat_le}
 use Rattle.std.proofs.lemmas.Bool.{ltb-true, le-ltb, lt-ltb, le-leb, eqb-true, eqb-false}
 use Rattle.std.proofs.lemmas.Nat.{pow-add}
 use Rattle.std.proofs.Math.Nat.{pow-le-pow_right}
-use Rattle.binlog_numbers.specs.Laws.Varlen.{pow256}
+use Rattle.binlog_variable_fields.specs.Laws.Varlen.{pow256}
 use Rattle.binlog_columns.specs.Metadata.{Typed}
 use Rattle.binlog_columns.specs.Layouts.{layout_of}
 use Rattle.binlog_columns.specs.declared.column_type.ColumnType.{ColumnType}

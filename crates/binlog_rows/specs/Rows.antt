@@ -6,9 +6,9 @@
 use Rattle.std.specs.Prelude.{ℕ, ◌+◌, List, length, Ok, Option, Some, unwrap_or, refl, Bool, true, false, None, [], ◌==◌, ◌≡◌, is_some, IfSome, ◌++◌}
 use Rattle.binlog_wire.specs.Formats.{Format, Place, made, anywhere, silent, number, ◌⨾◌, seen_as, then, last, rest}
 use Rattle.binlog_wire.specs.Fields.{little_bytes}
-use Rattle.binlog_numbers.specs.Formats.{chosen, lenenc}
-use Rattle.binlog_numbers.specs.Chosen.{choose}
-use Rattle.binlog_numbers.specs.LenEnc.{lenenc_written}
+use Rattle.binlog_variable_fields.specs.Formats.{chosen, lenenc}
+use Rattle.binlog_variable_fields.specs.Chosen.{choose}
+use Rattle.binlog_variable_fields.specs.LenEnc.{lenenc_written}
 use Rattle.binlog_rows.specs.ExtraBytes.{kept_extra, counted}
 use Rattle.binlog_rows.specs.Laws.ExtraBytes.{extra_choice, forgotten_choice}
 use Rattle.binlog_rows.specs.Columns.{table_id, Bitmap, bitmap}

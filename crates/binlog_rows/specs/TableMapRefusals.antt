@@ -1,7 +1,7 @@
 -- The errors of a table map: the end of its bytes, or an invalid length-encoded integer in one of its two places.
 use Rattle.std.proofs.Common.{ℕ, List, ◌∷◌, ◌≡◌, ◌⊎◌}
 use Rattle.binlog_wire.specs.Formats.{Format, anywhere, silent, skip_then, ◌⨾◌, block, then}
-use Rattle.binlog_numbers.specs.Formats.{lenenc}
+use Rattle.binlog_variable_fields.specs.Formats.{lenenc}
 use Rattle.binlog_rows.specs.TableMaps.{table}
 use Rattle.binlog_rows.specs.declared.mapped_table.MappedTable.{MappedTable}
 

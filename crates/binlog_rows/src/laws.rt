@@ -4,7 +4,7 @@ ghost use Rattle.binlog_wire.specs.Fields.{IsBytes};
 ghost use Rattle.binlog_wire.specs.Reading.{Refusal, ends, invalid};
 ghost use Rattle.binlog_wire.specs.declared.error.Invalid.TheVariants.{LenEnc};
 ghost use Rattle.binlog_consts.specs.declared.version.BinlogVersion.{BinlogVersion};
-ghost use Rattle.binlog_description.specs.FormatDescription.{default_description};
+ghost use Rattle.binlog_event_format.specs.FormatDescription.{default_description};
 ghost use Rattle.binlog_rows.specs.Forms.{default_length};
 ghost use Rattle.binlog_rows.specs.Rows.{rows, IsOfForm};
 ghost use Rattle.binlog_rows.specs.TableMaps.{table_map};
@@ -29,7 +29,7 @@ use crate::rows_kind::{
 use crate::table_id::TableId;
 use crate::table_map_event::TableMapEvent;
 use binlog_consts::{EventType, RowsEventFlags};
-use binlog_description::BinlogEvent;
+use binlog_event_format::BinlogEvent;
 use binlog_wire::MyDeserialize;
 use bitflags::Flags;
 

@@ -6,7 +6,7 @@ ghost use Rattle.binlog_wire.specs.Reading.{Gives, result_now};
 ghost use Rattle.binlog_rows.specs.TableMaps.{columns};
 
 use crate::column_bitmap::ColumnBitmap;
-use binlog_numbers::{LenEnc, LenEncBytes};
+use binlog_variable_fields::{LenEnc, LenEncBytes};
 use binlog_wire::{
     BitView, BytesRepr, EofBytes, Error, IntRepr, IntoOwned, MyDeserialize, ParseBuf, Put,
     RawBytes, TryClone,
@@ -161,7 +161,7 @@ impl Put for MappedColumns<'_> {
         Ok(())
     }
 
-    #[tactic(auto, using(binlog_numbers::specs::Laws::LenEncTexts::lenenc_text_most))]
+    #[tactic(auto, using(binlog_variable_fields::specs::Laws::LenEncTexts::lenenc_text_most))]
     fn written_len(&self) -> usize
         ensures count { result ≡ length (columns.written self.now) }
         ensures small { result < 2 ^ 63 + 2 ^ 5 }

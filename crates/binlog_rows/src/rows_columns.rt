@@ -6,7 +6,7 @@ ghost use Rattle.binlog_rows.specs.Rows.{image, columns, image_written, columns_
 
 use crate::column_bitmap::ColumnBitmap;
 use crate::rows_form::RowsForm;
-use binlog_numbers::LenEnc;
+use binlog_variable_fields::LenEnc;
 use binlog_wire::{Error, IntRepr, IntoOwned, ParseBuf, Put, TryClone};
 use std::alloc::Global;
 

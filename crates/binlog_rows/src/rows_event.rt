@@ -11,7 +11,7 @@ use crate::rows_columns::RowsColumns;
 use crate::rows_form::RowsForm;
 use crate::rows_head::RowsHead;
 use binlog_consts::{BinlogVersion, RowsEventFlags};
-use binlog_description::MAX_BODY_LEN;
+use binlog_event_format::MAX_BODY_LEN;
 use binlog_wire::{
     BitView, BytesRepr, EofBytes, Error, IntoOwned, LeU16, ParseBuf, Put, RawBytes, RawFlags,
     TryClone,

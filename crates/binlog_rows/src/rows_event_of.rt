@@ -13,7 +13,7 @@ use crate::rows_kind::{
     UpdateRows, UpdateRowsV1, WriteRows, WriteRowsV1,
 };
 use binlog_consts::{EventType, RowsEventFlags};
-use binlog_description::{BinlogCtx, BinlogEvent, DescriptionRef};
+use binlog_event_format::{BinlogCtx, BinlogEvent, DescriptionRef};
 use binlog_wire::{BitView, Error, IntoOwned, MyDeserialize, ParseBuf, Put, TryClone};
 use std::alloc::Global;
 use std::marker::{Model, PhantomData};
@@ -77,8 +77,8 @@ pub type UpdateRowsEventV1<'a> = RowsEventOf<'a, UpdateRowsV1>;
 pub type DeleteRowsEventV1<'a> = RowsEventOf<'a, DeleteRowsV1>;
 
 impl<'a, K: RowsKind> RowsEventOf<'a, K> {
-    ghost use Rattle.binlog_description.specs.DescriptionRefs.{description_of};
-    ghost use Rattle.binlog_description.specs.PostHeaders.{post_header};
+    ghost use Rattle.binlog_event_format.specs.DescriptionRefs.{description_of};
+    ghost use Rattle.binlog_event_format.specs.PostHeaders.{post_header};
     ghost use Rattle.binlog_rows.specs.Rows.{rows};
 
     /// Reads an event from the start of `buf` under a format description, as `deserialize` does. Needs no allocator.
@@ -194,8 +194,8 @@ impl<'a, K: HasAfterImage> RowsEventOf<'a, K> {
 /// - [`Error::EndOfBody`] if the bytes end before the rows.
 /// - [`Invalid::LenEnc`](binlog_wire::Invalid::LenEnc) if the column count begins with `fb` or `ff`.
 impl<'de, K: RowsKind> MyDeserialize<'de> for RowsEventOf<'de, K> {
-    ghost use Rattle.binlog_description.specs.DescriptionRefs.{description_of};
-    ghost use Rattle.binlog_description.specs.PostHeaders.{post_header};
+    ghost use Rattle.binlog_event_format.specs.DescriptionRefs.{description_of};
+    ghost use Rattle.binlog_event_format.specs.PostHeaders.{post_header};
     ghost use Rattle.binlog_rows.specs.Rows.{rows};
 
     const SIZE: Option<usize> = None;
@@ -240,7 +240,7 @@ impl<K: RowsKind> Put for RowsEventOf<'_, K> {
 impl<'a, K: RowsKind> BinlogEvent<'a> for RowsEventOf<'a, K> {
     ghost use Rattle.std.specs.Prelude.{refl};
     ghost use Rattle.binlog_consts.specs.EventTypes.{event_number};
-    ghost use Rattle.binlog_description.specs.PostHeaders.{post_header};
+    ghost use Rattle.binlog_event_format.specs.PostHeaders.{post_header};
     ghost use Rattle.binlog_rows.specs.Rows.{rows};
     ghost use Rattle.binlog_rows.specs.Laws.RowsWriting.{rows_written_under};
 

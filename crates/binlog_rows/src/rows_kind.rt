@@ -3,8 +3,8 @@ ghost use Rattle.std.specs.Prelude.{◌≡◌, refl, true, false};
 ghost use Rattle.binlog_consts.specs.declared.version.BinlogVersion.{BinlogVersion};
 ghost use Rattle.binlog_consts.specs.declared.event_type.EventType.{EventType};
 ghost use Rattle.binlog_consts.specs.declared.event_type.EventType.TheVariants as types;
-ghost use Rattle.binlog_description.specs.FormatDescription.{default_description};
-ghost use Rattle.binlog_description.specs.PostHeaders.{post_header};
+ghost use Rattle.binlog_event_format.specs.FormatDescription.{default_description};
+ghost use Rattle.binlog_event_format.specs.PostHeaders.{post_header};
 ghost use Rattle.binlog_rows.specs.Forms.{default_length};
 ghost use Rattle.binlog_rows.specs.declared.rows_form.RowsForm.{RowsForm};
 

@@ -7,7 +7,7 @@ ghost use Rattle.binlog_wire.specs.declared.error.Error.TheVariants.{Memory};
 use crate::mapped_columns::MappedColumns;
 use crate::mapped_table::{MappedTable, skip_byte};
 use binlog_consts::EventType;
-use binlog_description::{BinlogCtx, BinlogEvent, DescriptionRef};
+use binlog_event_format::{BinlogCtx, BinlogEvent, DescriptionRef};
 use binlog_wire::{BitView, Error, IntoOwned, MyDeserialize, ParseBuf, Put, Skip, TryClone};
 use std::alloc::Global;
 use std::borrow::CowStr;
@@ -38,8 +38,8 @@ pub struct TableMapEvent<'a> {
 impl<'a> TableMapEvent<'a> {
     ghost use Rattle.binlog_wire.specs.Reading.{Gives};
     ghost use Rattle.binlog_consts.specs.declared.event_type.EventType.TheVariants.{TABLE_MAP_EVENT};
-    ghost use Rattle.binlog_description.specs.DescriptionRefs.{description_of};
-    ghost use Rattle.binlog_description.specs.PostHeaders.{post_header};
+    ghost use Rattle.binlog_event_format.specs.DescriptionRefs.{description_of};
+    ghost use Rattle.binlog_event_format.specs.PostHeaders.{post_header};
     ghost use Rattle.binlog_rows.specs.TableMaps.{table_map};
 
     /// Reads a table map from the start of `buf` under a format description, as `deserialize` does. Needs no
@@ -176,8 +176,8 @@ impl<'a> TryClone for TableMapEvent<'a> {
 ///   `ff`.
 impl<'de> MyDeserialize<'de> for TableMapEvent<'de> {
     ghost use Rattle.binlog_consts.specs.declared.event_type.EventType.TheVariants.{TABLE_MAP_EVENT};
-    ghost use Rattle.binlog_description.specs.DescriptionRefs.{description_of};
-    ghost use Rattle.binlog_description.specs.PostHeaders.{post_header};
+    ghost use Rattle.binlog_event_format.specs.DescriptionRefs.{description_of};
+    ghost use Rattle.binlog_event_format.specs.PostHeaders.{post_header};
     ghost use Rattle.binlog_rows.specs.TableMaps.{table_map};
 
     const SIZE: Option<usize> = None;
@@ -219,7 +219,7 @@ impl Put for TableMapEvent<'_> {
 impl<'a> BinlogEvent<'a> for TableMapEvent<'a> {
     ghost use Rattle.std.specs.Prelude.{refl};
     ghost use Rattle.binlog_consts.specs.declared.event_type.EventType.TheVariants.{TABLE_MAP_EVENT};
-    ghost use Rattle.binlog_description.specs.PostHeaders.{post_header};
+    ghost use Rattle.binlog_event_format.specs.PostHeaders.{post_header};
     ghost use Rattle.binlog_rows.specs.TableMaps.{table_map};
 
     const EVENT_TYPE: EventType = EventType::TABLE_MAP_EVENT;

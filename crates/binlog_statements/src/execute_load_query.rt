@@ -8,7 +8,7 @@ ghost use Rattle.binlog_wire.specs.Reading.{Gives};
 use crate::statement::{Statement, StatementHead, StatementTexts};
 use crate::status_vars::StatusVars;
 use binlog_consts::{EventType, LoadDuplicateHandling};
-use binlog_description::{BinlogCtx, BinlogEvent};
+use binlog_event_format::{BinlogCtx, BinlogEvent};
 use binlog_wire::{
     Constant, Error, IntRepr, IntoOwned, LeU32, MyDeserialize, ParseBuf, Put, TryClone,
 };

@@ -1,7 +1,7 @@
 //! Laws of the definitions. Each is a function without effect whose contract states it.
 ghost use Rattle.std.specs.Prelude.{◌≡◌, ℕ, List, [], ◌∷◌, map, Some, None};
 ghost use Rattle.binlog_consts.specs.StatusVarKeys.{status_var_keys};
-ghost use Rattle.binlog_description.specs.WrittenForms.{FitWritten, AreReadNormal};
+ghost use Rattle.binlog_event_format.specs.WrittenForms.{FitWritten, AreReadNormal};
 ghost use Rattle.binlog_statements.specs.Layouts.{layout_of};
 ghost use Rattle.binlog_statements.specs.Ranges.{IsQueryInRange, IsLoadQueryInRange, IsUserVarInRange};
 ghost use Rattle.binlog_statements.specs.StatusVariables.{Variable, AreVariablesOf, variables};
@@ -18,7 +18,7 @@ use crate::statement::{STATEMENT_HEAD_LEN, StatementHead, StatementTexts};
 use crate::status_vars::StatusVars;
 use crate::user_var::{UserVarEvent, UserVarValue};
 use binlog_consts::EventType;
-use binlog_description::BinlogEvent;
+use binlog_event_format::BinlogEvent;
 use binlog_wire::{MyDeserialize, MySerialize};
 
 /// The encoded variables have exactly one longest prefix that is a list of whole variables; `variables` is that list.

@@ -8,7 +8,7 @@ ghost use Rattle.binlog_wire.specs.Reading.{Gives};
 use crate::statement::{STATEMENT_HEAD_LEN, Statement, StatementHead, StatementTexts};
 use crate::status_vars::StatusVars;
 use binlog_consts::EventType;
-use binlog_description::{BinlogCtx, BinlogEvent, DescriptionRef};
+use binlog_event_format::{BinlogCtx, BinlogEvent, DescriptionRef};
 use binlog_wire::{Error, IntoOwned, MyDeserialize, ParseBuf, Put, TryClone};
 use std::alloc::Global;
 use std::borrow::{CowSlice, CowStr};
@@ -28,8 +28,8 @@ pub struct QueryEvent<'a> {
 
 impl<'a> QueryEvent<'a> {
     ghost use Rattle.binlog_consts.specs.declared.event_type.EventType.TheVariants.{QUERY_EVENT};
-    ghost use Rattle.binlog_description.specs.DescriptionRefs.{description_of};
-    ghost use Rattle.binlog_description.specs.PostHeaders.{post_header};
+    ghost use Rattle.binlog_event_format.specs.DescriptionRefs.{description_of};
+    ghost use Rattle.binlog_event_format.specs.PostHeaders.{post_header};
     ghost use Rattle.binlog_statements.specs.Query.{query};
     ghost use Rattle.binlog_statements.specs.Statements.{new_statement, with_status_vars, with_schema, with_query};
 
@@ -197,8 +197,8 @@ impl<'a> TryClone for QueryEvent<'a> {
 /// The only error is [`Error::EndOfBody`], if the bytes end before the statement.
 impl<'de> MyDeserialize<'de> for QueryEvent<'de> {
     ghost use Rattle.binlog_consts.specs.declared.event_type.EventType.TheVariants.{QUERY_EVENT};
-    ghost use Rattle.binlog_description.specs.DescriptionRefs.{description_of};
-    ghost use Rattle.binlog_description.specs.PostHeaders.{post_header};
+    ghost use Rattle.binlog_event_format.specs.DescriptionRefs.{description_of};
+    ghost use Rattle.binlog_event_format.specs.PostHeaders.{post_header};
     ghost use Rattle.binlog_statements.specs.Query.{query};
 
     const SIZE: Option<usize> = None;
@@ -239,7 +239,7 @@ impl Put for QueryEvent<'_> {
 impl<'a> BinlogEvent<'a> for QueryEvent<'a> {
     ghost use Rattle.std.specs.Prelude.{refl};
     ghost use Rattle.binlog_consts.specs.declared.event_type.EventType.TheVariants.{QUERY_EVENT};
-    ghost use Rattle.binlog_description.specs.PostHeaders.{post_header};
+    ghost use Rattle.binlog_event_format.specs.PostHeaders.{post_header};
     ghost use Rattle.binlog_statements.specs.Query.{query};
 
     const EVENT_TYPE: EventType = EventType::QUERY_EVENT;

@@ -8,7 +8,7 @@ use Rattle.binlog_wire.specs.declared.error.Invalid.{Invalid}
 use Rattle.binlog_wire.specs.declared.error.Invalid.TheVariants.{FieldRange}
 use Rattle.binlog_wire.specs.Bits.{bytes_of_bits}
 use Rattle.binlog_wire.specs.Formats.{Format, anywhere, number, allowed, block, silent, then, made}
-use Rattle.binlog_numbers.specs.Formats.{tested}
+use Rattle.binlog_variable_fields.specs.Formats.{tested}
 use Rattle.binlog_columns.specs.declared.layout.Layout.{Layout}
 use Rattle.binlog_columns.specs.declared.layout.Layout.TheVariants.{Nothing, Number, Bits, Timestamp2, DateTime2, Time2, Decimal, Counted, Vector}
 use Rattle.binlog_values.specs.BigNumbers.{big}

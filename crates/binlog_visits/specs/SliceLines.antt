@@ -3,7 +3,7 @@ use Rattle.std.specs.Prelude.{◌≡◌, ◌⊎◌, ℕ, Bool, false, List, Opti
 use Rattle.binlog_wire.specs.declared.error.Error.{Error}
 use Rattle.binlog_wire.specs.declared.error.Error.TheVariants.{EndOfInput, InvalidFileHeader, Memory, Writer}
 use Rattle.binlog_events.specs.Events.{EventView}
-use Rattle.binlog_description.specs.declared.format_description.FormatDescriptionEvent.{FormatDescriptionEvent}
+use Rattle.binlog_event_format.specs.declared.format_description.FormatDescriptionEvent.{FormatDescriptionEvent}
 use Rattle.binlog_file.specs.declared.slice.BinlogSlice.{BinlogSlice}
 use Rattle.binlog_file.specs.Slices.{slice_fde}
 use Rattle.binlog_file.specs.State.{StreamState, Handles}

@@ -3,5 +3,7 @@ pub mod FieldTexts
 pub mod Numbers
 pub mod Headers
 pub mod Lines
+pub mod MemberSpellings
+pub mod MemberTexts
 pub mod Readings
 pub mod Spellings

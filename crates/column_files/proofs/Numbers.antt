@@ -12,6 +12,7 @@ use Rattle.std.proofs.lemmas.Result.{OkIff-at_ok, OkIff-at_err}
 use Rattle.std.proofs.lemmas.Str.{IsUtf8-from_ascii}
 use Rattle.std.proofs.lemmas.Str.Parse.{IsNumeralModel, numerals_by_value, tells_all_ascii_digits, parse_digits}
 use Rattle.column_files.specs.Reading.{value_in, is_number}
+use Rattle.column_files.specs.TypeNumbers.{is_digits}
 
 second_of : (a b : Bool) → (a && b) ≡ true → b ≡ true
 second_of true b e = e
@@ -35,6 +36,15 @@ has_digits (b ∷ s) is = same_test (b ∷ s) ∙ second_of (not (b == 48)) (lis
 pub has_some : (s : List ℕ) → is_number s ≡ true → 0 < length s
 has_some [] is = absurd cc
 has_some (b ∷ s) is = omega arith
+
+-- The same of the digits of a type.
+pub all_digits : (s : List ℕ) → is_digits s ≡ true → all_ascii_digits s ≡ true
+all_digits [] is = absurd cc
+all_digits (b ∷ s) is = same_test (b ∷ s) ∙ is
+
+pub some_digits : (s : List ℕ) → is_digits s ≡ true → 0 < length s
+some_digits [] is = absurd cc
+some_digits (b ∷ s) is = omega arith
 
 own : IsNumeralModel (λ ds. all_ascii_digits ds ≡ true) (digits_value 10)
 own = numerals_by_value (λ ds. all_ascii_digits ds ≡ true) tells_all_ascii_digits

@@ -3,3 +3,9 @@ pub mod Fields
 pub mod Reading
 pub mod Files
 pub mod Places
+pub mod TypeWords
+pub mod TypeEndings
+pub mod TypeNumbers
+pub mod TypeMembers
+pub mod SimpleTypes
+pub mod Types

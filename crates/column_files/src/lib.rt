@@ -2,16 +2,27 @@
 //!
 //! [`parse`] reads the text of such a file, and gives the description of each column. Which descriptions a text has is defined in
 //! `specs/Files`, over the fields of its lines in `specs/Fields`. It knows nothing of binary logs.
+//!
+//! [`DeclaredType::parse`] reads the type of a column in it: `int(10) unsigned`, `enum('a','b''c')`. Which type a text is is defined in
+//! `specs/Types`.
 #![tactic(auto)]
 
+mod declared_type;
 mod error;
 mod field;
 mod files;
 pub mod laws;
 mod place;
 mod reading;
+mod simple_type;
+mod type_ending;
+mod type_members;
+mod type_numbers;
+mod type_word;
 
+pub use declared_type::DeclaredType;
 pub use error::{ColumnFileError, ColumnFileFault};
 pub use field::Field;
 pub use files::{ColumnLine, HEADER, parse};
 pub use place::Place;
+pub use simple_type::{IntegerSize, LengthSize, SimpleType, TemporalKind};

@@ -98,8 +98,8 @@ pub(crate) fn last_field_at(text: &[u8]) -> Result<(Field<'_>, &[u8]), Fault>
     Ok((field, rest))
 }
 
-// Whether all bytes are decimal digits.
-fn are_digits(bytes: &[u8]) -> bool
+/// Whether all bytes are decimal digits.
+pub(crate) fn are_digits(bytes: &[u8]) -> bool
     ensures { result ≡ list_all is_ascii_digit bytes.now }
 {
     bytes.iter().all(|byte| byte.is_ascii_digit())
@@ -116,8 +116,8 @@ fn is_number(field: &[u8]) -> bool
     }
 }
 
-// The value of decimal digits, if it has 32 bits.
-fn value_of(digits: &[u8]) -> Option<u32>
+/// The value of decimal digits, if it has 32 bits.
+pub(crate) fn value_of(digits: &[u8]) -> Option<u32>
     requires some { 0 < length digits.now }
     requires digits { all_ascii_digits digits.now ≡ true }
     ensures { result ≡ value_in digits.now }

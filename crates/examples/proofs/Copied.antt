@@ -1,181 +1,103 @@
--- What a copy has written so far, and its next steps.
-use Rattle.std.proofs.Common.{◌≡◌, inl, inr, ◌⊎◌, ℕ, ◌+◌, ◌-◌, ◌^◌, ◌<◌, ◌≤◌, Bool, true, false, List, [], ◌∷◌, ◌++◌, length, map, All, Option, Some, None, IfSome, Result, Ok, Err, refl, sym, ap, subst, ◌∙◌, arith, append_assoc, length-append}
+-- What the copy of a log promises: where its checksums are verified by CRC-32, and where none is.
+use Rattle.std.proofs.Common.{◌≡◌, inl, inr, ◌⊎◌, ℕ, ◌^◌, ◌<◌, Bool, true, false, List, [], ◌∷◌, ◌++◌, length, map, All, Option, Some, None, IfSome, Result, Ok, Err, refl, sym, subst, ◌∙◌, append_assoc}
 use Rattle.std.proofs.lemmas.List.Elements.{All-nil, All-cons}
-use Rattle.std.specs.Option.{MatchOption}
-use Rattle.std.specs.Io.KnownBytes.{Appends, prepend_known}
+use Rattle.std.specs.Io.KnownBytes.{prepend_known}
 use Rattle.binlog_wire.specs.declared.error.Error.{Error}
-use Rattle.binlog_wire.specs.declared.error.Error.TheVariants.{EndOfInput, InvalidFileHeader, Memory, Reader, Writer}
-use Rattle.binlog_file.specs.Errors.{is_environment_error}
+use Rattle.binlog_wire.specs.declared.error.Error.TheVariants.{EndOfInput, InvalidFileHeader, Reader}
 use Rattle.binlog_consts.specs.declared.version.BinlogVersion.TheVariants.{Version4}
 use Rattle.binlog_file.specs.FileHeader.{file_header, ReadsHeader}
 use Rattle.binlog_file.specs.Framing.{Known}
 use Rattle.binlog_file.specs.Events.{EventView}
-use Rattle.binlog_file.specs.State.{StreamState, first_state}
-use Rattle.binlog_file.specs.Streams.{Gives, HasGiven}
+use Rattle.binlog_file.specs.State.{StreamState, Handles, first_state}
+use Rattle.binlog_file.specs.Streams.{HasGiven}
 use Rattle.binlog_file.specs.Verifications.{Handling, HandlesVerified}
 use Rattle.binlog_file.specs.VerifiedFiles.{IsNoMismatch, GivesOne, GivesAllVerified, AreVerifiedItems}
-use Rattle.binlog_file.specs.Checksums.{WritesEvent, write_refusal}
-use Rattle.binlog_file.specs.WrittenBack.{WritesLog}
-use Rattle.binlog_file.specs.WholeFiles.{IsInside}
+use Rattle.binlog_file.specs.WholeFiles.{IsCopied}
 use Rattle.binlog_file.proofs.Streams as streams
 use Rattle.binlog_file.proofs.Iterations as iterations
-use Rattle.binlog_file.proofs.WritingEvents.{writes_more}
-use Rattle.binlog_file.proofs.WholeFiles.{events_inside}
+use Rattle.binlog_file.proofs.Iterating.{some_left, next_is_first}
+use Rattle.binlog_file.proofs.WholeFiles.{given_and_left, events_inside, copied}
 use Rattle.binlog_file.proofs.VerifiedItems.{unverified, yields_verified}
 use Rattle.binlog_file.proofs.VerifiedFiles.{all_verified, verified_copied}
 use Rattle.binlog_file.proofs.OtherChecksums.{gives_other}
-use Rattle.binlog_visits.specs.Places.{Place, GivesFrom}
 use Rattle.binlog_visits.proofs.Places.{place_at, verified_from}
 use Rattle.crc32_ieee.specs.Checksums.{IsCrc32}
-use Rattle.examples.specs.Copying.{IsByCrc32, IsRefusedAs, StopsAtItem, IsNotCopied, Copies, CopiesItem, CopiesNext}
+use Rattle.examples.specs.Copying.{IsByCrc32, IsNotCopied, Copies, IsWholeBy, StopsBy, CopiesBy, IsVerifiedCopy, StopsAtVerified, CopiesVerified, StopsAtItem, WritesBack}
 
--- ---- one event
+-- the state of a file that was just opened
+abbrev first : StreamState
+first = first_state Version4
 
-refused_as : (why : Option Error) (error : Error) → MatchOption why ((error ≡ Memory) ⊎ (error ≡ Writer)) (λ w. ◌≡◌ {A = Result (Unit {0}) Error} (Err error) (Err w))
-    → (why ≡ Some error) ⊎ (is_environment_error error ≡ true)
-refused_as None error (inl memory) = inr (ap is_environment_error memory)
-refused_as None error (inr writer) = inr (ap is_environment_error writer)
-refused_as (Some why) error same = inl cc
-
--- An event that `write` refuses.
-pub event_refused : (handles : Handling) (before after : Place) (old new : Option (List ℕ)) (event : EventView) (error : Error)
-    → GivesFrom handles before (Some (Ok event)) after
-    → MatchOption (write_refusal event.fde.footer (length event.frame)) ((error ≡ Memory) ⊎ (error ≡ Writer)) (λ w. ◌≡◌ {A = Result (Unit {0}) Error} (Err error) (Err w))
-    → CopiesNext handles before old (Err error) after new
-event_refused handles before after old new event error gives refused = record { item = Some (Ok event); gives = gives; writes = refused_as _ error refused }
-
--- The step of a file whose verification stays what it is, and is by CRC-32.
-pub next_by_crc32 : {V : Type 0} (of : V → Handling) (v w : V) (before after : Place) (old new : Option (List ℕ)) (answer : Result Bool Error)
-    → IsByCrc32 (of v) → w ≡ v → CopiesNext (of w) before old answer after new → CopiesNext (HandlesVerified IsCrc32) before old answer after new
-next_by_crc32 {V} of v w before after old new answer by same next = record {
-  item = next.item;
-  gives =
-      gives_other (of v) (HandlesVerified IsCrc32) by before.state after.state before.unread before.ended next.item after.unread after.ended
-      (subst (λ (u : V). GivesFrom (of u) before next.item after) same next.gives);
-  writes = next.writes;
-}
-
--- ---- calls one after another
+-- ---- a log whose checksums are verified
 
 -- what a frame does
 abbrev H : Handling
 H = HandlesVerified IsCrc32
 
--- One more item.
-has_given_more : (s t u : StreamState) (old rest left : List ℕ) (was is ended : Bool) (items : List (Result EventView Error)) (item : Result EventView Error)
-    → HasGiven H s t old was items rest is → Gives H t u (Some rest) is (Some item) (Some left) ended → HasGiven H s u old was (items ++ item ∷ []) left ended
-has_given_more s t u old rest left was is ended [] item given gives =
-    let first : Gives H s u (Some old) was (Some item) (Some left) ended =
-    subst (λ (m : StreamState). Gives H m u (Some old) was (Some item) (Some left) ended) given.0
-    (subst (λ (r : List ℕ). Gives H t u (Some r) was (Some item) (Some left) ended) given.1
-    (subst (λ (b : Bool). Gives H t u (Some rest) b (Some item) (Some left) ended) given.2 gives)) in
-    (u, left, ended, first, (refl, refl, refl))
-has_given_more s t u old rest left was is ended (first ∷ items) item given gives =
-    (given.0, given.1, given.2, given.3, has_given_more given.0 t u given.1 rest left given.2 is ended items item given.4 gives)
+module _ (handles : Handling) (by : IsByCrc32 handles) where
+  given_by : (s t : StreamState) (old rest : List ℕ) (was is : Bool) (items : List (Result EventView Error)) → HasGiven handles s t old was items rest is → HasGiven H s t old was items rest is
+  given_by s t old rest was is [] given = given
+  given_by s t old rest was is (item ∷ items) given = (
+    given.0,
+    given.1,
+    given.2,
+    gives_other handles H by s given.0 (Some old) was (Some item) (Some given.1) given.2 given.3,
+    given_by given.0 t given.1 rest given.2 is items given.4,
+  )
 
--- ---- the steps of the loop
+  whole_by : (bytes : List ℕ) (old new : Option (List ℕ)) → IsWholeBy handles bytes old new → IsWholeBy H bytes old new
+  whole_by bytes old new w = record {
+    stream = w.stream;
+    file = w.file;
+    events = w.events;
+    state = w.state;
+    rest = w.rest;
+    was = w.was;
+    given = given_by first w.state w.stream w.rest false w.was (map Ok w.events) w.given;
+    after = w.after;
+    left = w.left;
+    ended = w.ended;
+    none = gives_other handles H by w.state w.after (Some w.rest) w.was None (Some w.left) w.ended w.none;
+    writes = w.writes;
+  }
 
--- The state of a file that was just opened.
-abbrev first : StreamState
-first = first_state Version4
-
--- The events that the file gave since it was opened are written. Its state is `s`, and `rest` is unread.
-pub record IsWritten (bytes : List ℕ) (s : StreamState) (rest : List ℕ) (ended : Bool) (old new : Option (List ℕ)) (index : ℕ) : Type 0 where
-  pub stream : List ℕ
-  pub file : bytes ≡ file_header ++ stream
-  pub events : List EventView
-  pub given : HasGiven H first s stream false (map Ok events) rest ended
-  pub writes : WritesLog IsCrc32 events old new
-  pub count : length events ≡ index
-
--- The same for a reader whose bytes may not be known: the file stands at `place`.
-abbrev pub IsWrittenSoFar : (known : Option (List ℕ)) (place : Place) (old new : Option (List ℕ)) (index : ℕ) → Type 0
-IsWrittenSoFar known place old new index = Known (λ bytes rest. IsWritten bytes place.state rest place.ended old new index) known place.unread
-
--- The promise for a result, and that for an error.
-abbrev pub Promises : Option (List ℕ) → Option (List ℕ) → Result (Unit {0}) Error → Option (List ℕ) → Type 0
-Promises known old answer new = IfSome known (λ bytes. length bytes < 2 ^ 64 → Copies bytes old answer new)
-
-abbrev pub Refuses : Option (List ℕ) → Error → Type 0
-Refuses known error = IfSome known (λ bytes. length bytes < 2 ^ 64 → IsNotCopied bytes error)
-
--- After the file header.
-none_by : (unread : Option (List ℕ)) (s : StreamState) (ended : Bool) (old new : Option (List ℕ)) → s ≡ first → ended ≡ false → Appends old new file_header
-    → IsWrittenSoFar (prepend_known file_header unread) (place_at s unread ended) old new 0
-none_by None s ended old new starts goes header = tt
-none_by (Some rest) s ended old new starts goes header =
-    record { stream = rest; file = refl; events = []; given = (starts, refl, goes); writes = (new, header, refl); count = refl }
-
-pub written_none : (place : Place) (old new : Option (List ℕ)) → place.state ≡ first → place.ended ≡ false → Appends old new file_header
-    → IsWrittenSoFar (prepend_known file_header place.unread) place old new 0
-written_none place old new starts goes header = none_by place.unread place.state place.ended old new starts goes header
-
--- Items that are events.
-abbrev oks : List EventView → List (Result EventView Error)
-oks events = map Ok events
-
-oks-more : (events : List EventView) (event : EventView) → oks events ++ Ok event ∷ [] ≡ oks (events ++ event ∷ [])
-oks-more [] event = refl
-oks-more (x ∷ events) event = ap (λ (l : List (Result EventView Error)). Ok x ∷ l) (oks-more events event)
-
-length-oks : (events : List EventView) → length (oks events) ≡ length events
-length-oks [] = refl
-length-oks (x ∷ events) = omega (arith, length-oks events)
-
--- None of them is a mismatch.
-no_mismatches : (events : List EventView) → All IsNoMismatch (oks events)
-no_mismatches [] = All-nil IsNoMismatch
-no_mismatches (event ∷ events) = All-cons IsNoMismatch (Ok event) (oks events) tt (no_mismatches events)
-
--- One more event.
-written_event : (bytes : List ℕ) (s then : StreamState) (rest left : List ℕ) (ended is : Bool) (old mid new : Option (List ℕ)) (index : ℕ) (event : EventView)
-    → IsWritten bytes s rest ended old mid index → Gives H s then (Some rest) ended (Some (Ok event)) (Some left) is → WritesEvent IsCrc32 event mid new
-    → IsWritten bytes then left is old new (index + 1)
-written_event bytes s then rest left ended is old mid new index event so_far gives writes = record {
-  stream = so_far.stream;
-  file = so_far.file;
-  events = so_far.events ++ event ∷ [];
-  given = subst (λ (l : List (Result EventView Error)). HasGiven H first then so_far.stream false l left is) (oks-more so_far.events event)
-      (has_given_more first s then so_far.stream rest left false ended is (map Ok so_far.events) (Ok event) so_far.given gives);
-  writes = (so_far.writes.0, so_far.writes.1, writes_more IsCrc32 so_far.events event so_far.writes.0 mid new so_far.writes.2 writes);
-  count = omega (arith, so_far.count, length-append so_far.events (event ∷ []));
-}
-
-more_by : (known unread after : Option (List ℕ)) (s then : StreamState) (ended is : Bool) (old mid new : Option (List ℕ)) (index : ℕ) (item : Option (Result EventView Error))
-    → IsWrittenSoFar known (place_at s unread ended) old mid index → Gives H s then unread ended item after is → CopiesItem item mid (Ok true) new
-    → IsWrittenSoFar known (place_at then after is) old new (index + 1)
-more_by None unread after s then ended is old mid new index item so_far gives writes = tt
-more_by (Some bytes) None after s then ended is old mid new index item so_far gives writes = absurd so_far
-more_by (Some bytes) (Some rest) after s then ended is old mid new index None so_far gives writes = absurd (let e : true ≡ false = writes.0 in cc)
-more_by (Some bytes) (Some rest) after s then ended is old mid new index (Some (Err error)) so_far gives writes = absurd writes
-more_by (Some bytes) (Some rest) None s then true is old mid new index (Some (Ok event)) so_far gives writes = absurd gives.3
-more_by (Some bytes) (Some rest) None s then false is old mid new index (Some (Ok event)) so_far gives writes = absurd gives.reads
-more_by (Some bytes) (Some rest) (Some left) s then ended is old mid new index (Some (Ok event)) so_far gives writes =
-    written_event bytes s then rest left ended is old mid new index event so_far gives writes.1
-
-pub step_more : (known : Option (List ℕ)) (place after : Place) (old mid new : Option (List ℕ)) (index : ℕ)
-    → IsWrittenSoFar known place old mid index → CopiesNext H place mid (Ok true) after new → IsWrittenSoFar known after old new (index + 1)
-step_more known place after old mid new index so_far next =
-    more_by known place.unread after.unread place.state after.state place.ended after.ended old mid new index next.item so_far next.gives next.writes
-
--- ---- the results
+  stops_by : (bytes : List ℕ) (error : Error) → StopsBy handles bytes error → StopsBy H bytes error
+  stops_by bytes error w = record {
+    stream = w.stream;
+    file = w.file;
+    events = w.events;
+    state = w.state;
+    rest = w.rest;
+    was = w.was;
+    given = given_by first w.state w.stream w.rest false w.was (map Ok w.events) w.given;
+    item = w.item;
+    after = w.after;
+    left = w.left;
+    ended = w.ended;
+    gives = gives_other handles H by w.state w.after (Some w.rest) w.was (Some w.item) (Some w.left) w.ended w.gives;
+    inside = w.inside;
+    refused = w.refused;
+  }
 
 one_crc32 : GivesOne IsCrc32
 one_crc32 bytes x y is also = is ∙ sym also
 
--- At the end the file was copied.
-copied : (bytes : List ℕ) (s then : StreamState) (rest left : List ℕ) (ended is : Bool) (old new : Option (List ℕ)) (index : ℕ)
-    → IsWritten bytes s rest ended old new index → Gives H s then (Some rest) ended None (Some left) is → Copies bytes old (Ok tt) new
-copied bytes s then rest left ended is old new index so_far gives =
-    let given : GivesAllVerified IsCrc32 first then so_far.stream (map Ok so_far.events) left is = record { state = s; rest = rest; was = ended; given = so_far.given; none = gives } in
-    let items = (all_verified IsCrc32 first then so_far.stream left (map Ok so_far.events) is given (events_inside so_far.events)).are in
-    let back = (verified_copied IsCrc32 Version4 then bytes so_far.stream left is so_far.events old new so_far.file given one_crc32 so_far.writes).1 in
+-- No event is a mismatch.
+no_mismatches : (events : List EventView) → All IsNoMismatch (map Ok events)
+no_mismatches [] = All-nil IsNoMismatch
+no_mismatches (event ∷ events) = All-cons IsNoMismatch (Ok event) (map Ok events) tt (no_mismatches events)
+
+verified_whole : (bytes : List ℕ) (old new : Option (List ℕ)) → IsWholeBy H bytes old new → IsVerifiedCopy bytes old new
+verified_whole bytes old new w =
+    let given : GivesAllVerified IsCrc32 first w.after w.stream (map Ok w.events) w.left w.ended = record { state = w.state; rest = w.rest; was = w.was; given = w.given; none = w.none } in
+    let items = (all_verified IsCrc32 first w.after w.stream w.left (map Ok w.events) w.ended given (events_inside w.events)).are in
+    let back = (verified_copied IsCrc32 Version4 w.after bytes w.stream w.left w.ended w.events old new w.file given one_crc32 w.writes).1 in
     record {
-      stream = so_far.stream;
-      file = so_far.file;
-      events = so_far.events;
+      stream = w.stream;
+      file = w.file;
+      events = w.events;
       verified = items;
-      are = unverified IsCrc32 first.fde so_far.stream (map Ok so_far.events) items (no_mismatches so_far.events);
+      are = unverified IsCrc32 first.fde w.stream (map Ok w.events) items (no_mismatches w.events);
       written = back.0;
       tail = back.1;
       appended = back.2;
@@ -183,114 +105,88 @@ copied bytes s then rest left ended is old new index so_far gives =
       none = back.4;
     }
 
-all_by : (known unread after : Option (List ℕ)) (s then : StreamState) (ended is : Bool) (old mid new : Option (List ℕ)) (index : ℕ) (item : Option (Result EventView Error))
-    → IsWrittenSoFar known (place_at s unread ended) old mid index → Gives H s then unread ended item after is → CopiesItem item mid (Ok false) new → Promises known old (Ok tt) new
-all_by None unread after s then ended is old mid new index item so_far gives writes = tt
-all_by (Some bytes) None after s then ended is old mid new index item so_far gives writes = absurd so_far
-all_by (Some bytes) (Some rest) after s then ended is old mid new index (Some (Ok event)) so_far gives writes = absurd (let e : false ≡ true = writes.0 in cc)
-all_by (Some bytes) (Some rest) after s then ended is old mid new index (Some (Err error)) so_far gives writes = absurd writes
-all_by (Some bytes) (Some rest) None s then true is old mid new index None so_far gives writes = absurd gives.3
-all_by (Some bytes) (Some rest) None s then false is old mid new index None so_far gives writes = absurd gives.reads
-all_by (Some bytes) (Some rest) (Some left) s then ended is old mid new index None so_far gives writes = λ few.
-    copied bytes s then rest left ended is old new index
-    (subst (λ (w : Option (List ℕ)). IsWritten bytes s rest ended old w index) (sym writes.1) so_far) gives
-
-pub step_all : (known : Option (List ℕ)) (place after : Place) (old mid new : Option (List ℕ)) (index : ℕ)
-    → IsWrittenSoFar known place old mid index → CopiesNext H place mid (Ok false) after new → Promises known old (Ok tt) new
-step_all known place after old mid new index so_far next =
-    all_by known place.unread after.unread place.state after.state place.ended after.ended old mid new index next.item so_far next.gives next.writes
-
--- An item that isn't written.
-item_stops : (bytes : List ℕ) (s then : StreamState) (rest left : List ℕ) (ended is : Bool) (old mid : Option (List ℕ)) (index : ℕ) (error : Error) (item : Result EventView Error)
-    → IsWritten bytes s rest ended old mid index → Gives H s then (Some rest) ended (Some item) (Some left) is → IsInside item → IsRefusedAs error item → StopsAtItem bytes error
-item_stops bytes s then rest left ended is old mid index error item so_far gives inside refused = record {
-  stream = so_far.stream;
-  file = so_far.file;
-  events = so_far.events;
-  item = item;
-  place = place_at then (Some left) is;
+verified_stops : (bytes : List ℕ) (error : Error) → StopsBy H bytes error → StopsAtVerified bytes error
+verified_stops bytes error w = record {
+  stream = w.stream;
+  file = w.file;
+  events = w.events;
+  item = w.item;
+  place = place_at w.after (Some w.left) w.ended;
   first = record {
     known = refl;
     before = λ others are.
-        let behind = verified_from IsCrc32 (place_at then (Some left) is) others are in
-        let next = (streams.next_is_first H s then rest left ended is item gives inside).0 behind.0 others behind.1 in
-        subst (AreVerifiedItems IsCrc32 first.fde so_far.stream) (sym (append_assoc (map Ok so_far.events) (item ∷ []) others))
-        (yields_verified IsCrc32 first behind.0 so_far.stream (map Ok so_far.events ++ item ∷ others)
-        (iterations.given_and_left H first s behind.0 so_far.stream rest false ended (map Ok so_far.events) (item ∷ others) so_far.given (events_inside so_far.events) next));
+        let behind = verified_from IsCrc32 (place_at w.after (Some w.left) w.ended) others are in
+        let next = (streams.next_is_first H w.state w.after w.rest w.left w.was w.ended w.item w.gives w.inside).0 behind.0 others behind.1 in
+        subst (AreVerifiedItems IsCrc32 first.fde w.stream) (sym (append_assoc (map Ok w.events) (w.item ∷ []) others))
+        (yields_verified IsCrc32 first behind.0 w.stream (map Ok w.events ++ w.item ∷ others)
+        (iterations.given_and_left H first w.state behind.0 w.stream w.rest false w.was (map Ok w.events) (w.item ∷ others) w.given (events_inside w.events) next));
   };
-  refused = refused;
+  refused = w.refused;
 }
 
-error_stops : (bytes : List ℕ) (s then : StreamState) (rest left : List ℕ) (ended is : Bool) (old mid : Option (List ℕ)) (index : ℕ) (error why : Error) (outside : Bool)
-    → IsWritten bytes s rest ended old mid index → Gives H s then (Some rest) ended (Some (Err why)) (Some left) is → error ≡ why → is_environment_error why ≡ outside → IsNotCopied bytes error
-error_stops bytes s then rest left ended is old mid index error why true so_far gives same outside = inr (inr (ap is_environment_error same ∙ outside))
-error_stops bytes s then rest left ended is old mid index error why false so_far gives same outside =
-    inr (inl (item_stops bytes s then rest left ended is old mid index error (Err why) so_far gives (λ e is_e. let other : why ≡ e = cc in subst (λ (x : Error). is_environment_error x ≡ false) other outside) same))
+-- ---- a log whose checksums aren't verified
 
-stop_by : (bytes : List ℕ) (s then : StreamState) (rest left : List ℕ) (ended is : Bool) (old mid : Option (List ℕ)) (index : ℕ) (error : Error) (item : Result EventView Error)
-    → IsWritten bytes s rest ended old mid index → Gives H s then (Some rest) ended (Some item) (Some left) is → IsRefusedAs error item ⊎ (is_environment_error error ≡ true) → IsNotCopied bytes error
-stop_by bytes s then rest left ended is old mid index error item so_far gives (inr outside) = inr (inr outside)
-stop_by bytes s then rest left ended is old mid index error (Ok event) so_far gives (inl refused) =
-    inr (inl (item_stops bytes s then rest left ended is old mid index error (Ok event) so_far gives (λ e is_e. absurd cc) refused))
-stop_by bytes s then rest left ended is old mid index error (Err why) so_far gives (inl same) =
-    error_stops bytes s then rest left ended is old mid index error why (is_environment_error why) so_far gives same refl
+plain_whole : (bytes : List ℕ) (old new : Option (List ℕ)) → IsWholeBy Handles bytes old new → IsCopied IsCrc32 Version4 bytes old new
+plain_whole bytes old new w =
+    copied IsCrc32 Version4 w.after bytes w.stream w.left w.ended w.events old new w.file
+    (record { state = w.state; rest = w.rest; was = w.was; given = w.given; none = w.none }) w.writes
 
-refused_by : (known unread after : Option (List ℕ)) (s then : StreamState) (ended is : Bool) (old mid new : Option (List ℕ)) (index : ℕ) (error : Error) (item : Option (Result EventView Error))
-    → IsWrittenSoFar known (place_at s unread ended) old mid index → Gives H s then unread ended item after is → CopiesItem item mid (Err error) new → Refuses known error
-refused_by None unread after s then ended is old mid new index error item so_far gives writes = tt
-refused_by (Some bytes) None after s then ended is old mid new index error item so_far gives writes = absurd so_far
-refused_by (Some bytes) (Some rest) after s then ended is old mid new index error None so_far gives writes = absurd writes
-refused_by (Some bytes) (Some rest) None s then true is old mid new index error (Some item) so_far gives writes = absurd gives.3
-refused_by (Some bytes) (Some rest) None s then false is old mid new index error (Some item) so_far gives writes = absurd gives.reads
-refused_by (Some bytes) (Some rest) (Some left) s then ended is old mid new index error (Some (Ok event)) so_far gives writes = λ few.
-    stop_by bytes s then rest left ended is old mid index error (Ok event) so_far gives writes
-refused_by (Some bytes) (Some rest) (Some left) s then ended is old mid new index error (Some (Err why)) so_far gives writes = λ few.
-    stop_by bytes s then rest left ended is old mid index error (Err why) so_far gives writes
-
-pub step_error : (known : Option (List ℕ)) (place after : Place) (old mid new : Option (List ℕ)) (index : ℕ) (error : Error)
-    → IsWrittenSoFar known place old mid index → CopiesNext H place mid (Err error) after new → Refuses known error
-step_error known place after old mid new index error so_far next =
-    refused_by known place.unread after.unread place.state after.state place.ended after.ended old mid new index error next.item so_far next.gives next.writes
-
-out_by : (known unread : Option (List ℕ)) (s : StreamState) (ended : Bool) (old new : Option (List ℕ)) (index : ℕ)
-    → IsWrittenSoFar known (place_at s unread ended) old new index → 2 ^ 64 - 1 ≤ index → Promises known old (Ok tt) new
-out_by None unread s ended old new index so_far out = tt
-out_by (Some bytes) None s ended old new index so_far out = absurd so_far
-out_by (Some bytes) (Some rest) s ended old new index so_far out = λ few.
-    absurd (omega (
-      arith,
-      few,
-      out,
-      so_far.count,
-      ap length so_far.file,
-      length-append file_header so_far.stream,
-      length-oks so_far.events,
-      iterations.few_given H first s so_far.stream rest false ended (map Ok so_far.events) so_far.given (events_inside so_far.events),
-    ))
-
--- The counter doesn't run out.
-pub counted_out : (known : Option (List ℕ)) (place : Place) (old new : Option (List ℕ)) (index : ℕ) → IsWrittenSoFar known place old new index → 2 ^ 64 - 1 ≤ index → Promises known old (Ok tt) new
-counted_out known place old new index so_far out = out_by known place.unread place.state place.ended old new index so_far out
+plain_stops : (bytes : List ℕ) (error : Error) → StopsBy Handles bytes error → StopsAtItem bytes error
+plain_stops bytes error w =
+    let more = some_left w.after.fde w.left w.ended in
+    let behind = (next_is_first w.state w.after w.rest w.left w.was w.ended w.item w.gives w.inside).0 more.0 more.1 in
+    record {
+      stream = w.stream;
+      file = w.file;
+      events = w.events;
+      item = w.item;
+      others = more.0;
+      are = given_and_left first w.state w.stream w.rest false w.was (map Ok w.events) (w.item ∷ more.0) w.given (events_inside w.events) behind;
+      refused = w.refused;
+    }
 
 -- ---- a whole file
 
-pub file_copied : {X : Type 0} (known unread : Option (List ℕ)) (old new : Option (List ℕ)) (answer : Result (Unit {0}) Error) (file : X) → Known (ReadsHeader (Ok file)) known unread
-    → Promises (prepend_known file_header unread) old answer new → Promises known old answer new
-file_copied None unread old new answer file read copies = tt
-file_copied (Some bytes) None old new answer file read copies = absurd read
-file_copied (Some bytes) (Some rest) old new answer file read copies = λ few.
-    subst (λ (b : List ℕ). Copies b old answer new) (sym read) (copies (subst (λ (b : List ℕ). length b < 2 ^ 64) read few))
+module _ (IsWhole Other : List ℕ → Option (List ℕ) → Option (List ℕ) → Type 0) (Stops Refuses : List ℕ → Error → Type 0) (whole : (bytes : List ℕ) (old new : Option (List ℕ)) → IsWhole bytes old new → Other bytes old new) (stops : (bytes : List ℕ) (error : Error) → Stops bytes error → Refuses bytes error) where
+  not_as : (bytes : List ℕ) (error : Error) → IsNotCopied Stops bytes error → IsNotCopied Refuses bytes error
+  not_as bytes error (inl header) = inl header
+  not_as bytes error (inr (inl stopped)) = inr (inl (stops bytes error stopped))
+  not_as bytes error (inr (inr outside)) = inr (inr outside)
+
+  copies_as : (bytes : List ℕ) (old : Option (List ℕ)) (answer : Result (Unit {0}) Error) (new : Option (List ℕ)) → Copies IsWhole Stops bytes old answer new → Copies Other Refuses bytes old answer new
+  copies_as bytes old (Ok done) new copies = whole bytes old new copies
+  copies_as bytes old (Err error) new copies = not_as bytes error copies
+
+  file_as : {X : Type 0} (known unread : Option (List ℕ)) (old new : Option (List ℕ)) (answer : Result (Unit {0}) Error) (file : X) → Known (ReadsHeader (Ok file)) known unread
+      → IfSome (prepend_known file_header unread) (λ bytes. length bytes < 2 ^ 64 → Copies IsWhole Stops bytes old answer new)
+      → IfSome known (λ bytes. length bytes < 2 ^ 64 → Copies Other Refuses bytes old answer new)
+  file_as None unread old new answer file read copies = tt
+  file_as (Some bytes) None old new answer file read copies = absurd read
+  file_as (Some bytes) (Some rest) old new answer file read copies = λ few.
+      subst (λ (b : List ℕ). Copies Other Refuses b old answer new) (sym read)
+      (copies_as (file_header ++ rest) old answer new (copies (subst (λ (b : List ℕ). length b < 2 ^ 64) read few)))
+
+-- The copy of a file whose checksums are verified by CRC-32.
+pub copied_verified : {X : Type 0} (handles : Handling) (known unread : Option (List ℕ)) (old new : Option (List ℕ)) (answer : Result (Unit {0}) Error) (file : X) → Known (ReadsHeader (Ok file)) known unread
+    → IfSome (prepend_known file_header unread) (λ bytes. length bytes < 2 ^ 64 → CopiesBy handles bytes old answer new) → IsByCrc32 handles
+    → IfSome known (λ bytes. length bytes < 2 ^ 64 → CopiesVerified bytes old answer new)
+copied_verified handles known unread old new answer file read copies by =
+    file_as (IsWholeBy handles) IsVerifiedCopy (StopsBy handles) StopsAtVerified (λ bytes was is w. verified_whole bytes was is (whole_by handles by bytes was is w))
+    (λ bytes error w. verified_stops bytes error (stops_by handles by bytes error w)) known unread old new answer file read copies
+
+-- The copy of a file whose checksums aren't verified.
+pub copied_plain : {X : Type 0} (known unread : Option (List ℕ)) (old new : Option (List ℕ)) (answer : Result (Unit {0}) Error) (file : X) → Known (ReadsHeader (Ok file)) known unread
+    → IfSome (prepend_known file_header unread) (λ bytes. length bytes < 2 ^ 64 → CopiesBy Handles bytes old answer new)
+    → IfSome known (λ bytes. length bytes < 2 ^ 64 → WritesBack bytes old answer new)
+copied_plain known unread old new answer file read copies =
+    file_as (IsWholeBy Handles) (IsCopied IsCrc32 Version4) (StopsBy Handles) StopsAtItem plain_whole plain_stops known unread old new answer file read copies
 
 -- A file that isn't opened.
-pub not_opened : (X : Type 0) (known rest : Option (List ℕ)) (error : Error) → Known (ReadsHeader {X = X} (Err error)) known rest → Refuses known error
-not_opened X None rest error read = tt
-not_opened X (Some bytes) None error read = absurd read
-not_opened X (Some bytes) (Some rest) EndOfInput read = λ few. inl (rest, read)
-not_opened X (Some bytes) (Some rest) InvalidFileHeader read = λ few. inl (rest, read)
-not_opened X (Some bytes) (Some rest) Reader read = λ few. inl (rest, read)
-not_opened X (Some bytes) (Some rest) error read = absurd read
-
--- Memory, the reader or the writer failed.
-pub failed : (known : Option (List ℕ)) (error : Error) → is_environment_error error ≡ true → Refuses known error
-failed None error outside = tt
-failed (Some bytes) error outside = λ few. inr (inr outside)
+pub not_opened : (Stops : List ℕ → Error → Type 0) (X : Type 0) (known rest : Option (List ℕ)) (error : Error) → Known (ReadsHeader {X = X} (Err error)) known rest
+    → IfSome known (λ bytes. length bytes < 2 ^ 64 → IsNotCopied Stops bytes error)
+not_opened Stops X None rest error read = tt
+not_opened Stops X (Some bytes) None error read = absurd read
+not_opened Stops X (Some bytes) (Some rest) EndOfInput read = λ few. inl (rest, read)
+not_opened Stops X (Some bytes) (Some rest) InvalidFileHeader read = λ few. inl (rest, read)
+not_opened Stops X (Some bytes) (Some rest) Reader read = λ few. inl (rest, read)
+not_opened Stops X (Some bytes) (Some rest) error read = absurd read

@@ -39,6 +39,3 @@ pub fn examine<R: BufRead + Drop>(alloc: Global, input: R) -> Result<Findings, E
     }
     Ok(findings)
 }
-
-#[cfg(test)]
-mod tests;

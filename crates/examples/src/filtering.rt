@@ -37,6 +37,3 @@ fn is_copied(event_type: Option<EventType>, types: &[EventType]) -> bool {
         None => false,
     }
 }
-
-#[cfg(test)]
-mod tests;

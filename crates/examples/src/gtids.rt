@@ -41,6 +41,3 @@ fn write_gtid<W: Write>(gtid: &GtidEvent, output: &mut W) -> Result<(), Error> {
     };
     written.map_err(|_| Error::Writer)
 }
-
-#[cfg(test)]
-mod tests;

@@ -48,6 +48,3 @@ impl Place {
         Ok(())
     }
 }
-
-#[cfg(test)]
-mod tests;

@@ -6,3 +6,4 @@ pub mod PlainTexts
 pub mod Members
 pub mod Passed
 pub mod StatedTexts
+mod Marks

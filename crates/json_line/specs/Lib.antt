@@ -2,3 +2,4 @@ pub mod Buffers
 pub mod Tokens
 pub mod Lines
 pub mod Passed
+pub mod Marks

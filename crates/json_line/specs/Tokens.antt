@@ -6,7 +6,7 @@ use Rattle.character_sets.specs.declared.character_set.CharacterSet.TheVariants.
 use Rattle.character_sets.specs.Characters.{utf8_of}
 use Rattle.hex.specs.Hex.{encode_lower}
 use Rattle.uuid.specs.Text.{hyphenated_text, lower}
-use Rattle.json.specs.Token.{Token, begin_object, end_object, begin_array, end_array, key, string, number, boolean, null}
+use Rattle.json.specs.Token.{Token, begin_object, end_object, begin_array, end_array, key, string, number, null}
 
 -- These tokens are appended, unless an allocation fails.
 abbrev pub Adds : {A E : Type 0} → Result A E → List Token → List Token → List Token → Type 0

@@ -1,5 +1,5 @@
 //! A growing byte buffer.
-ghost use Rattle.std.specs.Prelude.{◌≡◌, ◌≤◌, ◌+◌, ◌*◌, [], ◌∷◌, ◌++◌, length, OnOk};
+ghost use Rattle.std.specs.Prelude.{◌≡◌, ◌≤◌, ◌+◌, ◌*◌, [], ◌∷◌, ◌++◌, length, take, OnOk};
 ghost use Rattle.std.specs.Fmt.{decimal};
 ghost use Rattle.hex.specs.Hex.{encode_lower};
 ghost use Rattle.json_line.specs.Buffers.{Puts, comma};
@@ -52,6 +52,23 @@ impl Buffer {
         ensures { self.new.text ≡ [] }
     {
         self.len = 0;
+    }
+
+    /// How many bytes are written.
+    #[inline(always)]
+    pub(crate) fn len(&self) -> usize
+        ensures { result ≡ length self.now.text }
+    {
+        self.len
+    }
+
+    /// Keeps the first written bytes, this many, and drops those behind them. The memory is kept.
+    #[inline(always)]
+    pub(crate) fn cut(&mut self, len: usize)
+        requires { len ≤ length self.old.text }
+        ensures { self.new.text ≡ take len self.old.text }
+    {
+        self.len = len;
     }
 
     /// Stores a byte after the written ones, without making it one of them.

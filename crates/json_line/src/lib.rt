@@ -10,4 +10,4 @@ mod line;
 mod place;
 mod plain;
 
-pub use line::Line;
+pub use line::{Line, Mark};

@@ -1,8 +1,9 @@
 //! A line of JSON: tokens, and values made of them.
-ghost use Rattle.std.specs.Prelude.{◌≡◌, ◌∷◌, ◌++◌, [], codes, encode_utf8_all, IsUtf8, IfOk, OnErr};
+ghost use Rattle.std.specs.Prelude.{◌≡◌, List, ◌∷◌, ◌++◌, [], codes, encode_utf8_all, IsUtf8, IfOk, OnErr};
 ghost use Rattle.std.specs.Fmt.{signed_decimal};
 ghost use Rattle.json.specs.Lex.{tokens as read_tokens};
 ghost use Rattle.json.specs.Print.{escape, print, token_text, IsNumber};
+ghost use Rattle.json.specs.Token.{Token};
 ghost use Rattle.json.specs.Token as tokens;
 ghost use Rattle.json_line.specs.Lines.{IsPlainText};
 ghost use Rattle.json_line.specs.Tokens.{Adds, number_value, bytes_value, text_value, text_value_in, text_value_in_stated, hex_value, uuid_value, or_null, member, bytes_member_if_any};
@@ -25,6 +26,13 @@ pub struct Line {
     after_value: bool,
     token: Vec<u8>,
     characters: String,
+}
+
+/// A place in a line: behind the tokens that were written when it was marked.
+#[derive(Clone, Copy, Debug)]
+pub struct Mark {
+    len: usize,
+    after_value: bool,
 }
 
 impl Model for Line {
@@ -65,6 +73,8 @@ fn token_writer(token: &mut Vec<u8>, alloc: Global) -> Writer<Global>
 ///
 /// The calls don't check that the tokens form a JSON value: a caller has to end what it begins.
 impl Line {
+    ghost use Rattle.json_line.specs.Marks.{StandsBehind, IsMarked};
+
     /// An empty line. No memory is allocated.
     pub fn new(alloc: Global) -> Self
         ensures { result ≡ [] }
@@ -85,6 +95,38 @@ impl Line {
     {
         self.text.clear();
         self.after_value = false;
+    }
+
+    /// Takes the line with its memory, and leaves an empty one without memory.
+    #[inline]
+    pub fn take(&mut self) -> Self
+        ensures taken { result ≡ self.old }
+        ensures left { self.new ≡ [] }
+    {
+        let empty = Line::new(self.alloc);
+        mem::replace(self, empty)
+    }
+
+    /// The place behind the tokens that are written.
+    #[inline]
+    pub fn mark(&self) -> Mark
+        ensures { StandsBehind result self.now }
+    {
+        Mark {
+            len: self.text.len(),
+            after_value: self.after_value,
+        }
+    }
+
+    /// Takes back the tokens that were written since the line was marked, and keeps the memory. The line must still begin
+    /// with the tokens of then: it wasn't cleared, nor cut at an earlier mark.
+    #[inline]
+    pub fn cut(&mut self, mark: Mark)
+        requires { IsMarked mark self.old }
+        ensures { (before after : List Token) → StandsBehind mark before → self.old ≡ before ++ after → self.new ≡ before }
+    {
+        self.text.cut(mark.len);
+        self.after_value = mark.after_value;
     }
 
     /// The bytes of the line, with a line feed at the end.

@@ -1,6 +1,8 @@
 //! Answers to questions of files of columns.
 use crate::bytes::NOTHING;
-use column_files::{ColumnFileError, ColumnFileFault, ColumnLine, Field, Place, parse};
+use column_files::{
+    ColumnFileError, ColumnFileFault, ColumnLine, DeclaredType, Field, Place, parse,
+};
 use std::alloc::{AllocError, Global};
 
 fn fault_name(fault: ColumnFileFault) -> &'static str {
@@ -68,5 +70,17 @@ pub(crate) fn answer(alloc: Global, text: &[u8]) -> Result<String, AllocError> {
             let name = fault_name(fault);
             format!(in alloc; "refused {name} {} {}", place.line, place.column)
         }
+    }
+}
+
+/// The answer for a type that these bytes spell.
+///
+/// # Errors
+///
+/// [`AllocError`] if an allocation fails.
+pub(crate) fn type_answer(alloc: Global, text: &[u8]) -> Result<String, AllocError> {
+    match DeclaredType::parse(alloc, text)? {
+        Some(found) => format!(in alloc; "{found:?}"),
+        None => String::from_str(alloc, "none"),
     }
 }

@@ -1,6 +1,8 @@
 //! Answers to questions of documents of binary JSON.
+use crate::built::refusal_name as name_of;
 use binary_json::{Document, JsonError, Refusal};
 use binary_json_lines::{has_text, write_document};
+use binary_json_writing::rewritten;
 use json_line::Line;
 use std::alloc::Global;
 use std::io;
@@ -66,5 +68,24 @@ fn refusal_name(refusal: Refusal) -> &'static str {
         Refusal::Length => "Length",
         Refusal::Opaque => "Opaque",
         Refusal::UnknownType => "UnknownType",
+    }
+}
+
+/// Writes the bytes of the document of the same value.
+///
+/// # Errors
+///
+/// Those of memory and of the output.
+pub(crate) fn write_rewritten<W: Write>(
+    alloc: Global,
+    bytes: &[u8],
+    output: &mut W,
+) -> io::Result<()> {
+    match Document::read(bytes) {
+        Ok(document) => match rewritten(alloc, &document.value()) {
+            Ok(document) => writeln!(output, "{}", hex::encode(alloc, document.as_bytes())?),
+            Err(error) => writeln!(output, "refused {}", name_of(error)),
+        },
+        Err(error) => write_refusal(error, output),
     }
 }

@@ -6,14 +6,22 @@
 //! - `name NAME` is answered with the name of the set of this name, or `none`, and with `decoded` if it is decoded.
 //! - `document BYTES` is answered with the text of the document of binary JSON, with `no text` where it has none, or with `refused`,
 //!   why, and the place where: `refused Short 1`.
+//! - `rewritten BYTES` is answered with the bytes of the document of the same value as a serializer writes them, or with
+//!   `refused` and why: `refused Short 1`, `refused TooLarge`.
+//! - `built WORD,WORD..` is answered with the bytes of the document that is built of the words, or with `refused` and why: `refused
+//!   KeyOrder`. The words are `null`, `true`, `false`, a signed integer as `i:-5`, an unsigned one as `u:5`, the bits of a
+//!   floating-point number as `d:0`, a string as `s:BYTES`, an array as `[`, its elements and `]`, and an object as `{`, a key as
+//!   `k:BYTES` in front of each value, and `}`.
 //! - `file BYTES` is answered with the columns of the file, or with `refused`, why, and the line and the column where:
 //!   `refused Position 2 5`. A column is its six fields with commas between, which are hexadecimal digits but the position; columns
 //!   have a `;` between, and no columns are `none`.
+//! - `type BYTES` is answered with the type of a column that the bytes spell, as Rust's `{:?}` writes it, or with `none`.
 //!
 //! Bytes are hexadecimal digits, and no bytes are `-`. Any other line is answered with `unknown`. The exit status is 1 where input, output
 //! or memory failed.
 #![tactic(auto)]
 
+mod built;
 mod bytes;
 mod characters;
 mod columns;
@@ -41,8 +49,17 @@ fn answer<W: Write>(
             Some(bytes) => documents.answer(&bytes, output),
             None => writeln!(output, "unknown"),
         },
+        Some(("rewritten", digits)) => match bytes_of(alloc, digits) {
+            Some(bytes) => documents::write_rewritten(alloc, &bytes, output),
+            None => writeln!(output, "unknown"),
+        },
+        Some(("built", words)) => writeln!(output, "{}", built::answer(alloc, words)?),
         Some(("file", digits)) => match bytes_of(alloc, digits) {
             Some(bytes) => writeln!(output, "{}", columns::answer(alloc, &bytes)?),
+            None => writeln!(output, "unknown"),
+        },
+        Some(("type", digits)) => match bytes_of(alloc, digits) {
+            Some(bytes) => writeln!(output, "{}", columns::type_answer(alloc, &bytes)?),
             None => writeln!(output, "unknown"),
         },
         _ => writeln!(output, "{}", characters::answer(alloc, question)?),

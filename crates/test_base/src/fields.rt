@@ -1,5 +1,5 @@
 //! Tests of the lowest crates: the sizes of fields of `binlog_wire`, its errors, the tables of `binlog_consts`, and the integers of
-//! `binlog_numbers`. `tests/cases` has fields of each kind, in the bodies of events.
+//! `binlog_variable_fields`. `tests/cases` has fields of each kind, in the bodies of events.
 
 mod constants;
 mod errors;

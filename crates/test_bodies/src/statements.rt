@@ -1,12 +1,9 @@
-//! Reading and writing of the bodies of statements and of status variables. The expected bytes and values don't come
-//! from this code. Owned values are compared in functions that take no runtime, and tests are small, which keeps the
-//! proofs short.
+//! Builders of statements, and status variables.
 
 mod load_queries;
-mod memory;
 mod queries;
+mod status_variables;
 mod user_variables;
-mod variables;
 
 /// The body of the first statement in a log of MySQL 5.0.86.
 const CREATE_TABLE: &[u8] =
@@ -19,6 +16,3 @@ const STATUS: &[u8] = b"\0\0\x40\0\0\x01\0\0\0\0\0\0\0\0\x06\x03std\x04\x08\0\x0
 /// An EXECUTE_LOAD_QUERY: thread 1, schema `d`, locale 8, file 2, positions 3 and 4, duplicates replaced.
 const LOAD: &[u8] =
     b"\x01\0\0\0\0\0\0\0\x01\0\0\x03\0\x02\0\0\0\x03\0\0\0\x04\0\0\0\x02\x07\x08\0d\0LOAD";
-
-/// The user variable `a`, an integer of one byte, without a flags byte.
-const INTEGER: &[u8] = b"\x01\0\0\0a\0\x02\x3f\0\0\0\x01\0\0\0\x07";

@@ -1,4 +1,4 @@
-//! Tests of `binlog_json_lines` and `binlog_maria_json`: lines of JSON.
+//! Tests of `binlog_json_lines`: lines of JSON.
 
 mod lines;
 mod writer;

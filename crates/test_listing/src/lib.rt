@@ -13,4 +13,6 @@ mod listing;
 #[cfg(test)]
 mod maria_gtids;
 #[cfg(test)]
+mod recipes;
+#[cfg(test)]
 mod verified;

@@ -25,12 +25,9 @@ impl AsStr for Cow<'_, str> {
     }
 }
 
+pub mod examples;
 pub mod test_base;
 pub mod test_bodies;
-pub mod test_events;
-pub mod test_files;
-pub mod test_gtids;
 pub mod test_listing;
-pub mod test_rows;
-pub mod testkit_bodies;
+pub mod test_logs;
 pub mod testkit_logs;

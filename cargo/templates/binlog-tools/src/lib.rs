@@ -8,14 +8,13 @@ pub mod binlog_commands;
 pub mod binlog_event_types;
 pub mod binlog_filters;
 pub mod binlog_gtid_listing;
-pub mod binlog_json_lines;
-pub mod binlog_listing;
 // Of some functions a contract alone reads a parameter.
 #[allow(unused_variables)]
-pub mod binlog_maria_json;
-#[allow(unused_variables)]
 #[doc(hidden)]
-pub mod binlog_row_json;
+pub mod binlog_json_bodies;
+#[allow(unused_variables)]
+pub mod binlog_json_lines;
+pub mod binlog_listing;
 pub mod binlog_visits;
 #[doc(hidden)]
 pub mod clap;

@@ -1,7 +1,7 @@
-//! The texts of values: those of the lines of JSON, which the converted `binlog_row_lines` writes. By hand, since the proved
+//! The texts of values: those of the lines of JSON, which the converted `binlog_json_values` writes. By hand, since the proved
 //! sources have no `Display` of what takes memory.
 use crate::binlog_optional_metadata::ColumnFacts;
-use crate::binlog_row_lines::ValueWriter;
+use crate::binlog_json_values::ValueWriter;
 use crate::binlog_values::{Date, DateTime, DateTime2, Decimal, Double, Float, Time, Time2};
 use crate::binlog_values::{Timestamp2, Value, Year};
 use crate::json_line::Line;

@@ -4,7 +4,7 @@ use crate::binlog_gtid_sets::GtidTracker;
 use crate::binlog_gtid_text::{GtidTextError, parse, to_text};
 use crate::binlog_maria_gtids::{MariaGtidSet, MariaGtidTextError, parse_set};
 use crate::binlog_mariadb::MariaGtid;
-use crate::binlog_numbers::{GnoInterval, Tag};
+use crate::binlog_variable_fields::{GnoInterval, Tag};
 use std::fmt;
 use std::str::FromStr;
 

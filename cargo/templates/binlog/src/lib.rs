@@ -37,10 +37,12 @@ mod base64;
 mod binary_json;
 #[allow(unused_variables)]
 mod binary_json_lines;
+#[allow(unused_variables)]
+mod binary_json_writing;
 mod binlog_bodies;
 mod binlog_columns;
 mod binlog_consts;
-mod binlog_description;
+mod binlog_event_format;
 mod binlog_ends;
 mod binlog_event_data;
 mod binlog_events;
@@ -51,11 +53,11 @@ mod binlog_gtids;
 mod binlog_images;
 mod binlog_maria_gtids;
 mod binlog_mariadb;
-mod binlog_numbers;
+mod binlog_variable_fields;
 // Of the counts of columns by their class two are of no use yet.
 #[allow(dead_code)]
 mod binlog_optional_metadata;
-mod binlog_row_lines;
+mod binlog_json_values;
 // Of a pattern a proof alone reads a name.
 #[allow(unused_variables)]
 mod binlog_row_writing;
@@ -81,7 +83,7 @@ pub mod memory;
 mod reading;
 mod simd;
 
-pub use crate::binlog_description::{BinlogCtx, BinlogEvent, BinlogStruct, DescriptionRef, read_body};
+pub use crate::binlog_event_format::{BinlogCtx, BinlogEvent, BinlogStruct, DescriptionRef, read_body};
 pub use crate::binlog_ends::DeviceError;
 pub use crate::binlog_events::{BinlogFileHeader, EventRef};
 pub use crate::binlog_file::{
@@ -102,7 +104,7 @@ pub mod consts {
     pub use crate::binlog_consts::{RowsEventFlags, StatusVarKey, UserVarFlags};
     pub use crate::binlog_consts::{UnknownChecksumAlg, UnknownEventType, UnknownIncidentType};
     pub use crate::binlog_consts::{UnknownItemResultType, UnknownStatusVarKey};
-    pub use crate::binlog_description::{MAX_BODY_LEN, SERVER_VER_LEN};
+    pub use crate::binlog_event_format::{MAX_BODY_LEN, SERVER_VER_LEN};
     pub use crate::binlog_gtids::GtidFlags;
     pub use crate::binlog_optional_metadata::{OptionalMetadataFieldType, UnknownOptionalMetadataFieldType};
 }
@@ -111,14 +113,14 @@ pub mod consts {
 pub mod events {
     pub use crate::binlog_bodies::{BeginLoadQueryEvent, IncidentEvent, IntvarEvent, RandEvent};
     pub use crate::binlog_bodies::{RotateEvent, RowsQueryEvent, XidEvent};
-    pub use crate::binlog_description::{BinlogEventFooter, BinlogEventHeader, FormatDescriptionEvent};
-    pub use crate::binlog_description::split_version;
+    pub use crate::binlog_event_format::{BinlogEventFooter, BinlogEventHeader, FormatDescriptionEvent};
+    pub use crate::binlog_event_format::split_version;
     pub use crate::binlog_event_data::EventData;
     pub use crate::binlog_events::Event;
     pub use crate::binlog_file::{LogEventData, read_log_data};
     pub use crate::binlog_gtids::field_id;
     pub use crate::binlog_gtids::{AnonymousGtidEvent, GtidEvent, PreviousGtidsEvent, PreviousGtidsSid};
-    pub use crate::binlog_numbers::{GnoInterval, Tag};
+    pub use crate::binlog_variable_fields::{GnoInterval, Tag};
     pub use crate::binlog_optional_metadata::{OptionalMetadata, OptionalMetadataField};
     pub use crate::binlog_rows::{DeleteRows, DeleteRowsV1, PartialUpdateRows, UpdateRows};
     pub use crate::binlog_rows::{DeleteRowsEvent, DeleteRowsEventV1, PartialUpdateRowsEvent};
@@ -132,7 +134,7 @@ pub mod events {
 
 /// The fields that bodies are made of.
 pub mod raw {
-    pub use crate::binlog_numbers::{LenEnc, LenEncBytes, ValueList, Varlen, VarlenSigned};
+    pub use crate::binlog_variable_fields::{LenEnc, LenEncBytes, ValueList, Varlen, VarlenSigned};
     pub use crate::binlog_wire::{BareBytes, BareU8Bytes, BareU16Bytes, EofBytes, FixedLengthText};
     pub use crate::binlog_wire::{BitView, BytesRepr, Const, Constant, IntRepr, ParseBuf};
     pub use crate::binlog_wire::{LeU16, LeU32, LeU48, LeU56, LeU64, MyDeserialize, MySerialize};
@@ -143,8 +145,8 @@ pub mod raw {
 
 /// Integers of variable width.
 pub mod misc {
-    pub use crate::binlog_numbers::{lenenc_int_len, read_varlen_int, read_varlen_uint};
-    pub use crate::binlog_numbers::{varlen_uint_size, write_varlen_int, write_varlen_uint};
+    pub use crate::binlog_variable_fields::{lenenc_int_len, read_varlen_int, read_varlen_uint};
+    pub use crate::binlog_variable_fields::{varlen_uint_size, write_varlen_int, write_varlen_uint};
     pub use crate::raw;
 }
 
@@ -194,10 +196,13 @@ pub mod values {
 /// The documents of JSON columns: MySQL's binary JSON.
 ///
 /// [`Document::read`](jsonb::Document::read) checks the bytes of [`Value::Json`](values::Value::Json), and
-/// [`Document::value`](jsonb::Document::value) is what they say.
+/// [`Document::value`](jsonb::Document::value) is what they say. [`ArrayBuilder`](jsonb::ArrayBuilder) and
+/// [`ObjectBuilder`](jsonb::ObjectBuilder) make documents as a server writes them.
 pub mod jsonb {
     pub use crate::binary_json::{Array, Decimal, Document, Double, Elements, JsonError, Members};
     pub use crate::binary_json::{Object, OpaqueValue, Refusal, Value};
+    pub use crate::binary_json_writing::{ArrayBuilder, JsonWriteError, ObjectBuilder, OwnedDocument};
+    pub use crate::binary_json_writing::rewritten;
 }
 
 /// The diffs of partial updates of JSON columns.
@@ -208,7 +213,7 @@ pub mod jsondiff {
 /// Lines of JSON in memory that is reused, for `binlog-tools`.
 #[doc(hidden)]
 pub mod json_lines {
-    pub use crate::binlog_row_lines::ValueWriter;
+    pub use crate::binlog_json_values::ValueWriter;
     pub use crate::json_line::Line;
 }
 

@@ -3,7 +3,7 @@
 use std::io::BufRead;
 use std::sync::Arc;
 
-use crate::binlog_description::FormatDescriptionEvent;
+use crate::binlog_event_format::FormatDescriptionEvent;
 use crate::binlog_events::Event;
 use crate::binlog_wire::{Error, IntoOwned};
 

@@ -4,7 +4,7 @@ ghost use Rattle.binlog_wire.specs.Reading.{Gives};
 ghost use Rattle.binlog_bodies.specs.Intvar.{intvar};
 
 use binlog_consts::{EventType, IntvarEventType};
-use binlog_description::{BinlogCtx, BinlogEvent};
+use binlog_event_format::{BinlogCtx, BinlogEvent};
 use binlog_wire::{Constant, Error, IntRepr, LeU64, MyDeserialize, ParseBuf, Put};
 use std::alloc::Global;
 

@@ -4,7 +4,7 @@ ghost use Rattle.binlog_wire.specs.Reading.{Gives};
 ghost use Rattle.binlog_bodies.specs.Rand.{rand};
 
 use binlog_consts::EventType;
-use binlog_description::{BinlogCtx, BinlogEvent};
+use binlog_event_format::{BinlogCtx, BinlogEvent};
 use binlog_wire::{Error, IntRepr, LeU64, MyDeserialize, ParseBuf, Put, RawInt};
 use std::alloc::Global;
 

@@ -7,7 +7,7 @@ ghost use Rattle.binlog_wire.specs.Reading.{Gives};
 ghost use Rattle.binlog_bodies.specs.RowsQuery.{rows_query};
 
 use binlog_consts::EventType;
-use binlog_description::{BinlogCtx, BinlogEvent};
+use binlog_event_format::{BinlogCtx, BinlogEvent};
 use binlog_wire::{
     BytesRepr, EofBytes, Error, IntRepr, IntoOwned, MyDeserialize, ParseBuf, Put, RawBytes,
     TryClone,

@@ -2,12 +2,12 @@
 ghost use Rattle.std.specs.Prelude.{refl};
 ghost use Rattle.binlog_wire.specs.Reading.{Gives};
 ghost use Rattle.binlog_consts.specs.declared.event_type.EventType.TheVariants.{XID_EVENT};
-ghost use Rattle.binlog_description.specs.DescriptionRefs.{description_of};
-ghost use Rattle.binlog_description.specs.PostHeaders.{post_header};
+ghost use Rattle.binlog_event_format.specs.DescriptionRefs.{description_of};
+ghost use Rattle.binlog_event_format.specs.PostHeaders.{post_header};
 ghost use Rattle.binlog_bodies.specs.Xid.{xid};
 
 use binlog_consts::EventType;
-use binlog_description::{BinlogCtx, BinlogEvent, DescriptionRef};
+use binlog_event_format::{BinlogCtx, BinlogEvent, DescriptionRef};
 use binlog_wire::{Error, IntRepr, LeU64, MyDeserialize, ParseBuf, Put};
 use std::alloc::Global;
 

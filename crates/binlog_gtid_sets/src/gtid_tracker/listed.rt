@@ -7,7 +7,7 @@ ghost use Rattle.binlog_gtid_sets.specs.GtidGroups.{Pair, pair_of, is_tracked};
 use crate::gtid_group::tag_text;
 use crate::gtid_tracker::{GtidTracker, find};
 use binlog_gtids::{GnoSet, PreviousGtidsSid};
-use binlog_numbers::GnoInterval;
+use binlog_variable_fields::GnoInterval;
 
 impl GtidTracker {
     // Whether the set contains all GTIDs of entries.

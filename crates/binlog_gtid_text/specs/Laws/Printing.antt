@@ -1,7 +1,7 @@
 -- The groups that a set can have: their sources are 16 bytes, their tags are tags, and their intervals are in order and apart.
 use Rattle.std.specs.Prelude.{◌≡◌, ℕ, ◌<◌, true, List, length, Option, Some, None, All, ⊤}
 use Rattle.std.specs.List.{AllByRecursion}
-use Rattle.binlog_numbers.specs.Tags.{is_tag}
+use Rattle.binlog_variable_fields.specs.Tags.{is_tag}
 use Rattle.binlog_gtids.specs.GnoSets.{AreApart}
 use Rattle.binlog_gtid_sets.specs.declared.gtid_group.GtidGroup.{GtidGroup}
 

@@ -6,8 +6,8 @@ use Rattle.binlog_wire.specs.Reading.{Refuses, Read, ◌>>=◌, invalid}
 use Rattle.binlog_wire.specs.Fields.{read_decoded, meant}
 use Rattle.binlog_wire.specs.declared.error.Error.TheVariants as errors
 use Rattle.binlog_wire.specs.declared.error.Invalid.TheVariants as kinds
-use Rattle.binlog_numbers.specs.Varlen.{varlen_at}
-use Rattle.binlog_numbers.specs.Laws.Refusing.{refused_as}
+use Rattle.binlog_variable_fields.specs.Varlen.{varlen_at}
+use Rattle.binlog_variable_fields.specs.Laws.Refusing.{refused_as}
 use Rattle.binlog_gtids.specs.FieldIds.{last_known_id}
 use Rattle.binlog_gtids.specs.TaggedValues.{Value, known}
 use Rattle.binlog_gtids.specs.TaggedFields.{value_of_id, Entry, entry}

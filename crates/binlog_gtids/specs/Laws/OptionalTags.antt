@@ -1,9 +1,9 @@
 -- The text of an optional tag decodes to it.
 use Rattle.std.proofs.Common.{◌≡◌, ℕ, Option, None, Some, List, [], ◌∷◌, Ok, refl, arith}
 use Rattle.binlog_wire.specs.Formats.{anywhere}
-use Rattle.binlog_numbers.specs.Laws.Tags.{tag_short}
-use Rattle.binlog_numbers.specs.VarlenTexts.{varlen_text}
-use Rattle.binlog_numbers.specs.Chosen.{IsChoice}
+use Rattle.binlog_variable_fields.specs.Laws.Tags.{tag_short}
+use Rattle.binlog_variable_fields.specs.VarlenTexts.{varlen_text}
+use Rattle.binlog_variable_fields.specs.Chosen.{IsChoice}
 use Rattle.binlog_gtids.specs.OptionalTags.{tag_of, tag_text, FitsTag}
 
 -- ---- an optional tag, as a text that may be empty

@@ -1,7 +1,7 @@
 -- A GTID that was read is its own normal form in the format in which it is written.
 use Rattle.std.proofs.Common.{◌≡◌, ℕ, Option, Some, List, sym, subst, None, refl, ap, ◌∙◌, Bool, true, false, eqb}
 use Rattle.binlog_wire.specs.Formats.{last, nowhere}
-use Rattle.binlog_numbers.specs.Chosen.{choose}
+use Rattle.binlog_variable_fields.specs.Chosen.{choose}
 use Rattle.binlog_gtids.specs.Gtids.{gtid, by_tag, raw_type_of, anonymous_of, anonymous}
 use Rattle.binlog_gtids.specs.Formats.{tagged, untagged}
 use Rattle.binlog_gtids.specs.declared.gtid_event.GtidEvent.{GtidEvent}

@@ -2,11 +2,11 @@
 use Rattle.std.proofs.Common.{◌≡◌, ℕ, List, [], ◌∷◌, refl, ap, Bool, true, false, cond, Ok, eqb, ◌∙◌, Option, None, Some, ◌+◌, ◌^◌, ◌<◌, arith, length, ltb, sym, subst}
 use Rattle.std.proofs.lemmas.Bool.{eqb-true}
 use Rattle.std.proofs.lemmas.List.{length-append}
-use Rattle.binlog_numbers.specs.Repeated.{each_normal}
-use Rattle.binlog_numbers.specs.Varlen.{varlen_written}
-use Rattle.binlog_numbers.specs.Sized.{Solves, least_size}
-use Rattle.binlog_numbers.specs.Laws.Sized.{one_byte, least_size_solves}
-use Rattle.binlog_numbers.specs.Chosen.{IsChoice}
+use Rattle.binlog_variable_fields.specs.Repeated.{each_normal}
+use Rattle.binlog_variable_fields.specs.Varlen.{varlen_written}
+use Rattle.binlog_variable_fields.specs.Sized.{Solves, least_size}
+use Rattle.binlog_variable_fields.specs.Laws.Sized.{one_byte, least_size_solves}
+use Rattle.binlog_variable_fields.specs.Chosen.{IsChoice}
 use Rattle.binlog_gtids.specs.TaggedFields.{entry, Entry}
 use Rattle.binlog_gtids.specs.declared.gtid_event.GtidEvent.{GtidEvent}
 use Rattle.binlog_gtids.specs.Tagged.{entries_by, Head, tagged_of, tagged_with, entries, tagged_normal, gtid_with, with_tag, head, tagged_fields, last_of, entries_written, written_size, tagged_code, FitsTagged}

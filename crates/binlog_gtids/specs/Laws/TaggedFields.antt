@@ -4,10 +4,10 @@ use Rattle.std.proofs.lemmas.Bool.{ltb-true, lt-ltb, le-ltb}
 use Rattle.binlog_wire.specs.Reading.{Read, Refusal}
 use Rattle.binlog_wire.specs.Fields.{IsBytes}
 use Rattle.binlog_wire.specs.declared.error.Invalid.TheVariants as kinds
-use Rattle.binlog_numbers.specs.Varlen.{varlen_at, IsVarlen}
-use Rattle.binlog_numbers.specs.Laws.Varlen.{keeps_varlen}
-use Rattle.binlog_numbers.specs.Laws.Chosen.{passes_ok}
-use Rattle.binlog_numbers.specs.Within.{IsEnd}
+use Rattle.binlog_variable_fields.specs.Varlen.{varlen_at, IsVarlen}
+use Rattle.binlog_variable_fields.specs.Laws.Varlen.{keeps_varlen}
+use Rattle.binlog_variable_fields.specs.Laws.Chosen.{passes_ok}
+use Rattle.binlog_variable_fields.specs.Within.{IsEnd}
 use Rattle.binlog_gtids.specs.FieldIds.{last_known_id}
 use Rattle.binlog_gtids.specs.TaggedValues.{ignored, IsTail, is_tail, known}
 use Rattle.binlog_gtids.specs.TaggedFields.{Entry, entry}

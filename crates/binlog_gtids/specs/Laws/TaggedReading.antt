@@ -7,8 +7,8 @@ use Rattle.binlog_wire.specs.Fields.{read_decoded, meant}
 use Rattle.binlog_wire.specs.declared.error.Invalid.{Invalid}
 use Rattle.binlog_wire.specs.declared.error.Error.{Error}
 use Rattle.binlog_wire.specs.declared.error.Invalid.TheVariants as kinds
-use Rattle.binlog_numbers.specs.Within.{left_within, after_head}
-use Rattle.binlog_numbers.specs.Laws.Refusing.{refused_as}
+use Rattle.binlog_variable_fields.specs.Within.{left_within, after_head}
+use Rattle.binlog_variable_fields.specs.Laws.Refusing.{refused_as}
 use Rattle.binlog_gtids.specs.TaggedFields.{Entry}
 use Rattle.binlog_gtids.specs.Tagged.{fields, Head, head, tagged_of, payload_size, last_id}
 use Rattle.binlog_gtids.specs.TaggedReading.{counted_by, payload_at}

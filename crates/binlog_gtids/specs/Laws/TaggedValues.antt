@@ -2,8 +2,8 @@
 use Rattle.std.proofs.Common.{◌≡◌, ℕ, ◌*◌, ◌/◌, ◌%◌, ◌^◌, ◌<◌, refl, arith, suc}
 use Rattle.std.proofs.lemmas.Bool.{lt-ltb}
 use Rattle.binlog_wire.specs.Formats.{anywhere}
-use Rattle.binlog_numbers.specs.Formats.{varlen}
-use Rattle.binlog_numbers.specs.Chosen.{IsChoice}
+use Rattle.binlog_variable_fields.specs.Formats.{varlen}
+use Rattle.binlog_variable_fields.specs.Chosen.{IsChoice}
 use Rattle.binlog_gtids.specs.FieldIds.{last_known_id}
 use Rattle.binlog_gtids.specs.TaggedValues.{halved, known}
 

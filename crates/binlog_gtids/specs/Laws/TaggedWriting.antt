@@ -1,10 +1,10 @@
 -- A GTID with a tag, written part by part: its bytes are those of its fields, and so is their number.
 use Rattle.std.proofs.Common.{◌≡◌, ℕ, ◌+◌, List, [], ◌++◌, append_assoc, ◌*◌, Bool, true, false, cond, refl, eqb, Option, Some, ap, ◌∙◌, length, arith, ◌<◌, ◌∷◌, sym}
 use Rattle.std.proofs.lemmas.List.{append-nil, length-append}
-use Rattle.binlog_numbers.specs.Repeated.{each_written}
-use Rattle.binlog_numbers.specs.Sized.{least_size}
-use Rattle.binlog_numbers.specs.Laws.Sized.{least_size_solves}
-use Rattle.binlog_numbers.specs.Varlen.{varlen_written}
+use Rattle.binlog_variable_fields.specs.Repeated.{each_written}
+use Rattle.binlog_variable_fields.specs.Sized.{least_size}
+use Rattle.binlog_variable_fields.specs.Laws.Sized.{least_size_solves}
+use Rattle.binlog_variable_fields.specs.Varlen.{varlen_written}
 use Rattle.binlog_gtids.specs.FieldIds.{flags_id, gno_id, last_committed_id, sequence_number_id, immediate_commit_timestamp_id, original_commit_timestamp_id, transaction_length_id, immediate_server_version_id, original_server_version_id, commit_group_ticket_id}
 use Rattle.binlog_gtids.specs.declared.gtid_event.GtidEvent.{GtidEvent}
 use Rattle.binlog_gtids.specs.TaggedFields.{entry}

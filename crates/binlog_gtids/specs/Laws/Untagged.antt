@@ -1,7 +1,7 @@
 -- The fields that are written of a GTID without a tag encode it.
 use Rattle.std.proofs.Common.{◌≡◌, Option, None, Some, refl, Bool, true, false, Ok, ap, sym, ◌∙◌}
-use Rattle.binlog_numbers.specs.Formats.{behind}
-use Rattle.binlog_numbers.specs.Chosen.{IsChoice}
+use Rattle.binlog_variable_fields.specs.Formats.{behind}
+use Rattle.binlog_variable_fields.specs.Chosen.{IsChoice}
 use Rattle.binlog_gtids.specs.Untagged.{Head, Clock, fields_of, untagged_with, clock, clock_of, clock_if, untagged_normal, untagged_fields, untagged_of, FitsUntagged, head_of}
 use Rattle.binlog_gtids.specs.declared.gtid_event.GtidEvent.{GtidEvent}
 

@@ -3,8 +3,8 @@ use Rattle.std.proofs.Common.{◌≡◌, ℕ, ◌+◌, List, length, ◌++◌, a
 use Rattle.std.proofs.lemmas.List.{length-append}
 use Rattle.binlog_wire.specs.Fields.{little_bytes}
 use Rattle.binlog_wire.specs.Laws.Numbers.{length-little_bytes}
-use Rattle.binlog_numbers.specs.LenEnc.{lenenc_written}
-use Rattle.binlog_numbers.specs.Announced.{announced_written, behind_written}
+use Rattle.binlog_variable_fields.specs.LenEnc.{lenenc_written}
+use Rattle.binlog_variable_fields.specs.Announced.{announced_written, behind_written}
 use Rattle.binlog_gtids.specs.Untagged.{Clock, clock, head, clock_of, clock_if, head_of, logical_in, times_in, length_in, versions_in, logical_times}
 use Rattle.binlog_gtids.specs.declared.gtid_event.GtidEvent.{GtidEvent}
 use Rattle.binlog_gtids.specs.Formats.{untagged}

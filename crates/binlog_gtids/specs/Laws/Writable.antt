@@ -3,10 +3,10 @@ use Rattle.std.proofs.Common.{◌≡◌, Bool, true, false, None, [], ◌∷◌,
 use Rattle.std.proofs.lemmas.Bool.{ltb-true, eqb-true, lt-ltb}
 use Rattle.binlog_wire.specs.declared.error.Field.{Field}
 use Rattle.binlog_wire.specs.declared.error.Field.TheVariants as which
-use Rattle.binlog_numbers.specs.Announced.{FitsBehind}
-use Rattle.binlog_numbers.specs.Repeated.{EachFits}
-use Rattle.binlog_numbers.specs.Tags.{is_tag}
-use Rattle.binlog_numbers.specs.Laws.Tags.{tag_short}
+use Rattle.binlog_variable_fields.specs.Announced.{FitsBehind}
+use Rattle.binlog_variable_fields.specs.Repeated.{EachFits}
+use Rattle.binlog_variable_fields.specs.Tags.{is_tag}
+use Rattle.binlog_variable_fields.specs.Laws.Tags.{tag_short}
 use Rattle.binlog_gtids.specs.FieldIds.{original_commit_timestamp_id, transaction_length_id, immediate_server_version_id, original_server_version_id, commit_group_ticket_id}
 use Rattle.binlog_gtids.specs.Writable.{first_failing, InRange, unwritable_untagged, unwritable_tagged}
 use Rattle.binlog_gtids.specs.declared.gtid_event.GtidEvent.{GtidEvent}

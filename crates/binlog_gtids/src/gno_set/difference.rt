@@ -4,7 +4,7 @@ ghost use Rattle.binlog_wire.specs.declared.error.Error.TheVariants.{Memory};
 ghost use Rattle.binlog_gtids.specs.GnoSets.{is_within, is_held, AreApart, ending_below, starting_up_to};
 
 use crate::gno_set::{GnoSet, count_ending_below, count_starting_up_to};
-use binlog_numbers::GnoInterval;
+use binlog_variable_fields::GnoInterval;
 use binlog_wire::Error;
 
 impl GnoSet {

@@ -4,7 +4,7 @@ use Rattle.std.proofs.Common.{ap, arith}
 use Rattle.std.proofs.lemmas.List.{length-take, take_all}
 use Rattle.binlog_wire.specs.Fields.{little_bytes}
 use Rattle.binlog_wire.specs.Formats.{Place, Format}
-use Rattle.binlog_numbers.specs.Chosen.{IsChoice}
+use Rattle.binlog_variable_fields.specs.Chosen.{IsChoice}
 use Rattle.binlog_rows.specs.ExtraBytes.{kept_extra, counted}
 
 -- ---- extra bytes

@@ -1,7 +1,7 @@
 -- A table map and a row event that were read are their own normal forms in the format in which they are written.
 use Rattle.std.proofs.Common.{◌≡◌, ℕ, List, Bool, true, false, cond, Option, None, [], refl, subst, eqb, sym, ap, ◌∙◌}
 use Rattle.binlog_wire.specs.Formats.{anywhere, silent}
-use Rattle.binlog_numbers.specs.Chosen.{choose}
+use Rattle.binlog_variable_fields.specs.Chosen.{choose}
 use Rattle.binlog_rows.specs.TableMaps.{table_map}
 use Rattle.binlog_rows.specs.declared.table_map_event.TableMapEvent.{TableMapEvent}
 use Rattle.binlog_rows.specs.Rows.{extra, extra_in, present, forgotten, no_extra, columns, rows}

@@ -1,7 +1,7 @@
 -- A table map that was read can be written.
 use Rattle.std.proofs.Common.{ℕ, ◌^◌, ◌<◌, inl, inr, List, arith, Bool, true, false, cond, ◌≡◌, length, refl, sym, ap, ◌∙◌, eqb, subst}
 use Rattle.binlog_wire.specs.Bits.{bytes_of_bits}
-use Rattle.binlog_numbers.specs.LenEnc.{IsLenEnc}
+use Rattle.binlog_variable_fields.specs.LenEnc.{IsLenEnc}
 use Rattle.binlog_rows.specs.Columns.{Bitmap}
 use Rattle.binlog_rows.specs.TableMaps.{Fields, fields, columns_of, columns, table_map}
 use Rattle.binlog_rows.specs.TableColumns.{TableColumns}

@@ -2,7 +2,7 @@
 use Rattle.std.specs.Prelude.{◌≡◌, ℕ, Bool, true, false, Option, Some, None, is_some, List, refl, if◌then◌else◌, ◌++◌}
 use Rattle.std.proofs.Common.{ap, ◌∙◌, sym}
 use Rattle.binlog_wire.specs.Fields.{little_bytes}
-use Rattle.binlog_numbers.specs.LenEnc.{lenenc_written}
+use Rattle.binlog_variable_fields.specs.LenEnc.{lenenc_written}
 use Rattle.binlog_rows.specs.Rows.{extra_in, extra_written, image, image_written, rows, IsOfForm, rows_written}
 use Rattle.binlog_rows.specs.Columns.{Bitmap, id_width}
 use Rattle.binlog_rows.specs.declared.rows_event.RowsEvent.{RowsEvent}

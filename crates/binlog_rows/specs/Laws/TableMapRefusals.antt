@@ -5,9 +5,9 @@ use Rattle.binlog_wire.specs.Reading.{Refusal, ◌>>=◌, Read, read_as, ends, i
 use Rattle.binlog_wire.specs.Fields.{then_at, little_number, number_at, block_at, text_at, skipped_at, rest_at, IsBytes, IsBlock}
 use Rattle.binlog_wire.specs.Laws.Texts.{keeps_block}
 use Rattle.binlog_wire.specs.declared.error.Invalid.TheVariants as kinds
-use Rattle.binlog_numbers.specs.LenEnc.{lenenc_at, IsLenEnc}
-use Rattle.binlog_numbers.specs.LenEncTexts.{lenenc_text}
-use Rattle.binlog_numbers.specs.Laws.LenEnc.{keeps_lenenc}
+use Rattle.binlog_variable_fields.specs.LenEnc.{lenenc_at, IsLenEnc}
+use Rattle.binlog_variable_fields.specs.LenEncTexts.{lenenc_text}
+use Rattle.binlog_variable_fields.specs.Laws.LenEnc.{keeps_lenenc}
 use Rattle.binlog_rows.specs.Columns.{id_width, bitmap}
 use Rattle.binlog_rows.specs.TableMaps.{table, fields, columns_of, columns, table_map}
 use Rattle.binlog_rows.specs.TableMapRefusals.{BeginsNone, IsInNumbersPlace, IsBefore, before_count, before_metadata}

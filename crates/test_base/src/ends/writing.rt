@@ -33,14 +33,21 @@ fn short_writes_go_on(rt: HostRuntime) {
     assert!(rt; answers == (true, true, 0, None, true));
 }
 
+/// After how many calls one fails, what is written, and whether each write is Ok.
+const FAILURES: [(usize, &[u8], bool, bool); 4] = [
+    (0, b"efgh", false, true),
+    (3, b"abcefgh", false, true),
+    (4, b"abcd", true, false),
+    (7, b"abcdefg", true, false),
+];
+
 #[test]
 fn a_failure_stops_the_call(rt: HostRuntime) {
     let pipe = Some(ErrorKind::BrokenPipe);
-    let alloc = rt.alloc();
-    assert!(rt; writes(alloc, 0, 8, b"efgh") == (false, true, 1, pipe, true));
-    assert!(rt; writes(alloc, 3, 8, b"abcefgh") == (false, true, 1, pipe, true));
-    assert!(rt; writes(alloc, 4, 8, b"abcd") == (true, false, 1, pipe, true));
-    assert!(rt; writes(alloc, 7, 8, b"abcdefg") == (true, false, 1, pipe, true));
+    for (calls_before, written, first, second) in FAILURES {
+        let answers = writes(rt.alloc(), calls_before, 8, written);
+        assert!(rt; answers == (first, second, 1, pipe, true));
+    }
 }
 
 #[test]

@@ -1,25 +1,41 @@
 //! The number of bytes of each integer, and of other fields.
-use binlog_numbers::{GnoInterval, ValueList};
+use binlog_variable_fields::{GnoInterval, ValueList};
 use binlog_wire::{
     EofBytes, LeU16, LeU32, LeU48, LeU56, LeU64, MyDeserialize, ParseBuf, RawBytes, RawInt, Skip,
 };
 
 #[test]
 fn states_its_size(rt: HostRuntime) {
-    assert!(rt; RawInt::<u8>::SIZE == Some(1));
-    assert!(rt; RawInt::<i8>::SIZE == Some(1));
-    assert!(rt; RawInt::<LeU16>::SIZE == Some(2));
-    assert!(rt; RawInt::<LeU32>::SIZE == Some(4));
-    assert!(rt; RawInt::<LeU48>::SIZE == Some(6));
-    assert!(rt; RawInt::<LeU56>::SIZE == Some(7));
-    assert!(rt; RawInt::<LeU64>::SIZE == Some(8));
-    assert!(rt; Skip::<3>::SIZE == Some(3));
+    let sizes = [
+        RawInt::<u8>::SIZE,
+        RawInt::<i8>::SIZE,
+        RawInt::<LeU16>::SIZE,
+        RawInt::<LeU32>::SIZE,
+        RawInt::<LeU48>::SIZE,
+        RawInt::<LeU56>::SIZE,
+        RawInt::<LeU64>::SIZE,
+        Skip::<3>::SIZE,
+    ];
+    let wanted = [
+        Some(1),
+        Some(1),
+        Some(2),
+        Some(4),
+        Some(6),
+        Some(7),
+        Some(8),
+        Some(3),
+    ];
+    assert!(rt; sizes == wanted);
 }
 
 #[test]
 fn states_no_size_where_lengths_differ(rt: HostRuntime) {
-    assert!(rt; RawBytes::<'static, EofBytes>::SIZE == None);
-    assert!(rt; ParseBuf::<'static>::SIZE == None);
-    assert!(rt; <ValueList<GnoInterval> as MyDeserialize<'static>>::SIZE == None);
+    let sizes = [
+        RawBytes::<'static, EofBytes>::SIZE,
+        ParseBuf::<'static>::SIZE,
+        <ValueList<GnoInterval> as MyDeserialize<'static>>::SIZE,
+    ];
+    assert!(rt; sizes == [None; 3]);
     assert!(rt; RawInt::<LeU64>::default().0 == 0);
 }

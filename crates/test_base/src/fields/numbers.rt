@@ -1,5 +1,5 @@
 //! Encodings of integers that no event has, and what is left where memory is refused. `tests/cases` has the others.
-use binlog_numbers::{
+use binlog_variable_fields::{
     Tag, lenenc_int_len, read_varlen_int, varlen_uint_size, write_varlen_int, write_varlen_uint,
 };
 use binlog_wire::{Error, IntoOwned, ParseBuf, TryClone};
@@ -15,27 +15,28 @@ fn is_spelled(alloc: Global, number: i64, bytes: &[u8]) -> bool {
     written == Ok(()) && is_written && read_varlen_int(&mut ParseBuf(bytes)) == Ok(number)
 }
 
+/// Signed numbers and their bytes.
+const SIGNED: [(i64, &[u8]); 3] = [
+    (-1, b"\x02"),
+    (1, b"\x04"),
+    (i64::MIN, b"\xff\xff\xff\xff\xff\xff\xff\xff\xff"),
+];
+
 #[test]
 fn signed_integers_are_spelled(rt: HostRuntime) {
-    assert!(rt; is_spelled(rt.alloc(), -1, b"\x02"));
-    assert!(rt; is_spelled(rt.alloc(), 1, b"\x04"));
-    assert!(rt;
-        is_spelled(
-            rt.alloc(),
-            i64::MIN,
-            b"\xff\xff\xff\xff\xff\xff\xff\xff\xff"
-        )
-    );
+    for (number, bytes) in SIGNED {
+        assert!(rt; is_spelled(rt.alloc(), number, bytes));
+    }
 }
 
 #[test]
 fn sizes_of_integers(rt: HostRuntime) {
-    assert!(rt; varlen_uint_size(127) == 1);
-    assert!(rt; varlen_uint_size(128) == 2);
-    assert!(rt; varlen_uint_size((1 << 56) - 1) == 8);
-    assert!(rt; varlen_uint_size(1 << 56) == 9);
-    assert!(rt; lenenc_int_len(65_535) == 3);
-    assert!(rt; lenenc_int_len(65_536) == 4);
+    for (number, size) in [(127, 1), (128, 2), ((1 << 56) - 1, 8), (1 << 56, 9)] {
+        assert!(rt; varlen_uint_size(number) == size);
+    }
+    for (number, size) in [(65_535, 3), (65_536, 4)] {
+        assert!(rt; lenenc_int_len(number) == size);
+    }
 }
 
 // If one allocation fails (tests/refused_memory.py), the call that asked for it returns `Error::Memory` and leaves the buffer

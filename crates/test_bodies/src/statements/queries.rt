@@ -1,9 +1,10 @@
 //! QUERY events.
 
 use super::{CREATE_TABLE, STATUS};
+use crate::helpers::{is_read_as, is_written_with};
 use binlog_statements::QueryEvent;
+use std::alloc::Global;
 use std::borrow::CowSlice;
-use testkit_bodies::{by_default, is_read_as, is_written_with, told_len};
 
 /// A schema that is one byte too long.
 const LONG_SCHEMA: &[u8] = &[b's'; 256];
@@ -20,29 +21,20 @@ fn create_table<'a>() -> QueryEvent<'a> {
         .with_query(CowSlice::Borrowed(query))
 }
 
-// An empty statement with the long schema.
-fn with_long_schema<'a>() -> QueryEvent<'a> {
-    QueryEvent::new(CowSlice::Borrowed(b""), CowSlice::Borrowed(LONG_SCHEMA))
-}
-
-// Whether that event keeps this schema and has this length.
-fn keeps_schema(schema: &[u8], len: usize) -> bool {
-    let event = with_long_schema();
-    event.schema_raw() == schema && told_len(event) == len
-}
-
 #[test]
 fn first_statement_of_the_sample_is_read(rt: HostRuntime) {
-    assert!(rt; is_read_as(rt.alloc(), by_default(), CREATE_TABLE, create_table()));
+    assert!(rt; is_read_as(rt.alloc(), CREATE_TABLE, create_table()));
+}
+
+// Whether an empty statement with the long schema keeps 255 bytes of it, and is written with these.
+fn keeps_255_bytes(alloc: Global, front: &[u8]) -> bool {
+    let event = QueryEvent::new(CowSlice::Borrowed(b""), CowSlice::Borrowed(LONG_SCHEMA));
+    let len = event.schema_raw().len();
+    is_written_with(alloc, event, 269, front) && len == 255
 }
 
 #[test]
-fn a_schema_counts_255_bytes(rt: HostRuntime) {
-    assert!(rt; keeps_schema(&[b's'; 255], 269));
-}
-
-#[test]
-fn a_schema_is_written_in_255_bytes(rt: HostRuntime) {
+fn a_schema_is_kept_and_written_in_255_bytes(rt: HostRuntime) {
     let front = b"\0\0\0\0\0\0\0\0\xff\0\0\0\0s".as_slice();
-    assert!(rt; is_written_with(rt.alloc(), with_long_schema(), 269, front));
+    assert!(rt; keeps_255_bytes(rt.alloc(), front));
 }

@@ -1,10 +1,10 @@
 //! USER_VAR events.
 
+use crate::helpers::read;
 use binlog_consts::{UnknownItemResultType, UserVarFlags};
 use binlog_statements::UserVarEvent;
 use binlog_wire::Error;
 use std::alloc::Global;
-use testkit_bodies::read;
 
 /// A variable without a name, of an unknown type, with all known flags and one unknown flag.
 const UNKNOWN: &[u8] = b"\0\0\0\0\0\xff\x3f\0\0\0\0\0\0\0\x03";

@@ -1,7 +1,6 @@
 //! Lines of items that are errors.
 use binlog_file::Error;
 use binlog_json_lines::JsonLines;
-use binlog_visits::ItemLines;
 use std::alloc::Global;
 
 /// The line of an event that stores 0x1c, and has the checksum 0x1b.
@@ -15,7 +14,7 @@ fn is_mismatch_written(alloc: Global) -> bool {
         computed: 0x1b,
     };
     let mut lines = JsonLines::new(alloc);
-    let is_written = lines.error_line(alloc, 1, &error) == Ok(WANTED);
+    let is_written = lines.error_line(1, &error) == Ok(WANTED);
     drop(lines);
     is_written
 }

@@ -1,6 +1,6 @@
 //! The lines of a log, one after another.
 use binlog_file::SliceReader;
-use binlog_maria_json::MariaJsonWriter;
+use binlog_json_lines::JsonWriter;
 use binlog_visits::visit_counted;
 use std::io;
 use std::io::Write;
@@ -41,7 +41,7 @@ fn written(rt: &impl AllocGlobal, log: &[u8]) -> (bool, u64, u64) {
         flushes: 0,
         lines: 0,
     };
-    let mut lines = MariaJsonWriter::new(rt.alloc(), device, false);
+    let mut lines = JsonWriter::new(rt.alloc(), device, false);
     let mut input = SliceReader::new(log);
     let _ = visit_counted(rt.alloc(), &mut input, &mut lines);
     let has_errors = lines.has_errors();

@@ -1,5 +1,5 @@
 use Rattle.std.proofs.Common.{◌≡◌, rules}
-use Rattle.binlog_description.specs.Headers.{header_of}
+use Rattle.binlog_event_format.specs.Headers.{header_of}
 use Rattle.binlog_events.specs.EventRefs.{view_of}
 use Rattle.binlog_gtid_listing.proofs.MariaAdded.{adds_unknown, adds_unread, adds_data}
 use Rattle.binlog_gtid_listing.proofs.maria_adding.add_maria_gtids.Goals as goal

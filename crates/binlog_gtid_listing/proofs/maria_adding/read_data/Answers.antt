@@ -1,6 +1,6 @@
 use Rattle.std.proofs.Common.{◌≡◌, rules}
-use Rattle.binlog_description.specs.Headers.{header_of}
-use Rattle.binlog_description.specs.DescriptionRefs.{description_of}
+use Rattle.binlog_event_format.specs.Headers.{header_of}
+use Rattle.binlog_event_format.specs.DescriptionRefs.{description_of}
 use Rattle.binlog_events.specs.EventRefs.{view_of}
 use Rattle.binlog_events.specs.Parts.{data_of}
 use Rattle.binlog_gtid_listing.proofs.maria_adding.read_data.Goals as goal

@@ -1,6 +1,6 @@
 use Rattle.std.proofs.Common.{◌∷◌, ◌∙◌, None, codes, get_or, arith}
 use Rattle.std.proofs.lemmas.Result.{err_from_is_err_and}
-use Rattle.binlog_numbers.specs.declared.gno_interval.GnoInterval.{GnoInterval}
+use Rattle.binlog_variable_fields.specs.declared.gno_interval.GnoInterval.{GnoInterval}
 use Rattle.binlog_gtids.specs.GnoSets.{AreApart}
 use Rattle.binlog_gtid_listing.specs.GroupLines.{interval_text}
 use Rattle.binlog_gtid_listing.proofs.Writing.{stop, behind_stop, has_number, first_written, more_written, more_stop, all_written}

@@ -1,5 +1,5 @@
 use Rattle.std.proofs.Common.{◌≡◌, ◌∷◌}
-use Rattle.binlog_numbers.specs.declared.gno_interval.GnoInterval.{GnoInterval}
+use Rattle.binlog_variable_fields.specs.declared.gno_interval.GnoInterval.{GnoInterval}
 use Rattle.binlog_gtid_listing.proofs.Writing.{AreWritten}
 use Rattle.binlog_gtid_listing.proofs.parts.write_intervals.Given as goal
 

@@ -1,5 +1,5 @@
 use Rattle.std.proofs.Common.{add-one, arith}
-use Rattle.binlog_numbers.specs.declared.gno_interval.GnoInterval.{GnoInterval}
+use Rattle.binlog_variable_fields.specs.declared.gno_interval.GnoInterval.{GnoInterval}
 use Rattle.binlog_gtid_text.proofs.Appended.{interval_put, intervals_put, interval_filled, next_apart}
 use Rattle.binlog_gtid_text.proofs.printing.push_intervals.Goals as goal
 

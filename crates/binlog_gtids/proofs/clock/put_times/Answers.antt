@@ -4,7 +4,7 @@ use Rattle.std.proofs.lemmas.Bool.{ne_eqb}
 use Rattle.std.proofs.lemmas.List.{length-append}
 use Rattle.binlog_wire.specs.Fields.{little_bytes}
 use Rattle.binlog_wire.specs.Putting.{Puts}
-use Rattle.binlog_numbers.specs.Announced.{announced_written}
+use Rattle.binlog_variable_fields.specs.Announced.{announced_written}
 use Rattle.binlog_gtids.proofs.clock.put_times.Goals as goal
 
 puts_then : (old mid new : Vec ℕ) (a b : List ℕ) → Puts old mid a → Puts mid new b → Puts old new (a ++ b)

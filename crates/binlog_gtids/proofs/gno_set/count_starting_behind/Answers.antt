@@ -1,5 +1,5 @@
 use Rattle.std.proofs.Common.{◌+◌}
-use Rattle.binlog_numbers.specs.declared.gno_interval.GnoInterval.{GnoInterval}
+use Rattle.binlog_variable_fields.specs.declared.gno_interval.GnoInterval.{GnoInterval}
 use Rattle.binlog_gtids.proofs.GnoSets.{starts_here, starts_later}
 use Rattle.binlog_gtids.proofs.gno_set.count_starting_behind.Goals as goal
 

@@ -1,6 +1,6 @@
 use Rattle.std.proofs.Common.{leb, arith, rules}
 use Rattle.std.proofs.lemmas.List.Sorted.{IsPartitionPoint-from_clause, IsPartitionedBy-leb}
-use Rattle.binlog_numbers.specs.declared.gno_interval.GnoInterval.{GnoInterval}
+use Rattle.binlog_variable_fields.specs.declared.gno_interval.GnoInterval.{GnoInterval}
 use Rattle.binlog_gtids.proofs.GnoSets.{starts_rise, parted, all_start_up_to}
 use Rattle.binlog_gtids.proofs.gno_set.count_starting_up_to.Goals as goal
 

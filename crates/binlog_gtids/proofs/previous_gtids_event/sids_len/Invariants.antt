@@ -1,5 +1,5 @@
 use Rattle.std.proofs.Common.{◌≡◌, ◌+◌, ◌≤◌, length, drop, min}
-use Rattle.binlog_numbers.specs.Repeated.{each_written}
+use Rattle.binlog_variable_fields.specs.Repeated.{each_written}
 use Rattle.binlog_gtids.specs.PreviousGtids.{sid_written}
 use Rattle.binlog_gtids.proofs.previous_gtids_event.sids_len.Given as goal
 

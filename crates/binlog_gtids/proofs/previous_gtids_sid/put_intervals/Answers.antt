@@ -1,8 +1,8 @@
 use Rattle.std.proofs.Common.{◌≡◌, ◌++◌, ◌+◌, length, get_or, drop, List, ℕ, refl, arith}
-use Rattle.binlog_numbers.specs.GnoIntervals.{gno_interval}
-use Rattle.binlog_numbers.specs.declared.gno_interval.GnoInterval.{GnoInterval}
-use Rattle.binlog_numbers.specs.Repeated.{each_written}
-use Rattle.binlog_numbers.specs.Laws.RepeatedLoops.{written_step, written_left}
+use Rattle.binlog_variable_fields.specs.GnoIntervals.{gno_interval}
+use Rattle.binlog_variable_fields.specs.declared.gno_interval.GnoInterval.{GnoInterval}
+use Rattle.binlog_variable_fields.specs.Repeated.{each_written}
+use Rattle.binlog_variable_fields.specs.Laws.RepeatedLoops.{written_step, written_left}
 use Rattle.binlog_gtids.proofs.previous_gtids_sid.put_intervals.Goals as goal
 
 pub put-requires-clause-room : goal.put-requires-clause-room

@@ -1,6 +1,6 @@
 use Rattle.std.proofs.Common.{◌≡◌, ◌++◌, ◌+◌, ◌≤◌, length, drop, vec_len, vec_capacity}
-use Rattle.binlog_numbers.specs.GnoIntervals.{gno_interval}
-use Rattle.binlog_numbers.specs.Repeated.{each_written}
+use Rattle.binlog_variable_fields.specs.GnoIntervals.{gno_interval}
+use Rattle.binlog_variable_fields.specs.Repeated.{each_written}
 use Rattle.binlog_gtids.proofs.previous_gtids_sid.put_intervals.Given as goal
 
 abbrev pub invariant-loop-interval : goal.invariant-loop-interval

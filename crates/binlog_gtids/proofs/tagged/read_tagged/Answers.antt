@@ -2,7 +2,7 @@ use Rattle.std.specs.Prelude.{⊤}
 use Rattle.std.proofs.Common.{◌≡◌, ℕ, List, Err, sym, ap, subst, ◌∙◌}
 use Rattle.std.proofs.lemmas.Result.{err_from_is_err_and}
 use Rattle.binlog_wire.specs.Fields.{meant}
-use Rattle.binlog_numbers.specs.Laws.Refusing.{refused_as}
+use Rattle.binlog_variable_fields.specs.Laws.Refusing.{refused_as}
 use Rattle.binlog_gtids.specs.declared.tagged_fields.TaggedFields.{TaggedFields}
 use Rattle.binlog_gtids.specs.Tagged.{fields}
 use Rattle.binlog_gtids.specs.Formats.{tagged}

@@ -3,9 +3,9 @@ use Rattle.std.specs.Prelude.{slice_set}
 use Rattle.std.proofs.Math.ListN.{length-set}
 use Rattle.std.proofs.Math.Seq.{take-suc-set}
 use Rattle.std.proofs.lemmas.Result.{err_from_is_err_and}
-use Rattle.binlog_numbers.specs.Laws.Refusing.{refused_as}
-use Rattle.binlog_numbers.specs.Repeated.{times_at}
-use Rattle.binlog_numbers.specs.Laws.RepeatedLoops.{times_turn, times_refused}
+use Rattle.binlog_variable_fields.specs.Laws.Refusing.{refused_as}
+use Rattle.binlog_variable_fields.specs.Repeated.{times_at}
+use Rattle.binlog_variable_fields.specs.Laws.RepeatedLoops.{times_turn, times_refused}
 use Rattle.binlog_gtids.specs.TaggedFields.{at_most}
 use Rattle.binlog_gtids.proofs.tagged_fields.read_sid_bytes.Goals as goal
 

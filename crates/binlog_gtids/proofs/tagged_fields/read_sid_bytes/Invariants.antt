@@ -1,6 +1,6 @@
 use Rattle.std.proofs.Common.{◌≡◌, ◌-◌, length, take}
-use Rattle.binlog_numbers.specs.Repeated.{times_at}
-use Rattle.binlog_numbers.specs.Laws.RepeatedLoops.{behind_values}
+use Rattle.binlog_variable_fields.specs.Repeated.{times_at}
+use Rattle.binlog_variable_fields.specs.Laws.RepeatedLoops.{behind_values}
 use Rattle.binlog_gtids.specs.TaggedFields.{at_most}
 use Rattle.binlog_gtids.proofs.tagged_fields.read_sid_bytes.Given as goal
 

@@ -1,8 +1,8 @@
 use Rattle.std.proofs.Common.{ℕ, inl, inr, List, ap, refl, arith}
 use Rattle.std.proofs.lemmas.Result.{err_from_is_err_and}
 use Rattle.binlog_wire.specs.Reading.{Read, read_as}
-use Rattle.binlog_numbers.specs.Laws.Refusing.{refused_as}
-use Rattle.binlog_numbers.specs.Repeated.{times_at}
+use Rattle.binlog_variable_fields.specs.Laws.Refusing.{refused_as}
+use Rattle.binlog_variable_fields.specs.Repeated.{times_at}
 use Rattle.binlog_gtids.specs.TaggedValues.{Value}
 use Rattle.binlog_gtids.specs.TaggedFields.{at_most, value_of_id}
 use Rattle.binlog_gtids.specs.Laws.EntryReading.{value_is, value_refused}

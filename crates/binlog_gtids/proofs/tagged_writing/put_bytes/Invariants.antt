@@ -1,6 +1,6 @@
 use Rattle.std.proofs.Common.{◌≡◌, ◌++◌, ◌+◌, ◌≤◌, length, drop, vec_len, vec_capacity}
-use Rattle.binlog_numbers.specs.Repeated.{each_written}
-use Rattle.binlog_numbers.specs.Varlen.{varlen_written}
+use Rattle.binlog_variable_fields.specs.Repeated.{each_written}
+use Rattle.binlog_variable_fields.specs.Varlen.{varlen_written}
 use Rattle.binlog_gtids.proofs.tagged_writing.put_bytes.Given as goal
 
 abbrev pub invariant-loop-byte : goal.invariant-loop-byte

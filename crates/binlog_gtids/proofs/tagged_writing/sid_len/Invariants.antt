@@ -1,6 +1,6 @@
 use Rattle.std.proofs.Common.{◌≡◌, ◌+◌, ◌*◌, ◌≤◌, length, drop}
-use Rattle.binlog_numbers.specs.Repeated.{each_written}
-use Rattle.binlog_numbers.specs.Varlen.{varlen_written}
+use Rattle.binlog_variable_fields.specs.Repeated.{each_written}
+use Rattle.binlog_variable_fields.specs.Varlen.{varlen_written}
 use Rattle.binlog_gtids.specs.TaggedWriting.{sid_field}
 use Rattle.binlog_gtids.proofs.tagged_writing.sid_len.Given as goal
 

@@ -1,7 +1,7 @@
 use Rattle.std.proofs.Common.{◌*◌, arith}
 use Rattle.std.proofs.lemmas.List.{length-append}
-use Rattle.binlog_numbers.specs.Varlen.{varlen_written}
-use Rattle.binlog_numbers.specs.Laws.VarlenWriting.{varlen_size_nine}
+use Rattle.binlog_variable_fields.specs.Varlen.{varlen_written}
+use Rattle.binlog_variable_fields.specs.Laws.VarlenWriting.{varlen_size_nine}
 use Rattle.binlog_gtids.proofs.tagged_writing.signed_len.Goals as goal
 
 pub returns-else-number-clause-count : goal.returns-else-number-clause-count

@@ -1,8 +1,8 @@
 use Rattle.std.proofs.Common.{◌≡◌, ◌++◌, ◌+◌, length, get_or, drop, List, ℕ, refl, arith}
 use Rattle.binlog_mariadb.specs.GtidLists.{gtid_entry}
 use Rattle.binlog_mariadb.specs.declared.maria_gtid.MariaGtid.{MariaGtid}
-use Rattle.binlog_numbers.specs.Repeated.{each_written}
-use Rattle.binlog_numbers.specs.Laws.RepeatedLoops.{written_step, written_left}
+use Rattle.binlog_variable_fields.specs.Repeated.{each_written}
+use Rattle.binlog_variable_fields.specs.Laws.RepeatedLoops.{written_step, written_left}
 use Rattle.binlog_mariadb.proofs.gtid_list.put_entries.Goals as goal
 
 pub put-requires-clause-room : goal.put-requires-clause-room

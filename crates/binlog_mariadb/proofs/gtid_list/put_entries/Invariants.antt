@@ -1,6 +1,6 @@
 use Rattle.std.proofs.Common.{◌≡◌, ◌++◌, ◌+◌, ◌≤◌, length, drop, vec_len, vec_capacity}
 use Rattle.binlog_mariadb.specs.GtidLists.{gtid_entry}
-use Rattle.binlog_numbers.specs.Repeated.{each_written}
+use Rattle.binlog_variable_fields.specs.Repeated.{each_written}
 use Rattle.binlog_mariadb.proofs.gtid_list.put_entries.Given as goal
 
 abbrev pub invariant-loop-entry : goal.invariant-loop-entry

@@ -2,7 +2,7 @@ use Rattle.std.proofs.Common.{Bool, ℕ, subst, sym}
 use Rattle.std.specs.Prelude.{⊤}
 use Rattle.std.proofs.lemmas.Bool.{ne_eqb}
 use Rattle.binlog_wire.specs.Reading.{Gives}
-use Rattle.binlog_numbers.specs.Repeated.{times_at}
+use Rattle.binlog_variable_fields.specs.Repeated.{times_at}
 use Rattle.binlog_mariadb.specs.GtidLists.{entries_by, gtid_entry}
 use Rattle.binlog_mariadb.proofs.gtid_list.read_entries.Goals as goal
 

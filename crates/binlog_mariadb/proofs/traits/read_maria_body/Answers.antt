@@ -1,6 +1,6 @@
 use Rattle.std.proofs.Common.{arith, rules, sym, ◌∙◌}
-use Rattle.binlog_description.specs.DescriptionRefs.{description_of}
-use Rattle.binlog_description.proofs.Whole.{read_whole, read_front}
+use Rattle.binlog_event_format.specs.DescriptionRefs.{description_of}
+use Rattle.binlog_event_format.proofs.Whole.{read_whole, read_front}
 use Rattle.binlog_mariadb.proofs.traits.read_maria_body.Goals as goal
 
 pub returns-then-not-is_empty : goal.returns-then-not-is_empty

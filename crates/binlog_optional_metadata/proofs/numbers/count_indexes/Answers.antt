@@ -1,5 +1,5 @@
 use Rattle.std.proofs.Common.{sym, ◌∙◌, arith}
-use Rattle.binlog_numbers.specs.LenEnc.{lenenc_at}
+use Rattle.binlog_variable_fields.specs.LenEnc.{lenenc_at}
 use Rattle.binlog_optional_metadata.proofs.Columns.{index_is_number}
 use Rattle.binlog_optional_metadata.proofs.ToEnd.{none_so_far, fewer_left, one_so_far, refused_so_far, all_so_far}
 use Rattle.binlog_optional_metadata.specs.Columns.{column_index, index_moves}

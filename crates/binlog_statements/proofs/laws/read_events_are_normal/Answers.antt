@@ -1,6 +1,6 @@
 use Rattle.binlog_consts.specs.declared.event_type.EventType.TheVariants.{QUERY_EVENT}
-use Rattle.binlog_description.specs.DescriptionRefs.{description_of}
-use Rattle.binlog_description.specs.PostHeaders.{post_header}
+use Rattle.binlog_event_format.specs.DescriptionRefs.{description_of}
+use Rattle.binlog_event_format.specs.PostHeaders.{post_header}
 use Rattle.binlog_statements.specs.ExecuteLoadQuery.{execute_load_query}
 use Rattle.binlog_statements.specs.Query.{query}
 use Rattle.binlog_statements.specs.UserVar.{user_var}

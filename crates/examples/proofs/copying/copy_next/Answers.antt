@@ -1,7 +1,7 @@
 use Rattle.std.proofs.lemmas.Result.{err_from_is_err_and}
 use Rattle.binlog_file.specs.EventRefs.{view_of}
 use Rattle.binlog_file.specs.Files.{verification_of}
-use Rattle.examples.proofs.Copied.{event_refused}
+use Rattle.examples.proofs.Steps.{event_refused}
 use Rattle.examples.proofs.copying.copy_next.Goals as goal
 
 pub returns-in_err-write-clause-copies : goal.returns-in_err-write-clause-copies

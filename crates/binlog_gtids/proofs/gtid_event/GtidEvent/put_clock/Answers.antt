@@ -1,6 +1,6 @@
 use Rattle.std.proofs.Common.{arith}
-use Rattle.binlog_numbers.specs.Announced.{announced_written}
-use Rattle.binlog_numbers.specs.LenEnc.{lenenc_written}
+use Rattle.binlog_variable_fields.specs.Announced.{announced_written}
+use Rattle.binlog_variable_fields.specs.LenEnc.{lenenc_written}
 use Rattle.binlog_gtids.specs.Untagged.{logical_times, clock_of}
 use Rattle.binlog_gtids.specs.Laws.UntaggedWriting.{clock_length, length-logical_times, put_four}
 use Rattle.binlog_gtids.proofs.gtid_event.GtidEvent.put_clock.Goals as goal

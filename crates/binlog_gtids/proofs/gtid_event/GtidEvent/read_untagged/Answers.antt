@@ -2,7 +2,7 @@ use Rattle.std.proofs.Common.{◌≡◌, ◌∷◌, ℕ, List, Some, Ok, Err, re
 use Rattle.binlog_wire.specs.Fields.{read_decoded}
 use Rattle.binlog_wire.specs.Laws.{bind_ok}
 use Rattle.binlog_wire.specs.Reading.{Gives, Read, ◌>>=◌, read_as}
-use Rattle.binlog_numbers.specs.Announced.{behind_at}
+use Rattle.binlog_variable_fields.specs.Announced.{behind_at}
 use Rattle.binlog_gtids.specs.declared.gtid_event.GtidEvent.{GtidEvent}
 use Rattle.binlog_gtids.specs.Untagged.{Head, Clock, head, clock, untagged_of, with_clock, without_clock}
 use Rattle.binlog_gtids.specs.Formats.{untagged}

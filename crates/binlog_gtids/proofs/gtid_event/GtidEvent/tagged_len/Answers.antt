@@ -1,5 +1,5 @@
 use Rattle.std.proofs.Common.{◌≡◌, ◌+◌, ◌<◌, ℕ, length, sym, ap, ◌∙◌, arith}
-use Rattle.binlog_numbers.specs.Sized.{least_size}
+use Rattle.binlog_variable_fields.specs.Sized.{least_size}
 use Rattle.binlog_gtids.specs.Tagged.{entries_written, written_size}
 use Rattle.binlog_gtids.specs.Laws.TaggedWriting.{fields_length, tagged_length}
 use Rattle.binlog_gtids.proofs.gtid_event.GtidEvent.tagged_len.Goals as goal

@@ -1,7 +1,7 @@
 use Rattle.std.proofs.Common.{◌≡◌, ℕ, List, Err, sym, subst, ◌∙◌, ne_eqb}
 use Rattle.std.proofs.lemmas.Result.{err_from_is_err_and}
 use Rattle.binlog_wire.specs.Reading.{Read}
-use Rattle.binlog_numbers.specs.Laws.Refusing.{refused_as}
+use Rattle.binlog_variable_fields.specs.Laws.Refusing.{refused_as}
 use Rattle.binlog_gtids.specs.declared.gtid_event.GtidEvent.{GtidEvent}
 use Rattle.binlog_gtids.specs.Gtids.{gtid}
 use Rattle.binlog_gtids.specs.Laws.Gtids.{gtid_untagged}

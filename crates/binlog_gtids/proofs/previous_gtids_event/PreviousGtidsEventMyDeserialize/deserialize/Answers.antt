@@ -3,8 +3,8 @@ use Rattle.std.proofs.Common.{◌≡◌, ℕ, Bool, List, Ok, sym, ap, ◌∙◌
 use Rattle.std.proofs.lemmas.Result.{err_from_is_err_and}
 use Rattle.binlog_wire.specs.Reading.{Read, ◌>>=◌, read_as}
 use Rattle.binlog_wire.specs.Fields.{number_at, read_decoded}
-use Rattle.binlog_numbers.specs.Laws.Refusing.{refused_as}
-use Rattle.binlog_numbers.specs.Repeated.{times_at}
+use Rattle.binlog_variable_fields.specs.Laws.Refusing.{refused_as}
+use Rattle.binlog_variable_fields.specs.Repeated.{times_at}
 use Rattle.binlog_gtids.specs.declared.previous_gtids_event.PreviousGtidsEvent.{PreviousGtidsEvent}
 use Rattle.binlog_gtids.specs.declared.previous_gtids_sid.PreviousGtidsSid.{PreviousGtidsSid}
 use Rattle.binlog_gtids.specs.Formats.{previous_gtids, event_of}

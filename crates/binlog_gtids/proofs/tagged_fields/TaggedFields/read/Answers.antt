@@ -1,10 +1,10 @@
 use Rattle.std.proofs.Common.{◌≡◌, ◌++◌, ◌∷◌, [], ℕ, List, false, Ok, Err, refl, sym, ap, ◌∙◌, arith}
 use Rattle.std.proofs.lemmas.Result.{err_from_is_err_and}
 use Rattle.binlog_wire.specs.Reading.{Read}
-use Rattle.binlog_numbers.specs.Laws.UntilLoops.{shorter, until_more, until_refused}
-use Rattle.binlog_numbers.specs.Laws.Refusing.{refused_as}
-use Rattle.binlog_numbers.specs.Laws.RepeatedLoops.{behind_values}
-use Rattle.binlog_numbers.specs.Varlen.{varlen_at}
+use Rattle.binlog_variable_fields.specs.Laws.UntilLoops.{shorter, until_more, until_refused}
+use Rattle.binlog_variable_fields.specs.Laws.Refusing.{refused_as}
+use Rattle.binlog_variable_fields.specs.Laws.RepeatedLoops.{behind_values}
+use Rattle.binlog_variable_fields.specs.Varlen.{varlen_at}
 use Rattle.binlog_gtids.specs.Laws.EntryReading.{entry_ok, entry_refused}
 use Rattle.binlog_gtids.specs.TaggedFields.{Entry, entry}
 use Rattle.binlog_gtids.specs.Tagged.{fields}

@@ -1,7 +1,7 @@
 use Rattle.std.proofs.Common.{◌≡◌, List, length}
 use Rattle.binlog_wire.specs.Fields.{IsBytes}
-use Rattle.binlog_numbers.specs.Within.{until_at}
-use Rattle.binlog_numbers.specs.Laws.RepeatedLoops.{behind_values}
+use Rattle.binlog_variable_fields.specs.Within.{until_at}
+use Rattle.binlog_variable_fields.specs.Laws.RepeatedLoops.{behind_values}
 use Rattle.binlog_gtids.specs.TaggedFields.{Entry, entry}
 use Rattle.binlog_gtids.specs.Tagged.{fields}
 use Rattle.binlog_gtids.specs.TaggedValues.{is_tail}

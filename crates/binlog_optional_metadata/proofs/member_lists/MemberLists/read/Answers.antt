@@ -1,5 +1,5 @@
 use Rattle.std.proofs.Common.{arith}
-use Rattle.binlog_numbers.specs.Repeated.{times_at}
+use Rattle.binlog_variable_fields.specs.Repeated.{times_at}
 use Rattle.binlog_optional_metadata.proofs.Sequences.{rest_turn, refused_here}
 use Rattle.binlog_optional_metadata.specs.Lists.{text_list}
 use Rattle.binlog_optional_metadata.specs.Names.{names_of}

@@ -1,6 +1,6 @@
 use Rattle.std.proofs.Common.{arith}
-use Rattle.binlog_numbers.specs.LenEncTexts.{lenenc_text}
-use Rattle.binlog_numbers.specs.Repeated.{times_at}
+use Rattle.binlog_variable_fields.specs.LenEncTexts.{lenenc_text}
+use Rattle.binlog_variable_fields.specs.Repeated.{times_at}
 use Rattle.binlog_optional_metadata.proofs.Sequences.{refused_here}
 use Rattle.binlog_optional_metadata.proofs.names.Names.read.Goals as goal
 

@@ -1,6 +1,6 @@
 use Rattle.std.proofs.Common.{arith}
-use Rattle.binlog_numbers.specs.LenEnc.{lenenc_at}
-use Rattle.binlog_numbers.specs.Repeated.{times_at}
+use Rattle.binlog_variable_fields.specs.LenEnc.{lenenc_at}
+use Rattle.binlog_variable_fields.specs.Repeated.{times_at}
 use Rattle.binlog_optional_metadata.proofs.Sequences.{refused_here}
 use Rattle.binlog_optional_metadata.proofs.numbers.Numbers.read.Goals as goal
 

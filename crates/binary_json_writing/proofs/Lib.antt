@@ -1,0 +1,10 @@
+pub mod Seams
+pub mod Scalars
+pub mod Layouts
+pub mod Values
+pub mod Appending
+pub mod Containers
+pub mod Kept
+pub mod Stored
+pub mod Built
+pub mod Copies

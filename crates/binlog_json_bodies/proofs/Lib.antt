@@ -1,0 +1,6 @@
+pub mod Tokens
+pub mod StatusVars
+pub mod BitTokens
+pub mod ClientSets
+pub mod OtherValues
+pub mod MariaValues

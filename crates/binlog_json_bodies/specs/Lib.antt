@@ -1,0 +1,13 @@
+pub mod Shown
+pub mod Bodies
+pub mod MariaBodies
+pub mod Statements
+pub mod StatusVars
+pub mod ClientSets
+pub mod Gtids
+pub mod MariaGtids
+pub mod Rows
+pub mod Compressed
+pub mod Data
+pub mod MariaData
+pub mod Bits

@@ -1,0 +1,22 @@
+//! The data of events as objects of JSON, by the event's type.
+//!
+//! `data_value` has MySQL's types; in a log that MariaDB wrote, `maria_data` has the types 160 to 171, compressed statements and
+//! rows among them.
+#![tactic(auto)]
+
+mod bits;
+mod bodies;
+mod client_sets;
+mod compressed;
+mod data_value;
+mod gtids;
+mod maria_bodies;
+mod maria_data;
+mod maria_gtids;
+mod rows;
+mod statements;
+mod status_vars;
+
+pub use compressed::MOST_BYTES;
+pub use data_value::{write_data, write_data_without_rows, write_name};
+pub use maria_data::write_maria_data;

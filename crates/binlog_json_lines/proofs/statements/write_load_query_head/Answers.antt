@@ -1,5 +1,0 @@
-use Rattle.std.proofs.Common.{append_assoc}
-use Rattle.binlog_json_lines.proofs.statements.write_load_query_head.Goals as goal
-
-pub returns : goal.returns
-returns c = rw (c.in_ok-number_member-3.ensures.added, c.in_ok-number_member-2.ensures.added, c.in_ok-number_member.ensures.added, c.from.ensures, c.thread_id.ensures, c.from-2.ensures, c.execution_time.ensures, c.from-3.ensures, c.error_code.ensures) (simp append_assoc)

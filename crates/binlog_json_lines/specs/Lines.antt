@@ -1,0 +1,114 @@
+-- The lines of JSON of a log, with MariaDB's own events.
+use Rattle.std.specs.Prelude.{◌≡◌, ◌⊎◌, ◌||◌, ℕ, Bool, true, false, not, List, [], ◌∷◌, ◌++◌, codes, take, Option, Result, Ok, Err}
+use Rattle.std.specs.Io.KnownBytes.{Appends}
+use Rattle.std.specs.Option.{option_and_then}
+use Rattle.json.specs.Print.{print}
+use Rattle.json.specs.Token.{Token, string}
+use Rattle.json_line.specs.Tokens.{number_value, bytes_value, or_null, member, object}
+use Rattle.binlog_wire.specs.declared.error.Error.{Error}
+use Rattle.binlog_wire.specs.declared.error.Error.TheVariants.{Memory, Writer}
+use Rattle.binlog_ends.specs.Counts.{AppendsFront}
+use Rattle.binlog_event_format.specs.Headers.{header_of}
+use Rattle.binlog_events.specs.Events.{EventView}
+use Rattle.binlog_events.specs.Parts.{checksum_of}
+use Rattle.binlog_json_lines.specs.ItemLines.{header_members, event_head, data_member, item_line}
+use Rattle.binlog_consts.specs.EventTypes.{event_type_of}
+use Rattle.binlog_rows.specs.declared.table_map_event.TableMapEvent.{TableMapEvent}
+use Rattle.binlog_json_lines.specs.RowMembers.{AreMembers}
+use Rattle.binlog_json_lines.specs.RowEvents.{is_of_rows, table_id_of}
+use Rattle.binlog_file.specs.TableMapsInForce.{TableMaps}
+use Rattle.binlog_mariadb.specs.EventTypes.{maria_event_number, maria_event_type_of}
+use Rattle.binlog_mariadb.specs.Flavour.{IsMariaVersion}
+use Rattle.binlog_mariadb.specs.declared.event_type.MariaEventType.{MariaEventType}
+use Rattle.binlog_mariadb.specs.declared.event_type.UnknownMariaEventType.{UnknownMariaEventType}
+use Rattle.binlog_event_types.specs.MariaNames.{maria_name}
+use Rattle.binlog_json_bodies.specs.MariaData.{IsEventData}
+
+-- The event is of a log that MariaDB wrote, by the server version of the description in force.
+abbrev pub IsOfMaria : EventView → Type 0
+IsOfMaria event = IsMariaVersion (take 50 event.fde.server_version)
+
+-- The event isn't one of MariaDB's own in a log that MariaDB wrote.
+abbrev pub IsOther : EventView → Type 0
+IsOther event = (type : MariaEventType) → maria_event_type_of (header_of event.frame).event_type ≡ Ok type → IsOfMaria event → ⊥
+
+-- The number and the name of the event's type.
+abbrev pub type_members : MariaEventType → List Token
+type_members type = member (codes "type") (number_value (maria_event_number type)) ++ member (codes "name") (string (maria_name type) ∷ [])
+
+-- The members before the data.
+abbrev pub head_members : ℕ → EventView → MariaEventType → List Token
+head_members index event type =
+    member (codes "index") (number_value index)
+    ++ type_members type
+    ++ header_members (header_of event.frame)
+    ++ member (codes "checksum") (or_null bytes_value (checksum_of event.fde.footer event.frame))
+
+-- The tokens are the object of an event of this type.
+pub record IsEventObject (index : ℕ) (event : EventView) (type : MariaEventType) (tokens : List Token) : Type 0 where
+  pub content : List Token
+  pub read : IsEventData event type content
+  pub is : tokens ≡ object (head_members index event type ++ member (codes "data") content)
+
+-- The text is the line of an event of this type: its object, and a line feed.
+pub record IsOwnLine (index : ℕ) (event : EventView) (type : MariaEventType) (text : List ℕ) : Type 0 where
+  pub tokens : List Token
+  pub are : IsEventObject index event type tokens
+  pub is : text ≡ print tokens ++ codes "\n"
+
+-- The text is the line of an event, by its type.
+abbrev pub IsEventLine : ℕ → EventView → Result MariaEventType UnknownMariaEventType → List ℕ → Type 0
+IsEventLine index event (Ok type) text = (IsOfMaria event × IsOwnLine index event type text) ⊎ ((IsOfMaria event → ⊥) × (text ≡ item_line index (Ok event)))
+IsEventLine index event (Err unknown) text = text ≡ item_line index (Ok event)
+
+-- The text is the line of an item.
+abbrev pub IsLine : ℕ → Result EventView Error → List ℕ → Type 0
+IsLine index (Ok event) text = IsEventLine index event (maria_event_type_of (header_of event.frame).event_type) text
+IsLine index (Err error) text = text ≡ item_line index (Err error)
+
+-- The tokens are the object of a row event with its rows, by this table map: the members of its rows are before its data. The data
+-- has the stored rows exactly if they are kept in all lines, or if not all rows are read.
+pub record IsRowsObject (keeps_stored : Bool) (map : Option TableMapEvent) (index : ℕ) (event : EventView) (tokens : List Token) : Type 0 where
+  pub all_read : Bool
+  pub rows : List Token
+  pub read : AreMembers event map all_read rows
+  pub is : tokens ≡ object (event_head index event ++ rows ++ data_member (keeps_stored || not all_read) event)
+
+-- The text is the line of a row event with its rows.
+pub record IsRowsLine (keeps_stored : Bool) (map : Option TableMapEvent) (index : ℕ) (event : EventView) (text : List ℕ) : Type 0 where
+  pub tokens : List Token
+  pub are : IsRowsObject keeps_stored map index event tokens
+  pub is : text ≡ print tokens ++ codes "\n"
+
+-- The text is the line of an event, where a row event has its rows.
+abbrev pub IsLineOf : (is_row_event : Bool) → (keeps_stored : Bool) → Option TableMapEvent → ℕ → EventView → List ℕ → Type 0
+IsLineOf true keeps_stored map index event text = IsRowsLine keeps_stored map index event text
+IsLineOf false keeps_stored map index event text = IsLine index (Ok event) text
+
+abbrev pub IsLineWith : (keeps_stored : Bool) → Option TableMapEvent → ℕ → EventView → List ℕ → Type 0
+IsLineWith keeps_stored map index event text = IsLineOf (is_of_rows (event_type_of (header_of event.frame).event_type)) keeps_stored map index event text
+
+-- The table map in force for the table id of a row event.
+abbrev pub map_of_event : TableMaps → EventView → Option TableMapEvent
+map_of_event maps event = option_and_then maps (table_id_of event)
+
+-- The text is the line of an item, where a row event has its rows and these table maps are in force behind the item.
+abbrev pub IsLineIn : (keeps_stored : Bool) → TableMaps → ℕ → Result EventView Error → List ℕ → Type 0
+IsLineIn keeps_stored maps index (Ok event) text = IsLineWith keeps_stored (map_of_event maps event) index event text
+IsLineIn keeps_stored maps index (Err error) text = IsLine index (Err error) text
+
+-- The line of the item is written.
+pub record WritesLine (keeps_stored : Bool) (maps : TableMaps) (index : ℕ) (item : Result EventView Error) (old new : Option (List ℕ)) : Type 0 where
+  pub text : List ℕ
+  pub line : IsLineIn keeps_stored maps index item text
+  pub written : Appends old new text
+
+-- A prefix of the line of the item is written.
+pub record WritesFront (keeps_stored : Bool) (maps : TableMaps) (index : ℕ) (item : Result EventView Error) (old new : Option (List ℕ)) : Type 0 where
+  pub text : List ℕ
+  pub line : IsLineIn keeps_stored maps index item text
+  pub written : AppendsFront old new text
+
+-- The line isn't written whole: the writer failed, or an allocation for the line.
+abbrev pub WritesNoLine : (keeps_stored : Bool) → TableMaps → ℕ → Result EventView Error → Option (List ℕ) → Error → Option (List ℕ) → Type 0
+WritesNoLine keeps_stored maps index item old error new = ((error ≡ Writer) × WritesFront keeps_stored maps index item old new) ⊎ ((error ≡ Memory) × (new ≡ old))

@@ -1,0 +1,257 @@
+//! The line of an item.
+#![tactic(auto, using(std::proofs::Common::append_assoc))]
+
+ghost use Rattle.std.specs.Prelude.{◌≡◌, ◌||◌, ℕ, IfErr, IfOk, MatchOption, Ok, Err, option_copied, true, not};
+ghost use Rattle.json_line.specs.Tokens.{Adds};
+ghost use Rattle.binlog_wire.specs.declared.error.Error.TheVariants.{Memory};
+ghost use Rattle.binlog_event_format.specs.Headers.{header_of};
+ghost use Rattle.binlog_events.specs.EventRefs.{view_of};
+ghost use Rattle.binlog_mariadb.specs.EventTypes.{maria_event_type_of};
+ghost use Rattle.binlog_json_lines.specs.ItemLines.{item_line};
+ghost use Rattle.binlog_json_bodies.specs.Shown.{Shows};
+ghost use Rattle.binlog_json_lines.specs.Lines.{IsOfMaria, IsOther, type_members, head_members, IsEventObject, IsOwnLine, IsLine, IsRowsObject, IsRowsLine, IsLineWith};
+
+use crate::event_members::{
+    write_data_member, write_error, write_event, write_event_head, write_header,
+};
+use crate::row_events::is_row_event;
+use crate::row_members::RowsWriter;
+use binlog_event_types::maria_name_of;
+use binlog_file::{Error, EventRef, TableMapEvent};
+use binlog_json_bodies::write_maria_data;
+use binlog_mariadb::{MariaEventType, is_maria_log};
+use json_line::Line;
+use std::alloc::{AllocError, Global};
+
+/// Makes the lines of JSON of a log, in memory that is reused from line to line.
+#[derive(Drop)]
+pub struct JsonLines {
+    line: Line,
+    text: String,
+    rows: RowsWriter,
+}
+
+impl JsonLines {
+    /// An empty line. Nothing is allocated.
+    pub fn new(alloc: Global) -> Self {
+        JsonLines {
+            line: Line::new(alloc),
+            text: String::new(alloc),
+            rows: RowsWriter::new(alloc),
+        }
+    }
+
+    /// The line of an event, its line feed included. One of MariaDB's own events has the line of its type if MariaDB wrote
+    /// the log, by the server version of the description in force.
+    ///
+    /// # Errors
+    ///
+    /// [`Error::Memory`] if an allocation fails.
+    pub fn event_line(
+        &mut self,
+        alloc: Global,
+        index: u64,
+        event: &EventRef<'_>,
+    ) -> Result<&[u8], Error>
+        ensures line { IfOk result (λ text. IsLine index (Ok (view_of event.now)) text.now) }
+        ensures memory { IfErr result (λ e. e ≡ Memory) }
+    {
+        match own_type(event) {
+            Some(event_type) => self.own_line(alloc, index, event_type, event),
+            None => self.other_line(alloc, index, event),
+        }
+    }
+
+    /// The line of an event, with the rows of a row event: before `data` its object has the members `table` and `rows`. The
+    /// table map is the one in force for the event's table id; one of another table id counts as none. The data has the
+    /// stored bytes of the rows, `rows_data`, if `keeps_stored` is true, and else only if `rows` doesn't have all rows. Any
+    /// other event has the line that [`JsonLines::event_line`] makes.
+    ///
+    /// # Errors
+    ///
+    /// [`Error::Memory`] if an allocation fails.
+    pub fn event_line_with_rows(
+        &mut self,
+        alloc: Global,
+        index: u64,
+        event: &EventRef<'_>,
+        table_map: Option<&TableMapEvent<'_>>,
+        keeps_stored: bool,
+    ) -> Result<&[u8], Error>
+        ensures line { IfOk result (λ text. IsLineWith keeps_stored (option_copied table_map.entry) index (view_of event.now) text.now) }
+        ensures memory { IfErr result (λ e. e ≡ Memory) }
+    {
+        if is_row_event(event) {
+            self.rows_line(alloc, index, event, table_map, keeps_stored)
+        } else {
+            self.event_line(alloc, index, event)
+        }
+    }
+
+    // The line of a row event with its rows.
+    fn rows_line(
+        &mut self,
+        alloc: Global,
+        index: u64,
+        event: &EventRef<'_>,
+        table_map: Option<&TableMapEvent<'_>>,
+        keeps_stored: bool,
+    ) -> Result<&[u8], Error>
+        ensures line { IfOk result (λ text. IsRowsLine keeps_stored (option_copied table_map.entry) index (view_of event.now) text.now) }
+        ensures memory { IfErr result (λ e. e ≡ Memory) }
+    {
+        self.line.clear();
+        write_rows_event(
+            &mut self.line,
+            &mut self.rows,
+            alloc,
+            index,
+            event,
+            table_map,
+            keeps_stored,
+        )?;
+        Ok(self.line.end()?)
+    }
+
+    /// The line of an error that is in the place of an event.
+    ///
+    /// # Errors
+    ///
+    /// [`Error::Memory`] if an allocation fails.
+    pub fn error_line(&mut self, index: u64, error: &Error) -> Result<&[u8], Error>
+        ensures line { IfOk result (λ text. IsLine index (Err error.now) text.now) }
+        ensures memory { IfErr result (λ e. e ≡ Memory) }
+    {
+        self.line.clear();
+        write_error(&mut self.line, index, error)?;
+        Ok(self.line.end()?)
+    }
+
+    // The line of an event of one of MariaDB's own types.
+    fn own_line(
+        &mut self,
+        alloc: Global,
+        index: u64,
+        event_type: MariaEventType,
+        event: &EventRef<'_>,
+    ) -> Result<&[u8], Error>
+        requires { maria_event_type_of (header_of (view_of event.now).frame).event_type ≡ Ok event_type }
+        ensures line { IfOk result (λ text. IsOwnLine index (view_of event.now) event_type text.now) }
+        ensures memory { IfErr result (λ e. e ≡ Memory) }
+    {
+        self.line.clear();
+        write_own_event(
+            &mut self.line,
+            &mut self.text,
+            alloc,
+            index,
+            event_type,
+            event,
+        )?;
+        Ok(self.line.end()?)
+    }
+
+    // The line of any other event.
+    fn other_line(
+        &mut self,
+        alloc: Global,
+        index: u64,
+        event: &EventRef<'_>,
+    ) -> Result<&[u8], Error>
+        ensures line { IfOk result (λ text. text.now ≡ item_line index (Ok (view_of event.now))) }
+        ensures memory { IfErr result (λ e. e ≡ Memory) }
+    {
+        self.line.clear();
+        write_event(&mut self.line, alloc, index, event)?;
+        Ok(self.line.end()?)
+    }
+}
+
+// The type of an event if it is one of MariaDB's own in a log that MariaDB wrote.
+fn own_type(event: &EventRef<'_>) -> Option<MariaEventType>
+    ensures { MatchOption result (IsOther (view_of event.now))
+        (λ type. IsOfMaria (view_of event.now) × (maria_event_type_of (header_of (view_of event.now).frame).event_type ≡ Ok type)) }
+{
+    let Ok(event_type) = MariaEventType::try_from(event.header().event_type_raw()) else {
+        return None;
+    };
+    if is_maria_log(&event.fde()) {
+        Some(event_type)
+    } else {
+        None
+    }
+}
+
+// Writes the object of an event of this type.
+fn write_own_event(
+    line: &mut Line,
+    text: &mut String,
+    alloc: Global,
+    index: u64,
+    event_type: MariaEventType,
+    event: &EventRef<'_>,
+) -> Result<(), AllocError>
+    requires { maria_event_type_of (header_of (view_of event.now).frame).event_type ≡ Ok event_type }
+    ensures { Shows result line.old line.new (IsEventObject index (view_of event.now) event_type) }
+{
+    line.begin_object()?;
+    write_head(line, index, event_type, event)?;
+    line.key("data")?;
+    write_maria_data(line, text, alloc, event_type, event)?;
+    line.end_object()?;
+    Ok(())
+}
+
+// Writes the object of a row event with its rows.
+fn write_rows_event(
+    line: &mut Line,
+    rows: &mut RowsWriter,
+    alloc: Global,
+    index: u64,
+    event: &EventRef<'_>,
+    table_map: Option<&TableMapEvent<'_>>,
+    keeps_stored: bool,
+) -> Result<(), AllocError>
+    ensures { Shows result line.old line.new (IsRowsObject keeps_stored (option_copied table_map.entry) index (view_of event.now)) }
+{
+    line.begin_object()?;
+    write_event_head(line, index, event)?;
+    let all_read = rows.write_members(line, alloc, event, table_map)?;
+    let has_stored_rows = has_stored_rows(keeps_stored, all_read);
+    write_data_member(line, alloc, event, has_stored_rows)?;
+    line.end_object()?;
+    Ok(())
+}
+
+// Whether the data of a row event has the stored bytes of its rows.
+fn has_stored_rows(keeps_stored: bool, all_read: bool) -> bool
+    ensures { result ≡ (keeps_stored || not all_read) }
+{
+    keeps_stored || !all_read
+}
+
+// Writes the members before the data.
+fn write_head(
+    line: &mut Line,
+    index: u64,
+    event_type: MariaEventType,
+    event: &EventRef<'_>,
+) -> Result<(), AllocError>
+    ensures { Adds result line.old line.new (head_members index (view_of event.now) event_type) }
+{
+    line.number_member("index", index)?;
+    write_type(line, event_type)?;
+    write_header(line, &event.header())?;
+    line.key("checksum")?;
+    line.checksum_or_null(event.checksum())?;
+    Ok(())
+}
+
+// Writes the number and the name of a type.
+fn write_type(line: &mut Line, event_type: MariaEventType) -> Result<(), AllocError>
+    ensures { Adds result line.old line.new (type_members event_type) }
+{
+    line.number_member("type", u64::from(u8::from(event_type)))?;
+    line.key("name")?;
+    line.plain_string(maria_name_of(event_type))
+}

@@ -1,0 +1,219 @@
+//! The members `table`, `metadata` and `rows`.
+#![tactic(auto, using(std::proofs::Common::append_assoc))]
+
+ghost use Rattle.std.specs.Prelude.{◌≡◌, ◌++◌, [], ◌∷◌, codes, Bool, None, option_copied, IfOk};
+ghost use Rattle.json.specs.Token.{key};
+ghost use Rattle.json_line.specs.Tokens.{Adds, text_value};
+ghost use Rattle.binlog_wire.specs.Fields.{IsBytes};
+ghost use Rattle.binlog_events.specs.EventRefs.{view_of};
+ghost use Rattle.binlog_rows.specs.RowsData.{event_in};
+ghost use Rattle.binlog_columns.specs.Refusals.{refusal};
+ghost use Rattle.binlog_json_lines.specs.RowMembers.{name_of, unmapped_members, rows_error, map_for, ShowsStatedRows, AreRowsMembers, AreEventMembers, AreBodyMembers, AreMembers};
+ghost use Rattle.binlog_json_lines.specs.Refusals.{metadata_member};
+ghost use Rattle.binlog_json_lines.specs.RowEvents.{rows_in};
+ghost use Rattle.binlog_json_bodies.specs.Shown.{ShowsBy};
+
+use crate::refusals::{write_metadata_refusal, write_refusal};
+use crate::row_events::is_row_event;
+use binlog_event_data::EventData;
+use binlog_events::EventRef;
+use binlog_images::{Rows, RowsEventExt};
+use binlog_json_values::ValueWriter;
+use binlog_mariadb::is_maria_log;
+use binlog_optional_metadata::{OptionalMetadataError, TableFacts, TableMapColumns};
+use binlog_rows::{RowsEventData, TableMapEvent};
+use json_line::Line;
+use std::alloc::{AllocError, Global};
+
+/// Writes the rows of row events, in memory that is reused from event to event.
+#[derive(Drop)]
+pub struct RowsWriter {
+    values: ValueWriter,
+    name: Vec<u8>,
+}
+
+// Writes the members of an event without a table map in force.
+fn write_unmapped(line: &mut Line) -> Result<(), AllocError>
+    ensures { Adds result line.old line.new unmapped_members }
+{
+    line.key("table")?;
+    line.null()?;
+    line.key("rows")?;
+    line.null()
+}
+
+// Bytes are below 256, which is a premise of how they split into rows.
+fn are_bytes(bytes: &[u8])
+    ensures { IsBytes bytes.now }
+{}
+
+// Writes the member for the first field of the optional metadata that is refused, if one is.
+fn write_metadata(
+    line: &mut Line,
+    refusal: &Option<OptionalMetadataError>,
+) -> Result<(), AllocError>
+    ensures { Adds result line.old line.new (metadata_member refusal.now) }
+{
+    match refusal {
+        Some(error) => {
+            line.key("metadata")?;
+            write_metadata_refusal(line, error)
+        }
+        None => Ok(()),
+    }
+}
+
+// The table map, if it is of the table id of the event.
+fn map_for<'a, 'b>(
+    event: &RowsEventData<'_>,
+    table_map: Option<&'a TableMapEvent<'b>>,
+) -> Option<&'a TableMapEvent<'b>>
+    ensures { option_copied result ≡ map_for (event_in event.now) (option_copied table_map.entry) }
+{
+    match table_map {
+        Some(table_map) if table_map.table_id() == event.table_id() => Some(table_map),
+        _ => None,
+    }
+}
+
+impl RowsWriter {
+    /// A writer. Nothing is allocated.
+    pub fn new(alloc: Global) -> Self {
+        RowsWriter {
+            values: ValueWriter::new(alloc),
+            name: Vec::new(alloc),
+        }
+    }
+
+    /// Writes the members `table` and `rows` of a row event, and between them `metadata` where a field of the table map's
+    /// optional metadata is refused; nothing for an event of another type, or one whose data isn't that of a row event. The
+    /// table map is the one in force for the event's table id; one of another table id counts as none. The memory that is
+    /// taken is that of a value's text, and of the facts of the table's columns.
+    ///
+    /// The result is whether `rows` has all rows of the event: false if one is refused, or if they can't be read at all, and for
+    /// any other event.
+    ///
+    /// # Errors
+    ///
+    /// [`AllocError`] if an allocation fails. Some tokens may then have been written.
+    pub fn write_members(
+        &mut self,
+        line: &mut Line,
+        alloc: Global,
+        event: &EventRef<'_>,
+        table_map: Option<&TableMapEvent<'_>>,
+    ) -> Result<bool, AllocError>
+        ensures { ShowsBy result line.old line.new (AreMembers (view_of event.now) (option_copied table_map.entry)) }
+    {
+        if !is_row_event(event) {
+            return Ok(false);
+        }
+        match event.read_data(alloc) {
+            Ok(Some(body)) => {
+                let is_maria_log = is_maria_log(&event.fde());
+                let written = self.write_body(line, alloc, &body, table_map, is_maria_log);
+                drop(body);
+                written
+            }
+            Ok(None) => Ok(false),
+            Err(_) => Ok(false),
+        }
+    }
+
+    // Writes the members of a body, if it is a row event.
+    fn write_body(
+        &mut self,
+        line: &mut Line,
+        alloc: Global,
+        body: &EventData<'_>,
+        table_map: Option<&TableMapEvent<'_>>,
+        is_maria_log: bool,
+    ) -> Result<bool, AllocError>
+        ensures { ShowsBy result line.old line.new (AreBodyMembers is_maria_log (option_copied table_map.entry) (rows_in body.now)) }
+    {
+        match body {
+            EventData::RowsEvent(event) => {
+                self.write_event(line, alloc, event, map_for(event, table_map), is_maria_log)
+            }
+            _ => Ok(false),
+        }
+    }
+
+    // Writes the members of a row event.
+    fn write_event(
+        &mut self,
+        line: &mut Line,
+        alloc: Global,
+        body: &RowsEventData<'_>,
+        table_map: Option<&TableMapEvent<'_>>,
+        is_maria_log: bool,
+    ) -> Result<bool, AllocError>
+        ensures { ShowsBy result line.old line.new (AreEventMembers is_maria_log body.now (option_copied table_map.entry)) }
+    {
+        let Some(table_map) = table_map else {
+            write_unmapped(line)?;
+            return Ok(false);
+        };
+        line.key("table")?;
+        self.write_name(line, table_map)?;
+        self.write_rows(line, alloc, body, table_map, is_maria_log)
+    }
+
+    // Writes the name of a table, with that of its schema.
+    fn write_name(
+        &mut self,
+        line: &mut Line,
+        table_map: &TableMapEvent<'_>,
+    ) -> Result<(), AllocError>
+        ensures { Adds result line.old line.new (text_value (name_of table_map.now)) }
+    {
+        self.name.clear();
+        self.name.extend_from_slice(table_map.database_name_raw())?;
+        self.name.push(b'.').map_err(AllocError::from)?;
+        self.name.extend_from_slice(table_map.table_name_raw())?;
+        line.text(&self.name)
+    }
+
+    // Writes the members behind the name of the table.
+    fn write_rows(
+        &mut self,
+        line: &mut Line,
+        alloc: Global,
+        body: &RowsEventData<'_>,
+        table_map: &TableMapEvent<'_>,
+        is_maria_log: bool,
+    ) -> Result<bool, AllocError>
+        ensures { ShowsBy result line.old line.new (AreRowsMembers is_maria_log body.now table_map.now (rows_error table_map.now body.now)) }
+    {
+        are_bytes(body.rows_data());
+        match body.rows(table_map) {
+            Ok(rows) => self.write_split_rows(line, alloc, rows, table_map, is_maria_log),
+            Err(error) => {
+                line.key("rows")?;
+                write_refusal(line, &error)?;
+                Ok(false)
+            }
+        }
+    }
+
+    // Writes what is refused of the table's metadata, and the rows into which the bytes of an event split, with what the table
+    // map states of their columns.
+    fn write_split_rows(
+        &mut self,
+        line: &mut Line,
+        alloc: Global,
+        rows: Rows<'_>,
+        table_map: &TableMapEvent<'_>,
+        is_maria_log: bool,
+    ) -> Result<bool, AllocError>
+        requires { refusal 0 table_map.now.columns.types table_map.now.columns.metadata ≡ None }
+        ensures { IsBytes rows.entry.rest.now → IfOk result (λ all_read. ShowsStatedRows is_maria_log table_map.now rows.entry all_read line.old line.new) }
+    {
+        let columns = table_map.table_columns().unwrap();
+        let optional_metadata = table_map.optional_metadata_raw();
+        let facts = TableFacts::new(alloc, columns, optional_metadata, is_maria_log)?;
+        write_metadata(line, &facts.refusal)?;
+        line.key("rows")?;
+        self.values.write_rows(line, &facts.columns, rows)
+    }
+}

@@ -1,0 +1,16 @@
+mod Parts
+mod FourParts
+mod FixedValues
+mod RowTexts
+mod Padding
+mod PlainTexts
+mod SetTexts
+mod EnumTexts
+mod Commas
+mod JsonDocuments
+mod DiffLists
+mod Visits
+mod RowLists
+mod FirstRows
+mod Presence
+mod RowSteps

@@ -1,0 +1,39 @@
+-- Documents of JSON columns and lists of diffs as tokens.
+use Rattle.std.specs.Prelude.{ℕ, ◌&&◌, Bool, List, [], ◌∷◌, ◌++◌, codes, map, is_none, if◌then◌else◌}
+use Rattle.json.specs.Token.{Token, begin_object, end_object, key}
+use Rattle.json_line.specs.Tokens.{bytes_value, member, object}
+use Rattle.binary_json.specs.Values.{Json}
+use Rattle.binary_json.specs.Refusals.{document_refusal}
+use Rattle.binary_json.specs.Decoding.{document_value}
+use Rattle.binary_json.specs.Diffs.{diff_items}
+use Rattle.binary_json_lines.specs.HasText.{has_text}
+use Rattle.binary_json_lines.specs.Parts as documents
+use Rattle.binary_json_lines.specs.Documents.{value_parts}
+use Rattle.binary_json_lines.specs.Diffs.{items_have_text, diffs_parts}
+use Rattle.binlog_json_values.specs.Parts.{Part, exactly, in_document, exact}
+
+-- An object with one member, the hexadecimal digits of bytes that aren't decoded.
+abbrev pub encoded_value : List ℕ → List ℕ → List Token
+encoded_value name s = object (member name (bytes_value s))
+
+-- Bytes are a document that has a text.
+abbrev pub is_text_document : List ℕ → Bool
+is_text_document s = is_none (document_refusal s) && has_text (document_value s)
+
+-- An object with one member, what is decoded.
+abbrev pub decoded_parts : List ℕ → List documents.Part → List Part
+decoded_parts name parts = exactly begin_object ∷ exactly (key name) ∷ (map in_document parts ++ exactly end_object ∷ [])
+
+-- The value of a document.
+abbrev pub shown_parts : Json → List Part
+shown_parts v = decoded_parts (codes "json") (value_parts v)
+
+-- The bytes of a JSON column: the value, if they are a document that has a text, else the digits. Which bytes are which value is the
+-- grammar's to say (`documents_are_shown` and `other_bytes_are_digits`).
+unfoldable pub json_parts : List ℕ → List Part
+json_parts s = if is_text_document s then shown_parts (document_value s) else exact (encoded_value (codes "jsonb") s)
+
+-- The bytes of a list of diffs: an array of them, if they are such a list, and it has a text, else the digits. Which bytes are which list
+-- is the grammar's to say (`diffs_are_shown` and `other_lists_are_digits`).
+unfoldable pub diff_list_parts : List ℕ → List Part
+diff_list_parts s = if items_have_text (diff_items s) then decoded_parts (codes "diffs") (diffs_parts (diff_items s)) else exact (encoded_value (codes "diffs") s)

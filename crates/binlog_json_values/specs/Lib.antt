@@ -1,0 +1,11 @@
+pub mod Parts
+pub mod Numbers
+pub mod Texts
+pub mod Members
+pub mod Times
+pub mod Documents
+pub mod Values
+pub mod Rows
+pub mod Written
+pub mod Brackets
+pub mod RowWriting

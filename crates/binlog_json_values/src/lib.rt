@@ -1,0 +1,24 @@
+//! The values of row events as JSON.
+//!
+//! `specs/Values` defines the tokens of a value. For two kinds of values it says what the text means, and not its digits:
+//! the text of a floating-point number reads back as the same number, and that of a timestamp is the date with its day
+//! number.
+#![tactic(auto)]
+
+mod digits;
+mod documents;
+pub mod laws;
+mod members;
+mod names;
+mod numbers;
+mod refusals;
+mod row_writer;
+mod rows;
+mod strings;
+mod texts;
+mod times;
+mod timestamps;
+mod values;
+
+pub use binlog_optional_metadata::ColumnFacts;
+pub use values::ValueWriter;

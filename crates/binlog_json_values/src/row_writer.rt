@@ -1,0 +1,241 @@
+//! Rows as JSON, written as they are read.
+ghost use Rattle.std.specs.Prelude.{◌≡◌, ◌||◌, drop, IfOk, OnOk};
+ghost use Rattle.json_line.specs.Tokens.{Adds};
+ghost use Rattle.binlog_images.specs.ColumnValues.{cell_of};
+ghost use Rattle.binlog_wire.specs.Fields.{IsBytes};
+ghost use Rattle.binlog_json_values.specs.Brackets.{closing, row_begins, after_begins, after_if, row_ends, begins_after};
+ghost use Rattle.binlog_json_values.specs.Parts.{Writes};
+ghost use Rattle.binlog_json_values.specs.Written.{HasImages};
+
+use crate::refusals::write_refusal;
+use crate::values::ValueWriter;
+use binlog_images::{ColumnValue, ColumnVisitor, ImageKind, Rows};
+use binlog_optional_metadata::ColumnFacts;
+use json_line::Line;
+use std::alloc::AllocError;
+
+/// Ends an object, if wanted.
+fn end_if(line: &mut Line, wanted: bool) -> Result<(), AllocError>
+    ensures { Adds result line.old line.new (closing wanted) }
+{
+    if wanted { line.end_object() } else { Ok(()) }
+}
+
+/// Begins a row, and its image before if it has one.
+fn begin_row(line: &mut Line, has_before: bool) -> Result<(), AllocError>
+    ensures { Adds result line.old line.new (row_begins has_before) }
+{
+    if !has_before {
+        return line.begin_object();
+    }
+    line.begin_object()?;
+    line.key("before")?;
+    line.begin_object()
+}
+
+/// Ends the image before, if the row has one, and begins the image after.
+fn begin_after(line: &mut Line, has_before: bool) -> Result<(), AllocError>
+    ensures { Adds result line.old line.new (after_begins has_before) }
+{
+    end_if(line, has_before)?;
+    line.key("after")?;
+    line.begin_object()
+}
+
+/// The same, if wanted.
+fn begin_after_if(line: &mut Line, wanted: bool, has_before: bool) -> Result<(), AllocError>
+    ensures { Adds result line.old line.new (after_if wanted has_before) }
+{
+    if wanted {
+        begin_after(line, has_before)
+    } else {
+        Ok(())
+    }
+}
+
+/// Ends a row that has these images. `after_begun` says whether its image after is begun: it isn't if it has no columns.
+fn end_row(
+    line: &mut Line,
+    has_before: bool,
+    has_after: bool,
+    after_begun: bool,
+) -> Result<(), AllocError>
+    ensures { Adds result line.old line.new (row_ends has_before has_after after_begun) }
+{
+    begin_after_if(line, has_after && !after_begun, has_before)?;
+    end_if(line, has_before || has_after)?;
+    line.end_object()
+}
+
+/// Whether this column is the first of the image after.
+fn begins_after(image: ImageKind, index: u64) -> bool
+    ensures { result ≡ begins_after image index }
+{
+    match image {
+        ImageKind::Before => false,
+        ImageKind::After => index == 0,
+    }
+}
+
+/// Whether the first row that is left has an image before and one after.
+fn images_of(rows: &Rows<'_>) -> (bool, bool)
+    ensures { HasImages result.0 result.1 rows.now }
+{
+    let mut rest = *rows;
+    match rest.next() {
+        Some(Ok(row)) => (row.before().is_some(), row.after().is_some()),
+        _ => (false, false),
+    }
+}
+
+/// Writes rows: it is shown their columns, and writes each as it is read.
+#[derive(Drop)]
+pub(crate) struct RowWriter<'a, 'b> {
+    pub(crate) values: ValueWriter,
+    pub(crate) line: Line,
+    columns: &'a [ColumnFacts<'b>],
+    /// Whether each row has an image before.
+    has_before: bool,
+    /// Whether each row has an image after.
+    has_after: bool,
+    /// Whether the image after of the row is begun.
+    after_begun: bool,
+    /// Whether an allocation failed.
+    failed: bool,
+}
+
+impl<'a, 'b> RowWriter<'a, 'b> {
+    ghost use Rattle.binlog_json_values.specs.RowWriting.{Keeps, first_member, WroteColumn, WritesNext, WritesRest};
+
+    /// A writer of these rows, of a table with these columns, at the end of the line.
+    pub(crate) fn new(
+        values: ValueWriter,
+        line: Line,
+        columns: &'a [ColumnFacts<'b>],
+        rows: &Rows<'_>,
+    ) -> Self
+        ensures line { result.line ≡ line }
+        ensures columns { result.columns.now ≡ columns.now }
+        ensures images { HasImages result.has_before result.has_after rows.now }
+    {
+        let (has_before, has_after) = images_of(rows);
+        RowWriter {
+            values,
+            line,
+            columns,
+            has_before,
+            has_after,
+            after_begun: false,
+            failed: false,
+        }
+    }
+
+    /// Begins the image after, if this column is its first.
+    fn begin_image(&mut self, image: ImageKind, index: u64) -> Result<(), AllocError>
+        ensures kept { Keeps self.old self.new }
+        ensures failed { self.new.failed ≡ self.old.failed }
+        ensures begun { OnOk result (self.new.after_begun ≡ begins_after image index || self.old.after_begun) }
+        ensures added { Adds result self.old.line self.new.line (after_if (begins_after image index) self.old.has_before) }
+    {
+        if !begins_after(image, index) {
+            return Ok(());
+        }
+        begin_after(&mut self.line, self.has_before)?;
+        self.after_begun = true;
+        Ok(())
+    }
+
+    /// Writes the member of the column with this index; nothing if it is beyond the table's columns.
+    fn write_member(&mut self, index: u64, value: &ColumnValue<'_>) -> Result<(), AllocError>
+        ensures kept { Keeps self.old self.new }
+        ensures failed { self.new.failed ≡ self.old.failed }
+        ensures begun { self.new.after_begun ≡ self.old.after_begun }
+        ensures written { Writes result self.old.line self.new.line (first_member index (drop index self.old.columns.now) (cell_of value.now)) }
+    {
+        let columns = self.columns;
+        match columns.get(index as usize) {
+            Some(facts) => self.values.write_cell(&mut self.line, facts, index, value),
+            None => Ok(()),
+        }
+    }
+
+    /// Writes the member of the column with this index of an image, behind the beginning of an image after if it is its first.
+    fn write_column(
+        &mut self,
+        image: ImageKind,
+        index: u64,
+        value: &ColumnValue<'_>,
+    ) -> Result<(), AllocError>
+        ensures kept { Keeps self.old self.new }
+        ensures failed { self.new.failed ≡ self.old.failed }
+        ensures written { OnOk result (WroteColumn self.old image index (cell_of value.now) self.new) }
+    {
+        self.begin_image(image, index)?;
+        self.write_member(index, value)
+    }
+
+    /// Writes the next row that is left, or why it is refused; the result is whether it is read. None if no row is left.
+    fn write_next(&mut self, rows: &mut Rows<'_>) -> Result<Option<bool>, AllocError>
+        requires { HasImages self.old.has_before self.old.has_after rows.old }
+        ensures kept { Keeps self.old self.new }
+        ensures written { IfOk result (λ read. WritesNext self.old.columns.now rows.old self.old.line read rows.new self.new.line) }
+    {
+        let start = self.line.mark();
+        begin_row(&mut self.line, self.has_before)?;
+        self.after_begun = false;
+        let Some(visited) = rows.visit_next(self) else {
+            self.line.cut(start);
+            return Ok(None);
+        };
+        if self.failed {
+            return Err(AllocError);
+        }
+        match visited {
+            Ok(()) => {
+                end_row(
+                    &mut self.line,
+                    self.has_before,
+                    self.has_after,
+                    self.after_begun,
+                )?;
+                Ok(Some(true))
+            }
+            Err(error) => {
+                self.line.cut(start);
+                write_refusal(&mut self.line, &error)?;
+                Ok(Some(false))
+            }
+        }
+    }
+
+    /// Writes the rows that are left, up to the last or to the first that is refused. The result is whether all are read.
+    pub(crate) fn write_rest(&mut self, rows: Rows<'_>) -> Result<bool, AllocError>
+        requires { HasImages self.old.has_before self.old.has_after rows }
+        ensures { IsBytes rows.entry.rest.now → IfOk result (λ all_read. WritesRest self.old.columns.now rows.entry all_read self.old.line self.new.line) }
+    {
+        let mut rest = rows;
+        'rows: while let Some(is_read) = self.write_next(&mut rest)? {
+            if !is_read {
+                return Ok(false);
+            }
+        }
+        Ok(true)
+    }
+}
+
+/// Writes the column, unless an allocation failed before.
+impl ColumnVisitor for RowWriter<'_, '_> {
+    ghost use Rattle.binlog_json_values.specs.RowWriting.{ShowsColumn};
+
+    ghost visits = { ShowsColumn };
+
+    #[inline(always)]
+    fn visit_column(&mut self, image: ImageKind, index: u64, value: ColumnValue<'_>) {
+        if self.failed {
+            return;
+        }
+        if self.write_column(image, index, &value).is_err() {
+            self.failed = true;
+        }
+    }
+}

@@ -1,0 +1,177 @@
+//! Rows as JSON.
+#![tactic(auto, using(std::proofs::Common::append_assoc))]
+
+ghost use Rattle.std.specs.Prelude.{◌≡◌, ◌+◌, ◌<◌, ◌^◌, ◌++◌, ◌∷◌, [], drop, Option, option_map, IfOk};
+ghost use Rattle.std.specs.String.{string_bytes};
+ghost use Rattle.json.specs.Token.{key};
+ghost use Rattle.json_line.specs.Lines.{IsPlainText};
+ghost use Rattle.json_line.specs.Tokens.{Adds};
+ghost use Rattle.binlog_wire.specs.Fields.{IsBytes};
+ghost use Rattle.binlog_images.specs.ColumnValues.{cell_of};
+ghost use Rattle.binlog_images.specs.ImageCells.{cells_of};
+ghost use Rattle.binlog_images.specs.RowCells.{row_cells, answer_row};
+ghost use Rattle.binlog_optional_metadata.specs.Facts.{facts_of};
+ghost use Rattle.binlog_json_values.specs.Parts.{Writes};
+ghost use Rattle.binlog_json_values.specs.Rows.{column_name, cell_parts, first_parts, image_parts, image_member, row_parts};
+ghost use Rattle.binlog_json_values.specs.Written.{ShowsRows};
+
+use crate::documents::write_diff_list;
+use crate::row_writer::RowWriter;
+use crate::values::ValueWriter;
+use binlog_images::{ColumnValue, Image, Row, Rows};
+use binlog_optional_metadata::ColumnFacts;
+use json_line::Line;
+use std::alloc::AllocError;
+
+impl ValueWriter {
+    /// Writes the name of the column with this index, counted from 0.
+    fn write_name(
+        &mut self,
+        line: &mut Line,
+        facts: &ColumnFacts<'_>,
+        index: u64,
+    ) -> Result<(), AllocError>
+        requires { index + 1 < 2 ^ 64 }
+        ensures { Adds result line.old line.new (key (column_name (facts_of facts.now) index) ∷ []) }
+    {
+        match facts.name {
+            Some(name) => line.escaped_key(name),
+            None => line.key(self.names.name(index as usize)?),
+        }
+    }
+
+    /// Writes the member of the column with this index; nothing for one that is absent.
+    pub(crate) fn write_cell(
+        &mut self,
+        line: &mut Line,
+        facts: &ColumnFacts<'_>,
+        index: u64,
+        cell: &ColumnValue<'_>,
+    ) -> Result<(), AllocError>
+        requires { index + 1 < 2 ^ 64 }
+        ensures { Writes result line.old line.new (cell_parts (facts_of facts.now) index (cell_of cell.now)) }
+    {
+        match cell {
+            ColumnValue::Absent => Ok(()),
+            ColumnValue::Null => {
+                self.write_name(line, facts, index)?;
+                line.null()
+            }
+            ColumnValue::Value(value) => {
+                self.write_name(line, facts, index)?;
+                self.write(line, facts, value)
+            }
+            ColumnValue::Diffs(bytes) => {
+                self.write_name(line, facts, index)?;
+                write_diff_list(line, &mut self.text, bytes)
+            }
+        }
+    }
+
+    /// Writes the member of the next column of an image, if one is left.
+    fn write_next(
+        &mut self,
+        line: &mut Line,
+        facts: &ColumnFacts<'_>,
+        index: u64,
+        image: &mut Image<'_>,
+    ) -> Result<(), AllocError>
+        requires { index + 1 < 2 ^ 64 }
+        ensures written { Writes result line.old line.new (first_parts (facts_of facts.now) index (cells_of image.old)) }
+        ensures rest { cells_of image.new ≡ drop 1 (cells_of image.old) }
+    {
+        match image.next() {
+            Some(cell) => self.write_cell(line, facts, index, &cell),
+            None => Ok(()),
+        }
+    }
+
+    /// Writes an image of a table with these columns: an object with a member for each column that is present.
+    ///
+    /// # Errors
+    ///
+    /// [`AllocError`] if an allocation fails. Some tokens may then have been written.
+    pub fn write_image(
+        &mut self,
+        line: &mut Line,
+        columns: &[ColumnFacts<'_>],
+        image: Image<'_>,
+    ) -> Result<(), AllocError>
+        ensures { Writes result line.old line.new (image_parts columns.now (cells_of image.entry)) }
+    {
+        let mut cells = image;
+        line.begin_object()?;
+        for (index, facts) in columns.iter().enumerate() {
+            self.write_next(line, facts, index as u64, &mut cells)?;
+        }
+        line.end_object()
+    }
+
+    /// Writes the member of an image that a row has; nothing if it hasn't.
+    fn write_image_member(
+        &mut self,
+        line: &mut Line,
+        name: &str,
+        columns: &[ColumnFacts<'_>],
+        image: Option<Image<'_>>,
+    ) -> Result<(), AllocError>
+        requires { IsPlainText name.now }
+        ensures { Writes result line.old line.new (image_member name.now columns.now (option_map cells_of image.entry)) }
+    {
+        match image {
+            Some(image) => {
+                line.key(name)?;
+                self.write_image(line, columns, image)
+            }
+            None => Ok(()),
+        }
+    }
+
+    /// Writes a row of a table with these columns: an object with its images, `before` and `after`.
+    ///
+    /// # Errors
+    ///
+    /// [`AllocError`] if an allocation fails. Some tokens may then have been written.
+    pub fn write_row(
+        &mut self,
+        line: &mut Line,
+        columns: &[ColumnFacts<'_>],
+        row: &Row<'_>,
+    ) -> Result<(), AllocError>
+        ensures { Writes result line.old line.new (row_parts columns.now (row_cells row.now)) }
+    {
+        line.begin_object()?;
+        self.write_image_member(line, "before", columns, row.before())?;
+        self.write_image_member(line, "after", columns, row.after())?;
+        line.end_object()
+    }
+
+    /// Writes the rows that are left of an event of a table with these columns: an array of the rows, up to the last or
+    /// to the first that is refused, for which there is an object that says why. The result is whether all are read.
+    ///
+    /// # Errors
+    ///
+    /// [`AllocError`] if an allocation fails. Some tokens may then have been written.
+    pub fn write_rows(
+        &mut self,
+        line: &mut Line,
+        columns: &[ColumnFacts<'_>],
+        rows: Rows<'_>,
+    ) -> Result<bool, AllocError>
+        ensures { IsBytes rows.entry.rest.now → IfOk result (λ all_read. ShowsRows columns.now rows.entry all_read line.old line.new) }
+    {
+        line.begin_array()?;
+        let mut writer = RowWriter::new(self.take(), line.take(), columns, &rows);
+        let written = writer.write_rest(rows);
+        let RowWriter {
+            values,
+            line: shown,
+            ..
+        } = writer;
+        *self = values;
+        *line = shown;
+        let all_read = written?;
+        line.end_array()?;
+        Ok(all_read)
+    }
+}

@@ -1,9 +1,0 @@
-use Rattle.std.proofs.Common.{inr, refl}
-use Rattle.binlog_json_lines.specs.Data.{error_object}
-use Rattle.binlog_maria_json.proofs.Values.{shows_exactly}
-use Rattle.binlog_maria_json.proofs.compressed.write_compressed_rows.Goals as goal
-
-pub returns-in-None : goal.returns-in-None
-returns-in-None c =
-    let none = rw (c.in-None.is, c.compressed_data.ensures) at c.in_ok-rows.ensures in
-    shows_exactly _ _ _ _ (error_object 6) (inr (none, refl)) c.write_invalid.ensures

@@ -1,5 +1,0 @@
-use Rattle.binlog_numbers.specs.Laws.GnoIntervals.{interval_long}
-use Rattle.binlog_numbers.proofs.laws.intervals_take_16_bytes.Goals as goal
-
-pub returns : goal.returns
-returns c = interval_long

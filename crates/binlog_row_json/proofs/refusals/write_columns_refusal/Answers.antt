@@ -1,5 +1,0 @@
-use Rattle.std.proofs.Common.{append_assoc}
-use Rattle.binlog_row_json.proofs.refusals.write_columns_refusal.Goals as goal
-
-pub returns : goal.returns
-returns c = rw (c.in_ok-end_array.ensures.added, c.in_ok-end_object.ensures.added, c.in_ok-number_member.ensures.added, c.in_ok-plain_string.ensures.added, c.kind_name.ensures.name, c.in_ok-key.ensures.added, c.in_ok-begin_object.ensures.added, c.in_ok-begin_array.ensures.added) (simp append_assoc)

@@ -1,4 +1,0 @@
-pub mod Shown
-pub mod RowEvents
-pub mod Refusals
-pub mod Members

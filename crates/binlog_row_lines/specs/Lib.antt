@@ -1,9 +1,0 @@
-pub mod Parts
-pub mod Numbers
-pub mod Texts
-pub mod Members
-pub mod Times
-pub mod Documents
-pub mod Values
-pub mod Rows
-pub mod Written

@@ -1,0 +1,4 @@
+pub mod RowChanges
+pub mod Local
+pub mod RowBytes
+pub mod SameColumns

@@ -1,0 +1,2 @@
+pub mod RowChanges
+pub mod RowBytes

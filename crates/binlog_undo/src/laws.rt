@@ -1,0 +1,35 @@
+//! Laws of the definitions. Each is a function that does nothing and whose contract states the law.
+ghost use Rattle.std.specs.Prelude.{◌≡◌, ℕ, List, map, length, slice_index_or, Ok};
+ghost use Rattle.std.specs.List.{AllByRecursion};
+ghost use Rattle.binlog_images.specs.Cells.{absent, RowShape, RowCells, whole};
+ghost use Rattle.binlog_images.specs.Splits.{AreRows};
+ghost use Rattle.table_changes.specs.Changes.{State, AppliesAll, inverse};
+ghost use Rattle.binlog_undo.specs.RowBytes.{RowBytes, AreRowBytes, exchanged_bytes, HasSameColumns, AreUndone};
+ghost use Rattle.binlog_undo.specs.RowChanges.{TableRow, completed, row_changes, inverse_rows, HasOldColumns};
+
+/// A column after an update is that of the image after, or, if the image after doesn't have it, that of the image before.
+pub fn rows_are_completed()
+    ensures stays { (old new : TableRow) (k : ℕ) → length old ≡ length new → slice_index_or new k absent ≡ absent
+        → slice_index_or (completed old new) k absent ≡ slice_index_or old k absent }
+    ensures new { (old new : TableRow) (k : ℕ) → length old ≡ length new → ¬ (slice_index_or new k absent ≡ absent)
+        → slice_index_or (completed old new) k absent ≡ slice_index_or new k absent }
+{}
+
+/// If each image before has the columns of the image after, the changes of the inverse rows are the inverse of the changes of the
+/// rows. So they lead from the state behind the rows back to the state that was there before them.
+pub fn rows_are_undone<Table>()
+    ensures changes { (table : Table) (rows : List RowCells) → AllByRecursion HasOldColumns rows
+        → row_changes table (inverse_rows rows) ≡ inverse (row_changes table rows) }
+    ensures back { (table : Table) (rows : List RowCells) (old new : State Table TableRow) → AllByRecursion HasOldColumns rows
+        → AppliesAll (row_changes table rows) old new → AppliesAll (row_changes table (inverse_rows rows)) new old }
+{}
+
+/// The bytes of rows are those of their images, one row after the other. Where both images of an update have the same columns, the
+/// same bytes with the images of each row exchanged, the last row first, are the rows that undo them, and their changes are the
+/// inverse of the changes of the rows.
+pub fn images_are_exchanged<Table>()
+    ensures bytes { (shape : RowShape) (index : ℕ) (s : List ℕ) (rows : List RowCells)
+        → AreRows (whole shape) index s (map (λ row. Ok row) rows) → (bytes : List RowBytes) × AreRowBytes shape s bytes rows }
+    ensures undone { (table : Table) (shape : RowShape) (s : List ℕ) (bytes : List RowBytes) (rows : List RowCells)
+        → AreRowBytes shape s bytes rows → HasSameColumns shape.0 shape.1 → AreUndone table shape rows (exchanged_bytes bytes) }
+{}

@@ -1,0 +1,7 @@
+//! Sets of GTIDs: what events add to them, and what they answer.
+
+mod differences;
+mod groups;
+mod memory;
+mod room;
+mod sets;

@@ -1,5 +1,0 @@
-//! Tests of `binlog_images`: the rows of row events, and their refusals.
-
-mod rows;
-mod told;
-mod visits;
