@@ -1,17 +1,19 @@
 #!/usr/bin/env python3
-"""Measures `bench rows` beside a hand-written program, and `probe_logs rows` beside `mariadb-binlog`; prints two Markdown tables.
+"""Measures `bench rows` and `binlog json` beside hand-written programs, and `binlog json` beside `mariadb-binlog`; prints Markdown tables.
 
 Usage: measure_rows.py [PROGRAM [PRINTER [FOLDER]]]
 
-PROGRAM is the built bench, and PRINTER the built probe_logs, if not given. FOLDER, `work` beside this file if not given,
-holds the logs of make_row_logs.py, which are made if they are missing. The baseline is built first.
+PROGRAM is the built bench, and PRINTER the built binlog, if not given. FOLDER, `work` beside this file if not given,
+holds the logs of make_row_logs.py, which are made if they are missing. The baselines are built first.
 
-The first table is of values that are added up; the sums of both programs must be equal. The second is of rows as text: lines
-of JSON, and what `mariadb-binlog -v --base64-output=DECODE-ROWS` prints of the same log, of Debian's package `mariadb-client`.
+The first table is of values that are added up; the sums of both programs must be equal. The second is of lines of JSON with
+rows; the outputs must be equal. The third is of rows as text: lines of JSON, and what `mariadb-binlog -v
+--base64-output=DECODE-ROWS` prints of the same log, of Debian's package `mariadb-client`; it is left out where that isn't there.
 Instructions and allocations are those of the small log, less those of its start. Times are processor times, the best of 5, the
 two in turns, with output to /dev/null.
 """
 
+import shutil
 import subprocess
 import sys
 from pathlib import Path
@@ -46,6 +48,11 @@ def compared_sums(command, baseline, path):
     ours, theirs = output_of(command, path), output_of([baseline], path)
     if ours != theirs:
         sys.exit(f"{path}: the sums are {ours}, and the baseline's {theirs}")
+
+
+def compared_lines(command, baseline, path):
+    if output_of(command, path) != output_of([baseline], path):
+        sys.exit(f"{path}: the lines differ")
 
 
 def further(command_of, folder, kind, rows):
@@ -102,18 +109,22 @@ def check_rows(command, path):
 def main(arguments):
     given = arguments + [None] * (3 - len(arguments))
     command = [given[0] or str(HERE.parent / "crates/bench/out/bench"), "rows"]
-    printer = given[1] or str(HERE.parent / "crates/probe_logs/out/probe_logs")
+    printer = [given[1] or str(HERE.parent / "crates/binlog/out/binlog"), "json", "-"]
     folder = Path(given[2] or HERE / "work")
     folder.mkdir(parents=True, exist_ok=True)
-    baseline = build_baseline("rows_baseline")
+    adder, writer = build_baseline("rows_baseline"), build_baseline("json_baseline")
     for kind in make_row_logs.KINDS:
         make_row_logs.make_kind(folder, kind)
-        compared_sums(command, baseline, folder / f"rows_{kind}.binlog")
-    check_rows(command, folder / "rows_maria_small.binlog")
-    sums = [row(command, folder, kind, lambda path: command, lambda path: [baseline]) for kind in make_row_logs.KINDS]
+        compared_sums(command, adder, folder / f"rows_{kind}.binlog")
+        compared_lines(printer, writer, folder / f"rows_{kind}_small.binlog")
+    sums = [row(command, folder, kind, lambda path: command, lambda path: [adder]) for kind in make_row_logs.KINDS]
     print_table("Values added up", "Baseline's", sums)
-    printed = row(command, folder, "maria", lambda path: [printer, "rows"], lambda path: [*MARIADB, path])
-    print_table("Rows as text", "mariadb-binlog's", [printed])
+    lines = [row(command, folder, kind, lambda path: printer, lambda path: [writer]) for kind in make_row_logs.KINDS]
+    print_table("Lines of JSON", "Baseline's", lines)
+    if shutil.which(MARIADB[0]):
+        check_rows(command, folder / "rows_maria_small.binlog")
+        printed = row(command, folder, "maria", lambda path: printer, lambda path: [*MARIADB, path])
+        print_table("Rows as text", "mariadb-binlog's", [printed])
 
 
 if __name__ == "__main__":

@@ -7,7 +7,7 @@ import re
 import subprocess
 from typing import NamedTuple
 
-OPTION = re.compile(r" +(?:-(?P<short>\w)(?:, )?)?(?:--(?P<long>[\w-]+))?(?: <(?P<value>\w+)>)?(?:\.\.\.)?(?: {2,}(?P<help>.*))?")
+OPTION = re.compile(r" +(?:-(?P<short>\w)(?:, )?)?(?:--(?P<long>[\w-]+))?(?: <(?P<value>[\w.]+)>)?(?:\.\.\.)?(?: {2,}(?P<help>.*))?")
 ENTRY = re.compile(r" +(?P<name>\S+)(?: {2,}(?P<help>.*))?")
 
 

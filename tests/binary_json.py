@@ -6,7 +6,7 @@ Usage: binary_json.py FLAG [--count N] [--seed N]
 FLAG is one of `programs.py`: its program answers questions, which `crates/probe_texts/src/main.rt` lists. The cases are those of
 tests/cases/documents.txt. The model is `binary_json_model.py`: random documents as a server writes them, N damaged ones (100,000
 if it isn't stated), documents whose offsets name the same bytes again and again, 99 to 101 arrays within one another, offsets into
-headers, the greatest counts, and lengths of up to six bytes. All of them have to be answered within a minute. The last line is
+headers, the greatest counts, and lengths of up to six bytes; and lists of diffs that are applied, by `json_diff_model.py`. All of them have to be answered within a minute. The last line is
 `N passed, M failed`; the exit status is 1 if something failed.
 """
 
@@ -19,6 +19,7 @@ import time
 
 import binary_json_model as model
 import cases
+import json_diff_model as diff_model
 import programs
 import results
 from binary_json_model import Double, Integer, Members, NoText, Opaque, Refused
@@ -209,6 +210,112 @@ def about(size):
     yield [[[b"s" * (size - 26)]], Members([(b"a", None)])]
 
 
+# ---- Lists of diffs that are applied
+
+
+def applying(document, content):
+    return f"applied {document.hex() or '-'} {content.hex() or '-'}"
+
+
+def applied(document, content):
+    """What is answered for a document and a list of diffs."""
+    try:
+        return model.document(diff_model.applied(model.read(document), content)).hex()
+    except diff_model.NotApplied as why:
+        return f"refused {why}"
+
+
+def random_legs(rng, value):
+    """Legs that lead into a value, and at times beyond it."""
+    while rng.random() < 0.85:
+        if isinstance(value, Members) and rng.random() < 0.95:
+            key, member = rng.choice(value.pairs) if value.pairs and rng.random() < 0.8 else (rng.choice(KEYS) + bytes([rng.randrange(97, 110)]), None)
+            yield key
+            value = member
+        elif isinstance(value, list) or rng.random() < 0.1:
+            size = len(value) if isinstance(value, list) else 1
+            number, is_from_end = rng.randrange(size + 3), rng.random() < 0.2
+            yield number, is_from_end
+            value = value[-1 - number if is_from_end else number] if isinstance(value, list) and number < size else None
+        else:
+            return
+
+
+def random_diff(rng, value):
+    operation = rng.choice(model.OPERATIONS)
+    path = b"$" + b"".join(map(diff_model.spelled, random_legs(rng, value)))
+    if rng.random() < 0.05:
+        path = damaged(rng, path)
+    return diff_model.diff(operation, path, [] if operation == "remove" else [random_value(rng, rng.randrange(3))])
+
+
+def random_list(rng, value):
+    """Diffs, of which each leads into what those before it make."""
+    content = b""
+    for _ in range(rng.randrange(1, 5)):
+        one = random_diff(rng, value)
+        content += one
+        try:
+            value = diff_model.applied(value, one)
+        except diff_model.NotApplied:
+            if rng.random() < 0.7:
+                break
+    return content if rng.random() < 0.95 else damaged(rng, content)
+
+
+def lists_by_hand():
+    """Values, lists of diffs, and the values after."""
+    number = model.signed
+    members = Members(((b"a", number(1)), (b"b", [number(1), number(2)])))
+    yield members, [("replace", b"$.b", [b"x" * 150])], Members(((b"a", number(1)), (b"b", b"x" * 150)))
+    yield members, [("insert", b"$.aa", [None])], Members((*members.pairs, (b"aa", None)))
+    yield members, [("insert", b"$.b[0]", [True])], Members((members.pairs[0], (b"b", [True, number(1), number(2)])))
+    yield members, [("insert", b"$.b[7]", [True])], Members((members.pairs[0], (b"b", [number(1), number(2), True])))
+    yield members, [("insert", b"$.b[last]", [True])], Members((members.pairs[0], (b"b", [number(1), True, number(2)])))
+    yield members, [("remove", b"$.b[last-1]")], Members((members.pairs[0], (b"b", [number(2)])))
+    yield members, [("remove", b"$.b"), ("remove", b"$.a")], Members(())
+    yield members, [("remove", b"$.b[0]"), ("replace", b"$.b[0]", [None])], Members((members.pairs[0], (b"b", [None])))
+    yield Members(((b'na"me', None),)), [("replace", b'$."na\\"me"', [True])], Members(((b'na"me', True),))
+    yield Members(((b"\1", None),)), [("replace", b'$."\\u0001"', [True])], Members(((b"\1", True),))
+    yield [number(5)], [("replace", b"$", [None])], None
+
+
+def applied_lists(rng, values):
+    """Questions of documents and lists of diffs, with their answers."""
+    for value, found, after in lists_by_hand():
+        content = b"".join(diff_model.diff(*one) for one in found)
+        yield applying(model.document(value), content), model.document(after).hex()
+    for path in (b"", b"a", b"$.", b"$a", b"$.1", b'$."a', b'$."a\\', b'$."\\x"', b'$."\\u0080"', b'$."\\u00zz"', b"$[", b"$[]", b"$[x]", b"$[1", b"$[4294967295]", b"$[4294967296]", b"$[007]", b"$[last", b"$[last-]", b"$[last-1]", b"$[last-4294967296]", b"$[las]", b"$.*", b"$**.a", b"$ .a", b"$.a-b", b"$[1 to 2]", b"$.a[0]b", b'$."a"b', b'$.""', "$.\u00e9".encode()):
+        for operation in model.OPERATIONS:
+            for value in ([None] * 3, Members(((b"", None), (b"a", [None]))), None):
+                document, content = model.document(value), diff_model.diff(operation, path, [] if operation == "remove" else [True])
+                yield applying(document, content), applied(document, content)
+    # Names of the greatest length and of one byte more, and 99 to 102 arrays and objects within one another.
+    for size in (0xFFFF, 0x10000):
+        document, content = model.document(Members(())), diff_model.diff("insert", b"$." + b"k" * size, [None])
+        yield applying(document, content), applied(document, content)
+    for depth in (49, 50, 51, 52):
+        value, inner = [], []
+        for _ in range(depth - 1):
+            value = [value]
+        for _ in range(49):
+            inner = Members(((b"a", inner),))
+        document, content = model.document(value), diff_model.diff("insert", b"$" + b"[0]" * depth, [inner])
+        yield applying(document, content), applied(document, content)
+    containers = [value for value in values if isinstance(value, (list, Members))]
+    for _ in range(20_000):
+        value = rng.choice(containers if rng.random() < 0.95 else values)
+        document = model.document(value)
+        if len(document) < 5000:
+            content = random_list(rng, value)
+            yield applying(document, content), applied(document, content)
+    # Documents that no server writes: members in any order, and equal keys.
+    for _ in range(5000):
+        value = Members(tuple((rng.choice([b"a", b"b", b"c", b"bb"]), rng.choice([None, [True]])) for _ in range(rng.randrange(6))))
+        document, content = model.document(value), random_list(rng, value)
+        yield applying(document, content), applied(document, content)
+
+
 # ---- Crafted documents
 
 
@@ -340,6 +447,7 @@ def all_failures(words, count, seed):
     yield from compared("written", words, zip(map(question, documents), (answer_of(value) for value in values)))
     yield from compared("built", words, built(rng, values))
     yield from compared("crafted", words, ((question(content), answer(content)) for content in crafted()))
+    yield from compared("applied", words, applied_lists(rng, values))
     contents = [*documents, *crafted()]
     yield from compared("rewritten", words, ((f"rewritten {content.hex() or '-'}", rewritten(content)) for content in contents))
     short = [content for content in documents if len(content) < 600]

@@ -23,7 +23,7 @@ import zlib
 from concurrent.futures import ThreadPoolExecutor
 from datetime import datetime, timezone
 from functools import partial
-from itertools import chain
+from itertools import chain, product
 from pathlib import Path
 
 import checksummed_sample
@@ -40,6 +40,7 @@ import maria_json_model
 import programs
 import results
 import row_lines
+import table_filters
 from damaged_copies import EVENT, MAGIC, PROCESSES_AT_A_TIME, SIZE_OFFSET, frame_starts, with_byte
 from programs import REPOSITORY
 
@@ -368,6 +369,68 @@ def gtid_filters(runner):
             yield runner.check(["list", *words, "0.bin"], Result(lines(log, indexes)), [log])
             # The log has no format description.
             yield runner.check(["copy", *words, "-o", "-", "0.bin"], Result(copy_of(log, indexes)), [log])
+
+
+def left_out(count):
+    """The message of events that are left out, though they may change a table that is asked for."""
+    return f"binlog: events left out that don't tell which tables they change: {count}\n" if count else ""
+
+
+def tables(runner):
+    """The events of tables and of databases, in listings and in copies, which keep the frames of transactions; and how many are left
+    out of which it isn't known what tables they change."""
+    for seed, is_maria in product(range(4), (False, True)):
+        log, events = table_filters.log(seed, is_maria, 150)
+        every = listing_model.expected(log)[0].splitlines(keepends=True)
+        for asked in (table_filters.Asked(*names) for names in table_filters.ASKED):
+            indexes, count = table_filters.taken(events, asked, False)
+            listed = b"".join(every[index] for index in indexes)
+            yield runner.check(["list", *asked.words, "0.bin"], Result(listed, messages=left_out(count)), [log])
+            indexes, count = table_filters.taken(events, asked, True)
+            copied = Result(copy_of(log, indexes), messages=left_out(count))
+            yield runner.check(["copy", *asked.words, "-o", "-", "0.bin"], copied, [log])
+    yield from other_tables(runner, log, events)
+
+
+def other_tables(runner, log, events):
+    """The other commands and other filters beside a filter of tables, a copy that is read back, and several files."""
+    asked = table_filters.Asked([b"shop.*"], [])
+    indexes, count = table_filters.taken(events, asked, False)
+    messages = left_out(count)
+    counted = counts_of(log, indexes, names=json_model.NAMES | maria_json_model.NAMES)
+    yield runner.check(["stats", *asked.words, "0.bin"], Result(counted, messages=messages), [log])
+    every = runner.run(["json", "0.bin"]).stdout.splitlines(keepends=True)
+    yield runner.check(["json", *asked.words, "0.bin"], Result(b"".join(every[index] for index in indexes), messages=messages))
+    twice = Result(2 * lines(log, indexes), messages=left_out(2 * count))
+    yield runner.check(["list", *asked.words, "0.bin", "0.bin"], twice)
+    yield runner.check(["verify", "-q", *asked.words, "0.bin", "0.bin"], Result(b"", messages=left_out(2 * count)))
+    starts = list(frame_starts(log))
+    later = table_filters.taken(events, asked, False, lambda index: index >= 60)
+    words = [*asked.words, "--start-position", str(starts[60])]
+    yield runner.check(["list", *words, "0.bin"], Result(lines(log, later[0]), messages=left_out(later[1])))
+    written = table_filters.taken(events, asked, False, lambda index: events[index].type == 30)
+    yield runner.check(["list", *asked.words, "--type", "WRITE_ROWS", "0.bin"], Result(lines(log, written[0]), messages=left_out(written[1])))
+    yield from read_back(runner, *table_filters.log(4, True, 150, is_fixed=True), asked)
+
+
+def read_back(runner, log, events, asked):
+    """A copy of the events of tables has their rows, and the frame of each transaction."""
+    copied, count = table_filters.taken(events, asked, True)
+    yield runner.check(["copy", *asked.words, "-o", "1.bin", "0.bin"], Result(b"", messages=left_out(count)), [log])
+    of_copy = [events[index] for index in copied]
+    in_force = [event if event.kind != "rows" or asked.takes(event, True) else event._replace(names=()) for event in of_copy]
+    indexes, count = table_filters.taken(in_force, asked, False)
+    copy = copy_of(log, copied)
+    yield runner.check(["list", *asked.words, "1.bin"], Result(lines(copy, indexes), messages=left_out(count)))
+    is_kept = [event for event in of_copy if event.kind == "frame"] == [event for event in events if event.kind == "frame"]
+    yield None if is_kept else "copy: an event of a transaction's frame is left out"
+
+
+def no_tables(runner):
+    """Texts that name no table have a message, and nothing is read."""
+    for name in ("shop", "", ".", ".orders", "shop.", "*"):
+        refused = Result(b"", USAGE, re.escape(f'binlog: --table: "{name}" is no table, as DB.TABLE\n'))
+        yield runner.check(["list", f"--table={name}", "0.bin"], refused, [SAMPLE])
 
 
 def names(runner):
@@ -785,7 +848,7 @@ def installs(runner):
 
 
 PARTS = (models, damaged, cut_logs, cut_ends, reported, several, filters, gtid_filters, names, gtids, maria_gtids, samples, stats)
-PARTS += (copies, maria, maria_transactions, maria_gtid_filters, no_sets, stored_rows, words, ends, progress, followed, installs)
+PARTS += (tables, no_tables, copies, maria, maria_transactions, maria_gtid_filters, no_sets, stored_rows, words, ends, progress, followed, installs)
 
 
 def results_of(build, part):

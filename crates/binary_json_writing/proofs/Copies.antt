@@ -1,32 +1,24 @@
 -- Documents that are written anew.
-use Rattle.std.proofs.Common.{◌≡◌, ℕ, zero, suc, ◌≤◌, max, Bool, true, false, cond, List, [], ◌∷◌, ◌++◌, map, Option, Some, None, refl, sym, ap, ◌∙◌, append_assoc, append-nil, arith}
-use Rattle.binary_json.specs.Values.{Json, array, object, Entries, no_entries, entry, nesting, entries_nesting, values, members as members_in}
-use Rattle.binary_json.specs.Layout.{is_object, entry_count, key_bytes}
-use Rattle.binary_json.specs.Decoding.{document_value, key_at, entry_at, entries_at, entries_in}
+use Rattle.std.proofs.Common.{◌≡◌, ℕ, zero, suc, ◌+◌, ◌<◌, ◌≤◌, Bool, true, false, cond, List, [], ◌∷◌, ◌++◌, length, map, Option, Some, None, Result, Ok, Err, refl, sym, ap, subst, ◌∙◌, append_assoc, arith}
+use Rattle.std.specs.Prelude.{◌||◌, slice_get, slice_range, IfErr}
+use Rattle.std.proofs.lemmas.Bool.{lt-ltb, le-ltb}
+use Rattle.binary_json.specs.Values.{Json, array, object, Entries, entry, values, members as members_in}
+use Rattle.binary_json.specs.Layout.{is_object as is_object_type, entry_count, key_bytes}
+use Rattle.binary_json.specs.Decoding.{key_at, entry_at, entries_at, entries_in}
+use Rattle.binary_json.specs.Views.{json}
+use Rattle.binary_json.specs.declared.value.Value.{Value}
+use Rattle.binary_json.specs.declared.value.Value.TheVariants as views
 use Rattle.binary_json_writing.specs.Stored.{stored, stored_value}
-use Rattle.binary_json_writing.specs.Builders.{value_in, member_in, of_elements, of_members}
+use Rattle.binary_json_writing.specs.Builders.{member_in, of_elements, of_members}
+use Rattle.binary_json_writing.specs.Changes.{keyless, entries_of, is_array, is_object, entries_by, IsUnwritten, AreUnwritten}
 use Rattle.binary_json_writing.specs.declared.entry.Entry.{Entry}
-use Rattle.binary_json_writing.proofs.Built.{stored_elements, stored_members, map_more}
-
--- How many arrays and objects are within one another in values.
-abbrev pub deepest : List Json → ℕ
-deepest [] = 0
-deepest (v ∷ vs) = max (nesting v) (deepest vs)
-
-abbrev pub member_values : List (List ℕ × Json) → List Json
-member_values ms = map (λ m. m.1) ms
-
-pub values_deep : (es : Entries) → deepest (values es) ≤ entries_nesting es
-values_deep no_entries = omega arith
-values_deep (entry key v es) = omega (arith, values_deep es)
-
-pub members_deep : (es : Entries) → deepest (member_values (members_in es)) ≤ entries_nesting es
-members_deep no_entries = omega arith
-members_deep (entry None v es) = omega (arith, members_deep es)
-members_deep (entry (Some key) v es) = omega (arith, members_deep es)
+use Rattle.binary_json_writing.specs.declared.error.JsonWriteError.{JsonWriteError}
+use Rattle.binary_json.proofs.Left.{some}
+use Rattle.binary_json_writing.proofs.EntryLists.{range_one, range_split, range_back}
+use Rattle.binary_json_writing.proofs.Unwritten.{stored_by, between_others, one_unwritten, whole_unwritten}
 
 -- The entries of an array have no keys, and those of an object have.
-elements_only : (value : ℕ → List ℕ → Json) (t : ℕ) (s : List ℕ) (n i : ℕ) → is_object t ≡ false → of_elements (values (entries_at value t s n i)) ≡ entries_at value t s n i
+elements_only : (value : ℕ → List ℕ → Json) (t : ℕ) (s : List ℕ) (n i : ℕ) → is_object_type t ≡ false → of_elements (values (entries_at value t s n i)) ≡ entries_at value t s n i
 unfolding entries_at
 elements_only value t s zero i kind = refl
 elements_only value t s (suc n) i kind =
@@ -34,7 +26,7 @@ elements_only value t s (suc n) i kind =
     ap (λ (k : Option (List ℕ)). entry k (entry_at value t s i) (of_elements (values (entries_at value t s n (suc i))))) (sym none)
     ∙ ap (λ (es : Entries). entry (key_at t s i) (entry_at value t s i) es) (elements_only value t s n (suc i) kind)
 
-members_only : (value : ℕ → List ℕ → Json) (t : ℕ) (s : List ℕ) (n i : ℕ) → is_object t ≡ true → of_members (members_in (entries_at value t s n i)) ≡ entries_at value t s n i
+members_only : (value : ℕ → List ℕ → Json) (t : ℕ) (s : List ℕ) (n i : ℕ) → is_object_type t ≡ true → of_members (members_in (entries_at value t s n i)) ≡ entries_at value t s n i
 unfolding entries_at
 members_only value t s zero i kind = refl
 members_only value t s (suc n) i kind =
@@ -43,46 +35,67 @@ members_only value t s (suc n) i kind =
     ∙ ap (λ (k : Option (List ℕ)). entry k (entry_at value t s i) (of_members (members_in (entries_at value t s n (suc i))))) (sym some)
     ∙ ap (λ (es : Entries). entry (key_at t s i) (entry_at value t s i) es) (members_only value t s n (suc i) kind)
 
-pub all_elements : (t : ℕ) (s : List ℕ) (es : List Entry) (left : List Json) → is_object t ≡ false → map value_in es ++ left ≡ values (entries_in t s) → left ≡ [] → stored false es ≡ entries_in t s
+keyless_by : (vs : List Json) → entries_by false (map keyless vs) ≡ of_elements vs
+keyless_by [] = refl
+keyless_by (v ∷ vs) = ap (λ (es : Entries). entry None v es) (keyless_by vs)
+
+keyed_by : (ms : List (List ℕ × Json)) → entries_by true ms ≡ of_members ms
+keyed_by [] = refl
+keyed_by (m ∷ ms) = ap (λ (es : Entries). entry (Some m.0) m.1 es) (keyed_by ms)
+
+array_whole : (t : ℕ) (s : List ℕ) → is_object_type t ≡ false → entries_by false (map keyless (values (entries_in t s))) ≡ entries_in t s
 unfolding entries_in
-all_elements t s es left kind e none =
-    let all : map value_in es ≡ values (entries_in t s) = sym (append-nil (map value_in es)) ∙ ap (λ (l : List Json). map value_in es ++ l) (sym none) ∙ e in
-    stored_elements es ∙ ap of_elements all ∙ elements_only _ t s (entry_count t s) 0 kind
+array_whole t s kind = keyless_by (values (entries_in t s)) ∙ elements_only _ t s (entry_count t s) 0 kind
 
-pub all_members : (t : ℕ) (s : List ℕ) (es : List Entry) (left : List (List ℕ × Json)) → is_object t ≡ true → map member_in es ++ left ≡ members_in (entries_in t s) → left ≡ [] → stored true es ≡ entries_in t s
+object_whole : (t : ℕ) (s : List ℕ) → is_object_type t ≡ true → entries_by true (members_in (entries_in t s)) ≡ entries_in t s
 unfolding entries_in
-all_members t s es left kind e none =
-    let all : map member_in es ≡ members_in (entries_in t s) = sym (append-nil (map member_in es)) ∙ ap (λ (l : List (List ℕ × Json)). map member_in es ++ l) (sym none) ∙ e in
-    stored_members es ∙ ap of_members all ∙ members_only _ t s (entry_count t s) 0 kind
+object_whole t s kind = keyed_by (members_in (entries_in t s)) ∙ members_only _ t s (entry_count t s) 0 kind
 
--- One more.
-pub element_more : (es new : List Entry) (e : Entry) (v : Json) (left rest whole : List Json) → map value_in es ++ left ≡ whole → left ≡ v ∷ rest → new ≡ es ++ e ∷ [] → document_value e.value.items ≡ v
-    → map value_in new ++ rest ≡ whole
-element_more es new e v left rest whole done next is same =
-    ap (λ (l : List Entry). map value_in l ++ rest) is
-    ∙ ap (λ (l : List Json). l ++ rest) (map_more value_in es e)
-    ∙ append_assoc (map value_in es) (value_in e ∷ []) rest
-    ∙ ap (λ (w : Json). map value_in es ++ w ∷ rest) same
-    ∙ ap (λ (l : List Json). map value_in es ++ l) (sym next)
-    ∙ done
+abbrev IsContainer : Value → Type 0
+IsContainer v = (is_array (json v) || is_object (json v)) ≡ true
 
-pub member_more : (es new : List Entry) (e : Entry) (m : List ℕ × Json) (left rest whole : List (List ℕ × Json)) → map member_in es ++ left ≡ whole → left ≡ m ∷ rest → new ≡ es ++ e ∷ [] → member_in e ≡ m
-    → map member_in new ++ rest ≡ whole
-member_more es new e m left rest whole done next is same =
-    ap (λ (l : List Entry). map member_in l ++ rest) is
-    ∙ ap (λ (l : List (List ℕ × Json)). l ++ rest) (map_more member_in es e)
-    ∙ append_assoc (map member_in es) (member_in e ∷ []) rest
-    ∙ ap (λ (w : List ℕ × Json). map member_in es ++ w ∷ rest) same
-    ∙ ap (λ (l : List (List ℕ × Json)). map member_in es ++ l) (sym next)
-    ∙ done
+abbrev whole : Bool → Value → Json
+whole keyed v = stored_value keyed (entries_by keyed (entries_of (json v)))
 
-pub first_deep : (v : Json) (left rest : List Json) (n : ℕ) → left ≡ v ∷ rest → deepest left ≤ n → (nesting v ≤ n) × (deepest rest ≤ n)
-first_deep v left rest n e deep = let same = ap deepest e in (omega (arith, same, deep), omega (arith, same, deep))
+-- An array or an object of a document, by its entries.
+view_whole : (v : Value) → IsContainer v → whole (is_object (json v)) v ≡ json v
+view_whole (views.Array a) e = ap (λ (es : Entries). array es) (array_whole a.container.kind a.container.bytes.now (le-ltb a.container.kind 2 a.is_array))
+view_whole (views.Object o) e = ap (λ (es : Entries). object es) (object_whole o.container.kind o.container.bytes.now (lt-ltb o.container.kind 2 o.is_object))
+view_whole v e = let no : false ≡ true = e in absurd cc
 
-pub array_copied : (keyed : Bool) (t : ℕ) (s : List ℕ) (es : List Entry) (left : List Json) → keyed ≡ false → is_object t ≡ false → map value_in es ++ left ≡ values (entries_in t s) → left ≡ []
-    → stored_value keyed (stored keyed es) ≡ array (entries_in t s)
-array_copied keyed t s es left e kind done none = ap (λ (b : Bool). stored_value b (stored b es)) e ∙ ap (λ (xs : Entries). array xs) (all_elements t s es left kind done none)
+pub copied_whole : (v : Value) (keyed : Bool) (es old : List Entry) (count : ℕ) → IsContainer v → keyed ≡ is_object (json v) → old ≡ [] → count ≡ length (entries_of (json v))
+    → map member_in es ≡ map member_in old ++ slice_range (entries_of (json v)) 0 count → stored_value keyed (stored keyed es) ≡ json v
+copied_whole v keyed es old count is kind none all copied =
+    let ps = entries_of (json v) in
+    let same : map member_in es ≡ ps = copied ∙ ap (λ (l : List Entry). map member_in l ++ slice_range ps 0 count) none ∙ ap (λ (n : ℕ). slice_range ps 0 n) all ∙ range_back ps 0 in
+    ap (λ (l : Entries). stored_value keyed l) (stored_by keyed es)
+    ∙ ap (λ (l : List (List ℕ × Json)). stored_value keyed (entries_by keyed l)) same
+    ∙ ap (λ (b : Bool). whole b v) kind
+    ∙ view_whole v is
 
-pub object_copied : (keyed : Bool) (t : ℕ) (s : List ℕ) (es : List Entry) (left : List (List ℕ × Json)) → keyed ≡ true → is_object t ≡ true → map member_in es ++ left ≡ members_in (entries_in t s) → left ≡ []
-    → stored_value keyed (stored keyed es) ≡ object (entries_in t s)
-object_copied keyed t s es left e kind done none = ap (λ (b : Bool). stored_value b (stored b es)) e ∙ ap (λ (xs : Entries). object xs) (all_members t s es left kind done none)
+pub copy_unwritten : (v : Value) (keyed : Bool) (count : ℕ) (e : JsonWriteError) → IsContainer v → keyed ≡ is_object (json v) → count ≡ length (entries_of (json v)) → AreUnwritten keyed (slice_range (entries_of (json v)) 0 count) e
+    → IsUnwritten (json v) e
+copy_unwritten v keyed count e is kind all are =
+    let ps = entries_of (json v) in
+    let same : slice_range ps 0 count ≡ ps = ap (λ (n : ℕ). slice_range ps 0 n) all ∙ range_back ps 0 in
+    let of_all : AreUnwritten keyed ps e = subst (λ (l : List (List ℕ × Json)). AreUnwritten keyed l e) same are in
+    let back : whole keyed v ≡ json v = ap (λ (b : Bool). whole b v) kind ∙ view_whole v is in
+    subst (λ (w : Json). IsUnwritten w e) back (whole_unwritten keyed ps e of_all)
+
+pub range_unwritten : (keyed : Bool) (ps : List (List ℕ × Json)) (i : ℕ) (p : List ℕ × Json) (e : JsonWriteError) → slice_get ps i ≡ some p → IsUnwritten p.1 e → AreUnwritten keyed (slice_range ps i (i + 1)) e
+range_unwritten keyed ps i p e is why = subst (λ (l : List (List ℕ × Json)). AreUnwritten keyed l e) (sym (range_one ps i p is)) (one_unwritten keyed p.0 p.1 e why)
+
+pub step_unwritten : (k keyed : Bool) (ps : List (List ℕ × Json)) (from i to : ℕ) (e : JsonWriteError) → k ≡ keyed → from ≤ i → i < to → AreUnwritten k (slice_range ps i (i + 1)) e → AreUnwritten keyed (slice_range ps from to) e
+step_unwritten k keyed ps from i to e same low less are =
+    let rest = range_split ps i (i + 1) to (omega arith) (omega arith) in
+    let all = range_split ps from i to low (omega arith) ∙ ap (λ (l : List (List ℕ × Json)). slice_range ps from i ++ l) rest in
+    between_others keyed (slice_range ps from i) (slice_range ps i (i + 1)) (slice_range ps (i + 1) to) (slice_range ps from to) e all (subst (λ (b : Bool). AreUnwritten b (slice_range ps i (i + 1)) e) same are)
+
+pub one_more : {A : Type 0} (new old start : List A) (ps : List A) (from i : ℕ) → new ≡ old ++ slice_range ps i (i + 1) → old ≡ start ++ slice_range ps from i → from ≤ i → new ≡ start ++ slice_range ps from (i + 1)
+one_more new old start ps from i more so_far low =
+    more ∙ ap (λ l. l ++ slice_range ps i (i + 1)) so_far ∙ append_assoc start (slice_range ps from i) (slice_range ps i (i + 1))
+    ∙ ap (λ l. start ++ l) (sym (range_split ps from i (i + 1) low (omega arith)))
+
+pub if_err : {A E : Type 0} (r : Result A E) (P Q : E → Type 0) → ((e : E) → P e → Q e) → IfErr r P → IfErr r Q
+if_err (Ok x) P Q f is = tt
+if_err (Err e) P Q f is = f e is

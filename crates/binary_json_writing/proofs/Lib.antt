@@ -8,3 +8,11 @@ pub mod Kept
 pub mod Stored
 pub mod Built
 pub mod Copies
+pub mod PathLegs
+pub mod EntryLists
+pub mod EntryKeys
+pub mod Unwritten
+pub mod Splices
+pub mod Placed
+pub mod DiffsLeft
+pub mod OnePath

@@ -5,3 +5,6 @@ pub mod Views
 pub mod Stored
 pub mod Owned
 pub mod Builders
+pub mod Paths
+pub mod Changes
+pub mod Applied

@@ -40,7 +40,7 @@ fn bytes_before(a: &[u8], b: &[u8]) -> bool
 
 // Whether a key comes before another one: a shorter one does, and of two that are as long that with the smaller bytes.
 #[tactic(auto, unfolding(crate::specs::Keys::is_before))]
-fn is_before(a: &[u8], b: &[u8]) -> bool
+pub(crate) fn is_before(a: &[u8], b: &[u8]) -> bool
     ensures { result ≡ is_before a.now b.now }
 {
     if a.len() == b.len() {

@@ -28,3 +28,32 @@ impl From<AllocError> for JsonWriteError {
         JsonWriteError::Memory
     }
 }
+
+/// Why a diff can't be applied to a document.
+#[derive(Clone, Copy, Debug, PartialEq, Eq)]
+pub enum JsonChangeError {
+    /// The document itself, at the path `$`, is inserted or removed.
+    Document,
+    /// A member is named of a value that is no object.
+    NoObject,
+    /// An element is named of a value that is no array.
+    NoArray,
+    /// An object has no member of this name.
+    NoMember,
+    /// An array has no element at this place.
+    NoElement,
+    /// The member that is inserted is there already.
+    MemberExists,
+    /// The document after can't be written, or memory was refused.
+    Write(JsonWriteError),
+}
+
+impl From<JsonWriteError> for JsonChangeError {
+    ghost use Rattle.binary_json_writing.specs.declared.error.JsonChangeError.TheVariants.{Write};
+
+    ghost from_gives = { λ limit error. error ≡ Write limit };
+
+    fn from(limit: JsonWriteError) -> JsonChangeError {
+        JsonChangeError::Write(limit)
+    }
+}

@@ -7,7 +7,7 @@ ghost use Rattle.binary_json_writing.specs.Writable.{is_writable};
 
 use crate::error::JsonWriteError;
 use crate::words::{document, push_counted};
-use binary_json::OpaqueValue;
+use binary_json::{Document, OpaqueValue};
 use std::alloc::{AllocError, Global};
 
 /// From how many bytes on a string or an opaque value can't be written.
@@ -28,6 +28,7 @@ impl OwnedDocument {
     ghost use Rattle.std.specs.Prelude.{◌≡◌, ◌∷◌, ◌⊎◌, ◌≤◌, ◌^◌, length, true, IfOk, IfErr};
     ghost use Rattle.binary_json.specs.Values.{Scalar, scalar, null, boolean, int16, uint16, int32, uint32, int64, uint64, double, string, opaque};
     ghost use Rattle.binary_json.specs.Grammar.{IsDocument};
+    ghost use Rattle.binary_json.specs.Views.{document_json};
     ghost use Rattle.binary_json_writing.specs.Written.{written, written_scalar};
     ghost use Rattle.binary_json_writing.specs.Writable.{is_writable_scalar};
     ghost use Rattle.binary_json_writing.specs.Owned.{owned_value, smallest_signed, smallest_unsigned};
@@ -39,6 +40,16 @@ impl OwnedDocument {
         ensures exact { result.now ≡ written (owned_value self.now) }
     {
         &self.bytes
+    }
+
+    /// The document, to be read.
+    pub fn document(&self) -> Document<'_>
+        ensures { document_json result ≡ owned_value self.now }
+    {
+        match Document::read(self.as_bytes()) {
+            Ok(document) => document,
+            Err(_) => unreachable!(),
+        }
     }
 
     /// The bytes of the document.

@@ -1,49 +1,79 @@
 //! Documents written anew.
-ghost use Rattle.std.specs.Prelude.{◌≡◌, IfOk};
-ghost use Rattle.binary_json.specs.Values.{array as array_of, object as object_of};
-ghost use Rattle.binary_json.specs.Decoding.{entries_in};
-ghost use Rattle.binary_json.specs.Views.{json, document_json};
+ghost use Rattle.std.specs.Prelude.{◌≡◌, ◌≤◌, ◌<◌, ◌+◌, ◌++◌, ◌||◌, true, length, map, slice_range, IfOk, IfErr, OnOk};
+ghost use Rattle.binary_json.specs.Views.{json};
 ghost use Rattle.binary_json_writing.specs.Owned.{owned_value};
+ghost use Rattle.binary_json_writing.specs.Builders.{member_in};
+ghost use Rattle.binary_json_writing.specs.Changes.{entries_of, is_array, is_object, IsUnwritten, AreUnwritten};
 
+use crate::copying::{entry_at, entry_count, is_object, push_entry};
 use crate::error::JsonWriteError;
-use crate::list::{EntryList, MOST_KEY_BYTES};
+use crate::list::EntryList;
 use crate::owned::OwnedDocument;
-use binary_json::{Array, Document, Object, Value};
+use binary_json::Value;
 use std::alloc::Global;
 
-// An array.
+// Appends the entry at this index.
 #[cycle(owned)]
-fn owned_array(alloc: Global, array: &Array<'_>) -> Result<OwnedDocument, JsonWriteError>
-    ensures { IfOk result (λ d. owned_value d ≡ array_of (entries_in array.now.container.kind array.now.container.bytes.now)) }
+fn copy_entry(
+    alloc: Global,
+    list: &mut EntryList,
+    value: &Value<'_>,
+    index: usize,
+) -> Result<(), JsonWriteError>
+    requires keyed { list.old.keyed ≡ is_object (json value.now) }
+    requires within { index < length (entries_of (json value.now)) }
+    ensures keyed { list.new.keyed ≡ list.old.keyed }
+    ensures more { OnOk result (map member_in list.new.entries.items ≡ map member_in list.old.entries.items ++ slice_range (entries_of (json value.now)) index (index + 1)) }
+    ensures refused { IfErr result (AreUnwritten list.old.keyed (slice_range (entries_of (json value.now)) index (index + 1))) }
 {
-    let mut list = EntryList::new(alloc, false);
-    'elements: for value in array.iter() {
-        let element = owned(alloc, &value)?;
-        list.push(Vec::new(alloc), element)?;
+    match entry_at(value, index) {
+        Some((key, entry)) => {
+            let copy = owned(alloc, &entry)?;
+            push_entry(alloc, list, key, copy)
+        }
+        None => Ok(()),
     }
-    list.finish(alloc)
 }
 
-// An object, whose keys stay in the order in which they are stored.
+/// Appends the entries of an array or an object from the index `from` on, in front of `to`.
 #[cycle(owned)]
-fn owned_object(alloc: Global, object: &Object<'_>) -> Result<OwnedDocument, JsonWriteError>
-    ensures { IfOk result (λ d. owned_value d ≡ object_of (entries_in object.now.container.kind object.now.container.bytes.now)) }
+pub(crate) fn copy_entries(
+    alloc: Global,
+    list: &mut EntryList,
+    value: &Value<'_>,
+    from: usize,
+    to: usize,
+) -> Result<(), JsonWriteError>
+    requires keyed { list.old.keyed ≡ is_object (json value.now) }
+    requires order { from ≤ to }
+    requires within { to ≤ length (entries_of (json value.now)) }
+    ensures keyed { list.new.keyed ≡ list.old.keyed }
+    ensures more { OnOk result (map member_in list.new.entries.items ≡ map member_in list.old.entries.items ++ slice_range (entries_of (json value.now)) from to) }
+    ensures refused { IfErr result (AreUnwritten list.old.keyed (slice_range (entries_of (json value.now)) from to)) }
 {
-    let mut list = EntryList::new(alloc, true);
-    'members: for (key, value) in object.iter() {
-        if key.len() > MOST_KEY_BYTES {
-            return Err(JsonWriteError::KeyTooLong);
-        }
-        let member = owned(alloc, &value)?;
-        list.push(Vec::from_slice(alloc, key)?, member)?;
+    'entries: for index in from..to {
+        copy_entry(alloc, list, value, index)?;
     }
+    Ok(())
+}
+
+// An array, or an object, whose keys stay in the order in which they are stored.
+#[cycle(owned)]
+fn owned_entries(alloc: Global, value: &Value<'_>) -> Result<OwnedDocument, JsonWriteError>
+    requires { (is_array (json value.now) || is_object (json value.now)) ≡ true }
+    ensures made { IfOk result (λ d. owned_value d ≡ json value.now) }
+    ensures refused { IfErr result (IsUnwritten (json value.now)) }
+{
+    let mut list = EntryList::new(alloc, is_object(value));
+    copy_entries(alloc, &mut list, value, 0, entry_count(value))?;
     list.finish(alloc)
 }
 
 // The value of a view.
 #[cycle(owned)]
 fn owned(alloc: Global, value: &Value<'_>) -> Result<OwnedDocument, JsonWriteError>
-    ensures { IfOk result (λ d. owned_value d ≡ json value.now) }
+    ensures made { IfOk result (λ d. owned_value d ≡ json value.now) }
+    ensures refused { IfErr result (IsUnwritten (json value.now)) }
 {
     match value {
         Value::Null => Ok(OwnedDocument::null(alloc)?),
@@ -57,8 +87,8 @@ fn owned(alloc: Global, value: &Value<'_>) -> Result<OwnedDocument, JsonWriteErr
         Value::F64(double) => Ok(OwnedDocument::from_bits(alloc, double.to_bits())?),
         Value::String(text) => OwnedDocument::string(alloc, text),
         Value::Opaque(opaque) => OwnedDocument::opaque(alloc, opaque),
-        Value::Array(array) => owned_array(alloc, array),
-        Value::Object(object) => owned_object(alloc, object),
+        Value::Array(_) => owned_entries(alloc, value),
+        Value::Object(_) => owned_entries(alloc, value),
     }
 }
 
@@ -70,7 +100,8 @@ fn owned(alloc: Global, value: &Value<'_>) -> Result<OwnedDocument, JsonWriteErr
 /// `Memory` if memory is refused, and `TooLarge` where a part would have 2^32 bytes or more. The other errors don't come for a
 /// value of a document.
 pub fn rewritten(alloc: Global, value: &Value<'_>) -> Result<OwnedDocument, JsonWriteError>
-    ensures { IfOk result (λ d. owned_value d ≡ json value.now) }
+    ensures made { IfOk result (λ d. owned_value d ≡ json value.now) }
+    ensures refused { IfErr result (IsUnwritten (json value.now)) }
 {
     owned(alloc, value)
 }

@@ -23,5 +23,5 @@ module _ {B N : Type 0} (contents : B → Option (List ℕ)) (is_verified is_fol
     pub begun : Copier B
     pub header : Appends (contents old) (contents begun.output) file_header
     pub copied : Copier B
-    pub shown : ShowsTaken Copies CopiesNot (λ copier. 0) (record filter { takes_descriptions = true }) is_verified is_followed bytes names begun outcome copied
+    pub shown : ShowsTaken Copies CopiesNot (λ copier. 0) (record filter { is_for_copy = true }) is_verified is_followed bytes names begun outcome copied
     pub ends : new ≡ copied.output

@@ -12,7 +12,9 @@ ghost use Rattle.binlog.specs.Requests.{lines_capacity};
 use crate::files::read_files;
 use crate::inputs::Inputs;
 use crate::request::{Reading, Request};
-use binlog_cli::{BUFFER_SIZE, Outcome, Output, Reported, Status, filter, write_stats};
+use binlog_cli::{
+    BUFFER_SIZE, Outcome, Output, Reported, Status, filter, report_left_out, write_stats,
+};
 use binlog_commands::Stats;
 use binlog_file::{Counted, Retrying};
 use binlog_filters::{Filter, Filtered};
@@ -120,7 +122,9 @@ pub(crate) fn read_taken<
 {
     let mut reported = Reported::new(rt, Filtered::new(rt.alloc(), filter, visitor));
     let outcome = read_files(rt, inputs, files, reading, &mut reported);
-    (outcome, reported.into_visitor().visitor)
+    let filtered = reported.into_visitor();
+    report_left_out(rt, filtered.state.left_out);
+    (outcome, filtered.visitor)
 }
 
 /// `binlog stats`: counts what the filter takes of all files, and writes the counts.

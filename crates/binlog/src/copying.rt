@@ -92,7 +92,7 @@ fn copy_taken<'a, S: Inputs, R: Clock + Eprint + AllocGlobal, B: Write + Drop>(
         filter output copied.0 copied.1) }
 {
     let mut filter = filter;
-    filter.takes_descriptions = true;
+    filter.is_for_copy = true;
     let header = BinlogFileHeader.write(BinlogVersion::Version4, &mut output);
     if header.is_err() {
         return Err(output);

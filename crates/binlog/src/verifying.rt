@@ -10,7 +10,10 @@ ghost use Rattle.binlog.specs.Verifying.{verifying, has_line, WritesLine, Verifi
 use crate::files::read_file;
 use crate::inputs::Inputs;
 use crate::request::{Reading, Request};
-use binlog_cli::{BUFFER_SIZE, Outcome, Output, Reported, Status, filter, shown_name, write_tally};
+use binlog_cli::{
+    BUFFER_SIZE, Outcome, Output, Reported, Status, filter, report_left_out, shown_name,
+    write_tally,
+};
 use binlog_commands::Tally;
 use binlog_file::{Error, Retrying};
 use binlog_filters::Filtered;
@@ -41,6 +44,7 @@ pub(crate) fn verify<'a, S: Inputs, R: Clock + Eprint + AllocGlobal, W: Write + 
         &mut reported,
         &mut output,
     );
+    report_left_out(rt, reported.visitor().state.left_out);
     Ok(output.finish(rt, outcome))
 }
 

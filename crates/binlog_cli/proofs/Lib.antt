@@ -5,3 +5,4 @@ mod WholeStats
 mod WrittenTexts
 mod NamedTypes
 mod CivilInstants
+pub mod TableNames

@@ -7,6 +7,7 @@ use Rattle.binlog_filters.specs.declared.filter.Filter.{Filter}
 use Rattle.binlog_cli.specs.declared.exit_status.Status.{Status}
 use Rattle.binlog_cli.specs.declared.exit_status.Status.TheVariants.{Failed, Usage}
 use Rattle.binlog_cli.specs.GtidWords.{StatesGtids, StatesNoGtids}
+use Rattle.binlog_cli.specs.TableWords.{HasNoTable, StatesTables, texts_given}
 use Rattle.binlog_cli.specs.Times.{StatesNoTime, StatesTime}
 use Rattle.binlog_event_types.specs.TypeNames.{AreNamed, HasNoType}
 
@@ -36,14 +37,15 @@ pub record StatesFilter (found : Found) (filter : Filter) : Type 0 where
   pub types : AreNamed (type_names found) filter.types.items
   pub included : StatesGtids (first_value found (codes "include-gtids")) filter.include_gtids
   pub excluded : StatesGtids (first_value found (codes "exclude-gtids")) filter.exclude_gtids
-  pub descriptions : filter.takes_descriptions ≡ false
+  pub tables : StatesTables (texts_given found (codes "table")) (texts_given found (codes "database")) filter.tables
+  pub copies : filter.is_for_copy ≡ false
 
 -- The number of the server id is too large for one.
 abbrev pub StatesNoServer : Option (List ℕ) → Type 0
 StatesNoServer text = (n : ℕ) × StatesNumber text (Some n) × (2 ^ 32 ≤ n)
 
 -- An option is given with a value that can't be read: no time, a server id that is too large, a name that no type has, no set of
--- GTIDs.
+-- GTIDs, no table.
 abbrev pub StatesNoFilter : Found → Type 0
 StatesNoFilter found =
     StatesNoTime (first_value found (codes "start-datetime"))
@@ -51,7 +53,8 @@ StatesNoFilter found =
     ⊎ (StatesNoServer (one_text found (codes "server-id"))
     ⊎ (HasNoType (type_names found)
     ⊎ (StatesNoGtids (first_value found (codes "include-gtids"))
-    ⊎ StatesNoGtids (first_value found (codes "exclude-gtids"))))))
+    ⊎ (StatesNoGtids (first_value found (codes "exclude-gtids"))
+    ⊎ HasNoTable (texts_given found (codes "table")))))))
 
 -- The status of a command that can't begin: its options state no filter, or memory or its output failed.
 abbrev pub NeverBegins : Found → Status → Type 0

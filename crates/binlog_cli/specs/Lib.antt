@@ -5,4 +5,5 @@ pub mod TallyText
 pub mod StatsText
 pub mod Times
 pub mod GtidWords
+pub mod TableWords
 pub mod FilterWords

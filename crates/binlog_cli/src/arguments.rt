@@ -195,6 +195,22 @@ fn with_filters<'a>(alloc: Global, command: Command<'a>) -> Result<Command<'a>, 
             text(alloc, "exclude-gtids")
                 .value_name("GTIDS")
                 .help("Whole transactions with none of these GTIDs"),
+        )?
+        .arg(
+            text(alloc, "table")
+                .value_name("DB.TABLE")
+                .action(ArgAction::Append)
+                .help(
+                    "Rows and table maps of these tables; * stands for any bytes, ? for one; may be given again",
+                ),
+        )?
+        .arg(
+            text(alloc, "database")
+                .value_name("DB")
+                .action(ArgAction::Append)
+                .help(
+                    "Rows, table maps and statements of these databases, as --table; may be given again",
+                ),
         )
 }
 

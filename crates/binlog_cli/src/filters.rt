@@ -6,6 +6,7 @@ ghost use Rattle.binlog_cli.specs.FilterWords.{NeverBegins, StatesFilter, States
 
 use crate::exit_status::Status;
 use crate::gtid_sets::gtids;
+use crate::table_names::tables;
 use crate::times::time;
 use crate::type_names::types;
 use binlog_filters::Filter;
@@ -27,6 +28,7 @@ pub fn filter<R: Eprint + AllocGlobal>(rt: &R, matches: &ArgMatches<'_>) -> Resu
     let types = types(rt, matches)?;
     let include_gtids = gtids(rt, matches, "include-gtids")?;
     let exclude_gtids = gtids(rt, matches, "exclude-gtids")?;
+    let tables = tables(rt, matches)?;
     Ok(Filter {
         start_position: number(matches, "start-position").unwrap_or(0),
         stop_position: number(matches, "stop-position"),
@@ -36,7 +38,8 @@ pub fn filter<R: Eprint + AllocGlobal>(rt: &R, matches: &ArgMatches<'_>) -> Resu
         types,
         include_gtids,
         exclude_gtids,
-        takes_descriptions: false,
+        tables,
+        is_for_copy: false,
     })
 }
 

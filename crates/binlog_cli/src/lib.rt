@@ -10,6 +10,7 @@ mod output;
 mod progress;
 mod reported;
 mod summaries;
+mod table_names;
 mod times;
 mod type_names;
 
@@ -18,5 +19,5 @@ pub use exit_status::{Outcome, Status, out_of_memory};
 pub use filters::filter;
 pub use output::{BUFFER_SIZE, Output};
 pub use progress::Progress;
-pub use reported::{Reported, shown_name};
+pub use reported::{Reported, report_left_out, shown_name};
 pub use summaries::{write_stats, write_tally};

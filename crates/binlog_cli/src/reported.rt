@@ -161,6 +161,16 @@ fn report_cut<E: Eprint>(rt: &E, file: &str, place: Place, tail_len: usize) {
     };
 }
 
+/// Writes the message of events that were left out though they may change a table that is asked for, if there are some.
+pub fn report_left_out<E: Eprint>(rt: &E, left_out: u64) {
+    if left_out == 0 {
+        return;
+    }
+    let _ = eprintln!(rt;
+        "binlog: events left out that don't tell which tables they change: {left_out}"
+    );
+}
+
 // Writes the message of an event whose GTIDs can't be read or added. Why they can't doesn't depend on the set.
 #[inline(never)]
 fn report_refused<E: Eprint + AllocGlobal>(

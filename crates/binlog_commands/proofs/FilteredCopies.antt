@@ -22,13 +22,15 @@ use Rattle.binlog_file.specs.StreamItems.{AreItems, items_behind}
 use Rattle.binlog_file.proofs.OwnFrames.{event_is}
 use Rattle.binlog_file.proofs.AcceptedDescriptions.{error_is_none}
 use Rattle.binlog_file.proofs.StreamItems.{items_looked}
-use Rattle.binlog_file.specs.TableMapsInForce.{TableMaps}
+use Rattle.binlog_file.specs.TableMapsInForce.{TableMaps, no_table_maps}
 use Rattle.binlog_visits.specs.TableMaps.{maps_behind}
 use Rattle.binlog_visits.specs.Visits.{VisitRelation, Visits}
+use Rattle.binlog_filters.specs.Concerns.{is_concerned}
 use Rattle.binlog_filters.specs.Places.{behind}
 use Rattle.binlog_filters.specs.Taking.{Takes, TakesEvents, with_taken, is_taken, meets_conditions}
 use Rattle.binlog_filters.specs.Filtering.{Filters, VisitsIf}
 use Rattle.binlog_filters.specs.declared.filter.Filter.{Filter}
+use Rattle.binlog_filters.specs.declared.state.FilterState.{FilterState}
 use Rattle.binlog_filters.specs.declared.filtered.Filtered.{Filtered}
 use Rattle.binlog_commands.specs.Copying.{CopiesItem}
 use Rattle.binlog_commands.specs.Parts.{ArePart, event_bytes}
@@ -36,10 +38,10 @@ use Rattle.binlog_commands.specs.FilteredCopies.{IsFilteredCopy}
 use Rattle.binlog_commands.proofs.CopiedLogs.{copied_log}
 
 -- The events that are taken of these items, and the bytes that are written of them.
-record IsCopied (d : FormatDescriptionEvent) (frames : List (List ℕ)) (filter : Filter) (position : Option ℕ) (was : Bool) (items : List (Result EventView Error)) (old new : Option (List ℕ)) : Type 0 where
+record IsCopied (d : FormatDescriptionEvent) (frames : List (List ℕ)) (filter : Filter) (maps : TableMaps) (position : Option ℕ) (was : FilterState) (items : List (Result EventView Error)) (old new : Option (List ℕ)) : Type 0 where
   events : List EventView
   part : ArePart d frames events
-  taken : TakesEvents filter position was items events
+  taken : TakesEvents filter maps position was items events
   written : Appends old new (event_bytes events)
 
 -- ---- frames that aren't taken
@@ -54,11 +56,11 @@ brings_none false found d is = refl
 brings_none true found d is = absurd cc
 
 -- An event that isn't taken, though all descriptions are, brings no description into force.
-left_out : (d : FormatDescriptionEvent) (frame : List ℕ) (event : EventView) (filter : Filter) (start : Option ℕ) (wanted : Bool) → item_of d frame ≡ Ok event
-    → filter.takes_descriptions ≡ true → false ≡ is_taken filter start event wanted → unwrap_or (accepted frame) d ≡ d
-left_out d frame event filter start wanted item all out =
+left_out : (d : FormatDescriptionEvent) (frame : List ℕ) (event : EventView) (filter : Filter) (start : Option ℕ) (wanted concerned : Bool) → item_of d frame ≡ Ok event
+    → filter.is_for_copy ≡ true → false ≡ is_taken filter start event wanted concerned → unwrap_or (accepted frame) d ≡ d
+left_out d frame event filter start wanted concerned item all out =
     let own : event.frame ≡ frame = ap (λ (e : EventView). e.frame) (event_is d frame event item).1 in
-    let none = no_description filter.takes_descriptions (is_description event.frame) (meets_conditions filter start event wanted) all out in
+    let none = no_description filter.is_for_copy (is_description event.frame) (concerned && meets_conditions filter start event wanted) all out in
     brings_none (is_description frame) _ d (ap (λ (f : List ℕ). is_description f) (sym own) ∙ none)
 
 -- ---- one item
@@ -84,10 +86,10 @@ module _ {T : Type 0} (contents : T → Option (List ℕ)) where
 
   -- The same filter goes on behind an item.
   goes_on : (maps : TableMaps) (index : ℕ) (item : Result EventView Error) (items : List (Result EventView Error)) (old mid : Filtered T) (events : List EventView) → Filters Copies old maps index item mid
-      → TakesEvents mid.filter mid.place.position mid.is_wanted items events → TakesEvents old.filter (behind old.place.position item) mid.is_wanted items events
+      → TakesEvents mid.filter maps mid.place.position mid.state items events → TakesEvents old.filter maps (behind old.place.position item) mid.state items events
   goes_on maps index item items old mid events one rest =
-      subst (λ (f : Filter). TakesEvents f (behind old.place.position item) mid.is_wanted items events) one.same
-      (subst (λ (p : Option ℕ). TakesEvents mid.filter p mid.is_wanted items events) one.place rest)
+      subst (λ (f : Filter). TakesEvents f maps (behind old.place.position item) mid.state items events) one.same
+      (subst (λ (p : Option ℕ). TakesEvents mid.filter maps p mid.state items events) one.place rest)
 
   error_by : (taken : Bool) (maps : TableMaps) (index : ℕ) (error : Error) (old new : T) → taken ≡ true → VisitsIf Copies taken old maps index (Err error) new → contents new ≡ contents old
   error_by true maps index error old new is does = does
@@ -98,46 +100,46 @@ module _ {T : Type 0} (contents : T → Option (List ℕ)) where
   error_visited maps index error old mid one = error_by one.taken maps index error old.visitor mid.visitor one.takes.1 one.does
 
   taken_event : (taken : Bool) (d : FormatDescriptionEvent) (frame : List ℕ) (frames : List (List ℕ)) (event : EventView) (items : List (Result EventView Error)) (maps : TableMaps) (index : ℕ) (old mid new : Filtered T)
-      → old.filter.takes_descriptions ≡ true → Ok event ≡ item_of d frame
-      → Takes old.filter old.place.position old.is_wanted (Ok event) mid.is_wanted taken → VisitsIf Copies taken old.visitor maps index (Ok event) mid.visitor
-      → (rest : IsCopied (unwrap_or (accepted frame) d) frames mid.filter mid.place.position mid.is_wanted items (contents mid.visitor) (contents new.visitor))
-      → TakesEvents old.filter (behind old.place.position (Ok event)) mid.is_wanted items rest.events
-      → IsCopied d (frame ∷ frames) old.filter old.place.position old.is_wanted (Ok event ∷ items) (contents old.visitor) (contents new.visitor)
+      → old.filter.is_for_copy ≡ true → Ok event ≡ item_of d frame
+      → Takes old.filter (maps_behind maps (Ok event)) old.place.position old.state (Ok event) mid.state taken → VisitsIf Copies taken old.visitor (maps_behind maps (Ok event)) index (Ok event) mid.visitor
+      → (rest : IsCopied (unwrap_or (accepted frame) d) frames mid.filter (maps_behind maps (Ok event)) mid.place.position mid.state items (contents mid.visitor) (contents new.visitor))
+      → TakesEvents old.filter (maps_behind maps (Ok event)) (behind old.place.position (Ok event)) mid.state items rest.events
+      → IsCopied d (frame ∷ frames) old.filter maps old.place.position old.state (Ok event ∷ items) (contents old.visitor) (contents new.visitor)
   taken_event true d frame frames event items maps index old mid new all item takes does rest taken = record {
     events = event ∷ rest.events;
     part = inr (event, rest.events, refl, sym item, rest.part);
-    taken = (mid.is_wanted, true, takes, rest.events, taken, refl);
+    taken = (mid.state, true, takes, rest.events, taken, refl);
     written = Appends-trans (contents old.visitor) (contents mid.visitor) (contents new.visitor) event.frame (event_bytes rest.events) does rest.written;
   }
   taken_event false d frame frames event items maps index old mid new all item takes does rest taken =
-      let stays = left_out d frame event old.filter _ mid.is_wanted (sym item) all takes.1 in
+      let stays = left_out d frame event old.filter _ mid.state.is_wanted (is_concerned old.filter.is_for_copy old.state.is_in_statement takes.concern) (sym item) all takes.is in
       record {
         events = rest.events;
         part = inl (stays, subst (λ (x : FormatDescriptionEvent). ArePart x frames rest.events) stays rest.part);
-        taken = (mid.is_wanted, false, takes, rest.events, taken, refl);
+        taken = (mid.state, false, takes, rest.events, taken, refl);
         written = subst (λ (t : T). Appends (contents t) (contents new.visitor) (event_bytes rest.events)) does rest.written;
       }
 
   -- One more frame.
   one_frame : (d : FormatDescriptionEvent) (frame : List ℕ) (frames : List (List ℕ)) (item : Result EventView Error) (items : List (Result EventView Error)) (maps : TableMaps) (index : ℕ) (old mid new : Filtered T)
-      → old.filter.takes_descriptions ≡ true → item ≡ item_of d frame → Filters Copies old maps index item mid
-      → IsCopied (unwrap_or (accepted frame) d) frames mid.filter mid.place.position mid.is_wanted items (contents mid.visitor) (contents new.visitor)
-      → IsCopied d (frame ∷ frames) old.filter old.place.position old.is_wanted (item ∷ items) (contents old.visitor) (contents new.visitor)
+      → old.filter.is_for_copy ≡ true → item ≡ item_of d frame → Filters Copies old (maps_behind maps item) index item mid
+      → IsCopied (unwrap_or (accepted frame) d) frames mid.filter (maps_behind maps item) mid.place.position mid.state items (contents mid.visitor) (contents new.visitor)
+      → IsCopied d (frame ∷ frames) old.filter maps old.place.position old.state (item ∷ items) (contents old.visitor) (contents new.visitor)
   one_frame d frame frames (Ok event) items maps index old mid new all item one rest =
-      taken_event one.taken d frame frames event items maps index old mid new all item one.takes one.does rest (goes_on maps index (Ok event) items old mid rest.events one rest.taken)
+      taken_event one.taken d frame frames event items maps index old mid new all item one.takes one.does rest (goes_on (maps_behind maps (Ok event)) index (Ok event) items old mid rest.events one rest.taken)
   one_frame d frame frames (Err error) items maps index old mid new all item one rest =
       let stays = ap (λ (found : Option FormatDescriptionEvent). unwrap_or found d) (error_is_none d frame error item) in
       record {
         events = rest.events;
         part = inl (stays, subst (λ (x : FormatDescriptionEvent). ArePart x frames rest.events) stays rest.part);
-        taken = (mid.is_wanted, one.taken, one.takes, rest.events, goes_on maps index (Err error) items old mid rest.events one rest.taken, without_error one.taken error rest.events);
-        written = subst (λ (w : Option (List ℕ)). Appends w (contents new.visitor) (event_bytes rest.events)) (error_visited maps index error old mid one) rest.written;
+        taken = (mid.state, one.taken, one.takes, rest.events, goes_on (maps_behind maps (Err error)) index (Err error) items old mid rest.events one rest.taken, without_error one.taken error rest.events);
+        written = subst (λ (w : Option (List ℕ)). Appends w (contents new.visitor) (event_bytes rest.events)) (error_visited (maps_behind maps (Err error)) index error old mid one) rest.written;
       }
 
   -- ---- all items
 
   copied_tail : (d : FormatDescriptionEvent) (items : List (Result EventView Error)) (maps : TableMaps) (index : ℕ) (old new : Filtered T) → AreErrors items → Visits (Filters Copies) maps index items old new
-      → IsCopied d [] old.filter old.place.position old.is_wanted items (contents old.visitor) (contents new.visitor)
+      → IsCopied d [] old.filter maps old.place.position old.state items (contents old.visitor) (contents new.visitor)
   copied_tail d [] maps index old new errors visited = record {
     events = [];
     part = refl;
@@ -150,13 +152,13 @@ module _ {T : Type 0} (contents : T → Option (List ℕ)) where
       record {
         events = rest.events;
         part = rest.part;
-        taken = (visited.0.is_wanted, visited.1.taken, visited.1.takes, rest.events, goes_on maps index (Err error) items old visited.0 rest.events visited.1 rest.taken, without_error visited.1.taken error rest.events);
-        written = subst (λ (w : Option (List ℕ)). Appends w (contents new.visitor) (event_bytes rest.events)) (error_visited maps index error old visited.0 visited.1) rest.written;
+        taken = (visited.0.state, visited.1.taken, visited.1.takes, rest.events, goes_on (maps_behind maps (Err error)) index (Err error) items old visited.0 rest.events visited.1 rest.taken, without_error visited.1.taken error rest.events);
+        written = subst (λ (w : Option (List ℕ)). Appends w (contents new.visitor) (event_bytes rest.events)) (error_visited (maps_behind maps (Err error)) index error old visited.0 visited.1) rest.written;
       }
 
   copied_frames : (d e : FormatDescriptionEvent) (frames : List (List ℕ)) (items tail : List (Result EventView Error)) (maps : TableMaps) (index : ℕ) (old new : Filtered T) → AreErrors tail
-      → old.filter.takes_descriptions ≡ true → AreHandled Looks d e frames items → Visits (Filters Copies) maps index (items ++ tail) old new
-      → IsCopied d frames old.filter old.place.position old.is_wanted (items ++ tail) (contents old.visitor) (contents new.visitor)
+      → old.filter.is_for_copy ≡ true → AreHandled Looks d e frames items → Visits (Filters Copies) maps index (items ++ tail) old new
+      → IsCopied d frames old.filter maps old.place.position old.state (items ++ tail) (contents old.visitor) (contents new.visitor)
   copied_frames d e [] [] tail maps index old new errors all handled visited = copied_tail d tail maps index old new errors visited
   copied_frames d e [] (item ∷ items) tail maps index old new errors all handled visited = absurd handled
   copied_frames d e (frame ∷ frames) [] tail maps index old new errors all handled visited = absurd handled
@@ -164,23 +166,23 @@ module _ {T : Type 0} (contents : T → Option (List ℕ)) where
       let mid = visited.0 in
       let one = visited.1 in
       let behind_it = subst (λ (x : FormatDescriptionEvent). AreHandled Looks x e frames items) handled.1.1 handled.2 in
-      let rest = copied_frames (unwrap_or (accepted frame) d) e frames items tail (maps_behind maps item) (index + 1) mid new errors (ap (λ (f : Filter). f.takes_descriptions) one.same ∙ all) behind_it visited.2 in
-      one_frame d frame frames item (items ++ tail) (maps_behind maps item) index old mid new all handled.1.0 one rest
+      let rest = copied_frames (unwrap_or (accepted frame) d) e frames items tail (maps_behind maps item) (index + 1) mid new errors (ap (λ (f : Filter). f.is_for_copy) one.same ∙ all) behind_it visited.2 in
+      one_frame d frame frames item (items ++ tail) maps index old mid new all handled.1.0 one rest
 
-  pub filtered_copy : (maps : TableMaps) (bytes stream : List ℕ) (items : List (Result EventView Error)) (old new : Filtered T) → old.filter.takes_descriptions ≡ true → bytes ≡ file_header ++ stream
-      → AreItems (default_description Version4) stream items → Visits (Filters Copies) maps 0 items old new
-      → IsFilteredCopy old.filter old.place.position old.is_wanted bytes (contents old.visitor) (contents new.visitor)
-  filtered_copy maps bytes stream items old new all file are visited =
+  pub filtered_copy : (bytes stream : List ℕ) (items : List (Result EventView Error)) (old new : Filtered T) → old.filter.is_for_copy ≡ true → bytes ≡ file_header ++ stream
+      → AreItems (default_description Version4) stream items → Visits (Filters Copies) no_table_maps 0 items old new
+      → IsFilteredCopy old.filter old.place.position old.state bytes (contents old.visitor) (contents new.visitor)
+  filtered_copy bytes stream items old new all file are visited =
       let d : FormatDescriptionEvent = default_description Version4 in
-      let copied = copied_frames d (in_force d are.frames) are.frames (items_behind d [] are.frames) (tail_items are.tail) maps 0 old new (tail_by (is_undersized are.tail) (stated_size are.tail)) all
-      (items_looked d are.frames) (subst (λ (l : List (Result EventView Error)). Visits (Filters Copies) maps 0 l old new) are.all visited) in
+      let copied = copied_frames d (in_force d are.frames) are.frames (items_behind d [] are.frames) (tail_items are.tail) no_table_maps 0 old new (tail_by (is_undersized are.tail) (stated_size are.tail)) all
+      (items_looked d are.frames) (subst (λ (l : List (Result EventView Error)). Visits (Filters Copies) no_table_maps 0 l old new) are.all visited) in
       record {
         stream = stream;
         file = file;
         items = items;
         are = are;
         events = copied.events;
-        taken = subst (λ (l : List (Result EventView Error)). TakesEvents old.filter old.place.position old.is_wanted l copied.events) (sym are.all) copied.taken;
+        taken = subst (λ (l : List (Result EventView Error)). TakesEvents old.filter no_table_maps old.place.position old.state l copied.events) (sym are.all) copied.taken;
         written = copied.written;
         log = copied_log d are.frames copied.events are.split.each copied.part;
       }

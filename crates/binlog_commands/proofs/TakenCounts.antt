@@ -10,6 +10,7 @@ use Rattle.binlog_visits.specs.Visits.{VisitRelation, Visits}
 use Rattle.binlog_filters.specs.Places.{behind}
 use Rattle.binlog_filters.specs.Filtering.{Filters, VisitsIf}
 use Rattle.binlog_filters.specs.declared.filter.Filter.{Filter}
+use Rattle.binlog_filters.specs.declared.state.FilterState.{FilterState}
 use Rattle.binlog_filters.specs.declared.filtered.Filtered.{Filtered}
 use Rattle.binlog_commands.specs.Counting.{counted, none_counted, Counts}
 use Rattle.binlog_commands.specs.Statistics.{no_items, larger, CountsItem}
@@ -35,9 +36,9 @@ module _ {T : Type 0} (does : T → ℕ → Item → T → Type 0) where
   ShowsEach [] old new = new ≡ old
   ShowsEach (x ∷ shown) old new = (mid : T) × does old x.0 x.1 mid × ShowsEach shown mid new
 
-  record ShowsTaken (filter : Filter) (position : Option ℕ) (was : Bool) (index : ℕ) (items : List Item) (old new : T) : Type 0 where
+  record ShowsTaken (filter : Filter) (maps : TableMaps) (position : Option ℕ) (was : FilterState) (index : ℕ) (items : List Item) (old new : T) : Type 0 where
     shown : List Indexed
-    taken : TakesItems filter position was index items shown
+    taken : TakesItems filter maps position was index items shown
     each : ShowsEach shown old new
 
   shows_item : (taken : Bool) (maps : TableMaps) (index : ℕ) (item : Item) (old mid new : T) (others : List Indexed) → VisitsIf Does taken old maps index item mid → ShowsEach others mid new
@@ -47,13 +48,13 @@ module _ {T : Type 0} (does : T → ℕ → Item → T → Type 0) where
 
   -- The same filter goes on behind an item.
   goes_on : (maps : TableMaps) (index : ℕ) (item : Item) (items : List Item) (old mid : Filtered T) (shown : List Indexed) → Filters Does old maps index item mid
-      → TakesItems mid.filter mid.place.position mid.is_wanted (index + 1) items shown → TakesItems old.filter (behind old.place.position item) mid.is_wanted (index + 1) items shown
+      → TakesItems mid.filter maps mid.place.position mid.state (index + 1) items shown → TakesItems old.filter maps (behind old.place.position item) mid.state (index + 1) items shown
   goes_on maps index item items old mid shown one rest =
-      subst (λ (f : Filter). TakesItems f (behind old.place.position item) mid.is_wanted (index + 1) items shown) one.same
-      (subst (λ (p : Option ℕ). TakesItems mid.filter p mid.is_wanted (index + 1) items shown) one.place rest)
+      subst (λ (f : Filter). TakesItems f maps (behind old.place.position item) mid.state (index + 1) items shown) one.same
+      (subst (λ (p : Option ℕ). TakesItems mid.filter maps p mid.state (index + 1) items shown) one.place rest)
 
   shows_taken : (maps : TableMaps) (index : ℕ) (items : List Item) (old new : Filtered T) → Visits (Filters Does) maps index items old new
-      → ShowsTaken old.filter old.place.position old.is_wanted index items old.visitor new.visitor
+      → ShowsTaken old.filter maps old.place.position old.state index items old.visitor new.visitor
   shows_taken maps index [] old new visited = record { shown = []; taken = refl; each = ap (λ (f : Filtered T). f.visitor) visited }
   shows_taken maps index (item ∷ items) old new visited =
       let mid = visited.0 in
@@ -61,7 +62,7 @@ module _ {T : Type 0} (does : T → ℕ → Item → T → Type 0) where
       let rest = shows_taken (maps_behind maps item) (index + 1) items mid new visited.2 in
       record {
         shown = with_item one.taken (index, item) rest.shown;
-        taken = (mid.is_wanted, one.taken, one.takes, rest.shown, goes_on (maps_behind maps item) index item items old mid rest.shown one rest.taken, refl);
+        taken = (mid.state, one.taken, one.takes, rest.shown, goes_on (maps_behind maps item) index item items old mid rest.shown one rest.taken, refl);
         each = shows_item one.taken (maps_behind maps item) index item old.visitor mid.visitor new.visitor rest.shown one.does rest.each;
       }
 
@@ -144,7 +145,7 @@ counts_alone maps done (x ∷ shown) plain new was each =
     (counts_alone maps (done ++ x ∷ []) shown more.alone new more.all (subst (λ (s : Stats). ShowsEach CountsItem shown s new) more.is each.2))
 
 pub taken_counted : (maps : TableMaps) (items : List Item) (old new : Filtered Stats) → old.visitor ≡ no_items → Visits (Filters (λ before maps index item after. CountsItem before index item after)) maps 0 items old new
-    → AreTakenCounted old.filter old.place.position old.is_wanted items new.visitor
+    → AreTakenCounted old.filter maps old.place.position old.state items new.visitor
 taken_counted maps items old new start visited =
     let shows = shows_taken CountsItem maps 0 items old new visited in
     let alone = counts_alone maps [] shows.shown no_items new.visitor none_is_counted (subst (λ (s : Stats). ShowsEach CountsItem shows.shown s new.visitor) start shows.each) in
@@ -161,7 +162,7 @@ tallied_alone maps index [] old new same = same
 tallied_alone maps index (x ∷ shown) old new each = (each.0, each.1, tallied_alone (maps_behind maps x.1) (index + 1) shown each.0 new each.2)
 
 pub taken_tallied : (maps : TableMaps) (items : List Item) (old new : Filtered Tally) → old.visitor ≡ none_counted → Visits (Filters (λ before maps index item after. Counts before item after)) maps 0 items old new
-    → AreTakenTallied old.filter old.place.position old.is_wanted items new.visitor
+    → AreTakenTallied old.filter maps old.place.position old.state items new.visitor
 taken_tallied maps items old new start visited =
     let shows = shows_taken TalliesAt maps 0 items old new visited in
     let each = subst (λ (s : Tally). ShowsEach TalliesAt shows.shown s new.visitor) start shows.each in

@@ -2,9 +2,12 @@
 use Rattle.std.specs.Prelude.{◌≡◌, ℕ, ◌+◌, Bool, true, false, List, [], ◌∷◌, map, slice_index_or, Option, option_map, Result}
 use Rattle.binlog_wire.specs.declared.error.Error.{Error}
 use Rattle.binlog_events.specs.Events.{EventView}
+use Rattle.binlog_file.specs.TableMapsInForce.{TableMaps}
+use Rattle.binlog_visits.specs.TableMaps.{maps_behind}
 use Rattle.binlog_filters.specs.Places.{behind}
 use Rattle.binlog_filters.specs.Taking.{Takes}
 use Rattle.binlog_filters.specs.declared.filter.Filter.{Filter}
+use Rattle.binlog_filters.specs.declared.state.FilterState.{FilterState}
 use Rattle.binlog_commands.specs.WholeCounts.{AreCounted, AreTallied}
 use Rattle.binlog_commands.specs.declared.stats.Stats.{Stats}
 use Rattle.binlog_commands.specs.declared.stats.Largest.{Largest}
@@ -28,12 +31,12 @@ with_item true item others = item ∷ others
 with_item false item others = others
 
 -- The items that are taken of items one after another: events, and each error. The first item has this index and begins at
--- `position`, and `was` says whether the transaction before it is wanted.
-abbrev pub TakesItems : (filter : Filter) (position : Option ℕ) (was : Bool) (index : ℕ) (items : List (Result EventView Error)) (shown : List Indexed) → Type 0
-TakesItems filter position was index [] shown = shown ≡ []
-TakesItems filter position was index (item ∷ items) shown =
-    (now : Bool) × (taken : Bool) × Takes filter position was item now taken
-    × (others : List Indexed) × TakesItems filter (behind position item) now (index + 1) items others × (shown ≡ with_item taken (index, item) others)
+-- `position`, `maps` are the table maps in force before it, and `was` is what is known there.
+abbrev pub TakesItems : (filter : Filter) (maps : TableMaps) (position : Option ℕ) (was : FilterState) (index : ℕ) (items : List (Result EventView Error)) (shown : List Indexed) → Type 0
+TakesItems filter maps position was index [] shown = shown ≡ []
+TakesItems filter maps position was index (item ∷ items) shown =
+    (now : FilterState) × (taken : Bool) × Takes filter (maps_behind maps item) position was item now taken
+    × (others : List Indexed) × TakesItems filter (maps_behind maps item) (behind position item) now (index + 1) items others × (shown ≡ with_item taken (index, item) others)
 
 -- ---- their counts
 
@@ -46,15 +49,15 @@ stats_in_log shown stats = record stats { largest = option_map (in_log shown) st
 
 -- The statistics are those of the items that the filter takes, as if they were the whole log, but that the largest event has its
 -- index in the log.
-pub record AreTakenCounted (filter : Filter) (position : Option ℕ) (was : Bool) (items : List (Result EventView Error)) (stats : Stats) : Type 0 where
+pub record AreTakenCounted (filter : Filter) (maps : TableMaps) (position : Option ℕ) (was : FilterState) (items : List (Result EventView Error)) (stats : Stats) : Type 0 where
   pub shown : List Indexed
-  pub taken : TakesItems filter position was 0 items shown
+  pub taken : TakesItems filter maps position was 0 items shown
   pub alone : Stats
   pub counted : AreCounted (map item_of shown) alone
   pub is : stats ≡ stats_in_log shown alone
 
 -- The tally is that of the items that the filter takes.
-pub record AreTakenTallied (filter : Filter) (position : Option ℕ) (was : Bool) (items : List (Result EventView Error)) (tally : Tally) : Type 0 where
+pub record AreTakenTallied (filter : Filter) (maps : TableMaps) (position : Option ℕ) (was : FilterState) (items : List (Result EventView Error)) (tally : Tally) : Type 0 where
   pub shown : List Indexed
-  pub taken : TakesItems filter position was 0 items shown
+  pub taken : TakesItems filter maps position was 0 items shown
   pub tallied : AreTallied (map item_of shown) tally

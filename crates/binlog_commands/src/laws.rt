@@ -59,14 +59,14 @@ pub fn tallies_are_of_all_items()
 pub fn filtered_counts_are_of_taken_items()
     ensures { (maps : TableMaps) (items : List (Result EventView Error)) (old new : Filtered Stats) → old.visitor ≡ no_items
         → Visits ⟦<Filtered<Stats> as Visitor>⟧.visits maps 0 items old new
-        → AreTakenCounted old.filter old.place.position old.is_wanted items new.visitor }
+        → AreTakenCounted old.filter maps old.place.position old.state items new.visitor }
 {}
 
 /// The tally that is shown what a filter takes of a log is that of the items that it takes, and of no others.
 pub fn filtered_tallies_are_of_taken_items()
     ensures { (maps : TableMaps) (items : List (Result EventView Error)) (old new : Filtered Tally) → old.visitor ≡ none_counted
         → Visits ⟦<Filtered<Tally> as Visitor>⟧.visits maps 0 items old new
-        → AreTakenTallied old.filter old.place.position old.is_wanted items new.visitor }
+        → AreTakenTallied old.filter maps old.place.position old.state items new.visitor }
 {}
 
 /// The copy of a log is a log. If no frame is left out that brings another description into force, the bytes of the events
@@ -77,12 +77,12 @@ pub fn copies_are_logs()
         → ArePart d frames events → AreItems d (event_bytes events) (map Ok events) }
 {}
 
-/// The copy that a filter makes of a whole log is a log. If the filter takes all descriptions, and the visit of the log of
+/// The copy that a filter makes of a whole log is a log. If the filter is for a copy, and the visit of the log of
 /// these bytes is Ok, the output has grown by all bytes of the events that the filter takes, and as a stream these have
 /// exactly these events for their items, in order, each under the description under which it was read. Damaged events are
 /// left out, and so are the bytes of an event that the end of the log cuts.
 pub fn filtered_copies_are_logs<W: Write>()
-    ensures { (bytes : List ℕ) (old new : Filtered (Copier W)) (tail_len : Option ℕ) → old.filter.takes_descriptions ≡ true
+    ensures { (bytes : List ℕ) (old new : Filtered (Copier W)) (tail_len : Option ℕ) → old.filter.is_for_copy ≡ true
         → VisitsLog ⟦<Filtered<Copier<W>> as Visitor>⟧.visits ⟦<Filtered<Copier<W>> as Visitor>⟧.refuses bytes old (Ok tail_len) new
-        → IsFilteredCopy old.filter old.place.position old.is_wanted bytes (W.contents old.visitor.output) (W.contents new.visitor.output) }
+        → IsFilteredCopy old.filter old.place.position old.state bytes (W.contents old.visitor.output) (W.contents new.visitor.output) }
 {}

@@ -1,6 +1,5 @@
 //! The names of MariaDB's own event types.
 ghost use Rattle.std.specs.Prelude.{◌≡◌};
-ghost use Rattle.json_line.specs.Lines.{IsPlainText};
 ghost use Rattle.binlog_event_types.specs.MariaNames.{maria_name};
 
 use binlog_mariadb::MariaEventType;
@@ -8,7 +7,6 @@ use binlog_mariadb::MariaEventType;
 /// The name of one of MariaDB's own event types, as in MariaDB's documentation.
 pub fn maria_name_of(event_type: MariaEventType) -> &'static str
     ensures name { result.now ≡ maria_name event_type }
-    ensures plain { IsPlainText result.now }
 {
     match event_type {
         MariaEventType::ANNOTATE_ROWS_EVENT => "ANNOTATE_ROWS_EVENT",

@@ -1,6 +1,5 @@
 //! The names of MySQL's event types.
 ghost use Rattle.std.specs.Prelude.{◌≡◌};
-ghost use Rattle.json_line.specs.Lines.{IsPlainText};
 ghost use Rattle.binlog_event_types.specs.MysqlNames.{type_name};
 
 use binlog_consts::EventType;
@@ -8,7 +7,6 @@ use binlog_consts::EventType;
 /// The name of an event type, as in MySQL's `Log_event_type`.
 pub fn name_of(event_type: EventType) -> &'static str
     ensures name { result.now ≡ type_name event_type }
-    ensures plain { IsPlainText result.now }
 {
     match event_type {
         EventType::UNKNOWN_EVENT => "UNKNOWN_EVENT",

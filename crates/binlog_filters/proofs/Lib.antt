@@ -1,3 +1,5 @@
+pub mod Concerned
 pub mod Followed
 pub mod PassedOn
+pub mod Patterns
 pub mod TakenLines

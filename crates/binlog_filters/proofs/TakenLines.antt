@@ -1,5 +1,5 @@
 -- What a filter shows to a visitor that writes a line for each item.
-use Rattle.std.proofs.Common.{◌≡◌, ℕ, ◌+◌, Bool, true, false, List, [], ◌∷◌, ◌++◌, Option, Result, Ok, Err, refl, sym, subst}
+use Rattle.std.proofs.Common.{ℕ, ◌+◌, Bool, true, false, List, [], ◌∷◌, ◌++◌, Option, Result, refl, sym, subst}
 use Rattle.std.specs.Io.KnownBytes.{Appends}
 use Rattle.std.proofs.KnownBytes.{Appends-nil, Appends-trans}
 use Rattle.binlog_wire.specs.declared.error.Error.{Error}
@@ -48,14 +48,14 @@ module _ {T : Type 0} (contents : T → Option (List ℕ)) (is_line : TableMaps 
 
   -- The same filter goes on behind an item.
   goes_on : (maps : TableMaps) (index : ℕ) (item : Result EventView Error) (items : List (Result EventView Error)) (old mid : Filtered T) (text : List ℕ) → Filters visits old (maps_behind maps item) index item mid
-      → TakesLines is_line mid.filter mid.place.position mid.is_wanted (maps_behind maps item) (index + 1) items text
-      → TakesLines is_line old.filter (behind old.place.position item) mid.is_wanted (maps_behind maps item) (index + 1) items text
+      → TakesLines is_line mid.filter mid.place.position mid.state (maps_behind maps item) (index + 1) items text
+      → TakesLines is_line old.filter (behind old.place.position item) mid.state (maps_behind maps item) (index + 1) items text
   goes_on maps index item items old mid text one rest =
-      subst (λ (f : Filter). TakesLines is_line f (behind old.place.position item) mid.is_wanted (maps_behind maps item) (index + 1) items text) one.same
-      (subst (λ (p : Option ℕ). TakesLines is_line mid.filter p mid.is_wanted (maps_behind maps item) (index + 1) items text) one.place rest)
+      subst (λ (f : Filter). TakesLines is_line f (behind old.place.position item) mid.state (maps_behind maps item) (index + 1) items text) one.same
+      (subst (λ (p : Option ℕ). TakesLines is_line mid.filter p mid.state (maps_behind maps item) (index + 1) items text) one.place rest)
 
   pub taken_lines : (maps : TableMaps) (index : ℕ) (items : List (Result EventView Error)) (old new : Filtered T) → Visits (Filters visits) maps index items old new
-      → WritesTaken is_line old.filter old.place.position old.is_wanted maps index items (contents old.visitor) (contents new.visitor)
+      → WritesTaken is_line old.filter old.place.position old.state maps index items (contents old.visitor) (contents new.visitor)
   taken_lines maps index [] old new visited = record {
     text = [];
     taken = refl;
@@ -68,6 +68,6 @@ module _ {T : Type 0} (contents : T → Option (List ℕ)) (is_line : TableMaps 
       let both = adds_item one.taken (maps_behind maps item) index item old.visitor mid.visitor new.visitor rest.text one.does rest.written in
       record {
         text = both.text;
-        taken = (mid.is_wanted, one.taken, one.takes, rest.text, goes_on maps index item items old mid rest.text one rest.taken, both.adds);
+        taken = (mid.state, one.taken, one.takes, rest.text, goes_on maps index item items old mid rest.text one rest.taken, both.adds);
         written = both.written;
       }

@@ -10,9 +10,12 @@ use Rattle.binlog_filters.specs.Taking.{Takes}
 use Rattle.binlog_filters.specs.declared.filtered.Filtered.{Filtered}
 
 module _ {T : Type 0} where
-  -- The same filter and visitor, at the start of a log.
+  -- The same filter and visitor, at the start of a log. The events that were left out stay counted.
   abbrev pub begun : Filtered T → Filtered T
-  begun filtered = record filtered { place = record { position = Some 4 }; is_wanted = is_none filtered.filter.include_gtids }
+  begun filtered = record filtered {
+    place = record { position = Some 4 };
+    state = record filtered.state { is_wanted = is_none filtered.filter.include_gtids; is_in_statement = false };
+  }
 
   -- A visit of the visitor if the item is taken; else it is as it was.
   abbrev pub VisitsIf : VisitRelation T → Bool → VisitRelation T
@@ -22,18 +25,18 @@ module _ {T : Type 0} where
   -- The item is passed by the filter to the visitor, or passed over.
   pub record Filters (visits : VisitRelation T) (old : Filtered T) (maps : TableMaps) (index : ℕ) (item : Result EventView Error) (new : Filtered T) : Type 0 where
     pub taken : Bool
-    pub takes : Takes old.filter old.place.position old.is_wanted item new.is_wanted taken
+    pub takes : Takes old.filter maps old.place.position old.state item new.state taken
     pub does : VisitsIf visits taken old.visitor maps index item new.visitor
     pub same : new.filter ≡ old.filter
     pub place : new.place.position ≡ behind old.place.position item
 
   -- The visitor refused an item that the filter takes. The filter has gone on behind the item.
   pub record RefusesItem (refuses : RefusalRelation T) (old : Filtered T) (maps : TableMaps) (index : ℕ) (item : Result EventView Error) (error : Error) (new : Filtered T) : Type 0 where
-    pub takes : Takes old.filter old.place.position old.is_wanted item new.is_wanted true
+    pub takes : Takes old.filter maps old.place.position old.state item new.state true
     pub refused : refuses old.visitor maps index item error new.visitor
     pub same : new.filter ≡ old.filter
     pub place : new.place.position ≡ behind old.place.position item
 
-  -- Memory ran out for the item's GTID, and nothing has changed; or the visitor refused the item.
+  -- Memory ran out for the item's data, and nothing has changed; or the visitor refused the item.
   abbrev pub RefusesTaken : RefusalRelation T → RefusalRelation (Filtered T)
   RefusesTaken refuses old maps index item error new = ((error ≡ Memory) × (new ≡ old)) ⊎ RefusesItem refuses old maps index item error new

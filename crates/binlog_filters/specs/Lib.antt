@@ -1,5 +1,9 @@
 pub mod Places
 pub mod GtidFilters
+pub mod Patterns
+pub mod Reading
+pub mod Concerns
+pub mod Tables
 pub mod Taking
 pub mod Filtering
 pub mod TakenLines

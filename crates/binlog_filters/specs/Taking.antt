@@ -1,5 +1,5 @@
 -- Which events a filter takes.
-use Rattle.std.specs.Prelude.{◌≡◌, ◌⊎◌, ℕ, ◌==◌, Bool, true, false, ◌&&◌, ◌||◌, not, List, [], ◌∷◌, Option, Some, None, is_none, Result, Ok, Err, nat_le, nat_lt}
+use Rattle.std.specs.Prelude.{◌≡◌, ◌⊎◌, ℕ, ◌+◌, ◌-◌, ◌^◌, min, if◌then◌else◌, ◌==◌, Bool, true, false, ◌&&◌, ◌||◌, not, List, [], ◌∷◌, Option, Some, None, is_none, Result, Ok, Err, nat_le, nat_lt}
 use Rattle.std.specs.List.{list_any}
 use Rattle.binlog_wire.specs.declared.error.Error.{Error}
 use Rattle.binlog_wire.specs.declared.error.Error.TheVariants.{Memory}
@@ -9,7 +9,16 @@ use Rattle.binlog_events.specs.Parts.{is_description}
 use Rattle.binlog_file.specs.LogData.{ReadsLogData}
 use Rattle.binlog_file.specs.declared.log_data.LogEventData.{LogEventData}
 use Rattle.binlog_filters.specs.GtidFilters.{has_gtid_of}
+use Rattle.binlog_file.specs.TableMapsInForce.{TableMaps}
+use Rattle.binlog_visits.specs.TableMaps.{maps_behind}
+use Rattle.binlog_filters.specs.Concerns.{is_concerned, is_in_statement, is_unknown}
 use Rattle.binlog_filters.specs.Places.{start_of, behind}
+use Rattle.binlog_filters.specs.Reading.{IsReadAs}
+use Rattle.binlog_filters.specs.Tables.{ReadsConcern}
+use Rattle.binlog_filters.specs.declared.concern.Concern.{Concern}
+use Rattle.binlog_filters.specs.declared.concern.Concern.TheVariants.{Taken}
+use Rattle.binlog_filters.specs.declared.state.FilterState.{FilterState}
+use Rattle.binlog_filters.specs.declared.tables.TableFilter.{TableFilter}
 use Rattle.binlog_filters.specs.declared.gtid_set.GtidSet.{GtidSet}
 use Rattle.binlog_filters.specs.declared.filter.Filter.{Filter}
 
@@ -56,9 +65,10 @@ meets_conditions filter start event is_wanted =
     && (is_in_times filter header.timestamp
     && is_in_positions filter start)))
 
--- The event is taken that begins here.
-abbrev pub is_taken : Filter → Option ℕ → EventView → Bool → Bool
-is_taken filter start event is_wanted = (filter.takes_descriptions && is_description event.frame) || meets_conditions filter start event is_wanted
+-- The event is taken that begins here, where `is_wanted` says so of its transaction, and `is_concerned` of its tables. A copy has each
+-- description.
+abbrev pub is_taken : Filter → Option ℕ → EventView → (is_wanted is_concerned : Bool) → Bool
+is_taken filter start event is_wanted is_concerned = (filter.is_for_copy && is_description event.frame) || (is_concerned && meets_conditions filter start event is_wanted)
 
 -- The filter has no condition, so that it takes each event. If it gets conditions, no event is taken in spite of them.
 pub record HasNoCondition (filter : Filter) : Type 0 where
@@ -70,7 +80,8 @@ pub record HasNoCondition (filter : Filter) : Type 0 where
   pub any_type : filter.types.items ≡ []
   pub includes_all : filter.include_gtids ≡ None
   pub excludes_none : filter.exclude_gtids ≡ None
-  pub no_exception : filter.takes_descriptions ≡ false
+  pub any_table : filter.tables ≡ None
+  pub no_exception : filter.is_for_copy ≡ false
 
 -- ---- transactions
 
@@ -99,11 +110,6 @@ wants_read filter server_id (Ok (Some x)) = wants filter server_id x
 wants_read filter server_id (Ok None) = is_none filter.include_gtids
 wants_read filter server_id (Err error) = is_none filter.include_gtids
 
--- This follows from what was read, which isn't a lack of memory: that says nothing of the data.
-pub record IsReadAs (answers : Result (Option LogEventData) Error → Bool) (read : Result (Option LogEventData) Error) (now : Bool) : Type 0 where
-  pub is_read : ¬ (read ≡ Err Memory)
-  pub is : now ≡ answers read
-
 -- Whether the transaction is wanted that begins with this event: by the data of the event, or by the error that its bytes give.
 pub record WantsEvent (filter : Filter) (event : EventView) (now : Bool) : Type 0 where
   pub read : Result (Option LogEventData) Error
@@ -117,23 +123,46 @@ FollowsEvent filter was event (Ok now) =
     ⊎ ((begins_transaction (header_of event.frame).event_type ≡ true) × WantsEvent filter event now)
 FollowsEvent filter was event (Err error) = error ≡ Memory
 
+-- ---- tables
+
+-- What the conditions of tables make of an event, where `maps` are the table maps in force behind it. Without conditions each event
+-- is taken.
+abbrev pub ConcernsTables : Option TableFilter → (is_for_copy : Bool) → TableMaps → EventView → Concern → Type 0
+ConcernsTables None is_for_copy maps event concern = concern ≡ Taken
+ConcernsTables (Some tables) is_for_copy maps event concern = ReadsConcern tables is_for_copy maps event concern
+
+-- The number of events that are left out though they may change a table that is asked for, behind one more event. It stays at
+-- the largest number of 64 bits.
+abbrev pub counted_if : Bool → ℕ → ℕ
+counted_if is count = if is then min (count + 1) (2 ^ 64 - 1) else count
+
 -- ---- items
 
+-- What a filter does with an event that begins at `start`: whether it is taken. `maps` are the table maps in force behind it, and
+-- `was` and `now` are what is known before and behind it.
+pub record TakesEvent (filter : Filter) (maps : TableMaps) (start : Option ℕ) (was : FilterState) (event : EventView) (now : FilterState) (taken : Bool) : Type 0 where
+  pub follows : FollowsEvent filter was.is_wanted event (Ok now.is_wanted)
+  pub concern : Concern
+  pub concerns : ConcernsTables filter.tables filter.is_for_copy maps event concern
+  pub is : taken ≡ is_taken filter start event now.is_wanted (is_concerned filter.is_for_copy was.is_in_statement concern)
+  pub statement : now.is_in_statement ≡ is_in_statement was.is_in_statement taken concern
+  pub left_out : now.left_out ≡ counted_if (not taken && (is_unknown concern && meets_conditions filter start event now.is_wanted)) was.left_out
+
 -- What a filter does with an item that begins at `position`: whether it is taken. An error always is, so that no damage is
--- hidden. `was` and `now` say whether the transaction is wanted before and after it.
-abbrev pub Takes : Filter → Option ℕ → Bool → Result EventView Error → Bool → Bool → Type 0
-Takes filter position was (Ok event) now taken = FollowsEvent filter was event (Ok now) × (taken ≡ is_taken filter (start_of position event) event now)
-Takes filter position was (Err error) now taken = (now ≡ was) × (taken ≡ true)
+-- hidden.
+abbrev pub Takes : Filter → TableMaps → Option ℕ → FilterState → Result EventView Error → FilterState → Bool → Type 0
+Takes filter maps position was (Ok event) now taken = TakesEvent filter maps (start_of position event) was event now taken
+Takes filter maps position was (Err error) now taken = (now ≡ was) × (taken ≡ true)
 
 -- These events, and before them the item if it is a taken event.
 abbrev pub with_taken : (taken : Bool) (item : Result EventView Error) (others : List EventView) → List EventView
 with_taken true (Ok event) others = event ∷ others
 with_taken taken item others = others
 
--- The events that are taken of items one after another. The first item begins at `position`, and `was` says whether the
--- transaction before it is wanted.
-abbrev pub TakesEvents : (filter : Filter) (position : Option ℕ) (was : Bool) (items : List (Result EventView Error)) (events : List EventView) → Type 0
-TakesEvents filter position was [] events = events ≡ []
-TakesEvents filter position was (item ∷ items) events =
-    (now : Bool) × (taken : Bool) × Takes filter position was item now taken
-    × (others : List EventView) × TakesEvents filter (behind position item) now items others × (events ≡ with_taken taken item others)
+-- The events that are taken of items one after another. The first item begins at `position`, `maps` are the table maps in force
+-- before it, and `was` is what is known there.
+abbrev pub TakesEvents : (filter : Filter) (maps : TableMaps) (position : Option ℕ) (was : FilterState) (items : List (Result EventView Error)) (events : List EventView) → Type 0
+TakesEvents filter maps position was [] events = events ≡ []
+TakesEvents filter maps position was (item ∷ items) events =
+    (now : FilterState) × (taken : Bool) × Takes filter (maps_behind maps item) position was item now taken
+    × (others : List EventView) × TakesEvents filter (maps_behind maps item) (behind position item) now items others × (events ≡ with_taken taken item others)

@@ -1,14 +1,22 @@
-//! Takes some of the events of a log: by their positions, their times, their server, their type, and the GTIDs of their
-//! transactions.
+//! Takes some of the events of a log: by their positions, their times, their server, their type, the GTIDs of their transactions,
+//! and their tables.
 #![tactic(auto)]
 
+mod concern;
 mod filter;
 mod filtered;
 mod gtid_set;
 pub mod laws;
+mod pattern;
 mod place;
+mod state;
+mod tables;
 
+pub use concern::{Concern, RowsConcern};
 pub use filter::{Filter, begins_transaction};
 pub use filtered::Filtered;
 pub use gtid_set::GtidSet;
+pub use pattern::Pattern;
 pub use place::Place;
+pub use state::FilterState;
+pub use tables::{TableFilter, TablePattern};

@@ -98,7 +98,7 @@ placed_agrees view index kind (Ok x) (Err e) h = absurd h
 placed_agrees view index kind (Err d) (Ok y) h = absurd h
 placed_agrees view index kind (Err d) (Err e) h = h
 
-image_if_agrees : (index : ℕ) (kind : ImageKind) (shape : Option ImageShape) (s : List ℕ) → ImageIfAgrees in_image ((image_if shape).reads s) (image_if_at index kind shape s)
+pub image_if_agrees : (index : ℕ) (kind : ImageKind) (shape : Option ImageShape) (s : List ℕ) → ImageIfAgrees in_image ((image_if shape).reads s) (image_if_at index kind shape s)
 image_if_agrees index kind None s = refl
 image_if_agrees index kind (Some shape) s = placed_agrees in_image index kind ((image shape).reads s) (image_at shape s) (image_agrees shape s)
 

@@ -7,3 +7,4 @@ pub mod Splits
 pub mod Steps
 pub mod Taking
 pub mod Visited
+pub mod Stored

@@ -19,3 +19,6 @@ pub mod RowCells
 pub mod RowsLeft
 pub mod Splits
 pub mod Visits
+pub mod Stored
+pub mod StoredColumns
+pub mod StoredRows

@@ -15,6 +15,8 @@ mod row;
 mod row_visits;
 mod rows;
 mod rows_error;
+mod stored_columns;
+mod stored_row;
 mod visiting;
 mod visitor;
 
@@ -24,4 +26,6 @@ pub use image::Image;
 pub use row::Row;
 pub use rows::Rows;
 pub use rows_error::{ImageKind, RowsError, RowsErrorKind, RowsEventError};
+pub use stored_columns::{StoredColumn, read_stored_columns};
+pub use stored_row::StoredRow;
 pub use visitor::ColumnVisitor;

@@ -65,7 +65,7 @@ fn json_columns(is_partial: bool, after: &Option<ImageColumns<'_>>) -> Option<u6
 }
 
 /// Takes an image from the start of `buf`, if the event has it.
-fn read_image<'a>(
+pub(crate) fn read_image<'a>(
     row: u64,
     kind: ImageKind,
     of: &Option<ImageColumns<'a>>,
@@ -135,7 +135,7 @@ impl<'a> Rows<'a> {
 
     /// Takes the image after from the start of `buf`, if the event has it.
     #[tactic(auto, using(crate::proofs::Taking::whole_after, crate::proofs::Taking::partial_after))]
-    fn read_after(&self, buf: &mut ParseBuf<'a>) -> Result<Option<Image<'a>>, RowsError>
+    pub(crate) fn read_after(&self, buf: &mut ParseBuf<'a>) -> Result<Option<Image<'a>>, RowsError>
         ensures { Takes buf.new (answer_image result) (after_at self.now.row (row_shape self.now) buf.old) }
     {
         match self.json_columns {

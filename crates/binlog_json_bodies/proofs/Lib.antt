@@ -4,3 +4,4 @@ pub mod BitTokens
 pub mod ClientSets
 pub mod OtherValues
 pub mod MariaValues
+pub mod TypeNames

@@ -29,6 +29,7 @@ use std::alloc::{AllocError, Global};
 /// # Errors
 ///
 /// [`AllocError`] if an allocation fails.
+#[tactic(auto, using(crate::proofs::TypeNames::plain_type_name, std::proofs::Common::append_assoc))]
 pub fn write_name(
     line: &mut Line,
     event_type: Result<EventType, UnknownEventType>,

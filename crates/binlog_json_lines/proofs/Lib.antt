@@ -2,3 +2,4 @@ pub mod Reading
 pub mod Rows
 pub mod Output
 pub mod Kept
+pub mod MariaNames

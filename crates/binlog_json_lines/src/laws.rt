@@ -32,5 +32,5 @@ pub fn json_lines<W: Write>()
 pub fn taken_json_lines<W: Write>()
     ensures { (maps : TableMaps) (index : ℕ) (items : List (Result EventView Error)) (old new : Filtered (JsonWriter W))
         → Visits ⟦<Filtered<JsonWriter<W>> as Visitor>⟧.visits maps index items old new
-        → WritesTaken (IsLineIn old.visitor.keeps_stored) old.filter old.place.position old.is_wanted maps index items (W.contents old.visitor.output) (W.contents new.visitor.output) }
+        → WritesTaken (IsLineIn old.visitor.keeps_stored) old.filter old.place.position old.state maps index items (W.contents old.visitor.output) (W.contents new.visitor.output) }
 {}

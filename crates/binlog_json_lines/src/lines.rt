@@ -248,6 +248,7 @@ fn write_head(
 }
 
 // Writes the number and the name of a type.
+#[tactic(auto, using(crate::proofs::MariaNames::plain_maria_name, std::proofs::Common::append_assoc))]
 fn write_type(line: &mut Line, event_type: MariaEventType) -> Result<(), AllocError>
     ensures { Adds result line.old line.new (type_members event_type) }
 {

@@ -1,5 +1,5 @@
 -- The first of the rows into which bytes split.
-use Rattle.std.proofs.Common.{◌≡◌, ℕ, ◌+◌, ◌<◌, Bool, true, false, List, ◌∷◌, length, Result, Ok, Err, sym, ap, ◌∙◌}
+use Rattle.std.proofs.Common.{◌≡◌, ℕ, ◌+◌, ◌<◌, Bool, true, false, List, ◌∷◌, length, Result, Ok, Err, ap, ◌∙◌}
 use Rattle.binlog_wire.specs.Fields.{IsBytes}
 use Rattle.binlog_wire.specs.Reading.{Read}
 use Rattle.binlog_wire.specs.Formats.{Format, anywhere}

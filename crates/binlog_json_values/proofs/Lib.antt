@@ -1,5 +1,5 @@
 mod Parts
-mod FourParts
+mod Moments
 mod FixedValues
 mod RowTexts
 mod Padding
@@ -14,3 +14,4 @@ mod RowLists
 mod FirstRows
 mod Presence
 mod RowSteps
+mod KeyedMembers

@@ -1,15 +1,15 @@
 -- Rows that are written one after the other.
-use Rattle.std.proofs.Common.{◌≡◌, ℕ, ◌+◌, Bool, true, false, ◌&&◌, List, [], ◌∷◌, ◌++◌, flat_map, length, ◌<◌, Option, Some, None, Result, Ok, Err, IfOk, is_ok, refl, sym, ap, subst, ◌∙◌, append_assoc, append-nil}
+use Rattle.std.proofs.Common.{◌≡◌, ℕ, ◌+◌, Bool, true, false, List, [], ◌∷◌, ◌++◌, flat_map, length, ◌<◌, Option, Some, None, Result, Ok, Err, IfOk, refl, sym, ap, subst, ◌∙◌, append_assoc, append-nil}
 use Rattle.json.specs.Token.{Token, begin_array, end_array}
 use Rattle.binlog_wire.specs.Fields.{IsBytes}
 use Rattle.binlog_images.specs.Cells.{RowCells, RowsShape}
 use Rattle.binlog_images.specs.RowsLeft.{row_shape}
-use Rattle.binlog_images.specs.Splits.{first_row, AreRows}
+use Rattle.binlog_images.specs.Splits.{AreRows}
 use Rattle.binlog_images.specs.declared.rows.Rows.{Rows}
 use Rattle.binlog_images.specs.declared.rows_error.RowsError.{RowsError}
 use Rattle.binlog_optional_metadata.specs.declared.column_facts.ColumnFacts.{ColumnFacts}
-use Rattle.binlog_json_values.specs.Parts.{Part, exactly, exact, Shows}
-use Rattle.binlog_json_values.specs.Rows.{row_parts, refusal_tokens, item_parts}
+use Rattle.binlog_json_values.specs.Parts.{Part, Shows}
+use Rattle.binlog_json_values.specs.Rows.{item_parts}
 use Rattle.binlog_json_values.specs.Written.{are_read, ShowsRows, HasImages}
 use Rattle.binlog_json_values.specs.RowWriting.{Keeps, WritesNext, WritesRest}
 use Rattle.binlog_json_values.specs.declared.row_writer.RowWriter.{RowWriter}

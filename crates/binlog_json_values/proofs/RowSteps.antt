@@ -1,5 +1,5 @@
 -- One row that is written, or refused, or isn't there.
-use Rattle.std.proofs.Common.{◌≡◌, ℕ, ◌+◌, Bool, true, false, ◌||◌, not, List, [], ◌∷◌, ◌++◌, length, Option, None, Some, Result, Ok, Err, refl, sym, ap, subst, ◌∙◌, append_assoc}
+use Rattle.std.proofs.Common.{◌≡◌, Bool, true, false, ◌||◌, List, [], ◌++◌, Option, None, Some, Result, Ok, Err, sym, ap, subst, ◌∙◌, append_assoc}
 use Rattle.json.specs.Token.{Token}
 use Rattle.json_line.specs.Marks.{StandsBehind, IsMarked}
 use Rattle.json_line.specs.declared.line.Mark.{Mark}
@@ -10,13 +10,11 @@ use Rattle.binlog_images.specs.Visits.{VisitsFirst, VisitsImages, VisitsRow}
 use Rattle.binlog_images.specs.Fronts.{row_front}
 use Rattle.binlog_images.specs.declared.rows_error.RowsError.{RowsError}
 use Rattle.binlog_images.specs.declared.rows.Rows.{Rows}
-use Rattle.binlog_optional_metadata.specs.declared.column_facts.ColumnFacts.{ColumnFacts}
 use Rattle.binlog_json_values.specs.Brackets.{row_begins, row_ends}
-use Rattle.binlog_json_values.specs.Parts.{Part, exact, Shows}
 use Rattle.binlog_json_values.specs.RowWriting.{Keeps, ShowsColumn, WritesNext}
 use Rattle.binlog_json_values.specs.Written.{HasImages}
 use Rattle.binlog_json_values.specs.declared.row_writer.RowWriter.{RowWriter}
-use Rattle.binlog_json_values.proofs.Visits.{is_begun, before_members, after_members, keeps_same, row_wrote, row_shown, row_keeps}
+use Rattle.binlog_json_values.proofs.Visits.{is_begun, keeps_same, row_wrote, row_shown, row_keeps}
 
 not_begun : (a b c : Bool) → b ≡ false → a ≡ c || b → a ≡ c
 not_begun a b true none is = is
@@ -52,9 +50,9 @@ marked_visited mark row first last start more stands begins visited works =
 abbrev pub Visited : Type 0
 Visited = Option (Result (Unit {0}) RowsError)
 
--- The writer whose row is begun in this line.
-abbrev pub begun_writer : RowWriter → List Token → RowWriter
-begun_writer writer line = record writer { line = line; after_begun = false }
+-- The writer that visits a row: its row is begun.
+abbrev pub begun_writer : (rows next : Rows) (first last : RowWriter) (result : Visited) → VisitsRow ShowsColumn rows first result next last → RowWriter
+begun_writer rows next first last result visited = first
 
 pub visit_keeps : (rows next : Rows) (first last : RowWriter) (result : Visited) → VisitsRow ShowsColumn rows first result next last → Keeps first last
 visit_keeps rows next first last None visited = subst (Keeps first) (sym visited.2) (keeps_same first)

@@ -1,19 +1,12 @@
 -- The columns of an image.
-use Rattle.std.proofs.Common.{◌≡◌, ℕ, ◌+◌, ◌<◌, ◌≤◌, Bool, true, false, ◌&&◌, List, [], ◌∷◌, ◌++◌, length, get_or, drop, map, flat_map, Result, Ok, Err, is_ok, refl, sym, ap, ◌∙◌, append_assoc, append-nil, add-one, drop-cons}
+use Rattle.std.proofs.Common.{◌≡◌, ℕ, ◌+◌, ◌<◌, ◌≤◌, List, [], ◌∷◌, ◌++◌, length, get_or, drop, refl, sym, ap, ◌∙◌, append_assoc, append-nil, add-one, drop-cons}
 use Rattle.std.proofs.lemmas.List.{drop_all}
-use Rattle.json.specs.Token.{Token, begin_object, begin_array, end_array}
+use Rattle.json.specs.Token.{Token, begin_object}
 use Rattle.binlog_images.specs.Cells.{Cell}
-use Rattle.binlog_images.specs.RowCells.{answer_row}
-use Rattle.binlog_images.specs.RowsLeft.{row_shape}
-use Rattle.binlog_images.specs.Splits.{AreRows}
-use Rattle.binlog_images.specs.declared.row.Row.{Row}
-use Rattle.binlog_images.specs.declared.rows.Rows.{Rows}
-use Rattle.binlog_images.specs.declared.rows_error.RowsError.{RowsError}
 use Rattle.binlog_optional_metadata.specs.declared.column_facts.ColumnFacts.{ColumnFacts}
 use Rattle.binlog_optional_metadata.specs.Facts.{facts_of}
 use Rattle.binlog_json_values.specs.Parts.{Part, exactly, Shows}
-use Rattle.binlog_json_values.specs.Rows.{first_parts, members_from, item_parts}
-use Rattle.binlog_json_values.specs.Written.{are_read, ShowsRows}
+use Rattle.binlog_json_values.specs.Rows.{first_parts, members_from}
 use Rattle.binlog_json_values.proofs.Parts.{shows_exact, shows_both}
 
 -- ---- the columns of an image

@@ -1,17 +1,15 @@
 -- Rows that are written as their columns are visited.
-use Rattle.std.proofs.Common.{◌≡◌, ℕ, zero, suc, ◌+◌, ◌<◌, ◌≤◌, ◌==◌, Bool, true, false, not, ◌&&◌, ◌||◌, List, [], ◌∷◌, ◌++◌, length, get_or, drop, map, flat_map, Option, None, Some, is_some, Result, Ok, Err, refl, sym, ap, subst, ◌∙◌, arith, append_assoc, append-nil, add-one, drop-cons, codes}
+use Rattle.std.proofs.Common.{◌≡◌, ℕ, zero, suc, ◌+◌, ◌≤◌, Bool, true, false, ◌||◌, List, [], ◌∷◌, ◌++◌, drop, Option, None, Some, is_some, refl, sym, ap, subst, ◌∙◌, arith, append_assoc, append-nil, add-one, codes}
 use Rattle.std.proofs.lemmas.Bool.{ne_eqb}
-use Rattle.std.proofs.lemmas.List.{drop_all}
 use Rattle.json.specs.Token.{Token, begin_object, end_object, key}
 use Rattle.binlog_images.specs.Cells.{Cell, RowCells}
 use Rattle.binlog_images.specs.Visits.{VisitsColumns, VisitsImage, VisitsImages}
 use Rattle.binlog_images.specs.declared.rows_error.ImageKind.{ImageKind}
 use Rattle.binlog_images.specs.declared.rows_error.ImageKind.TheVariants.{Before, After}
 use Rattle.binlog_optional_metadata.specs.declared.column_facts.ColumnFacts.{ColumnFacts}
-use Rattle.binlog_optional_metadata.specs.Facts.{facts_of}
-use Rattle.binlog_json_values.specs.Brackets.{closing, row_begins, after_begins, after_if, row_ends, begins_after}
+use Rattle.binlog_json_values.specs.Brackets.{row_begins, after_begins, after_if, row_ends, begins_after}
 use Rattle.binlog_json_values.specs.Parts.{Part, exactly, exact, Shows}
-use Rattle.binlog_json_values.specs.Rows.{first_parts, members_from, image_parts, row_parts}
+use Rattle.binlog_json_values.specs.Rows.{members_from, image_parts, row_parts}
 use Rattle.binlog_json_values.specs.RowWriting.{Keeps, first_member, Wrote, WroteColumn, ShowsColumn}
 use Rattle.binlog_json_values.specs.declared.row_writer.RowWriter.{RowWriter}
 use Rattle.binlog_json_values.proofs.Parts.{shows_exact, shows_both}

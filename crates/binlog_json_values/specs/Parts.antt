@@ -26,12 +26,6 @@ IsUtcText seconds digits microseconds text =
     × (text ≡ date_text (unsigned_abs date.year) date.month date.day ++ 32 ∷ [] ++ clock_text (seconds / 3600 % 24) (seconds / 60 % 60) (seconds % 60)
     ++ fraction_text digits microseconds)
 
--- Such a text is appended.
-pub record PushesUtc (seconds digits microseconds : ℕ) (old new : List ℕ) : Type 0 where
-  pub text : List ℕ
-  pub utc : IsUtcText seconds digits microseconds text
-  pub is : new ≡ old ++ text
-
 -- The token is what the part says.
 abbrev pub IsPart : Part → Token → Type 0
 IsPart (exactly token) written = written ≡ token

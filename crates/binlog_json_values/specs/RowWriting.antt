@@ -1,12 +1,11 @@
 -- What a writer of rows has written.
-use Rattle.std.specs.Prelude.{◌≡◌, ℕ, ◌+◌, ◌==◌, Bool, true, false, ◌&&◌, ◌||◌, List, [], ◌∷◌, ◌++◌, drop, flat_map, Option, None, Some, is_some, Result, Ok, Err, OnOk}
+use Rattle.std.specs.Prelude.{◌≡◌, ℕ, ◌+◌, Bool, true, false, ◌||◌, List, [], ◌∷◌, ◌++◌, drop, flat_map, Option, None, Some, Result, Ok, Err}
 use Rattle.json.specs.Token.{Token}
-use Rattle.binlog_images.specs.Cells.{Cell, RowsShape, RowCells}
+use Rattle.binlog_images.specs.Cells.{Cell, RowCells}
 use Rattle.binlog_images.specs.RowsLeft.{row_shape}
 use Rattle.binlog_images.specs.Splits.{first_row, AreRows}
 use Rattle.binlog_images.specs.declared.rows.Rows.{Rows}
 use Rattle.binlog_images.specs.declared.rows_error.ImageKind.{ImageKind}
-use Rattle.binlog_images.specs.declared.rows_error.ImageKind.TheVariants.{Before, After}
 use Rattle.binlog_images.specs.declared.rows_error.RowsError.{RowsError}
 use Rattle.binlog_optional_metadata.specs.declared.column_facts.ColumnFacts.{ColumnFacts}
 use Rattle.binlog_optional_metadata.specs.Facts.{facts_of}

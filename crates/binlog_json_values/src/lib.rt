@@ -5,8 +5,8 @@
 //! number.
 #![tactic(auto)]
 
-mod digits;
 mod documents;
+mod keys;
 pub mod laws;
 mod members;
 mod names;

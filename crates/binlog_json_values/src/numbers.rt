@@ -21,8 +21,7 @@ pub(crate) fn write_integer(
     if is_unsigned {
         return line.number(integer.unsigned());
     }
-    let mut buffer = itoa::Buffer::new();
-    line.number_text(buffer.format(integer.signed()))
+    line.signed_number(integer.signed())
 }
 
 /// Writes a floating-point number of four bytes; null if it isn't finite.

@@ -4,9 +4,11 @@ ghost use Rattle.json_line.specs.Tokens.{Adds};
 ghost use Rattle.binlog_images.specs.ColumnValues.{cell_of};
 ghost use Rattle.binlog_wire.specs.Fields.{IsBytes};
 ghost use Rattle.binlog_json_values.specs.Brackets.{closing, row_begins, after_begins, after_if, row_ends, begins_after};
+ghost use Rattle.binlog_json_values.specs.Keys.{ArePrinted};
 ghost use Rattle.binlog_json_values.specs.Parts.{Writes};
 ghost use Rattle.binlog_json_values.specs.Written.{HasImages};
 
+use crate::keys::ColumnKeys;
 use crate::refusals::write_refusal;
 use crate::values::ValueWriter;
 use binlog_images::{ColumnValue, ColumnVisitor, ImageKind, Rows};
@@ -93,6 +95,8 @@ fn images_of(rows: &Rows<'_>) -> (bool, bool)
 pub(crate) struct RowWriter<'a, 'b> {
     pub(crate) values: ValueWriter,
     pub(crate) line: Line,
+    /// The names of the columns, printed.
+    pub(crate) keys: ColumnKeys,
     columns: &'a [ColumnFacts<'b>],
     /// Whether each row has an image before.
     has_before: bool,
@@ -102,6 +106,7 @@ pub(crate) struct RowWriter<'a, 'b> {
     after_begun: bool,
     /// Whether an allocation failed.
     failed: bool,
+    ghost printed: { ArePrinted columns.now keys.lines.items },
 }
 
 impl<'a, 'b> RowWriter<'a, 'b> {
@@ -111,9 +116,11 @@ impl<'a, 'b> RowWriter<'a, 'b> {
     pub(crate) fn new(
         values: ValueWriter,
         line: Line,
+        keys: ColumnKeys,
         columns: &'a [ColumnFacts<'b>],
         rows: &Rows<'_>,
     ) -> Self
+        requires { ArePrinted columns.now keys.lines.items }
         ensures line { result.line ≡ line }
         ensures columns { result.columns.now ≡ columns.now }
         ensures images { HasImages result.has_before result.has_after rows.now }
@@ -122,6 +129,7 @@ impl<'a, 'b> RowWriter<'a, 'b> {
         RowWriter {
             values,
             line,
+            keys,
             columns,
             has_before,
             has_after,
@@ -154,7 +162,11 @@ impl<'a, 'b> RowWriter<'a, 'b> {
     {
         let columns = self.columns;
         match columns.get(index as usize) {
-            Some(facts) => self.values.write_cell(&mut self.line, facts, index, value),
+            Some(facts) => {
+                let printed = &self.keys.lines[index as usize];
+                self.values
+                    .write_named_cell(&mut self.line, printed, facts, value)
+            }
             None => Ok(()),
         }
     }

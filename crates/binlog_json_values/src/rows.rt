@@ -1,9 +1,10 @@
 //! Rows as JSON.
 #![tactic(auto, using(std::proofs::Common::append_assoc))]
 
-ghost use Rattle.std.specs.Prelude.{◌≡◌, ◌+◌, ◌<◌, ◌^◌, ◌++◌, ◌∷◌, [], drop, Option, option_map, IfOk};
+ghost use Rattle.std.specs.Prelude.{ℕ, ◌≡◌, ◌+◌, ◌<◌, ◌^◌, ◌++◌, ◌∷◌, [], drop, Option, option_map, IfOk};
 ghost use Rattle.std.specs.String.{string_bytes};
 ghost use Rattle.json.specs.Token.{key};
+ghost use Rattle.json_line.specs.Keys.{IsKey};
 ghost use Rattle.json_line.specs.Lines.{IsPlainText};
 ghost use Rattle.json_line.specs.Tokens.{Adds};
 ghost use Rattle.binlog_wire.specs.Fields.{IsBytes};
@@ -16,6 +17,7 @@ ghost use Rattle.binlog_json_values.specs.Rows.{column_name, cell_parts, first_p
 ghost use Rattle.binlog_json_values.specs.Written.{ShowsRows};
 
 use crate::documents::write_diff_list;
+use crate::keys::write_name;
 use crate::row_writer::RowWriter;
 use crate::values::ValueWriter;
 use binlog_images::{ColumnValue, Image, Row, Rows};
@@ -24,22 +26,6 @@ use json_line::Line;
 use std::alloc::AllocError;
 
 impl ValueWriter {
-    /// Writes the name of the column with this index, counted from 0.
-    fn write_name(
-        &mut self,
-        line: &mut Line,
-        facts: &ColumnFacts<'_>,
-        index: u64,
-    ) -> Result<(), AllocError>
-        requires { index + 1 < 2 ^ 64 }
-        ensures { Adds result line.old line.new (key (column_name (facts_of facts.now) index) ∷ []) }
-    {
-        match facts.name {
-            Some(name) => line.escaped_key(name),
-            None => line.key(self.names.name(index as usize)?),
-        }
-    }
-
     /// Writes the member of the column with this index; nothing for one that is absent.
     pub(crate) fn write_cell(
         &mut self,
@@ -54,15 +40,43 @@ impl ValueWriter {
         match cell {
             ColumnValue::Absent => Ok(()),
             ColumnValue::Null => {
-                self.write_name(line, facts, index)?;
+                write_name(line, &mut self.names, facts, index)?;
                 line.null()
             }
             ColumnValue::Value(value) => {
-                self.write_name(line, facts, index)?;
+                write_name(line, &mut self.names, facts, index)?;
                 self.write(line, facts, value)
             }
             ColumnValue::Diffs(bytes) => {
-                self.write_name(line, facts, index)?;
+                write_name(line, &mut self.names, facts, index)?;
+                write_diff_list(line, &mut self.text, bytes)
+            }
+        }
+    }
+
+    /// Writes the member of a column whose name is printed; nothing for one that is absent.
+    pub(crate) fn write_named_cell(
+        &mut self,
+        line: &mut Line,
+        printed: &Line,
+        facts: &ColumnFacts<'_>,
+        cell: &ColumnValue<'_>,
+    ) -> Result<(), AllocError>
+        requires { IsKey printed.now }
+        ensures { (index : ℕ) → printed.now ≡ key (column_name (facts_of facts.now) index) ∷ [] → Writes result line.old line.new (cell_parts (facts_of facts.now) index (cell_of cell.now)) }
+    {
+        match cell {
+            ColumnValue::Absent => Ok(()),
+            ColumnValue::Null => {
+                line.copied_key(printed)?;
+                line.null()
+            }
+            ColumnValue::Value(value) => {
+                line.copied_key(printed)?;
+                self.write(line, facts, value)
+            }
+            ColumnValue::Diffs(bytes) => {
+                line.copied_key(printed)?;
                 write_diff_list(line, &mut self.text, bytes)
             }
         }
@@ -161,14 +175,18 @@ impl ValueWriter {
         ensures { IsBytes rows.entry.rest.now → IfOk result (λ all_read. ShowsRows columns.now rows.entry all_read line.old line.new) }
     {
         line.begin_array()?;
-        let mut writer = RowWriter::new(self.take(), line.take(), columns, &rows);
+        self.keys.print(&mut self.names, columns)?;
+        let keys = self.keys.take();
+        let mut writer = RowWriter::new(self.take(), line.take(), keys, columns, &rows);
         let written = writer.write_rest(rows);
         let RowWriter {
             values,
             line: shown,
+            keys,
             ..
         } = writer;
         *self = values;
+        self.keys = keys;
         *line = shown;
         let all_read = written?;
         line.end_array()?;

@@ -1,60 +1,88 @@
-//! Dates and times as text.
-#![tactic(auto, using(std::proofs::Common::append_assoc))]
+//! Dates and times as JSON.
 
-ghost use Rattle.std.specs.Prelude.{◌≡◌, ◌≤◌, ◌++◌, OnOk};
-ghost use Rattle.std.specs.String.{string_bytes};
-ghost use Rattle.binlog_json_values.specs.Times.{date_text, clock_text, fraction_text};
+ghost use Rattle.std.specs.Prelude.{◌≡◌, ◌∷◌, []};
+ghost use Rattle.json.specs.Token.{string};
+ghost use Rattle.json_line.specs.Tokens.{Adds};
+ghost use Rattle.binlog_json_values.specs.Values.{date_of, time_of, datetime_of, datetime2_of, time2_of};
 
-use crate::digits::{push_two_digits, push_year};
-use binlog_values::text::{pow_10, push_last_digits};
+use binlog_values::{Date, DateTime, DateTime2, Time, Time2};
+use json_line::{DateParts, Line, TimeParts};
 use std::alloc::AllocError;
 
-/// Appends a date.
-#[tactic(auto, using(std::proofs::Common::append_assoc), unfolding(crate::specs::Times::date_text))]
-pub(crate) fn push_date(
-    text: &mut String,
-    year: u64,
-    month: u64,
-    day: u64,
-) -> Result<(), AllocError>
-    ensures { OnOk result (string_bytes text.new ≡ string_bytes text.old ++ date_text year month day) }
+/// Writes a date.
+pub(crate) fn write_date(line: &mut Line, date: &Date) -> Result<(), AllocError>
+    ensures { Adds result line.old line.new (string (date_of date.now.bits) ∷ []) }
 {
-    push_year(text, year)?;
-    text.push_str("-")?;
-    push_two_digits(text, month)?;
-    text.push_str("-")?;
-    push_two_digits(text, day)
+    let parts = DateParts {
+        year: date.year(),
+        month: date.month(),
+        day: date.day(),
+    };
+    line.date(&parts)
 }
 
-/// Appends a time of hours, minutes and seconds.
-#[tactic(auto, using(std::proofs::Common::append_assoc), unfolding(crate::specs::Times::clock_text))]
-pub(crate) fn push_clock(
-    text: &mut String,
-    hour: u64,
-    minute: u64,
-    second: u64,
-) -> Result<(), AllocError>
-    ensures { OnOk result (string_bytes text.new ≡ string_bytes text.old ++ clock_text hour minute second) }
+/// Writes a time without a fraction.
+pub(crate) fn write_time(line: &mut Line, time: &Time) -> Result<(), AllocError>
+    ensures { Adds result line.old line.new (string (time_of time.now.bits) ∷ []) }
 {
-    push_two_digits(text, hour)?;
-    text.push_str(":")?;
-    push_two_digits(text, minute)?;
-    text.push_str(":")?;
-    push_two_digits(text, second)
+    let parts = TimeParts {
+        hour: time.hour(),
+        minute: time.minute(),
+        second: time.second(),
+        digits: 0,
+        microseconds: 0,
+    };
+    line.time(time.is_negative(), &parts)
 }
 
-/// Appends a fraction of a second in this many digits, at most six.
-pub(crate) fn push_fraction(
-    text: &mut String,
-    digits: u8,
-    microseconds: u64,
-) -> Result<(), AllocError>
-    requires { digits ≤ 6 }
-    ensures { OnOk result (string_bytes text.new ≡ string_bytes text.old ++ fraction_text digits microseconds) }
+/// Writes a date and a time without a fraction.
+pub(crate) fn write_datetime(line: &mut Line, time: &DateTime) -> Result<(), AllocError>
+    ensures { Adds result line.old line.new (string (datetime_of time.now.digits) ∷ []) }
 {
-    if digits == 0 {
-        return Ok(());
-    }
-    text.push_str(".")?;
-    push_last_digits(text, digits, microseconds / pow_10(6 - digits))
+    let date_parts = DateParts {
+        year: time.year(),
+        month: time.month(),
+        day: time.day(),
+    };
+    let time_parts = TimeParts {
+        hour: u64::from(time.hour()),
+        minute: time.minute(),
+        second: time.second(),
+        digits: 0,
+        microseconds: 0,
+    };
+    line.date_time(&date_parts, &time_parts)
+}
+
+/// Writes a date and a time with a fraction.
+pub(crate) fn write_datetime2(line: &mut Line, time: &DateTime2) -> Result<(), AllocError>
+    ensures { Adds result line.old line.new (string (datetime2_of time.now.digits time.now.number) ∷ []) }
+{
+    let date_parts = DateParts {
+        year: time.year(),
+        month: time.month(),
+        day: time.day(),
+    };
+    let time_parts = TimeParts {
+        hour: u64::from(time.hour()),
+        minute: time.minute(),
+        second: time.second(),
+        digits: time.digits(),
+        microseconds: time.microseconds(),
+    };
+    line.date_time(&date_parts, &time_parts)
+}
+
+/// Writes a time with a fraction.
+pub(crate) fn write_time2(line: &mut Line, time: &Time2) -> Result<(), AllocError>
+    ensures { Adds result line.old line.new (string (time2_of time.now.digits time.now.number) ∷ []) }
+{
+    let parts = TimeParts {
+        hour: time.hour(),
+        minute: time.minute(),
+        second: time.second(),
+        digits: time.digits(),
+        microseconds: time.microseconds(),
+    };
+    line.time(time.is_negative(), &parts)
 }

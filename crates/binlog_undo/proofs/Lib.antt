@@ -1,4 +1,14 @@
-pub mod RowChanges
+pub mod Backwards
+pub mod Completed
+pub mod Columns
+pub mod Covered
 pub mod Local
+pub mod Loop
+pub mod Prepending
+pub mod NullBits
 pub mod RowBytes
+pub mod RowChanges
 pub mod SameColumns
+pub mod SoFar
+pub mod Stored
+pub mod UndoneEvents

@@ -66,7 +66,7 @@ local_content (Decimal precision scale) s v r h = local_made _ _ (local_chosen _
 local_content (Counted prefix max) s v r h = local_made _ _ (local_made _ _ (local_counted prefix _)) s v r h
 local_content (Vector prefix) s v r h = local_made _ _ (local_made _ _ (local_counted prefix _)) s v r h
 
-local_cell : (column : Typed) (is_present is_null : Bool) → Local (cell_in column is_present is_null).spells
+pub local_cell : (column : Typed) (is_present is_null : Bool) → Local (cell_in column is_present is_null).spells
 local_cell column false is_null = local_silent _
 local_cell column true true = local_silent _
 local_cell column true false = local_made _ (content_in (layout_of column)).spells (local_content (layout_of column))

@@ -64,7 +64,7 @@ bytes_are_rows shape index (first ∷ bytes) (row ∷ rows) h =
 
 -- ---- the images exchanged
 
-exchange_one : (shape : RowShape) (bytes : RowBytes) (row : RowCells) → IsRowBytes shape bytes row → IsRowBytes (exchanged_shape shape) (exchanged bytes) (exchanged_row row)
+pub exchange_one : (shape : RowShape) (bytes : RowBytes) (row : RowCells) → IsRowBytes shape bytes row → IsRowBytes (exchanged_shape shape) (exchanged bytes) (exchanged_row row)
 exchange_one shape bytes row h = record {
   stored = (h.stored.1, h.stored.0);
   before = h.after;
@@ -81,13 +81,13 @@ exchange_each shape (first ∷ bytes) [] h = absurd h
 exchange_each shape (first ∷ bytes) (row ∷ rows) h = (exchange_one shape first row h.0, exchange_each shape bytes rows h.1)
 
 module _ {A B : Type 0} (R : A → B → Type 0) where
-  zip_one_more : (xs : List A) (ys : List B) (x : A) (y : B) → AllZip R xs ys → R x y → AllZip R (xs ++ x ∷ []) (ys ++ y ∷ [])
+  pub zip_one_more : (xs : List A) (ys : List B) (x : A) (y : B) → AllZip R xs ys → R x y → AllZip R (xs ++ x ∷ []) (ys ++ y ∷ [])
   zip_one_more [] [] x y h r = (r, tt)
   zip_one_more [] (b ∷ ys) x y h r = absurd h
   zip_one_more (a ∷ xs) [] x y h r = absurd h
   zip_one_more (a ∷ xs) (b ∷ ys) x y h r = (h.0, zip_one_more xs ys x y h.1 r)
 
-  zip_reversed : (xs : List A) (ys : List B) → AllZip R xs ys → AllZip R (reverse xs) (reverse ys)
+  pub zip_reversed : (xs : List A) (ys : List B) → AllZip R xs ys → AllZip R (reverse xs) (reverse ys)
   zip_reversed [] [] h = tt
   zip_reversed [] (b ∷ ys) h = absurd h
   zip_reversed (a ∷ xs) [] h = absurd h

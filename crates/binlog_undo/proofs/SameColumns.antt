@@ -65,7 +65,7 @@ images_exchanged before after same s t r u x y p q = (
       (completed_is_new x.1 y.1 (covers_image after before (sym same.0) (λ k. sym (same.1 k)) t s u r y x q p)),
 )
 
-row_exchanged : (before after : Option ImageShape) (bytes : RowBytes) (x y : Option (Bitmap × List Cell)) → Encodes (image_if before) bytes.before x
+pub row_exchanged : (before after : Option ImageShape) (bytes : RowBytes) (x y : Option (Bitmap × List Cell)) → Encodes (image_if before) bytes.before x
     → Encodes (image_if after) bytes.after y → HasSameColumns before after → IsExchanged (columns_in x, columns_in y)
 row_exchanged None after bytes x y p q same = subst (λ (z : Option (Bitmap × List Cell)). IsExchanged (columns_in z, columns_in y)) (sym (p []).0) (tt, refl)
 row_exchanged (Some before) None bytes None y p q same = let is = (p []).1 in absurd cc

@@ -1,2 +1,10 @@
-pub mod RowChanges
+pub mod Backwards
+pub mod Completion
+pub mod Coverage
+pub mod NewImages
+pub mod NullBits
+pub mod Outcomes
 pub mod RowBytes
+pub mod RowChanges
+pub mod Undoing
+pub mod UndoneEvents

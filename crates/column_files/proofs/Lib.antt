@@ -7,3 +7,4 @@ pub mod MemberSpellings
 pub mod MemberTexts
 pub mod Readings
 pub mod Spellings
+pub mod TableColumns

@@ -9,3 +9,4 @@ pub mod TypeNumbers
 pub mod TypeMembers
 pub mod SimpleTypes
 pub mod Types
+pub mod Tables

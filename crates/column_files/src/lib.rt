@@ -5,6 +5,9 @@
 //!
 //! [`DeclaredType::parse`] reads the type of a column in it: `int(10) unsigned`, `enum('a','b''c')`. Which type a text is is defined in
 //! `specs/Types`.
+//!
+//! [`DeclaredTables`] has the columns of the tables of a file, and finds them by the names of schema and table. `specs/Tables` defines
+//! which columns a table has.
 #![tactic(auto)]
 
 mod declared_type;
@@ -15,6 +18,7 @@ pub mod laws;
 mod place;
 mod reading;
 mod simple_type;
+mod tables;
 mod type_ending;
 mod type_members;
 mod type_numbers;
@@ -26,3 +30,4 @@ pub use field::Field;
 pub use files::{ColumnLine, HEADER, parse};
 pub use place::Place;
 pub use simple_type::{IntegerSize, LengthSize, SimpleType, TemporalKind};
+pub use tables::{DeclaredColumn, DeclaredTables, DeclaredTablesError};

@@ -7,3 +7,4 @@ pub mod Members
 pub mod Passed
 pub mod StatedTexts
 mod Marks
+pub mod PlainMoments

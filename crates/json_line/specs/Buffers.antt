@@ -19,6 +19,10 @@ buffered_code =
 abbrev pub comma : Bool → List ℕ
 comma wanted = cond wanted (44 ∷ []) []
 
+-- A minus sign, if wanted.
+abbrev pub minus : Bool → List ℕ
+minus wanted = cond wanted (45 ∷ []) []
+
 -- The bytes are appended, or nothing is if an allocation failed.
 abbrev pub Puts : {A E : Type 0} → Result A E → Buffered → Buffered → List ℕ → Type 0
 Puts result old new bytes = MatchResult result (λ _. new.text ≡ old.text ++ bytes) (λ _. new.text ≡ old.text)

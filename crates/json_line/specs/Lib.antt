@@ -3,3 +3,5 @@ pub mod Tokens
 pub mod Lines
 pub mod Passed
 pub mod Marks
+pub mod Moments
+pub mod Keys

@@ -1,18 +1,26 @@
 //! A growing byte buffer.
 ghost use Rattle.std.specs.Prelude.{◌≡◌, ◌≤◌, ◌+◌, ◌*◌, [], ◌∷◌, ◌++◌, length, take, OnOk};
-ghost use Rattle.std.specs.Fmt.{decimal};
+ghost use Rattle.std.specs.Fmt.{decimal, signed_decimal};
 ghost use Rattle.hex.specs.Hex.{encode_lower};
 ghost use Rattle.json_line.specs.Buffers.{Puts, comma};
+ghost use Rattle.json_line.specs.Moments.{date_text, time_text, date_time_text};
 
-use crate::place::{place_byte, place_bytes, place_comma, place_hexadecimal, place_number};
+use crate::moment::{DateParts, TimeParts};
+use crate::place::{
+    place_byte, place_bytes, place_comma, place_hexadecimal, place_minus, place_number,
+};
+use crate::place_moment::{place_date, place_time};
 use std::alloc::{AllocError, Global};
 use std::marker::Model;
 
-// The size of the first allocation, in bytes.
-const LEAST_ROOM: usize = 1_024;
+// The size of the first allocation, in bytes. Small, since some lines hold no more than a name.
+const LEAST_ROOM: usize = 64;
 
 // The longest 64-bit number has 20 digits.
 const MAX_DIGITS: usize = 20;
+
+// The longest dates and times, each part of which has at most 20 digits, with their quotation marks and a comma.
+const MAX_MOMENT: usize = 140;
 
 /// Bytes, with room for more. Contracts see it as [`Buffered`](../specs/Buffers.antt): the written bytes, the room
 /// left, and the byte after the written ones.
@@ -89,6 +97,14 @@ impl Buffer {
         ensures { result.now ≡ self.now.text ++ self.now.next }
     {
         &self.bytes[..self.len + 1]
+    }
+
+    /// The written bytes.
+    #[inline(always)]
+    pub(crate) fn written(&self) -> &[u8]
+        ensures { result.now ≡ self.now.text }
+    {
+        &self.bytes[..self.len]
     }
 
     // Makes room for this many bytes.
@@ -260,6 +276,108 @@ impl Buffer {
     {
         self.reserve(name.len() + MAX_DIGITS + 4)?;
         self.put_named_number(after_value, name, number);
+        Ok(())
+    }
+
+    #[inline(always)]
+    fn put_signed(&mut self, after_value: bool, number: i64)
+        requires { 22 ≤ self.old.room }
+        ensures { self.new.text ≡ self.old.text ++ (comma after_value ++ signed_decimal number) }
+    {
+        let memory = self.bytes.as_mut_slice();
+        let at = place_comma(memory, self.len, after_value);
+        let at = place_minus(memory, at, number < 0);
+        self.len = place_number(memory, at, number.unsigned_abs());
+    }
+
+    /// Writes a comma if wanted, and a signed decimal number.
+    #[inline(always)]
+    pub(crate) fn add_signed(&mut self, after_value: bool, number: i64) -> Result<(), AllocError>
+        ensures { Puts result self.old self.new (comma after_value ++ signed_decimal number) }
+    {
+        self.reserve(MAX_DIGITS + 2)?;
+        self.put_signed(after_value, number);
+        Ok(())
+    }
+
+    #[inline(always)]
+    fn put_date(&mut self, after_value: bool, date: &DateParts)
+        requires { 70 ≤ self.old.room }
+        ensures { self.new.text ≡ self.old.text ++ (comma after_value ++ 34 ∷ (date_text date.now.year date.now.month date.now.day ++ 34 ∷ [])) }
+    {
+        let memory = self.bytes.as_mut_slice();
+        let at = place_comma(memory, self.len, after_value);
+        let at = place_byte(memory, at, b'"');
+        let at = place_date(memory, at, date);
+        self.len = place_byte(memory, at, b'"');
+    }
+
+    /// Writes a comma if wanted, and a date in quotation marks.
+    #[inline]
+    pub(crate) fn add_date(&mut self, after_value: bool, date: &DateParts) -> Result<(), AllocError>
+        ensures { Puts result self.old self.new (comma after_value ++ 34 ∷ (date_text date.now.year date.now.month date.now.day ++ 34 ∷ [])) }
+    {
+        self.reserve(MAX_MOMENT)?;
+        self.put_date(after_value, date);
+        Ok(())
+    }
+
+    #[inline(always)]
+    #[tactic(auto, unfolding(crate::specs::Moments::time_text))]
+    fn put_time(&mut self, after_value: bool, is_negative: bool, time: &TimeParts)
+        requires { 80 ≤ self.old.room }
+        ensures { self.new.text ≡ self.old.text ++ (comma after_value ++ 34 ∷ (time_text is_negative time.now.hour time.now.minute time.now.second time.now.digits time.now.microseconds ++ 34 ∷ [])) }
+    {
+        let memory = self.bytes.as_mut_slice();
+        let at = place_comma(memory, self.len, after_value);
+        let at = place_byte(memory, at, b'"');
+        let at = place_minus(memory, at, is_negative);
+        let at = place_time(memory, at, time);
+        self.len = place_byte(memory, at, b'"');
+    }
+
+    /// Writes a comma if wanted, and a time in quotation marks.
+    #[inline]
+    pub(crate) fn add_time(
+        &mut self,
+        after_value: bool,
+        is_negative: bool,
+        time: &TimeParts,
+    ) -> Result<(), AllocError>
+        ensures { Puts result self.old self.new (comma after_value ++ 34 ∷ (time_text is_negative time.now.hour time.now.minute time.now.second time.now.digits time.now.microseconds ++ 34 ∷ [])) }
+    {
+        self.reserve(MAX_MOMENT)?;
+        self.put_time(after_value, is_negative, time);
+        Ok(())
+    }
+
+    #[inline(always)]
+    #[tactic(auto, unfolding(crate::specs::Moments::date_time_text))]
+    fn put_date_time(&mut self, after_value: bool, date: &DateParts, time: &TimeParts)
+        requires { 140 ≤ self.old.room }
+        ensures { self.new.text ≡ self.old.text ++ (comma after_value ++ 34 ∷ (date_time_text date.now.year date.now.month date.now.day time.now.hour time.now.minute time.now.second time.now.digits time.now.microseconds ++ 34 ∷ [])) }
+    {
+        let memory = self.bytes.as_mut_slice();
+        let at = place_comma(memory, self.len, after_value);
+        let at = place_byte(memory, at, b'"');
+        let at = place_date(memory, at, date);
+        let at = place_byte(memory, at, b' ');
+        let at = place_time(memory, at, time);
+        self.len = place_byte(memory, at, b'"');
+    }
+
+    /// Writes a comma if wanted, and a date and a time in quotation marks.
+    #[inline]
+    pub(crate) fn add_date_time(
+        &mut self,
+        after_value: bool,
+        date: &DateParts,
+        time: &TimeParts,
+    ) -> Result<(), AllocError>
+        ensures { Puts result self.old self.new (comma after_value ++ 34 ∷ (date_time_text date.now.year date.now.month date.now.day time.now.hour time.now.minute time.now.second time.now.digits time.now.microseconds ++ 34 ∷ [])) }
+    {
+        self.reserve(MAX_MOMENT)?;
+        self.put_date_time(after_value, date, time);
         Ok(())
     }
 

@@ -7,7 +7,10 @@
 mod buffer;
 mod decimal;
 mod line;
+mod moment;
 mod place;
+mod place_moment;
 mod plain;
 
 pub use line::{Line, Mark};
+pub use moment::{DateParts, TimeParts};

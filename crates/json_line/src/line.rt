@@ -5,10 +5,13 @@ ghost use Rattle.json.specs.Lex.{tokens as read_tokens};
 ghost use Rattle.json.specs.Print.{escape, print, token_text, IsNumber};
 ghost use Rattle.json.specs.Token.{Token};
 ghost use Rattle.json.specs.Token as tokens;
+ghost use Rattle.json_line.specs.Keys.{IsKey};
 ghost use Rattle.json_line.specs.Lines.{IsPlainText};
+ghost use Rattle.json_line.specs.Moments.{date_text, time_text, date_time_text};
 ghost use Rattle.json_line.specs.Tokens.{Adds, number_value, bytes_value, text_value, text_value_in, text_value_in_stated, hex_value, uuid_value, or_null, member, bytes_member_if_any};
 
 use crate::buffer::Buffer;
+use crate::moment::{DateParts, TimeParts};
 use crate::plain::is_plain;
 use character_sets::{CharacterSet, Characters};
 use json::Writer;
@@ -238,6 +241,18 @@ impl Line {
         Ok(())
     }
 
+    /// Writes the name of a member and a colon, which another line holds and nothing else. They are copied as they are.
+    #[inline(always)]
+    pub fn copied_key(&mut self, printed: &Line) -> Result<(), AllocError>
+        requires { IsKey printed.now }
+        ensures added { Adds result self.old self.new printed.now }
+        ensures unchanged { OnErr result (self.new ≡ self.old) }
+    {
+        self.text.add(self.after_value, printed.text.written())?;
+        self.after_value = false;
+        Ok(())
+    }
+
     /// Writes `null`.
     #[inline]
     pub fn null(&mut self) -> Result<(), AllocError>
@@ -319,14 +334,62 @@ impl Line {
     }
 
     /// Writes a signed number with all its digits, and a minus sign if it is negative.
+    #[inline(always)]
     pub fn signed_number(&mut self, number: i64) -> Result<(), AllocError>
         ensures added { Adds result self.old self.new (tokens.number (signed_decimal number) ∷ []) }
         ensures unchanged { OnErr result (self.new ≡ self.old) }
     {
-        let mut writer = token_writer(&mut self.token, self.alloc);
-        writer.i64(number)?;
-        self.token = writer.into_inner();
-        self.text.add(self.after_value, &self.token)?;
+        self.text.add_signed(self.after_value, number)?;
+        self.after_value = true;
+        Ok(())
+    }
+
+    /// Writes a date as a string: `2026-11-25`. The year has four digits or more, the other parts two or more.
+    #[inline]
+    pub fn date(&mut self, date: &DateParts) -> Result<(), AllocError>
+        ensures added { Adds result self.old self.new (tokens.string (date_text date.now.year date.now.month date.now.day) ∷ []) }
+        ensures unchanged { OnErr result (self.new ≡ self.old) }
+    {
+        // The parts are read, so that their ranges are known.
+        let _year = date.year;
+        let _month = date.month;
+        let _day = date.day;
+        self.text.add_date(self.after_value, date)?;
+        self.after_value = true;
+        Ok(())
+    }
+
+    /// Writes a time as a string, with a minus sign if it is negative: `-06:30:00.000250`. The parts have two digits or more,
+    /// the fraction as many as [`TimeParts::digits`] says.
+    #[inline]
+    pub fn time(&mut self, is_negative: bool, time: &TimeParts) -> Result<(), AllocError>
+        ensures added { Adds result self.old self.new (tokens.string (time_text is_negative time.now.hour time.now.minute time.now.second time.now.digits time.now.microseconds) ∷ []) }
+        ensures unchanged { OnErr result (self.new ≡ self.old) }
+    {
+        // The parts are read, so that their ranges are known.
+        let _hour = time.hour;
+        let _minute = time.minute;
+        let _second = time.second;
+        self.text.add_time(self.after_value, is_negative, time)?;
+        self.after_value = true;
+        Ok(())
+    }
+
+    /// Writes a date and a time as a string: `2026-11-25 06:30:00.000250`, their parts as [`Line::date`] and [`Line::time`] write
+    /// them.
+    #[inline]
+    pub fn date_time(&mut self, date: &DateParts, time: &TimeParts) -> Result<(), AllocError>
+        ensures added { Adds result self.old self.new (tokens.string (date_time_text date.now.year date.now.month date.now.day time.now.hour time.now.minute time.now.second time.now.digits time.now.microseconds) ∷ []) }
+        ensures unchanged { OnErr result (self.new ≡ self.old) }
+    {
+        // The parts are read, so that their ranges are known.
+        let _year = date.year;
+        let _month = date.month;
+        let _day = date.day;
+        let _hour = time.hour;
+        let _minute = time.minute;
+        let _second = time.second;
+        self.text.add_date_time(self.after_value, date, time)?;
         self.after_value = true;
         Ok(())
     }

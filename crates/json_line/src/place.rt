@@ -3,7 +3,7 @@ ghost use Rattle.std.specs.Prelude.{◌≡◌, ◌+◌, ◌*◌, ◌<◌, ◌≤
 ghost use Rattle.std.specs.Fmt.{decimal};
 ghost use Rattle.hex.specs.Hex.{encode_lower};
 ghost use Rattle.json.specs.Filled.{Placed};
-ghost use Rattle.json_line.specs.Buffers.{comma};
+ghost use Rattle.json_line.specs.Buffers.{comma, minus};
 
 use crate::decimal::decimal_len;
 use hex::encode_to_slice;
@@ -28,6 +28,18 @@ pub(crate) fn place_comma(memory: &mut [u8], at: usize, wanted: bool) -> usize
     ensures { Placed memory.old memory.new at (comma wanted) result }
 {
     memory[at] = b',';
+    if wanted { at + 1 } else { at }
+}
+
+/// Writes a minus sign if wanted.
+// The sign is always stored, and counted only if wanted.
+#[inline(always)]
+pub(crate) fn place_minus(memory: &mut [u8], at: usize, wanted: bool) -> usize
+    requires { at < length memory.old }
+    ensures placed { Placed memory.old memory.new at (minus wanted) result }
+    ensures short { result ≤ at + 1 }
+{
+    memory[at] = b'-';
     if wanted { at + 1 } else { at }
 }
 

@@ -1,8 +1,8 @@
 //! Answers to questions of documents of binary JSON.
 use crate::built::refusal_name as name_of;
-use binary_json::{Document, JsonError, Refusal};
+use binary_json::{Document, JsonDiffs, JsonError, Refusal};
 use binary_json_lines::{has_text, write_document};
-use binary_json_writing::rewritten;
+use binary_json_writing::{apply, rewritten};
 use json_line::Line;
 use std::alloc::Global;
 use std::io;
@@ -85,6 +85,26 @@ pub(crate) fn write_rewritten<W: Write>(
         Ok(document) => match rewritten(alloc, &document.value()) {
             Ok(document) => writeln!(output, "{}", hex::encode(alloc, document.as_bytes())?),
             Err(error) => writeln!(output, "refused {}", name_of(error)),
+        },
+        Err(error) => write_refusal(error, output),
+    }
+}
+
+/// Writes the bytes of the document after the diffs of a list.
+///
+/// # Errors
+///
+/// Those of memory and of the output.
+pub(crate) fn write_applied<W: Write>(
+    alloc: Global,
+    bytes: &[u8],
+    diffs: &[u8],
+    output: &mut W,
+) -> io::Result<()> {
+    match Document::read(bytes) {
+        Ok(document) => match apply(alloc, &document, JsonDiffs::new(diffs)) {
+            Ok(document) => writeln!(output, "{}", hex::encode(alloc, document.as_bytes())?),
+            Err(error) => writeln!(output, "refused {error:?}"),
         },
         Err(error) => write_refusal(error, output),
     }

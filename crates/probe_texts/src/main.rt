@@ -8,6 +8,8 @@
 //!   why, and the place where: `refused Short 1`.
 //! - `rewritten BYTES` is answered with the bytes of the document of the same value as a serializer writes them, or with
 //!   `refused` and why: `refused Short 1`, `refused TooLarge`.
+//! - `applied BYTES BYTES` is answered with the bytes of the document after a list of diffs, of a document and the list; or with
+//!   `refused` and why, as Rust's `{:?}` writes it: `refused Change(NoMember)`.
 //! - `built WORD,WORD..` is answered with the bytes of the document that is built of the words, or with `refused` and why: `refused
 //!   KeyOrder`. The words are `null`, `true`, `false`, a signed integer as `i:-5`, an unsigned one as `u:5`, the bits of a
 //!   floating-point number as `d:0`, a string as `s:BYTES`, an array as `[`, its elements and `]`, and an object as `{`, a key as
@@ -15,6 +17,8 @@
 //! - `file BYTES` is answered with the columns of the file, or with `refused`, why, and the line and the column where:
 //!   `refused Position 2 5`. A column is its six fields with commas between, which are hexadecimal digits but the position; columns
 //!   have a `;` between, and no columns are `none`.
+//! - `frames LIMIT BYTES` is answered with the content of the Zstandard frames, which is at most LIMIT bytes long, or with `refused` and
+//!   why: `refused Checksum`.
 //! - `type BYTES` is answered with the type of a column that the bytes spell, as Rust's `{:?}` writes it, or with `none`.
 //!
 //! Bytes are hexadecimal digits, and no bytes are `-`. Any other line is answered with `unknown`. The exit status is 1 where input, output
@@ -26,6 +30,7 @@ mod bytes;
 mod characters;
 mod columns;
 mod documents;
+mod frames;
 
 use bytes::bytes_of;
 use documents::Documents;
@@ -53,6 +58,11 @@ fn answer<W: Write>(
             Some(bytes) => documents::write_rewritten(alloc, &bytes, output),
             None => writeln!(output, "unknown"),
         },
+        Some(("applied", words)) => match words.split_once(' ') {
+            Some((document, diffs)) => answer_applied(alloc, document, diffs, output),
+            None => writeln!(output, "unknown"),
+        },
+        Some(("frames", asked)) => frames::write_content(alloc, asked, output),
         Some(("built", words)) => writeln!(output, "{}", built::answer(alloc, words)?),
         Some(("file", digits)) => match bytes_of(alloc, digits) {
             Some(bytes) => writeln!(output, "{}", columns::answer(alloc, &bytes)?),
@@ -63,6 +73,22 @@ fn answer<W: Write>(
             None => writeln!(output, "unknown"),
         },
         _ => writeln!(output, "{}", characters::answer(alloc, question)?),
+    }
+}
+
+// Writes the answer for a document and a list of diffs.
+fn answer_applied<W: Write>(
+    alloc: Global,
+    document: &str,
+    diffs: &str,
+    output: &mut W,
+) -> io::Result<()> {
+    let Some(document) = bytes_of(alloc, document) else {
+        return writeln!(output, "unknown");
+    };
+    match bytes_of(alloc, diffs) {
+        Some(diffs) => documents::write_applied(alloc, &document, &diffs, output),
+        None => writeln!(output, "unknown"),
     }
 }
 

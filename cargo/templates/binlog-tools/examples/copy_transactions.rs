@@ -14,7 +14,7 @@ fn main() -> Result<(), Box<dyn Error>> {
     let mut filter = Filter::new();
     filter.include_gtids = Some(GtidSet::Mysql(gtids.parse()?));
     // The other events are read under the format descriptions.
-    filter.takes_descriptions = true;
+    filter.is_for_copy = true;
     let mut output = BufWriter::new(File::create(to)?);
     BinlogFileHeader.write(BinlogVersion::Version4, &mut output)?;
     let mut copier = Filtered::new(filter, Copier { output });

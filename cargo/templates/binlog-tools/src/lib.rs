@@ -23,5 +23,7 @@ pub mod host;
 mod jiff;
 
 pub use crate::binlog_commands::{Copier, GtidCollector, Largest, Stats, Tally};
-pub use crate::binlog_filters::{Filter, Filtered, GtidSet, Place, begins_transaction};
+pub use crate::binlog_filters::{
+    Filter, Filtered, GtidSet, Pattern, Place, TableFilter, TablePattern, begins_transaction,
+};
 pub use crate::binlog_visits::{LineWriter, Visitor, visit, visit_counted, visit_verified, visit_verified_counted};

@@ -1,4 +1,4 @@
-//! Texts, members' names and signed numbers as JSON.
+//! Texts and members' names as JSON.
 use crate::memory::{AllocError, TryGrow};
 
 /// Whether a text is a number of JSON.
@@ -58,12 +58,6 @@ impl Writer {
     pub fn key(&mut self, name: &str) -> Result<(), AllocError> {
         self.string(name)?;
         self.0.try_push(b':')
-    }
-
-    /// Writes a signed number.
-    pub fn i64(&mut self, number: i64) -> Result<(), AllocError> {
-        let mut buffer = itoa::Buffer::new();
-        self.0.try_extend_from_slice(buffer.format(number).as_bytes())
     }
 
     /// The bytes.

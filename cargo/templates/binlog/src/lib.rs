@@ -205,9 +205,11 @@ pub mod jsonb {
     pub use crate::binary_json_writing::rewritten;
 }
 
-/// The diffs of partial updates of JSON columns.
+/// The diffs of partial updates of JSON columns. [`apply`](jsondiff::apply) gives the document after them.
 pub mod jsondiff {
     pub use crate::binary_json::{JsonDiff, JsonDiffError, JsonDiffOperation, JsonDiffs};
+    pub use crate::binary_json_writing::{JsonApplyError, JsonChangeError, apply};
+    pub use crate::binary_json_writing::{JsonPath, JsonPathError, JsonPathLeg};
 }
 
 /// Lines of JSON in memory that is reused, for `binlog-tools`.

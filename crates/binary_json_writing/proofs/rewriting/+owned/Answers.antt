@@ -1,58 +1,85 @@
-use Rattle.std.proofs.Common.{◌≡◌, ◌≤◌, ℕ, List, ◌++◌, map, sym, ap, subst, ◌∙◌}
-use Rattle.std.specs.Prelude.{IfOk}
-use Rattle.std.proofs.lemmas.Bool.{lt-ltb, le-ltb}
-use Rattle.binary_json.specs.Values.{Json, entries_nesting, values, members as members_in}
-use Rattle.binary_json.specs.Decoding.{entries_in}
-use Rattle.binary_json.specs.Iterators.{elements_left, members_left}
+use Rattle.std.proofs.Common.{◌≡◌, ◌+◌, ℕ, List, [], ◌∷◌, ◌++◌, map, sym, ap, subst, ◌∙◌, arith}
+use Rattle.std.specs.Prelude.{slice_range, IfOk, IfErr, OnOk}
+use Rattle.std.proofs.lemmas.Result.{err_from_is_err_and}
+use Rattle.binary_json.specs.Values.{Json}
 use Rattle.binary_json.specs.Views.{json}
-use Rattle.binary_json.specs.declared.iterators.Elements.{Elements}
-use Rattle.binary_json.specs.declared.iterators.Members.{Members}
+use Rattle.binary_json_writing.specs.Stored.{stored}
 use Rattle.binary_json_writing.specs.Owned.{owned_value}
-use Rattle.binary_json_writing.specs.Builders.{value_in, member_in}
-use Rattle.binary_json_writing.specs.declared.entry.Entry.{Entry}
-use Rattle.binary_json_writing.proofs.Copies.{deepest, member_values, values_deep, members_deep, element_more, first_deep, array_copied, object_copied}
+use Rattle.binary_json_writing.specs.Builders.{member_in}
+use Rattle.binary_json_writing.specs.Changes.{entries_of, IsUnwritten, AreUnwritten}
+use Rattle.binary_json_writing.proofs.EntryLists.{range_one, entry_deep, keyless_key}
+use Rattle.binary_json_writing.proofs.EntryKeys.{no_key}
+use Rattle.binary_json_writing.proofs.Unwritten.{end_unwritten}
+use Rattle.binary_json_writing.proofs.Copies.{copied_whole, copy_unwritten, range_unwritten, step_unwritten, one_more, if_err}
 use Rattle.binary_json_writing.proofs.rewriting.+owned.Goals as goal
 
-pub owned_array-elements-init : goal.owned_array-elements-init
-owned_array-elements-init t c =
-    let es = entries_in c.args.array.now.container.kind c.args.array.now.container.bytes.now in
-    let start : elements_left c.into_iter-value-iterator.result ≡ values es =
-    ap (λ (i : Elements). elements_left i) c.into_iter-value-iterator.ensures.into_iter_gives ∙ c.iter-value-items.ensures in
-    record {
-      built = ap (λ (l : List Entry). map value_in l ++ elements_left c.into_iter-value-iterator.result) c.new-list.ensures.none ∙ start;
-      keyed = c.new-list.ensures.keyed;
-      deep = subst (λ (l : List Json). deepest l ≤ entries_nesting es) (sym start) (values_deep es);
-    }
+-- ---- one entry
 
-pub owned_array-elements-preserved : goal.owned_array-elements-preserved
-owned_array-elements-preserved t c =
-    let es = entries_in c.args.array.now.container.kind c.args.array.now.container.bytes.now in
-    let steps = c.in-Some.ensures.steps in
-    record {
-      built = element_more c.elements.list.entries.items _ _ (json c.in-Some.value) _ _ (values es) c.elements.invariant.built steps c.in_ok-push.ensures.more c.in_ok-element.ensures;
-      keyed = c.push.ensures.keyed ∙ c.elements.invariant.keyed;
-      deep = (first_deep (json c.in-Some.value) _ _ (entries_nesting es) steps c.elements.invariant.deep).1;
-    }
+pub copy_entry-owned-requires : goal.copy_entry-owned-requires
+copy_entry-owned-requires t c =
+    let v = json c.args.value.now in
+    let less = entry_deep v c.args.index (c.in-Some.key.now, json c.in-Some.entry) (sym c.in-Some.ensures) in
+    (omega (arith, less, c.decreases), tt)
 
-pub owned_object-members-init : goal.owned_object-members-init
-owned_object-members-init t c =
-    let es = entries_in c.args.object.now.container.kind c.args.object.now.container.bytes.now in
-    let start : members_left c.into_iter-key-iterator.result ≡ members_in es =
-    ap (λ (i : Members). members_left i) c.into_iter-key-iterator.ensures.into_iter_gives ∙ c.iter-key-items.ensures in
-    record {
-      built = ap (λ (l : List Entry). map member_in l ++ members_left c.into_iter-key-iterator.result) c.new-list.ensures.none ∙ start;
-      keyed = c.new-list.ensures.keyed;
-      deep = subst (λ (l : List (List ℕ × Json)). deepest (member_values l) ≤ entries_nesting es) (sym start) (members_deep es);
-    }
+pub copy_entry-returns-in_err-copy-in-Some-clause-refused : goal.copy_entry-returns-in_err-copy-in-Some-clause-refused
+copy_entry-returns-in_err-copy-in-Some-clause-refused t c =
+    let p = err_from_is_err_and c.from_residual.result c.from_residual.ensures.1 in
+    let ps = entries_of (json c.args.value.now) in
+    rw (p.1, p.2) (range_unwritten c.args.list.now.keyed ps c.args.index (c.in-Some.key.now, json c.in-Some.entry) _ (sym c.in-Some.ensures) c.in_err-copy-in-Some.ensures.refused)
 
-pub owned_array-returns : goal.owned_array-returns
-owned_array-returns t c =
-    let array = c.args.array.now in
-    let made = array_copied c.elements.list.keyed array.container.kind array.container.bytes.now c.elements.list.entries.items _ c.elements.invariant.keyed (le-ltb array.container.kind 2 array.is_array) c.elements.invariant.built c.in-None.ensures.steps.0 in
-    subst (λ (v : Json). IfOk c.finish.result (λ d. owned_value d ≡ v)) made c.finish.ensures.made
+pub copy_entry-push_entry-requires : goal.copy_entry-push_entry-requires
+copy_entry-push_entry-requires t c kind =
+    keyless_key (json c.args.value.now) c.args.index (c.in-Some.key.now, json c.in-Some.entry) (sym c.requires.keyed ∙ kind) (sym c.in-Some.ensures)
 
-pub owned_object-returns : goal.owned_object-returns
-owned_object-returns t c =
-    let object = c.args.object.now in
-    let made = object_copied c.members.list.keyed object.container.kind object.container.bytes.now c.members.list.entries.items _ c.members.invariant.keyed (lt-ltb object.container.kind 2 object.is_object) c.members.invariant.built c.in-None.ensures.steps.0 in
-    subst (λ (v : Json). IfOk c.finish.result (λ d. owned_value d ≡ v)) made c.finish.ensures.made
+pub copy_entry-returns-in_ok-copy-in-Some-clause-more : goal.copy_entry-returns-in_ok-copy-in-Some-clause-more
+copy_entry-returns-in_ok-copy-in-Some-clause-more t c =
+    let ps = entries_of (json c.args.value.now) in
+    let key = c.in-Some.key.now in
+    let one : (key, owned_value c.in_ok-copy-in-Some.copy) ∷ [] ≡ slice_range ps c.args.index (c.args.index + 1) =
+    ap (λ (w : Json). (key, w) ∷ []) c.in_ok-copy-in-Some.ensures.made ∙ sym (range_one ps c.args.index (key, json c.in-Some.entry) (sym c.in-Some.ensures)) in
+    subst (λ (l : List (List ℕ × Json)). OnOk c.push_entry.result (map member_in c.push_entry.new.list.entries.items ≡ map member_in c.args.list.now.entries.items ++ l)) one c.push_entry.ensures.more
+
+pub copy_entry-returns-in_ok-copy-in-Some-clause-refused : goal.copy_entry-returns-in_ok-copy-in-Some-clause-refused
+copy_entry-returns-in_ok-copy-in-Some-clause-refused t c =
+    let ps = entries_of (json c.args.value.now) in
+    let key = c.in-Some.key.now in
+    let one : (key, owned_value c.in_ok-copy-in-Some.copy) ∷ [] ≡ slice_range ps c.args.index (c.args.index + 1) =
+    ap (λ (w : Json). (key, w) ∷ []) c.in_ok-copy-in-Some.ensures.made ∙ sym (range_one ps c.args.index (key, json c.in-Some.entry) (sym c.in-Some.ensures)) in
+    subst (λ (l : List (List ℕ × Json)). IfErr c.push_entry.result (AreUnwritten c.args.list.now.keyed l)) one c.push_entry.ensures.refused
+
+pub copy_entry-returns-in-None-clause-more : goal.copy_entry-returns-in-None-clause-more
+copy_entry-returns-in-None-clause-more t c = absurd (no_key (entries_of (json c.args.value.now)) c.args.index c.in-None.ensures c.requires.within)
+
+-- ---- entries
+
+pub copy_entries-returns-in_err-copy_entry-clause-refused : goal.copy_entries-returns-in_err-copy_entry-clause-refused
+copy_entries-returns-in_err-copy_entry-clause-refused t c =
+    let p = err_from_is_err_and c.from_residual.result c.from_residual.ensures.1 in
+    rw (p.1, p.2) (step_unwritten c.entries.list.keyed c.args.list.now.keyed (entries_of (json c.args.value.now)) c.args.from c.entries.index c.args.to _ c.entries.invariant.keyed (omega arith) (omega arith) c.in_err-copy_entry.ensures.refused)
+
+pub copy_entries-entries-preserved : goal.copy_entries-entries-preserved
+copy_entries-entries-preserved t c = record {
+  keyed = c.copy_entry.ensures.keyed ∙ c.entries.invariant.keyed;
+  copied = one_more _ (map member_in c.entries.list.entries.items) _ (entries_of (json c.args.value.now)) c.args.from c.entries.index c.in_ok-copy_entry.ensures.more c.entries.invariant.copied (omega arith);
+}
+
+-- ---- arrays and objects
+
+pub owned_entries-returns-in_err-copy_entries-clause-refused : goal.owned_entries-returns-in_err-copy_entries-clause-refused
+owned_entries-returns-in_err-copy_entries-clause-refused t c =
+    let p = err_from_is_err_and c.from_residual.result c.from_residual.ensures.1 in
+    rw (p.1, p.2) (copy_unwritten c.args.value.now c.new-list.result.keyed c.entry_count.result _ c.requires (c.new-list.ensures.keyed ∙ c.is_object.ensures) c.entry_count.ensures c.in_err-copy_entries.ensures.refused)
+
+pub owned_entries-returns-clause-made : goal.owned_entries-returns-clause-made
+owned_entries-returns-clause-made t c =
+    let list = c.copy_entries.new.list in
+    let kind = c.copy_entries.ensures.keyed ∙ c.new-list.ensures.keyed ∙ c.is_object.ensures in
+    let all = copied_whole c.args.value.now list.keyed list.entries.items c.new-list.result.entries.items c.entry_count.result c.requires kind c.new-list.ensures.none c.entry_count.ensures c.in_ok-copy_entries.ensures.more in
+    subst (λ (v : Json). IfOk c.finish.result (λ d. owned_value d ≡ v)) all c.finish.ensures.made
+
+pub owned_entries-returns-clause-refused : goal.owned_entries-returns-clause-refused
+owned_entries-returns-clause-refused t c =
+    let list = c.copy_entries.new.list in
+    let kind = c.copy_entries.ensures.keyed ∙ c.new-list.ensures.keyed ∙ c.is_object.ensures in
+    let all = copied_whole c.args.value.now list.keyed list.entries.items c.new-list.result.entries.items c.entry_count.result c.requires kind c.new-list.ensures.none c.entry_count.ensures c.in_ok-copy_entries.ensures.more in
+    if_err c.finish.result _ _ (λ e is. subst (λ (v : Json). IsUnwritten v e) all (end_unwritten list.keyed (stored list.keyed list.entries.items) e is)) c.finish.ensures.refused

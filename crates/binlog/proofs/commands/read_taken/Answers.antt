@@ -9,5 +9,5 @@ returns g c = record {
   shown = c.new.ensures.visitor;
   behind = c.read_files-outcome.new.visitor;
   reads = rw c.new-reported.ensures at c.read_files-outcome.ensures;
-  ends = ap (λ (filtered : Filtered g.row.T.Denot). filtered.visitor) c.into_visitor.ensures;
+  ends = ap (λ (filtered : Filtered g.row.T.Denot). filtered.visitor) c.into_visitor-filtered.ensures;
 }

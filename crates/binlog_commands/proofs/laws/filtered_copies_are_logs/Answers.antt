@@ -1,7 +1,6 @@
-use Rattle.binlog_file.specs.TableMapsInForce.{no_table_maps}
 use Rattle.binlog_commands.proofs.FilteredCopies.{filtered_copy}
 use Rattle.binlog_commands.proofs.laws.filtered_copies_are_logs.Goals as goal
 
 pub returns : goal.returns
 returns g c bytes old new tail_len all visited =
-    filtered_copy (λ copier. g.W.Write.contents copier.output) no_table_maps bytes visited.stream visited.visited.items old new all visited.file visited.visited.are visited.visited.visited
+    filtered_copy (λ copier. g.W.Write.contents copier.output) bytes visited.stream visited.visited.items old new all visited.file visited.visited.are visited.visited.visited

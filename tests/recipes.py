@@ -1,0 +1,139 @@
+#!/usr/bin/env python3
+"""Runs the commands of docs/RECIPES.md as they stand there, over logs that are made here.
+
+Usage: recipes.py FLAG
+
+FLAG is one of `programs.py`: it says which `binlog` is run. A block of the page that begins with `$ ` has commands, perhaps of several
+lines of which the further ones begin with `> `, each with what it prints: standard output and messages. They run in order in a
+folder with the logs that the page names. A test each: a command prints what stands below it. Where `jq` is missing, its commands are
+left out. The last line is `N passed, M failed`; the exit status is 1 if something failed.
+"""
+
+import argparse
+import re
+import shlex
+import shutil
+import subprocess
+import sys
+import tempfile
+from calendar import timegm
+from pathlib import Path
+from time import strptime
+from uuid import UUID
+
+import encoded_events as encode
+import programs
+import results
+from checksummed_sample import POST_HEADER_LENGTHS
+from encoded_logs import framed
+from make_sample import FILE_HEADER
+from row_lines import DELETE, UPDATE, WRITE, named_map
+from row_values import row_event
+
+PAGE = programs.REPOSITORY / "docs/RECIPES.md"
+SOURCE = UUID("3e11fa47-71ca-11e1-9e33-c80aa9429562").bytes
+GTID = 33
+SERVER_ID = 1
+ORDERS, CUSTOMERS = 90, 91
+# In the last log: the last byte of its row, before the checksum and an XID event of 31 bytes.
+LAST_BYTE_OF_A_ROW = -36
+
+
+class Log:
+    """A log with checksums, as MySQL 8.0 writes it, behind the transactions of SOURCE up to the last one before it."""
+
+    def __init__(self, time, last):
+        self.content, self.time = FILE_HEADER, time
+        self.add(encode.format_description(server_version="8.0.36", lengths=POST_HEADER_LENGTHS, algorithm=1), b"\1")
+        self.add(encode.previous_gtids([(SOURCE, None, [(1, last + 1)])]))
+
+    def add(self, event, footer=b""):
+        """Adds an event, or its type and body. `footer` is what stands before the checksum."""
+        kind, body = (event.type, event.body) if isinstance(event, encode.Event) else event
+        seconds = timegm(strptime(f"2026-11-{self.time}", "%Y-%m-%d %H:%M:%S"))
+        end = len(self.content) + len(framed(kind, body + footer, (0, 0, 0, 0), True)[0])
+        self.content += framed(kind, body + footer, (seconds, SERVER_ID, end, 0), True)[0]
+
+    def transaction(self, time, number, events):
+        self.time = time
+        self.add(encode.gtid(GTID, sid=SOURCE, gno=number, clock=(number - 1, number)))
+        self.add(encode.query(schema="shop", text="BEGIN"))
+        for event in events:
+            self.add(event)
+        self.add(encode.xid(value=number))
+
+    def statement(self, time, number, text):
+        self.time = time
+        self.add(encode.gtid(GTID, sid=SOURCE, gno=number, clock=(number - 1, number)))
+        self.add(encode.query(schema="shop", text=text))
+
+
+def changes(table, kind, *images):
+    """A table map, and an event of its rows, each an id and a text."""
+    name = {ORDERS: "orders", CUSTOMERS: "customers"}[table]
+    content = b"".join(b"\0" + number.to_bytes(4, "little") + bytes([len(text)]) + text for number, text in images)
+    return [named_map(table, "shop", name, [b"id", b"name"]), row_event(kind, table, [True, True], [True, True], content)]
+
+
+def logs():
+    """The names of the logs on the page, and their bytes."""
+    first = Log("26 21:58:00", 40)
+    first.transaction("26 21:59:30", 41, changes(ORDERS, WRITE, (1, b"tea"), (2, b"coffee")))
+    replica = Log("26 21:58:02", 40)
+    replica.content += first.content[len(Log("26 21:58:00", 40).content) :]
+    first.transaction("26 22:00:10", 42, changes(ORDERS, UPDATE, (2, b"coffee"), (2, b"cocoa")))
+    first.transaction("26 22:00:40", 43, changes(ORDERS, DELETE, (1, b"tea")) + changes(CUSTOMERS, WRITE, (7, b"Ada")))
+    first.statement("26 22:05:00", 44, "TRUNCATE TABLE sessions")
+    first.add(encode.rotate(position=4, name="mysql-bin.000008"))
+    second = Log("26 22:05:01", 44)
+    second.transaction("27 03:12:09", 45, changes(ORDERS, DELETE, (2, b"cocoa")))
+    damaged = bytearray(second.content)
+    damaged[LAST_BYTE_OF_A_ROW] ^= 1
+    return {
+        "mysql-bin.000007": first.content,
+        "mysql-bin.000008": second.content,
+        "replica-bin.000003": replica.content,
+        "disk/mysql-bin.000008": bytes(damaged),
+    }
+
+
+def blocks(page):
+    """The commands of the page's blocks, each with what is printed below it."""
+    for block in re.findall(r"^```text\n(\$ .*?)^```", page, re.MULTILINE | re.DOTALL):
+        for part in re.split(r"^\$ ", block, flags=re.MULTILINE)[1:]:
+            command = re.match(r".*\n(?:> .*\n)*", part)[0]
+            yield command.replace("\n> ", "\n"), part[len(command) :]
+
+
+def failure(command, wanted, folder, environment):
+    """None if a command prints what is wanted, else what is wrong."""
+    words = ["bash", "-o", "pipefail", "-c", command]
+    finished = subprocess.run(words, cwd=folder, env=environment, stdout=subprocess.PIPE, stderr=subprocess.STDOUT, text=True)
+    return None if finished.stdout == wanted else f"{command}prints\n{finished.stdout}and not\n{wanted}"
+
+
+def failures(binlog, page):
+    with tempfile.TemporaryDirectory() as folder:
+        for name, content in logs().items():
+            path = Path(folder, name)
+            path.parent.mkdir(exist_ok=True)
+            path.write_bytes(content)
+        program = Path(folder, "bin", "binlog")
+        program.parent.mkdir()
+        program.write_text(f'#!/bin/sh\nexec {shlex.join(binlog)} "$@"\n')
+        program.chmod(0o755)
+        environment = {"PATH": f"{program.parent}:/usr/bin:/bin", "LC_ALL": "C.UTF-8", "TZ": "UTC"}
+        for command, wanted in blocks(page):
+            if shutil.which("jq", path=environment["PATH"]) or "jq" not in command:
+                yield failure(command, wanted, folder, environment)
+
+
+def main():
+    parser = argparse.ArgumentParser(description="Runs the commands of docs/RECIPES.md.")
+    programs.add_flags(parser)
+    binlog = programs.parsed(parser, "binlog").build.command("binlog")
+    return results.report(failures(binlog, PAGE.read_text()))
+
+
+if __name__ == "__main__":
+    sys.exit(main())
