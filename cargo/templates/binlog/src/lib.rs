@@ -50,6 +50,8 @@ mod binlog_file;
 mod binlog_gtid_sets;
 mod binlog_gtid_text;
 mod binlog_gtids;
+// What reads columns as they are stored is for undoing rows, which the package doesn't do yet.
+#[allow(dead_code)]
 mod binlog_images;
 mod binlog_maria_gtids;
 mod binlog_mariadb;
