@@ -44,6 +44,14 @@ impl<'a> BitView<'a> {
         self.len == 0
     }
 
+    /// The bytes, with the bits of the last byte that belong to no column.
+    #[inline]
+    pub fn as_bytes(&self) -> &'a [u8]
+        ensures { result.now ≡ self.now.bytes.now }
+    {
+        self.bytes
+    }
+
     /// Whether the bit at `index`, counted from 0, is set; None where `index` is [`BitView::len`] or more.
     pub fn bit(&self, index: u64) -> Option<bool>
         ensures { result ≡ bit_in self.now.len self.now.bytes.now index }
