@@ -180,9 +180,11 @@ def of_line(column, value):
     if value is None:
         return None
     if column.kind == "json" and isinstance(value, dict):
-        ((name, shown_value),) = value.items()
+        (name, shown_value), *after = value.items()
         document = mysql_documents.of_json(shown_value)
-        return Diffs(mysql_documents.diffs(document)) if name == "diffs" else Document(document)
+        if name != "diffs":
+            return Document(document)
+        return Diffs(mysql_documents.diffs(document), [Document(mysql_documents.of_json(shown)) for _, shown in after])
     if column.kind == "float":
         return struct.unpack("<f", struct.pack("<f", value))[0]
     if column.kind == "double":
@@ -191,7 +193,10 @@ def of_line(column, value):
 
 
 class Diffs(NamedTuple):
+    """The diffs of a list, and a list of the document after them, if it is there."""
+
     found: list
+    after: list
 
 
 class Document(NamedTuple):

@@ -106,7 +106,10 @@ def matches(row, image):
 
 
 def with_diffs(value, before):
-    return Document(changed(before.value, value.found)) if isinstance(value, Diffs) else value
+    """The value after: that of the line, which the server has to have, too."""
+    if not isinstance(value, Diffs):
+        return value
+    return value.after[0] if value.after else Document(changed(before.value, value.found))
 
 
 def in_order(columns, rows):

@@ -28,13 +28,22 @@ from checksummed_sample import POST_HEADER_LENGTHS
 from encoded_logs import framed
 from make_sample import FILE_HEADER
 from row_lines import DELETE, UPDATE, WRITE, named_map
-from row_values import row_event
+from row_values import SPELLING, row_event
 
 PAGE = programs.REPOSITORY / "docs/RECIPES.md"
 SOURCE = UUID("3e11fa47-71ca-11e1-9e33-c80aa9429562").bytes
 GTID = 33
 SERVER_ID = 1
-ORDERS, CUSTOMERS = 90, 91
+ORDERS, CUSTOMERS, ITEMS = 90, 91, 92
+# Types of columns.
+LONG, VARCHAR, ENUM, STRING = 3, 15, 247, 254
+# What a server answers of the table of ITEMS.
+COLUMNS = (
+    "TABLE_SCHEMA\tTABLE_NAME\tORDINAL_POSITION\tCOLUMN_NAME\tCOLUMN_TYPE\tCHARACTER_SET_NAME\n"
+    "shop\titems\t1\tid\tint(10) unsigned\tNULL\n"
+    "shop\titems\t2\tsize\tenum('small','large')\tlatin1\n"
+    "shop\titems\t3\tname\tvarchar(20)\tlatin1\n"
+)
 # In the last log: the last byte of its row, before the checksum and an XID event of 31 bytes.
 LAST_BYTE_OF_A_ROW = -36
 
@@ -75,6 +84,16 @@ def changes(table, kind, *images):
     return [named_map(table, "shop", name, [b"id", b"name"]), row_event(kind, table, [True, True], [True, True], content)]
 
 
+def unnamed_item():
+    """A table map that states nothing of its columns, and an event of a row: an unsigned number, a member of an ENUM, and a text in latin1."""
+    types, metadata = bytes([LONG, STRING, VARCHAR]), bytes([ENUM, 1, 20, 0])
+    map_of = encode.table_map(
+        SPELLING, table_id=ITEMS, flags=1, database="shop", table="items", types=types, metadata=metadata, nulls=[True] * 3
+    )
+    content = b"\0" + (4_000_000_000).to_bytes(4, "little") + b"\2" + b"\3" + "Ærø".encode("latin-1")
+    return [map_of, row_event(WRITE, ITEMS, [True] * 3, [True] * 3, content)]
+
+
 def logs():
     """The names of the logs on the page, and their bytes."""
     first = Log("26 21:58:00", 40)
@@ -87,6 +106,8 @@ def logs():
     first.add(encode.rotate(position=4, name="mysql-bin.000008"))
     second = Log("26 22:05:01", 44)
     second.transaction("27 03:12:09", 45, changes(ORDERS, DELETE, (2, b"cocoa")))
+    minimal = Log("26 21:58:00", 40)
+    minimal.transaction("26 21:59:30", 41, unnamed_item())
     damaged = bytearray(second.content)
     damaged[LAST_BYTE_OF_A_ROW] ^= 1
     return {
@@ -94,6 +115,8 @@ def logs():
         "mysql-bin.000008": second.content,
         "replica-bin.000003": replica.content,
         "disk/mysql-bin.000008": bytes(damaged),
+        "minimal/mysql-bin.000001": minimal.content,
+        "columns.tsv": COLUMNS.encode(),
     }
 
 

@@ -11,6 +11,7 @@ from datetime import datetime, timezone
 
 import binary_json_model
 import character_model
+import json_diff_model
 
 # A floating-point number by its bits: the format of its bytes, and the bytes.
 Float = namedtuple("Float", "format bytes")
@@ -18,8 +19,8 @@ Float = namedtuple("Float", "format bytes")
 # A value of a document by its text.
 Json = namedtuple("Json", "text")
 
-# A column: how its values are read, its real type, and how lists of diffs are read, if it may have any.
-Column = namedtuple("Column", "read real read_diffs", defaults=[None, None])
+# A column: how its values are read, its real type, and how the bytes of its documents are read, if it has any.
+Column = namedtuple("Column", "read real read_content", defaults=[None, None])
 
 # What the table map states of a column.
 Facts = namedtuple("Facts", "name is_unsigned character_set members", defaults=[None, False, None, None])
@@ -32,6 +33,9 @@ STRING, ENUM, SET = STRINGS
 ENUM_SIZES, SET_SIZES = (1, 2), range(1, 9)
 COMPRESSED, JSON, GEOMETRY, VECTOR = (140, 141), 245, 255, 242
 BINARY = "binary"
+
+# How many diffs of a list are applied at most.
+MOST_DIFFS = 100
 
 YEAR = 13
 NUMERIC = (*INTEGERS, 4, 5, YEAR, 246)
@@ -287,12 +291,30 @@ def document(content, _facts):
         return [("jsonb", content.hex())]
 
 
-def diff_list(content, _facts):
-    """The diffs of a list; its digits where it is none, or has no text."""
+def diff_list(content, before):
+    """The diffs of a list, its digits where it is none, or has no text; and the document that they make of the one before."""
+    return [("diffs", diffs_value(content)), *document_after(content, before)]
+
+
+def diffs_value(content):
     try:
-        return [("diffs", Json(binary_json_model.diffs_text(binary_json_model.diffs(content))))]
+        return Json(binary_json_model.diffs_text(binary_json_model.diffs(content)))
     except (binary_json_model.Refused, binary_json_model.NoText):
-        return [("diffs", content.hex())]
+        return content.hex()
+
+
+def document_after(content, before):
+    """The member of the document after a list of diffs; none where there is no document before, where there are too many diffs, where
+    they aren't applied, and where the document after has no text."""
+    if before is None:
+        return []
+    try:
+        if len(binary_json_model.diffs(content)) > MOST_DIFFS:
+            return []
+        value = json_diff_model.applied(binary_json_model.read(before), content)
+        return [("json", Json(binary_json_model.text(value)))]
+    except (binary_json_model.Refused, binary_json_model.NoText, json_diff_model.NotApplied):
+        return []
 
 
 # ---- columns
@@ -346,8 +368,8 @@ def blob_column(kind):
     def read(data):
         width = data.number(1)
         allowed(1 <= width <= 4, "BadMetadata")
-        read_diffs = counted(width, 256**width - 1, diff_list) if kind == JSON else None
-        return Column(counted(width, 256**width - 1, value_of, is_length), read_diffs=read_diffs)
+        read_content = counted(width, 256**width - 1, lambda content, _facts: content) if kind == JSON else None
+        return Column(counted(width, 256**width - 1, value_of, is_length), read_content=read_content)
 
     return read
 
@@ -507,7 +529,22 @@ def facts(found, optional, is_maria):
 # ---- rows
 
 
-def image(found, stated, present, data):
+class Documents:
+    """The documents of a row: those of its image before by the indexes of their columns, and which columns are lists of diffs."""
+
+    def __init__(self):
+        self.before, self.diffs = {}, set()
+
+    def read(self, column, place, data):
+        """The value of a column of documents."""
+        content = column.read_content(data, None)
+        if place in self.diffs:
+            return diff_list(content, self.before.get(place))
+        self.before[place] = content
+        return document(content, None)
+
+
+def image(found, stated, present, data, documents):
     """An image; a fault has the index of its column besides, None in the null bitmap."""
     there = [place for place, is_there in enumerate(present) if is_there]
     members_of_image = []
@@ -516,7 +553,12 @@ def image(found, stated, present, data):
         nulls = data.take((len(there) + 7) // 8)
         for order, place in enumerate(there):
             is_null = nulls[order // 8] >> order % 8 & 1 == 1
-            value = None if is_null else found[place].read(data, stated[place])
+            if is_null:
+                value = None
+            elif found[place].read_content:
+                value = documents.read(found[place], place, data)
+            else:
+                value = found[place].read(data, stated[place])
             name_of_column = stated[place].name
             members_of_image.append((f"@{place + 1}" if name_of_column is None else name_of_column, value))
     except Fault as fault:
@@ -539,13 +581,12 @@ def diff_columns(found, data):
     return {place for order, place in enumerate(documents) if diff_bits[order // 8] >> order % 8 & 1 == 1}
 
 
-def with_diffs(found, data):
-    """The columns of the image after of a partial update, behind its options and diff bits."""
+def partial_diffs(found, data):
+    """The columns of the image after of a partial update that are lists of diffs; a fault has the index of no column."""
     try:
-        diffs = diff_columns(found, data)
+        return diff_columns(found, data)
     except Fault as fault:
         raise Fault(fault.args[0], None)
-    return [column._replace(read=column.read_diffs) if place in diffs else column for place, column in enumerate(found)]
 
 
 def rows(found, stated, images, data, is_partial=False):
@@ -555,20 +596,23 @@ def rows(found, stated, images, data, is_partial=False):
         return [refusal("LeftOver", 0)] if data.left() else []
     items = []
     while data.left():
-        row = []
+        row, documents = [], Documents()
         for image_name, present in images:
             try:
-                columns_of_image = with_diffs(found, data) if is_partial and image_name == "after" else found
-                row.append((image_name, image(columns_of_image, stated, present, data)))
+                if is_partial and image_name == "after":
+                    documents.diffs = partial_diffs(found, data)
+                row.append((image_name, image(found, stated, present, data, documents)))
             except Fault as fault:
                 return items + [refusal(fault.args[0], len(items), ("image", image_name), ("column", fault.args[1]))]
         items.append(row)
     return items
 
 
-def rows_of_event(found, table, event, is_maria, is_partial):
-    """The rows of an event, by the fields of its table map and its own, and the columns of that."""
-    stated, _ = facts(found, table["optional_metadata"].bytes, is_maria)
+def rows_of_event(found, table, event, is_maria, is_partial, stated=None):
+    """The rows of an event, by the fields of its table map and its own, and the columns of that; and by what is known of the columns,
+    if it is more than the table map states."""
+    if stated is None:
+        stated, _ = facts(found, table["optional_metadata"].bytes, is_maria)
     images = [(image_name, event[f"columns_{image_name}_image"]) for image_name in ("before", "after")]
     present = [(image_name, columns_of_image) for image_name, columns_of_image in images if columns_of_image is not None]
     return rows(found, stated, present, event["rows_data"].bytes, is_partial)

@@ -28,6 +28,7 @@ import programs
 import results
 import row_events
 import row_model
+from binary_json_model import Members
 from row_model import Facts, Fault, Float, Json
 
 EVENTS_OF_A_LOG = 2_000
@@ -305,8 +306,84 @@ def partial_updates():
             yield table, row_event(PARTIAL, 11, before, after, contents), [("rows", rows)]
 
 
+def changed_documents():
+    """Documents and lists of diffs, and the texts of the diffs and of the document after them, None where there is none."""
+    number = binary_json_model.signed
+    members = Members(((b"a", number(1)), (b"b", [number(1), number(2)])))
+    deep = functools.reduce(lambda value, _: [value], range(99), [])
+    one = '[{"op":"replace","path":"$.a","value":true}]'
+    yield members, [], "[]", '{"a":1,"b":[1,2]}'
+    yield members, [("replace", b"$.a", [True])], one, '{"a":true,"b":[1,2]}'
+    yield members, [("remove", b"$.b[last]", [])], '[{"op":"remove","path":"$.b[last]"}]', '{"a":1,"b":[1]}'
+    yield (
+        members,
+        [("insert", b"$.b[1]", [b"x"]), ("remove", b"$.a", [])],
+        '[{"op":"insert","path":"$.b[1]","value":"x"},{"op":"remove","path":"$.a"}]',
+        '{"b":[1,"x",2]}',
+    )
+    yield members, [("replace", b"$", [None])], '[{"op":"replace","path":"$","value":null}]', "null"
+    for count in (100, 101):
+        yield members, [("replace", b"$.a", [True])] * count, "[" + ",".join([one[1:-1]] * count) + "]", '{"a":true,"b":[1,2]}' if count == 100 else None
+    # Refused: by the path, by what the diff does, and by the depth of 101 arrays.
+    yield [number(1)], [("replace", b"$.a", [True])], one, None
+    yield Members(()), [("replace", b"$.a", [True])], one, None
+    yield None, [("replace", b"$.a", [True])], one, None
+    yield members, [("remove", b"$.c[", [])], '[{"op":"remove","path":"$.c["}]', None
+    yield members, [("insert", b"$.b[0]", [None]), ("remove", b"$.c", [])], '[{"op":"insert","path":"$.b[0]","value":null},{"op":"remove","path":"$.c"}]', None
+    yield [number(7)], [("replace", b"$[0]", [deep])], '[{"op":"replace","path":"$[0]","value":%s}]' % ("[" * 100 + "]" * 100), None
+    yield [number(7), deep[0]], [("remove", b"$[0]", [])], '[{"op":"remove","path":"$[0]"}]', "[" * 100 + "]" * 100
+    # Diffs, and documents after, that aren't text.
+    yield members, [("replace", b"$.a", [b"\xff"]), ("remove", b"$.a", [])], None, '{"b":[1,2]}'
+    yield [b"\xff", None], [("remove", b"$[0]", [])], '[{"op":"remove","path":"$[0]"}]', "[null]"
+    yield [b"\xff", None], [("remove", b"$[1]", [])], '[{"op":"remove","path":"$[1]"}]', None
+
+
+def documents_after():
+    """Partial updates of two JSON columns, with the document of one of them, of both or of none in the image before."""
+    types = bytes([JSON, 1, JSON])
+    table = table_map(18, types, b"\4\4")
+    found = list(changed_documents())
+    for before in ((True, True, True), (False, True, True), (True, True, False), (False, True, False)):
+        for nulls in ([False] * 3, [True, False, False]):
+            there = [is_there for is_there in before if is_there]
+            nulls_before = [nulls[place] for place, is_there in enumerate(before) if is_there]
+            contents, rows = b"", []
+            for step, (first, second) in enumerate(zip(found, found[3:] + found[:3])):
+                cells = [(document_cell(first[0]), 4), (bytes([step]), 0), (document_cell(second[0]), 4)]
+                values = [shown_document(first[0]), step, shown_document(second[0])]
+                members = [(f"@{place + 1}", None if nulls[place] else values[place]) for place in range(3) if before[place]]
+                contents += encode.bits(nulls_before) + b"".join(cells[place][0] for place in range(3) if before[place] and not nulls[place])
+                assert len(there) == len(members)
+                after = [("@1", shown_diffs(first, before[0] and not nulls[0])), ("@2", 9), ("@3", shown_diffs(second, before[2]))]
+                contents += b"\1\3\0" + diffs_cell(first[1]) + b"\x09" + diffs_cell(second[1])
+                rows.append([("before", members), ("after", after)])
+            yield table, row_event(PARTIAL, 18, list(before), [True] * 3, contents), [("rows", rows)]
+
+
+def document_cell(value):
+    return row_events.counted(binary_json_model.document(value), 4)
+
+
+def diffs_cell(found):
+    return row_events.counted(binary_json_model.diff_list(found), 4)
+
+
+def shown_document(value):
+    try:
+        return [("json", Json(binary_json_model.text(value)))]
+    except binary_json_model.NoText:
+        return [("jsonb", binary_json_model.document(value).hex())]
+
+
+def shown_diffs(changed, has_before):
+    """The members of a list of diffs, whose document before is there or not."""
+    _, found, diffs, after = changed
+    shown = [("diffs", binary_json_model.diff_list(found).hex() if diffs is None else Json(diffs))]
+    return shown + [("json", Json(after))] if has_before and after is not None else shown
+
+
 def encoded():
-    for part in (single_columns, every_column, many_columns, stated_facts, stated_members, padded_strings, partial_updates):
+    for part in (single_columns, every_column, many_columns, stated_facts, stated_members, padded_strings, partial_updates, documents_after):
         for table, event, wanted in part():
             yield part.__name__, [table, event], [wanted]
 
@@ -384,14 +461,25 @@ def random_diffs(chance):
     return content
 
 
+def diffs_of(chance, before):
+    """A list of diffs that is made for a document."""
+    try:
+        return binary_json.random_list(chance, binary_json_model.read(before))
+    except binary_json_model.Refused:
+        return random_diffs(chance)
+
+
 def random_document(chance):
     content = random_diffs(chance) if chance.random() < 0.3 else chance.choice(short_documents())
     return binary_json.damaged(chance, content) if chance.random() < 0.4 else content
 
 
-def random_content(chance, kind):
-    """One of the contents of a kind, a document, or a short string of any bytes or of letters in some codec."""
+def random_content(chance, kind, before):
+    """One of the contents of a kind, a document, a list of diffs for the document before, or a short string of any bytes or of letters
+    in some codec."""
     if kind.type == JSON and chance.random() < 0.8:
+        if before is not None and chance.random() < 0.7:
+            return row_events.counted(diffs_of(chance, before), 4)
         return row_events.counted(random_document(chance), 4)
     if (kind.type, kind.metadata) not in SHORT or chance.random() < 0.3:
         return chance.choice(kind.values)[0]
@@ -400,11 +488,18 @@ def random_content(chance, kind):
     return row_events.counted(text[:10], 1)
 
 
-def random_image(chance, chosen, present):
-    there = [kind for kind, is_there in zip(chosen, present) if is_there]
+def random_image(chance, chosen, present, documents):
+    """An image. `documents` are those of the image before, by their columns: they are those of this one then."""
+    there = [place for place, is_there in enumerate(present) if is_there]
     nulls = [chance.random() < 0.2 for _ in there]
-    contents = (b"" if is_null else random_content(chance, kind) for kind, is_null in zip(there, nulls))
-    return encode.bits(nulls) + b"".join(contents)
+    image, before = encode.bits(nulls), dict(documents)
+    documents.clear()
+    for place, is_null in zip(there, nulls):
+        content = b"" if is_null else random_content(chance, chosen[place], before.get(place))
+        image += content
+        if chosen[place].type == JSON and not is_null:
+            documents[place] = content[4:]
+    return image
 
 
 def random_options(chance, chosen):
@@ -416,7 +511,8 @@ def random_options(chance, chosen):
 
 
 def random_row(chance, kind, chosen, images):
-    contents = [random_image(chance, chosen, present) for present in images]
+    documents = {}
+    contents = [random_image(chance, chosen, present, documents) for present in images]
     if kind == PARTIAL:
         contents.insert(1, random_options(chance, chosen))
     return b"".join(contents)

@@ -1,10 +1,11 @@
 #!/usr/bin/env python3
-"""Compares the rows that undo those of row events, as the library makes them, with a model, over sound and damaged row events.
+"""Compares the rows that undo those of row events, and the events that have them, as the library makes them, with a model, over
+sound and damaged row events.
 
 Usage: undone_rows.py [--count N] FLAG
 
-FLAG is one of `programs.py`: its program prints the bytes that undo the rows of each row event of a log, or why it refuses. The model
-gives those of N events (200,000 if not given), of which some are damaged. The last line is `N passed, M failed`; the exit status is 1
+FLAG is one of `programs.py`: its program prints the bytes that undo the rows of each row event of a log, and the type and the body of
+the event that undoes it, with checks of foreign keys as they are and without them; or why it refuses. The model gives those of N events (200,000 if not given), of which some are damaged. The last line is `N passed, M failed`; the exit status is 1
 if something failed.
 """
 
@@ -98,6 +99,43 @@ def undone(found, stated, event, key, is_partial):
     return completes, b"".join(reversed(rows))
 
 
+# The type of the event that undoes one of a type.
+INVERSE_TYPES = {23: 25, 24: 24, 25: 23, 30: 32, 31: 31, 32: 30, 39: 31}
+STMT_END, NO_FOREIGN_KEY_CHECKS = 1, 2
+
+
+def parts_of(kind, body):
+    """The table id, the flags, the number of columns as it is encoded, and the bitmaps of a body that can be read."""
+    data = Bytes(body)
+    table_id, flags = data.take(6), int.from_bytes(data.take(2), "little")
+    if kind not in encode.OLDER_ROWS:
+        data.take(max(0, int.from_bytes(data.take(2), "little") - 2))
+    first = data.take(1)[0]
+    count = first if first < 251 else int.from_bytes(data.take({252: 2, 253: 3, 254: 8}[first]), "little")
+    has_images = next(kind_of[2:] for kind_of in encode.ROWS_KINDS if kind_of[0] == kind)
+    before, after = (data.take((count + 7) // 8) if is_there else b"" for is_there in has_images)
+    return table_id, flags, count, before, after
+
+
+def shortest(number):
+    """A number in the shortest length-encoded form."""
+    if number < 251:
+        return bytes([number])
+    for first, width in ((252, 2), (253, 3)):
+        if number < 256**width:
+            return bytes([first]) + number.to_bytes(width, "little")
+    return bytes([254]) + number.to_bytes(8, "little")
+
+
+def inverse(kind, body, completes, rows, added_flags):
+    """The type and the body of the event that undoes one with this type and body."""
+    table_id, flags, count, before, after = parts_of(kind, body)
+    extra = b"" if kind in encode.OLDER_ROWS else bytes([2, 0])
+    images = before + before if completes else after + before
+    head = table_id + (flags | STMT_END | added_flags).to_bytes(2, "little") + extra
+    return [INVERSE_TYPES[kind], (head + shortest(count) + images + rows).hex()]
+
+
 class Tables(row_values.Tables):
     """The table maps in force, and a primary key of the columns at these places."""
 
@@ -124,7 +162,8 @@ class Tables(row_values.Tables):
             completes, rows = undone(found, stated, event, self.key, kind == row_values.PARTIAL[0])
         except Refused as refused:
             return refused.args[0]
-        return [("completes", completes), ("rows", rows.hex())]
+        events = [inverse(kind, body, completes, rows, flags) for flags in (0, NO_FOREIGN_KEY_CHECKS)]
+        return [("completes", completes), ("rows", rows.hex()), ("event", events[0]), ("unchecked", events[1])]
 
 
 # ---- events
@@ -150,7 +189,11 @@ def random_event(chance, chosen, table_id):
     before, after = random_images(chance, len(chosen))
     images = [present for present, is_there in ((before, kind[2]), (after, kind[3])) if is_there]
     rows = (row_values.random_row(chance, kind, chosen, images) for _ in range(chance.randint(0, 4)))
-    return row_values.row_event(kind, table_id, before, after, b"".join(rows))
+    flags, extra = chance.choice((0, 1, 2, 9, 65_535)), bytes(chance.randrange(256) for _ in range(chance.choice((0, 0, 1, 5))))
+    stated = (None, b"") if kind[0] in encode.OLDER_ROWS else (2 + len(extra), extra)
+    content = b"".join(rows)
+    event = encode.rows(kind, row_values.SPELLING, table_id=table_id, flags=flags, extra=stated, before=before, after=after, content=content)
+    return kind[0], event.body
 
 
 def random_log(chance, kinds, count):

@@ -39,6 +39,8 @@ TOOLS = [
     "binlog_commands",
     "binlog_event_types",
     "binlog_json_bodies",
+    "column_files",
+    "binlog_declared_columns",
     "binlog_json_lines",
     "binlog_cli",
 ]
@@ -47,9 +49,9 @@ TOOLS = [
 PROGRAMS = {"binlog": "binlog"}
 PROBES = {"probe_inflate": "texts", "probe_logs": "logs"}
 
-# The crates of tests, and what only they use: helpers, and the recipes of CALLING.md.
-TESTKITS = ["testkit_logs", "examples"]
-TESTS = ["test_base", "test_bodies", "test_logs", "test_listing"]
+# The crates of tests, and what only they use: the recipes of CALLING.md.
+TESTKITS = ["examples"]
+TESTS = ["test_base", "test_bodies", "test_logs"]
 
 # The sources that are written by hand in the packages, in `templates`: what real devices are there isn't what the proved
 # sources know of them (`devices.py`).

@@ -16,8 +16,7 @@ ANY = "std::io::ErrorKind::Other.into()"
 LEFT_OUT = [
     "an_interruption_is_a_failure",
     "too_many_interruptions_in_a_row_are_a_failure",
-    "interrupted_writes_are_tried_again",
-    "an_interruption_within_the_bytes_is_a_failure",
+    "too_many_interruptions_of_a_writer_are_a_failure",
 ]
 
 OTHER = ["ErrorKind", "::", "Other"]

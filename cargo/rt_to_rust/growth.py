@@ -2,7 +2,7 @@
 that was proved to have room (`.unwrap()`) is Rust's own call; any other one is that of the crate's `TryGrow` or
 `TryGrowText`."""
 
-from rt_to_rust.kinds import kind_of
+from rt_to_rust.kinds import kind_of, receiver
 
 # The toolchain's calls that may be refused, and what stands for them; those of vectors, but for `TEXT_CALLS`.
 CALLS = {
@@ -58,6 +58,25 @@ def constructors(source):
     for (kind, call), name in CONSTRUCTORS.items():
         for index in source.places(kind, "::", call, "("):
             yield source.span(index, index + 2, name)
+
+
+def copied(source):
+    """Vectors of the items of a slice, which are made with memory."""
+    for index in source.places(".", "to_vec", "("):
+        first = receiver(source, index)
+        close = source.partner[index + 2]
+        yield source.span(first, close, f"vec_from_slice({source.between(first, index - 1)})")
+
+
+def maps(source):
+    """Maps that grow: Rust has no call of theirs that returns an error where memory runs out."""
+    for index in source.places(".", "insert", "("):
+        close = source.partner[index + 2]
+        if kind_of(source, index) != "BTreeMap":
+            continue
+        if not source.is_at(close + 1, "?"):
+            raise source.refusal(index, "a map's growth whose refusal is kept")
+        yield source.span(close + 1, close + 1)
 
 
 def formatted(source):
@@ -116,4 +135,4 @@ def kept_values(source):
 def grown(source):
     """The source with growth that may be refused."""
     source = source.changed(kept_values(source))
-    return source.changed([*growing_calls(source), *constructors(source), *formatted(source), *filled(source), *collected(source), *failures(source)])
+    return source.changed([*growing_calls(source), *maps(source), *copied(source), *constructors(source), *formatted(source), *filled(source), *collected(source), *failures(source)])

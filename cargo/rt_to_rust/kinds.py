@@ -59,9 +59,21 @@ def local_type(source, function, name, before):
             return value_type(source, index + 2)
         if source.is_at(index + 1, ":") and source.code[index - 1].text in ("let", "mut"):
             return source.texts(index + 2, index + 4)
+        if is_bound_field(source, index):
+            return fields(source).get(name)
         if source.is_at(index - 1, "(") and source.is_at(index + 1, ")", "=>"):
             return variant_type(source, source.code[index - 2].text)
     return None
+
+
+def is_bound_field(source, index):
+    """Whether a name is bound to a field of its name: `let TYPE { .. } = ..;`"""
+    first = index - 1 if source.is_at(index - 1, "mut") else index
+    if source.code[first - 1].text not in ("{", ",") or source.code[index + 1].text not in (",", "}"):
+        return False
+    while source.code[first].text not in ("{", ";"):
+        first -= 1
+    return source.is_at(first, "{") and source.is_at(first - 2, "let")
 
 
 def value_type(source, index):

@@ -39,6 +39,17 @@ class Growth(Case):
         message = "sample.rt:3: the type of `a` isn't stated"
         self.assertEqual(refusal("fn f() {\n    let a = b();\n    a.push(1)?;\n}"), message)
 
+    def test_a_field_that_is_bound_has_its_type(self):
+        text = "struct A {\n    items: Vec<u8>,\n}\nimpl A {\n    fn f(self) {\n        let A { mut items, .. } = self;\n        items.push(1)?;\n    }\n}"
+        self.has(text, "items.try_push(1)?;")
+
+    def test_the_growth_of_a_map_is_rust_s_own(self):
+        text = "struct A {\n    tables: BTreeMap<u8, u8>,\n}\nimpl A {\n    fn f(&mut self) {\n        self.tables.insert(1, 2)?;\n    }\n}"
+        self.has(text, "self.tables.insert(1, 2);")
+
+    def test_copies_of_slices(self):
+        self.has("fn f(alloc: Global, a: &[u8]) {\n    a.to_vec(alloc)?;\n}", "vec_from_slice(a)?;")
+
     def test_vectors_with_memory(self):
         text = "fn f() {\n    Vec::with_capacity(alloc, 9)?;\n    Vec::from_slice(alloc, b)?;\n}"
         self.has(text, "vec_with_capacity( 9)?; vec_from_slice( b)?;")

@@ -1,5 +1,6 @@
 """The data of events as Python's values, from the members of their lines of JSON, which docs/JSON.md describes."""
 
+from collections.abc import Iterable
 from typing import Any, Optional
 
 # The members that are bytes, in hexadecimal digits.
@@ -40,10 +41,16 @@ class Body(dict[str, Any]):
 class Diffs(list[dict[str, Any]]):
     """How a document of a JSON column was changed by a partial update: its diffs, in order.
 
-    Each is a dict of `op`, which is "replace", "insert" or "remove", of `path`, and but for a removal of `value`.
+    Each is a dict of `op`, which is "replace", "insert" or "remove", of `path`, and but for a removal of `value`. Where the image
+    before has the document, and they can be applied to it, `has_document` is true, and `document` is the document after them.
     """
 
-    __slots__ = ()
+    __slots__ = ("document", "has_document")
+
+    def __init__(self, diffs: Iterable[dict[str, Any]] = (), *after: Any) -> None:
+        super().__init__(diffs)
+        self.has_document = bool(after)
+        self.document = after[0] if after else None
 
 
 def _is_bytes(members: dict[str, Any], name: str) -> bool:
@@ -65,14 +72,15 @@ def value_of(found: Any) -> Any:
 
 
 def _cell_of(found: Any) -> Any:
-    """The value of a column. In the line a JSON document is an object of one member, and so are a list of diffs, and the bytes of what
-    is no text in its character set, of what is no document or no such list, and of compressed values."""
+    """The value of a column. In the line a JSON document is an object of one member, and so are a list of diffs, but for the document
+    after them, and the bytes of what is no text in its character set, of what is no document or no such list, and of compressed
+    values."""
     if not isinstance(found, dict):
         return found
-    ((name, value),) = found.items()
+    (name, value), *after = found.items()
     if name == "json":
         return value
-    return Diffs(value) if isinstance(value, list) else bytes.fromhex(value)
+    return Diffs(value, *(document for _, document in after)) if isinstance(value, list) else bytes.fromhex(value)
 
 
 def _image_of(found: Optional[dict[str, Any]]) -> dict[str, Any]:

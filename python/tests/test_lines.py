@@ -144,6 +144,20 @@ class Rows(unittest.TestCase):
         self.assertEqual(changed, [{"op": "replace", "path": "$[0]", "value": True}, {"op": "remove", "path": "$.a"}])
         self.assertIsInstance(changed, binlog.Diffs)
         self.assertEqual((empty, other), (binlog.Diffs(), b"\3"))
+        self.assertEqual((changed.has_document, changed.document), (False, None))
+
+    def test_documents_after(self):
+        changes = [(b"\4\1", b"\0\1$\2\4\0"), (b"\2\1\0\7\0\4\1\0", b"\2\4$[0]"), (b"\4\1", b"\2\4$[0]")]
+        rows = b""
+        for parts in changes:
+            before, diffs = (len(part).to_bytes(4, "little") + part for part in parts)
+            rows += b"\0" + before + b"\1\1\0" + diffs
+        (partial,) = (kind for kind in row_values.encode.ROWS_KINDS if kind[0] == 39)
+        events = [row_values.table_map(7, bytes([row_values.JSON]), b"\4"), row_values.row_event(partial, 7, [True], [True], rows)]
+        content = row_values.start("8.0.36") + b"".join(row_values.framed(*event) for event in events)
+        *_, event = binlog.Log(content)
+        found = [row["after"]["@1"] for row in event.rows]
+        self.assertEqual([(diffs.has_document, diffs.document) for diffs in found], [(True, None), (True, []), (False, None)])
 
 
 if __name__ == "__main__":

@@ -13,12 +13,14 @@
 #![tactic(auto)]
 
 mod maria_gtids;
+mod numbers;
 mod reading;
 mod rows;
 mod typed;
 mod verifying;
 mod write_back;
 
+use reading::Way;
 use std::env;
 use std::env::Env;
 use std::process::ExitCode;
@@ -26,23 +28,59 @@ use std::process::ExitCode;
 /// The size of a buffer of the input or the output, in bytes.
 const BUFFER_SIZE: usize = 65_536;
 
-// Runs the mode that the first word names.
-fn run(rt: &(impl Input + Print + Env + AllocGlobal)) -> ExitCode {
-    let Ok(mut words) = env::args(rt) else {
-        return ExitCode::FAILURE;
-    };
-    let Some(mode) = words.nth(1) else {
-        return ExitCode::FAILURE;
-    };
+/// What is measured.
+#[derive(Clone, Copy)]
+enum Mode {
+    MariaGtids,
+    Reading(Way),
+    Rows,
+    Typed,
+    Verifying { counts: bool },
+    WriteBack,
+}
+
+// The mode that the first word names, with the second one.
+fn stated_mode(rt: &(impl Env + AllocGlobal)) -> Option<Mode> {
+    let mut words = env::args(rt).ok()?;
+    let mode = words.nth(1)?;
     let way = words.next();
-    match mode.as_str() {
-        "maria-gtids" => exit_code(maria_gtids::run(rt).is_ok()),
-        "reading" => exit_code(reading::run(rt, way).is_some()),
-        "rows" => exit_code(rows::run(rt).is_ok()),
-        "typed" => exit_code(typed::run(rt).is_ok()),
-        "verifying" => verifying::run(rt, way.is_some()),
-        "write-back" => exit_code(write_back::run(rt).is_ok()),
-        _ => ExitCode::FAILURE,
+    mode_of(&mode, way.as_deref())
+}
+
+fn mode_of(mode: &str, way: Option<&str>) -> Option<Mode> {
+    match mode {
+        "maria-gtids" => Some(Mode::MariaGtids),
+        "reading" => way_of(way.unwrap_or("lent")).map(Mode::Reading),
+        "rows" => Some(Mode::Rows),
+        "typed" => Some(Mode::Typed),
+        "verifying" => Some(Mode::Verifying {
+            counts: way.is_some(),
+        }),
+        "write-back" => Some(Mode::WriteBack),
+        _ => None,
+    }
+}
+
+fn way_of(word: &str) -> Option<Way> {
+    match word {
+        "lent" => Some(Way::Lent),
+        "owned" => Some(Way::Owned),
+        "slice" => Some(Way::Slice),
+        "memory" => Some(Way::Memory),
+        _ => None,
+    }
+}
+
+// Runs the mode that the words name.
+fn run(rt: &(impl Input + Print + Env + AllocGlobal)) -> ExitCode {
+    match stated_mode(rt) {
+        Some(Mode::MariaGtids) => exit_code(maria_gtids::run(rt).is_ok()),
+        Some(Mode::Reading(way)) => exit_code(reading::run(rt, way).is_some()),
+        Some(Mode::Rows) => exit_code(rows::run(rt).is_ok()),
+        Some(Mode::Typed) => exit_code(typed::run(rt).is_ok()),
+        Some(Mode::Verifying { counts }) => verifying::run(rt, counts),
+        Some(Mode::WriteBack) => exit_code(write_back::run(rt).is_ok()),
+        None => ExitCode::FAILURE,
     }
 }
 

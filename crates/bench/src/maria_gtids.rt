@@ -1,11 +1,11 @@
 //! Sums over the fields of MariaDB's GTIDs.
 use crate::BUFFER_SIZE;
+use crate::numbers::Numbers;
 use binlog_file::{BinlogFile, BinlogVersion, Error, EventRef};
 use binlog_mariadb::{
     GtidExtra, MariaEventData, MariaEventType, MariaGtidEvent, XaId, read_maria_data,
 };
 use std::alloc::Global;
-use std::fmt;
 use std::io::{BufRead, BufReader};
 
 /// Prints the sums over the log on standard input.
@@ -14,11 +14,12 @@ pub(crate) fn run(rt: &(impl Input + Print + AllocGlobal)) -> Result<(), Error> 
         return Err(Error::Memory);
     };
     let sums = sums_of(rt.alloc(), input)?;
-    println!(rt; "{sums}").map_err(|_| Error::Writer)
+    let numbers = [sums.gtids, sums.xa_bytes, sums.numbers];
+    println!(rt; "{}", Numbers(&numbers)).map_err(|_| Error::Writer)
 }
 
-/// Sums over the GTIDs of a log, modulo 2^64. They are displayed in order, separated by spaces.
-#[derive(Debug, Default, Drop)]
+/// Sums over the GTIDs of a log, modulo 2^64.
+#[derive(Clone, Copy, Default)]
 struct Sums {
     /// The number of GTIDs.
     gtids: u64,
@@ -28,12 +29,6 @@ struct Sums {
     numbers: u64,
 }
 
-impl fmt::Display for Sums {
-    fn fmt<W: fmt::Write>(&self, f: &mut fmt::Formatter<W>) -> fmt::Result {
-        write!(f, "{} {} {}", self.gtids, self.xa_bytes, self.numbers)
-    }
-}
-
 impl Sums {
     // Counts an event if it is a GTID.
     fn count_event(&mut self, alloc: Global, event: EventRef<'_>) -> Result<(), Error> {
@@ -41,11 +36,17 @@ impl Sums {
         if raw_type != u8::from(MariaEventType::GTID_EVENT) {
             return Ok(());
         }
-        let data = read_maria_data(alloc, event.fde(), raw_type, event.data())?;
-        if let Some(MariaEventData::GtidEvent(gtid)) = &data {
-            self.count(gtid);
-        }
-        Ok(())
+        let read = read_maria_data(alloc, event.fde(), raw_type, event.data());
+        let counted = match &read {
+            Ok(Some(MariaEventData::GtidEvent(gtid))) => {
+                self.count(gtid);
+                Ok(())
+            }
+            Ok(_) => Ok(()),
+            Err(error) => Err(*error),
+        };
+        drop(read);
+        counted
     }
 
     fn count(&mut self, gtid: &MariaGtidEvent<'_>) {
@@ -85,7 +86,16 @@ impl Sums {
 // The sums over a binlog file with a file header. The error is that of the first item that is one, or of a GTID that can't be
 // read.
 fn sums_of<R: BufRead + Drop>(alloc: Global, input: R) -> Result<Sums, Error> {
-    let mut file = BinlogFile::new(alloc, BinlogVersion::Version4, input)?;
+    match BinlogFile::new(alloc, BinlogVersion::Version4, input) {
+        Ok(mut file) => sums_of_events(alloc, &mut file),
+        Err(error) => Err(error),
+    }
+}
+
+fn sums_of_events<R: BufRead + Drop>(
+    alloc: Global,
+    file: &mut BinlogFile<R>,
+) -> Result<Sums, Error> {
     let mut sums = Sums::default();
     // Bounded, so that the loop is proved to end; borrowed events can't be given by an iterator.
     'items: for _ in 0..u64::MAX {

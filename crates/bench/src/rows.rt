@@ -2,14 +2,14 @@
 mod table;
 mod values;
 
+use crate::numbers::Numbers;
 use binlog_file::{
     BinlogFileOf, BinlogVersion, Counted, Error, EventRef, EventStreamReader, EventType,
-    ReadCounted, Retrying, RowsEventOf,
+    ReadCounted, Retrying, RowsEventOf, Unverified,
 };
 use binlog_images::{HasWholeRows, Rows, RowsEventError, RowsEventExt};
 use binlog_rows::{DeleteRows, DeleteRowsV1, UpdateRows, UpdateRowsV1, WriteRows, WriteRowsV1};
 use std::alloc::Global;
-use std::fmt;
 use table::Table;
 use values::ValueSums;
 
@@ -17,11 +17,11 @@ use values::ValueSums;
 pub(crate) fn run(rt: &(impl Input + Print + AllocGlobal)) -> Result<(), Error> {
     let input = Counted::new(Retrying::new(rt.reader()));
     let sums = sums_of(rt.alloc(), input)?;
-    println!(rt; "{sums}").map_err(|_| Error::Writer)
+    println!(rt; "{}", Numbers(&sums.numbers())).map_err(|_| Error::Writer)
 }
 
-/// Sums over the rows of a log, modulo 2^64. They are displayed in order, separated by spaces.
-#[derive(Debug, Default, Drop)]
+/// Sums over the rows of a log, modulo 2^64.
+#[derive(Clone, Copy, Default)]
 struct Sums {
     /// The number of rows.
     rows: u64,
@@ -31,13 +31,33 @@ struct Sums {
     values: ValueSums,
 }
 
-impl fmt::Display for Sums {
-    fn fmt<W: fmt::Write>(&self, f: &mut fmt::Formatter<W>) -> fmt::Result {
-        write!(f, "{} {} {}", self.rows, self.refused, self.values)
-    }
-}
-
 impl Sums {
+    // All sums, in order.
+    fn numbers(&self) -> [u64; 10] {
+        let [
+            nulls,
+            integers,
+            bytes,
+            decimals,
+            floats,
+            years,
+            seconds,
+            microseconds,
+        ] = self.values.numbers();
+        [
+            self.rows,
+            self.refused,
+            nulls,
+            integers,
+            bytes,
+            decimals,
+            floats,
+            years,
+            seconds,
+            microseconds,
+        ]
+    }
+
     // Counts the rows of an event if it is a row event. The reader has the table maps before it.
     fn count_event(
         &mut self,
@@ -47,32 +67,44 @@ impl Sums {
         reader: &EventStreamReader,
     ) -> Result<(), Error> {
         match event.header().event_type() {
-            Ok(EventType::TABLE_MAP_EVENT) => table.keep(&event.read_event(alloc)?)?,
+            Ok(EventType::TABLE_MAP_EVENT) => table.keep(alloc, event),
             Ok(EventType::WRITE_ROWS_EVENT) => {
-                self.count_rows::<WriteRows>(&event.read_event(alloc)?, table, reader);
+                self.count_rows::<WriteRows>(alloc, event, table, reader)
             }
             Ok(EventType::UPDATE_ROWS_EVENT) => {
-                self.count_rows::<UpdateRows>(&event.read_event(alloc)?, table, reader);
+                self.count_rows::<UpdateRows>(alloc, event, table, reader)
             }
             Ok(EventType::DELETE_ROWS_EVENT) => {
-                self.count_rows::<DeleteRows>(&event.read_event(alloc)?, table, reader);
+                self.count_rows::<DeleteRows>(alloc, event, table, reader)
             }
             Ok(EventType::WRITE_ROWS_EVENT_V1) => {
-                self.count_rows::<WriteRowsV1>(&event.read_event(alloc)?, table, reader);
+                self.count_rows::<WriteRowsV1>(alloc, event, table, reader)
             }
             Ok(EventType::UPDATE_ROWS_EVENT_V1) => {
-                self.count_rows::<UpdateRowsV1>(&event.read_event(alloc)?, table, reader);
+                self.count_rows::<UpdateRowsV1>(alloc, event, table, reader)
             }
             Ok(EventType::DELETE_ROWS_EVENT_V1) => {
-                self.count_rows::<DeleteRowsV1>(&event.read_event(alloc)?, table, reader);
+                self.count_rows::<DeleteRowsV1>(alloc, event, table, reader)
             }
-            _ => {}
+            _ => Ok(()),
         }
+    }
+
+    // Counts the rows of an event of this kind.
+    fn count_rows<K: HasWholeRows>(
+        &mut self,
+        alloc: Global,
+        event: EventRef<'_>,
+        table: &Table,
+        reader: &EventStreamReader,
+    ) -> Result<(), Error> {
+        let event: RowsEventOf<'_, K> = event.read_event(alloc)?;
+        self.count_rows_of(&event, table, reader);
         Ok(())
     }
 
-    // Counts the rows of an event. The columns of its table are read again only if the last table map is of another one.
-    fn count_rows<K: HasWholeRows>(
+    // The columns of the event's table are read again only if the last table map is of another one.
+    fn count_rows_of<K: HasWholeRows>(
         &mut self,
         event: &RowsEventOf<'_, K>,
         table: &Table,
@@ -106,7 +138,16 @@ impl Sums {
 // The sums over a binlog file with a file header. The error is that of the first item that is one, or of a row event that can't be
 // read.
 fn sums_of<R: ReadCounted + Drop>(alloc: Global, input: R) -> Result<Sums, Error> {
-    let mut file = BinlogFileOf::new_counted(alloc, BinlogVersion::Version4, input)?;
+    match BinlogFileOf::new_counted(alloc, BinlogVersion::Version4, input) {
+        Ok(mut file) => sums_of_events(alloc, &mut file),
+        Err(error) => Err(error),
+    }
+}
+
+fn sums_of_events<R: ReadCounted + Drop>(
+    alloc: Global,
+    file: &mut BinlogFileOf<R, Unverified>,
+) -> Result<Sums, Error> {
     let mut sums = Sums::default();
     let mut table = Table::new(alloc);
     // Bounded, so that the loop is proved to end.

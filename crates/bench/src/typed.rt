@@ -3,15 +3,15 @@ mod gtids;
 mod rows;
 
 use crate::BUFFER_SIZE;
+use crate::numbers::Numbers;
 use binlog_file::{
-    BinlogFile, BinlogVersion, DeleteRowsEvent, Error, EventRef, EventType, UpdateRowsEvent,
-    WriteRowsEvent,
+    BinlogFile, BinlogVersion, Error, EventRef, EventType, GtidEvent, RowsEventOf, TableMapEvent,
 };
-use binlog_statements::{QueryEvent, StatusVarVal};
+use binlog_rows::{DeleteRows, RowsKind, UpdateRows, WriteRows};
+use binlog_statements::{QueryEvent, StatusVarVal, StatusVars};
 use gtids::GtidSums;
 use rows::RowSums;
 use std::alloc::Global;
-use std::fmt;
 use std::io::{BufRead, BufReader};
 
 /// Prints the sums over the log on standard input.
@@ -20,12 +20,11 @@ pub(crate) fn run(rt: &(impl Input + Print + AllocGlobal)) -> Result<(), Error> 
         return Err(Error::Memory);
     };
     let sums = sums_of(rt.alloc(), input)?;
-    println!(rt; "{sums}").map_err(|_| Error::Writer)
+    println!(rt; "{}", Numbers(&sums.numbers())).map_err(|_| Error::Writer)
 }
 
-/// Sums over the statements, the GTIDs and the rows of a log, modulo 2^64. They are displayed in order, separated by
-/// spaces.
-#[derive(Debug, Default, Drop)]
+/// Sums over the statements, the GTIDs and the rows of a log, modulo 2^64.
+#[derive(Clone, Copy, Default)]
 struct Sums {
     /// The number of statements.
     statements: u64,
@@ -41,69 +40,82 @@ struct Sums {
     rows: RowSums,
 }
 
-impl fmt::Display for Sums {
-    fn fmt<W: fmt::Write>(&self, f: &mut fmt::Formatter<W>) -> fmt::Result {
-        write!(
-            f,
-            "{} {} {} {} {} {}",
-            self.statements, self.text_bytes, self.variables, self.values, self.gtids, self.rows
-        )
-    }
-}
-
 impl Sums {
+    // All sums, in order.
+    fn numbers(&self) -> [u64; 12] {
+        let [gtids, tag_bytes, gtid_numbers] = self.gtids.numbers();
+        let [maps, map_bytes, row_events, row_bytes, row_numbers] = self.rows.numbers();
+        [
+            self.statements,
+            self.text_bytes,
+            self.variables,
+            self.values,
+            gtids,
+            tag_bytes,
+            gtid_numbers,
+            maps,
+            map_bytes,
+            row_events,
+            row_bytes,
+            row_numbers,
+        ]
+    }
+
     // Counts an event if its type is one that is summed up.
     fn count_event(&mut self, alloc: Global, event: EventRef<'_>) -> Result<(), Error> {
         match event.header().event_type() {
-            Ok(EventType::QUERY_EVENT) => {
-                self.count_statement(alloc, &event.read_event(alloc)?)?;
-            }
+            Ok(EventType::QUERY_EVENT) => self.count_statement(alloc, event),
             Ok(EventType::GTID_EVENT | EventType::GTID_TAGGED_LOG_EVENT) => {
-                self.gtids.count(&event.read_event(alloc)?);
+                self.count_gtid(alloc, event)
             }
-            Ok(EventType::TABLE_MAP_EVENT) => self.rows.count_map(&event.read_event(alloc)?),
-            Ok(event_type) => self.count_rows(alloc, event_type, event)?,
-            Err(_) => {}
+            Ok(EventType::TABLE_MAP_EVENT) => self.count_map(alloc, event),
+            Ok(EventType::WRITE_ROWS_EVENT) => self.count_rows::<WriteRows>(alloc, event),
+            Ok(EventType::UPDATE_ROWS_EVENT) => self.count_rows::<UpdateRows>(alloc, event),
+            Ok(EventType::DELETE_ROWS_EVENT) => self.count_rows::<DeleteRows>(alloc, event),
+            _ => Ok(()),
         }
+    }
+
+    fn count_gtid(&mut self, alloc: Global, event: EventRef<'_>) -> Result<(), Error> {
+        let gtid: GtidEvent = event.read_event(alloc)?;
+        self.gtids.count(&gtid);
         Ok(())
     }
 
-    // Counts an event of this type if it is a row event.
-    fn count_rows(
-        &mut self,
-        alloc: Global,
-        event_type: EventType,
-        event: EventRef<'_>,
-    ) -> Result<(), Error> {
-        match event_type {
-            EventType::WRITE_ROWS_EVENT => {
-                let event: WriteRowsEvent = event.read_event(alloc)?;
-                self.rows.count_rows(event.event());
-            }
-            EventType::UPDATE_ROWS_EVENT => {
-                let event: UpdateRowsEvent = event.read_event(alloc)?;
-                self.rows.count_rows(event.event());
-            }
-            EventType::DELETE_ROWS_EVENT => {
-                let event: DeleteRowsEvent = event.read_event(alloc)?;
-                self.rows.count_rows(event.event());
-            }
-            _ => {}
-        }
+    fn count_map(&mut self, alloc: Global, event: EventRef<'_>) -> Result<(), Error> {
+        let map: TableMapEvent<'_> = event.read_event(alloc)?;
+        self.rows.count_map(&map);
         Ok(())
     }
 
-    fn count_statement(&mut self, alloc: Global, statement: &QueryEvent<'_>) -> Result<(), Error> {
+    // Counts a row event of this kind.
+    fn count_rows<K: RowsKind>(&mut self, alloc: Global, event: EventRef<'_>) -> Result<(), Error> {
+        let rows: RowsEventOf<'_, K> = event.read_event(alloc)?;
+        self.rows.count_rows(rows.event());
+        Ok(())
+    }
+
+    fn count_statement(&mut self, alloc: Global, event: EventRef<'_>) -> Result<(), Error> {
+        let statement: QueryEvent<'_> = event.read_event(alloc)?;
         let text_bytes = statement
             .schema_raw()
             .len()
             .wrapping_add(statement.query_raw().len());
         self.statements = self.statements.wrapping_add(1);
         self.text_bytes = self.text_bytes.wrapping_add(text_bytes as u64);
-        for var in statement.status_vars().iter() {
-            let value = var.get_value(alloc).map_err(|_| Error::Memory)?;
+        self.count_variables(alloc, statement.status_vars())
+    }
+
+    fn count_variables(&mut self, alloc: Global, variables: &StatusVars<'_>) -> Result<(), Error> {
+        for variable in variables.iter() {
+            let value = variable.get_value(alloc);
+            let number = match &value {
+                Ok(value) => number(value),
+                Err(_) => return Err(Error::Memory),
+            };
+            drop(value);
             self.variables = self.variables.wrapping_add(1);
-            self.values = self.values.wrapping_add(number(&value));
+            self.values = self.values.wrapping_add(number);
         }
         Ok(())
     }
@@ -158,7 +170,16 @@ fn little_endian(first: u8, second: u8, third: u8, fourth: u8) -> u64 {
 // The sums over a binlog file with a file header. The error is that of the first item that is one, of an event of a type that is
 // summed up and can't be read, or `Memory` if the allocation of a list of names fails.
 fn sums_of<R: BufRead + Drop>(alloc: Global, input: R) -> Result<Sums, Error> {
-    let mut file = BinlogFile::new(alloc, BinlogVersion::Version4, input)?;
+    match BinlogFile::new(alloc, BinlogVersion::Version4, input) {
+        Ok(mut file) => sums_of_events(alloc, &mut file),
+        Err(error) => Err(error),
+    }
+}
+
+fn sums_of_events<R: BufRead + Drop>(
+    alloc: Global,
+    file: &mut BinlogFile<R>,
+) -> Result<Sums, Error> {
     let mut sums = Sums::default();
     // Bounded, so that the loop is proved to end; borrowed events can't be given by an iterator.
     'items: for _ in 0..u64::MAX {

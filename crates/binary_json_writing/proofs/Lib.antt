@@ -16,3 +16,5 @@ pub mod Splices
 pub mod Placed
 pub mod DiffsLeft
 pub mod OnePath
+pub mod KnownPaths
+pub mod ValuesAfter

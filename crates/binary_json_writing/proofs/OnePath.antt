@@ -28,7 +28,7 @@ err_is d e same = cc
 ok_err : {A : Type 0} (x : A) (e : JsonPathError) → ok x ≡ err e → ⊥
 ok_err x e same = cc
 
-none_some : (s : List ℕ) → none ≡ some s → ⊥
+pub none_some : (s : List ℕ) → none ≡ some s → ⊥
 none_some s e = cc
 
 some_is : (s r : List ℕ) → some s ≡ some r → s ≡ r
@@ -92,7 +92,7 @@ one_leg : (r q : Read (Leg × List ℕ)) (s : List ℕ) → IsLegIn r s → IsLe
 unfolding IsLegIn
 one_leg r q s a b = one_leg_by r q (behind 46 s) s a b
 
-no_leg : (p : Leg × List ℕ) → IsLegIn (ok p) [] → ⊥
+pub no_leg : (p : Leg × List ℕ) → IsLegIn (ok p) [] → ⊥
 unfolding IsLegIn
 no_leg p is = ok_err p _ is
 

@@ -1,5 +1,5 @@
 -- The paths of diffs. Source: MySQL's reference manual, "JSON Path Syntax".
-use Rattle.std.specs.Prelude.{◌≡◌, ◌⊎◌, ℕ, ◌+◌, ◌-◌, ◌*◌, ◌^◌, ◌==◌, ◌&&◌, ◌||◌, Bool, false, List, [], ◌∷◌, map, take, drop, nat_lt, nat_le, if◌then◌else◌, Option, Some, None, Result, Ok, Err}
+use Rattle.std.specs.Prelude.{◌≡◌, ◌⊎◌, ℕ, zero, suc, ◌+◌, ◌-◌, ◌*◌, ◌^◌, ◌==◌, ◌&&◌, ◌||◌, Bool, false, List, [], ◌∷◌, length, map, take, drop, nat_lt, nat_le, if◌then◌else◌, Option, Some, None, option_map, Result, Ok, Err}
 use Rattle.std.specs.Char.{is_ascii_digit}
 use Rattle.std.specs.List.{prefix_len}
 use Rattle.std.specs.Str.Parse.{digits_value}
@@ -170,3 +170,56 @@ AreRefused e s = (ls : List Leg) × (b : ℕ) × (others : List ℕ) × AreLegs 
 -- How a path is refused: it has no `$`, or by its legs.
 abbrev pub IsRefusedPath : JsonPathError → List ℕ → Type 0
 IsRefusedPath e s = ((e ≡ faults.Root) × (behind 36 s ≡ None)) ⊎ ((rest : List ℕ) × (behind 36 s ≡ Some rest) × AreRefused e rest)
+
+-- ---- the legs of a path, by a function
+
+abbrev pub if_read : {A : Type 0} → Read A → Option A
+if_read (Ok x) = Some x
+if_read (Err e) = None
+
+abbrev pub name_behind : (List ℕ → Option (List ℕ × List ℕ)) → Read (ℕ × List ℕ) → Option (List ℕ × List ℕ)
+name_behind others (Ok p) = option_map (λ q. (p.0 ∷ q.0, q.1)) (others p.1)
+name_behind others (Err e) = None
+
+abbrev pub name_by : (List ℕ → Option (List ℕ × List ℕ)) → Option (List ℕ) → List ℕ → Option (List ℕ × List ℕ)
+name_by others (Some rest) s = Some ([], rest)
+name_by others None s = name_behind others (unit_in s)
+
+-- A name of fewer bytes than these in front of a quote, and what is behind that.
+unfoldable pub name_in : ℕ → List ℕ → Option (List ℕ × List ℕ)
+name_in zero s = None
+name_in (suc most) s = name_by (name_in most) (behind 34 s) s
+
+abbrev pub named_in : Option (List ℕ) → List ℕ → Option (Leg × List ℕ)
+named_in (Some quoted) s = option_map (λ p. (member p.0, p.1)) (name_in (length quoted) quoted)
+named_in None s = if_read (named (bare_in s))
+
+abbrev pub placed_in : Option (List ℕ) → Option (Leg × List ℕ)
+placed_in (Some place) = if_read (place_in place)
+placed_in None = None
+
+abbrev pub leg_by : Option (List ℕ) → List ℕ → Option (Leg × List ℕ)
+leg_by (Some name) s = named_in (behind 34 name) name
+leg_by None s = placed_in (behind 91 s)
+
+-- The first leg, and what is behind it.
+unfoldable pub leg_in : List ℕ → Option (Leg × List ℕ)
+leg_in s = leg_by (behind 46 s) s
+
+abbrev pub legs_behind : (List ℕ → Option (List Leg)) → Option (Leg × List ℕ) → Option (List Leg)
+legs_behind others (Some p) = option_map (λ ls. p.0 ∷ ls) (others p.1)
+legs_behind others None = None
+
+-- At most so many legs, up to the last byte.
+unfoldable pub legs_in : ℕ → List ℕ → Option (List Leg)
+legs_in most [] = Some []
+legs_in zero (b ∷ s) = None
+legs_in (suc most) (b ∷ s) = legs_behind (legs_in most) (leg_in (b ∷ s))
+
+abbrev pub legs_if : Option (List ℕ) → Option (List Leg)
+legs_if (Some s) = legs_in (length s) s
+legs_if None = None
+
+-- The legs of a path; None if the bytes are none. These are the legs that `IsPath` names (`paths_are_known`).
+unfoldable pub path_legs : List ℕ → Option (List Leg)
+path_legs s = legs_if (behind 36 s)

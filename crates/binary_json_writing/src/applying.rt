@@ -3,7 +3,7 @@ ghost use Rattle.std.specs.Prelude.{◌≡◌, option_map, IfOk, IfErr};
 ghost use Rattle.binary_json.specs.Views.{json, document_json};
 ghost use Rattle.binary_json.specs.Diffs.{diff_of, diffs_left};
 ghost use Rattle.binary_json_writing.specs.Owned.{owned_value};
-ghost use Rattle.binary_json_writing.specs.Applied.{IsUnbegun, Makes, IsRefused, AllMake, NotApplied};
+ghost use Rattle.binary_json_writing.specs.Applied.{IsUnbegun, Makes, IsRefused, AllWrite, NotApplied};
 
 use crate::changing::changed;
 use crate::error::JsonChangeError;
@@ -110,7 +110,7 @@ pub fn apply(
     document: &Document<'_>,
     diffs: JsonDiffs<'_>,
 ) -> Result<OwnedDocument, JsonApplyError>
-    ensures made { IfOk result (λ d. AllMake (diffs_left diffs.entry) (document_json document.now) (owned_value d)) }
+    ensures made { IfOk result (λ d. AllWrite (diffs_left diffs.entry) (document_json document.now) (owned_value d)) }
     ensures refused { IfErr result (NotApplied (diffs_left diffs.entry) (document_json document.now)) }
 {
     let mut current = begun(alloc, document)?;

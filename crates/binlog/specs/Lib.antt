@@ -3,5 +3,6 @@ pub mod Copying
 pub mod Gtids
 pub mod Verifying
 pub mod Commands
+pub mod Columns
 pub mod Requests
 pub mod Ends

@@ -1,14 +1,16 @@
 //! The commands that list and count events, and what all commands read. Each is generic over the files that it reads and its
 //! writer, which it gives back with its status. A status in place of a result is that of a command that can't begin.
-ghost use Rattle.std.specs.Prelude.{◌≡◌, IfErr, IfOk};
+ghost use Rattle.std.specs.Prelude.{◌≡◌, ◌⊎◌, IfErr, IfOk};
 ghost use Rattle.std.specs.Io.Buffered.{writer_capacity};
 ghost use Rattle.clap.specs.Matches.{found_of};
 ghost use Rattle.binlog_filters.specs.declared.filter.Filter.{Filter};
 ghost use Rattle.binlog_cli.specs.FilterWords.{NeverBegins, StatesFilter};
+ghost use Rattle.binlog.specs.Columns.{AreColumnFiles, IsUnreadColumns};
 ghost use Rattle.binlog.specs.Commands.{outcome_of_text, WritesShown, WritesCounts};
 ghost use Rattle.binlog.specs.Reading.{ShowsTaken};
 ghost use Rattle.binlog.specs.Requests.{lines_capacity};
 
+use crate::columns::{read_columns, report_contradictions};
 use crate::files::read_files;
 use crate::inputs::Inputs;
 use crate::request::{Reading, Request};
@@ -18,7 +20,7 @@ use binlog_cli::{
 use binlog_commands::Stats;
 use binlog_file::{Counted, Retrying};
 use binlog_filters::{Filter, Filtered};
-use binlog_json_lines::JsonWriter;
+use binlog_json_lines::{JsonWriter, LineOptions};
 use binlog_listing::TextLines;
 use binlog_visits::{ItemLines, LineWriter, Refusing, Visitor};
 use std::io;
@@ -42,7 +44,8 @@ pub(crate) fn list<'a, S: Inputs, R: Clock + Eprint + AllocGlobal, W: Write + Dr
     write_lines(rt, inputs, request, TextLines::new(), writer)
 }
 
-/// `binlog json`: writes the line of JSON of each item that the filter takes, with the stored bytes of all rows if they are asked for.
+/// `binlog json`: writes the line of JSON of each item that the filter takes, with the stored bytes of all rows if they are asked
+/// for. The files of columns are read before; behind the logs each table that contradicts them has a message.
 pub(crate) fn json<'a, S: Inputs, R: Clock + Eprint + AllocGlobal, W: Write + Drop>(
     rt: &'a R,
     inputs: &S,
@@ -52,13 +55,20 @@ pub(crate) fn json<'a, S: Inputs, R: Clock + Eprint + AllocGlobal, W: Write + Dr
     ensures ok { IfOk result (λ ended. WritesShown ⟦<BufWriter<Retrying<W>> as Write>⟧.contents (found_of request.now.options.now) request.now.reading.is_verified request.now.reading.is_followed
         (λ name. S.bytes inputs.now name.now) request.now.files.now
         ⟦<JsonWriter<Output<BufWriter<Retrying<W>>>> as Visitor>⟧.visits ⟦<JsonWriter<Output<BufWriter<Retrying<W>>>> as Visitor>⟧.refuses (λ lines. lines.output)
-        (λ lines. (lines.keeps_stored ≡ request.now.keeps_stored) × (writer_capacity lines.output.inner ≡ lines_capacity request.now.reading.is_followed))
+        (λ lines. (lines.options.keeps_stored ≡ request.now.keeps_stored) × AreColumnFiles (λ name. S.bytes inputs.now name.now) request.now.columns.now lines.options.files.items
+        × (writer_capacity lines.output.inner ≡ lines_capacity request.now.reading.is_followed))
         (W.contents writer) ended.0 (W.contents ended.1)) }
-    ensures err { IfErr result (λ status. NeverBegins (found_of request.now.options.now) status) }
+    ensures err { IfErr result (λ status. NeverBegins (found_of request.now.options.now) status ⊎ IsUnreadColumns request.now.columns.now status) }
 {
+    let files = read_columns(rt, inputs, request.columns)?;
     let output = Output::new(rt, request.reading.output_capacity(), writer)?;
-    let lines = JsonWriter::new(rt.alloc(), output, request.keeps_stored);
+    let options = LineOptions {
+        keeps_stored: request.keeps_stored,
+        files,
+    };
+    let lines = JsonWriter::new(rt.alloc(), output, options);
     let (outcome, lines) = read_all(rt, inputs, request, lines)?;
+    report_contradictions(rt, lines.contradictions());
     Ok(lines.into_output().finish(rt, outcome))
 }
 

@@ -7,6 +7,7 @@ ghost use Rattle.clap.specs.Values.{kind_of};
 ghost use Rattle.binlog.specs.Ends.{EndsRefused, EndsUnread, status_of};
 ghost use Rattle.binlog.specs.Requests.{IsNoCommand};
 
+mod columns;
 mod commands;
 mod copying;
 mod files;

@@ -76,6 +76,8 @@ pub(crate) struct Request<'m, 'a> {
     pub(crate) is_quiet: bool,
     /// Whether lines of JSON keep the stored bytes of rows.
     pub(crate) keeps_stored: bool,
+    /// The names of the files of columns, in order.
+    pub(crate) columns: &'m [&'a str],
     /// The log whose GTIDs aren't written.
     pub(crate) missing_in: Option<&'a str>,
     /// The name of the file that is written; `-` is standard output.
@@ -91,6 +93,7 @@ impl<'m, 'a> Request<'m, 'a> {
         ensures followed { Flags (one_text (found_of options.now) (codes "follow")) result.reading.is_followed }
         ensures quiet { Flags (one_text (found_of options.now) (codes "quiet")) result.is_quiet }
         ensures stored { Flags (one_text (found_of options.now) (codes "stored")) result.keeps_stored }
+        ensures columns { map (λ file. file.now) result.columns.now ≡ unwrap_or (option_map raw_values (matched_of (found_of options.now) (codes "columns"))) [] }
         ensures missing { option_map (λ file. file.now) result.missing_in ≡ first_value (found_of options.now) (codes "missing-in") }
         ensures output { result.output.now ≡ unwrap_or (first_value (found_of options.now) (codes "output")) (codes "-") }
     {
@@ -107,6 +110,7 @@ impl<'m, 'a> Request<'m, 'a> {
             },
             is_quiet: options.get_flag("quiet"),
             keeps_stored: options.get_flag("stored"),
+            columns: options.get_strs("columns").unwrap_or(&[]),
             missing_in: options.get_str("missing-in"),
             output: options.get_str("output").unwrap_or("-"),
         }

@@ -52,10 +52,12 @@ fn json<'a>(alloc: Global) -> Result<Command<'a>, AllocError> {
              binlog json --type QUERY mysql-bin.000007 | jq -r .data.query\n  \
              binlog json --include-gtids 3e11fa47-71ca-11e1-9e33-c80aa9429562:5 mysql-bin.000007\n  \
              binlog json --include-gtids 0-1-100,0-1-101 mariadb-bin.000007\n  \
+             binlog json --columns columns.tsv mysql-bin.000007\n  \
              binlog json --follow --type QUERY mysql-bin.000008 | jq -r .data.query",
         )
         .arg(follow(alloc))?
-        .arg(stored(alloc))?;
+        .arg(stored(alloc))?
+        .arg(columns(alloc))?;
     with_filters(alloc, with_files(alloc, command)?)
 }
 
@@ -144,6 +146,16 @@ fn stored<'a>(alloc: Global) -> Arg<'a> {
         .long("stored")
         .action(ArgAction::SetTrue)
         .help("Keeps the stored bytes of rows also where all their values are shown")
+}
+
+// The option to name a file of columns.
+fn columns<'a>(alloc: Global) -> Arg<'a> {
+    text(alloc, "columns")
+        .value_name("COLUMNS")
+        .action(ArgAction::Append)
+        .help(
+            "Names, signs, members and character sets of columns that the log doesn't state, from this file; may be given again",
+        )
 }
 
 // The command with the files that it reads.

@@ -9,10 +9,10 @@ use Rattle.binlog_filters.specs.Filtering.{Filters, VisitsIf}
 use Rattle.binlog_filters.specs.declared.filtered.Filtered.{Filtered}
 
 -- No visit changes the setting.
-abbrev pub KeepsEach : {T : Type 0} (setting : T → Bool) (visits : VisitRelation T) → Type 0
-KeepsEach {T} setting visits = (old : T) (maps : TableMaps) (index : ℕ) (item : Result EventView Error) (new : T) → visits old maps index item new → setting new ≡ setting old
+abbrev pub KeepsEach : {T A : Type 0} (setting : T → A) (visits : VisitRelation T) → Type 0
+KeepsEach {T} {A} setting visits = (old : T) (maps : TableMaps) (index : ℕ) (item : Result EventView Error) (new : T) → visits old maps index item new → setting new ≡ setting old
 
-module _ {T : Type 0} (setting : T → Bool) (visits : VisitRelation T) (keeps : KeepsEach setting visits) (is : Bool) where
+module _ {T A : Type 0} (setting : T → A) (visits : VisitRelation T) (keeps : KeepsEach setting visits) (is : A) where
   -- A visit of a visitor with this setting.
   abbrev pub VisitsSet : VisitRelation T
   VisitsSet old maps index item new = visits old maps index item new × (setting old ≡ is)

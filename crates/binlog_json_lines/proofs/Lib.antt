@@ -3,3 +3,4 @@ pub mod Rows
 pub mod Output
 pub mod Kept
 pub mod MariaNames
+pub mod Answered

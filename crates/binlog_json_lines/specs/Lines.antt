@@ -1,5 +1,5 @@
 -- The lines of JSON of a log, with MariaDB's own events.
-use Rattle.std.specs.Prelude.{◌≡◌, ◌⊎◌, ◌||◌, ℕ, Bool, true, false, not, List, [], ◌∷◌, ◌++◌, codes, take, Option, Result, Ok, Err}
+use Rattle.std.specs.Prelude.{◌≡◌, ◌⊎◌, ◌||◌, ℕ, Bool, true, false, not, List, [], ◌∷◌, ◌++◌, codes, take, Option, None, Result, Ok, Err}
 use Rattle.std.specs.Io.KnownBytes.{Appends}
 use Rattle.std.specs.Option.{option_and_then}
 use Rattle.json.specs.Print.{print}
@@ -14,7 +14,9 @@ use Rattle.binlog_events.specs.Parts.{checksum_of}
 use Rattle.binlog_json_lines.specs.ItemLines.{header_members, event_head, data_member, item_line}
 use Rattle.binlog_consts.specs.EventTypes.{event_type_of}
 use Rattle.binlog_rows.specs.declared.table_map_event.TableMapEvent.{TableMapEvent}
+use Rattle.binlog_json_lines.specs.Options.{RowOptions}
 use Rattle.binlog_json_lines.specs.RowMembers.{AreMembers}
+use Rattle.binlog_json_lines.specs.declared.row_members.ShownRows.{ShownRows}
 use Rattle.binlog_json_lines.specs.RowEvents.{is_of_rows, table_id_of}
 use Rattle.binlog_file.specs.TableMapsInForce.{TableMaps}
 use Rattle.binlog_mariadb.specs.EventTypes.{maria_event_number, maria_event_type_of}
@@ -67,48 +69,53 @@ IsLine index (Ok event) text = IsEventLine index event (maria_event_type_of (hea
 IsLine index (Err error) text = text ≡ item_line index (Err error)
 
 -- The tokens are the object of a row event with its rows, by this table map: the members of its rows are before its data. The data
--- has the stored rows exactly if they are kept in all lines, or if not all rows are read.
-pub record IsRowsObject (keeps_stored : Bool) (map : Option TableMapEvent) (index : ℕ) (event : EventView) (tokens : List Token) : Type 0 where
-  pub all_read : Bool
+-- has the stored rows exactly if they are kept in all lines, or if not all rows are read. In this and in the relations below,
+-- `contradiction` is the column of the event's table that contradicts the files of columns.
+pub record IsRowsObject (options : RowOptions) (map : Option TableMapEvent) (index : ℕ) (event : EventView) (contradiction : Option ℕ) (tokens : List Token) : Type 0 where
+  pub shown : ShownRows
   pub rows : List Token
-  pub read : AreMembers event map all_read rows
-  pub is : tokens ≡ object (event_head index event ++ rows ++ data_member (keeps_stored || not all_read) event)
+  pub read : AreMembers options.files event map shown rows
+  pub found : contradiction ≡ shown.contradiction
+  pub is : tokens ≡ object (event_head index event ++ rows ++ data_member (options.keeps_stored || not shown.all_read) event)
 
 -- The text is the line of a row event with its rows.
-pub record IsRowsLine (keeps_stored : Bool) (map : Option TableMapEvent) (index : ℕ) (event : EventView) (text : List ℕ) : Type 0 where
+pub record IsRowsLine (options : RowOptions) (map : Option TableMapEvent) (index : ℕ) (event : EventView) (contradiction : Option ℕ) (text : List ℕ) : Type 0 where
   pub tokens : List Token
-  pub are : IsRowsObject keeps_stored map index event tokens
+  pub are : IsRowsObject options map index event contradiction tokens
   pub is : text ≡ print tokens ++ codes "\n"
 
 -- The text is the line of an event, where a row event has its rows.
-abbrev pub IsLineOf : (is_row_event : Bool) → (keeps_stored : Bool) → Option TableMapEvent → ℕ → EventView → List ℕ → Type 0
-IsLineOf true keeps_stored map index event text = IsRowsLine keeps_stored map index event text
-IsLineOf false keeps_stored map index event text = IsLine index (Ok event) text
+abbrev pub IsLineOf : (is_row_event : Bool) → RowOptions → Option TableMapEvent → ℕ → EventView → (contradiction : Option ℕ) → List ℕ → Type 0
+IsLineOf true options map index event contradiction text = IsRowsLine options map index event contradiction text
+IsLineOf false options map index event contradiction text = (contradiction ≡ None) × IsLine index (Ok event) text
 
-abbrev pub IsLineWith : (keeps_stored : Bool) → Option TableMapEvent → ℕ → EventView → List ℕ → Type 0
-IsLineWith keeps_stored map index event text = IsLineOf (is_of_rows (event_type_of (header_of event.frame).event_type)) keeps_stored map index event text
+abbrev pub IsLineWith : RowOptions → Option TableMapEvent → ℕ → EventView → (contradiction : Option ℕ) → List ℕ → Type 0
+IsLineWith options map index event contradiction text = IsLineOf (is_of_rows (event_type_of (header_of event.frame).event_type)) options map index event contradiction text
 
 -- The table map in force for the table id of a row event.
 abbrev pub map_of_event : TableMaps → EventView → Option TableMapEvent
 map_of_event maps event = option_and_then maps (table_id_of event)
 
 -- The text is the line of an item, where a row event has its rows and these table maps are in force behind the item.
-abbrev pub IsLineIn : (keeps_stored : Bool) → TableMaps → ℕ → Result EventView Error → List ℕ → Type 0
-IsLineIn keeps_stored maps index (Ok event) text = IsLineWith keeps_stored (map_of_event maps event) index event text
-IsLineIn keeps_stored maps index (Err error) text = IsLine index (Err error) text
+abbrev pub IsLineAt : RowOptions → TableMaps → ℕ → Result EventView Error → (contradiction : Option ℕ) → List ℕ → Type 0
+IsLineAt options maps index (Ok event) contradiction text = IsLineWith options (map_of_event maps event) index event contradiction text
+IsLineAt options maps index (Err error) contradiction text = (contradiction ≡ None) × IsLine index (Err error) text
+
+abbrev pub IsLineIn : RowOptions → TableMaps → ℕ → Result EventView Error → List ℕ → Type 0
+IsLineIn options maps index item text = (contradiction : Option ℕ) × IsLineAt options maps index item contradiction text
 
 -- The line of the item is written.
-pub record WritesLine (keeps_stored : Bool) (maps : TableMaps) (index : ℕ) (item : Result EventView Error) (old new : Option (List ℕ)) : Type 0 where
+pub record WritesLine (options : RowOptions) (maps : TableMaps) (index : ℕ) (item : Result EventView Error) (contradiction : Option ℕ) (old new : Option (List ℕ)) : Type 0 where
   pub text : List ℕ
-  pub line : IsLineIn keeps_stored maps index item text
+  pub line : IsLineAt options maps index item contradiction text
   pub written : Appends old new text
 
 -- A prefix of the line of the item is written.
-pub record WritesFront (keeps_stored : Bool) (maps : TableMaps) (index : ℕ) (item : Result EventView Error) (old new : Option (List ℕ)) : Type 0 where
+pub record WritesFront (options : RowOptions) (maps : TableMaps) (index : ℕ) (item : Result EventView Error) (old new : Option (List ℕ)) : Type 0 where
   pub text : List ℕ
-  pub line : IsLineIn keeps_stored maps index item text
+  pub line : IsLineIn options maps index item text
   pub written : AppendsFront old new text
 
 -- The line isn't written whole: the writer failed, or an allocation for the line.
-abbrev pub WritesNoLine : (keeps_stored : Bool) → TableMaps → ℕ → Result EventView Error → Option (List ℕ) → Error → Option (List ℕ) → Type 0
-WritesNoLine keeps_stored maps index item old error new = ((error ≡ Writer) × WritesFront keeps_stored maps index item old new) ⊎ ((error ≡ Memory) × (new ≡ old))
+abbrev pub WritesNoLine : RowOptions → TableMaps → ℕ → Result EventView Error → Option (List ℕ) → Error → Option (List ℕ) → Type 0
+WritesNoLine options maps index item old error new = ((error ≡ Writer) × WritesFront options maps index item old new) ⊎ ((error ≡ Memory) × (new ≡ old))

@@ -1,17 +1,21 @@
 //! The items of a binary log as lines of JSON, an object for each, with the rows of row events.
 //!
 //! In a log that MariaDB wrote, events of the types 160 to 171 have an object of their own, and compressed statements and
-//! rows that of the uncompressed event. `specs/RowMembers` defines the members `table`, `metadata` and `rows` of a row event.
+//! rows that of the uncompressed event. `specs/RowMembers` defines the members `table`, `metadata` and `rows` of a row event. What
+//! table maps don't state of columns may come from files of columns, the options of lines; [`JsonWriter`] notes the tables that
+//! contradict these.
 #![tactic(auto)]
 
 mod event_members;
 pub mod laws;
 mod lines;
+mod options;
 mod refusals;
 mod row_events;
 mod row_members;
 mod writer;
 
-pub use lines::JsonLines;
+pub use lines::{EventLine, JsonLines};
+pub use options::LineOptions;
 pub use row_events::{is_row_event, table_id};
 pub use writer::JsonWriter;

@@ -8,12 +8,14 @@ ghost use Rattle.binlog_event_format.specs.Headers.{header_of};
 ghost use Rattle.binlog_events.specs.EventRefs.{view_of};
 ghost use Rattle.binlog_mariadb.specs.EventTypes.{maria_event_type_of};
 ghost use Rattle.binlog_json_lines.specs.ItemLines.{item_line};
-ghost use Rattle.binlog_json_bodies.specs.Shown.{Shows};
+ghost use Rattle.binlog_json_lines.specs.Options.{options_of};
+ghost use Rattle.binlog_json_bodies.specs.Shown.{Shows, ShowsBy};
 ghost use Rattle.binlog_json_lines.specs.Lines.{IsOfMaria, IsOther, type_members, head_members, IsEventObject, IsOwnLine, IsLine, IsRowsObject, IsRowsLine, IsLineWith};
 
 use crate::event_members::{
     write_data_member, write_error, write_event, write_event_head, write_header,
 };
+use crate::options::LineOptions;
 use crate::row_events::is_row_event;
 use crate::row_members::RowsWriter;
 use binlog_event_types::maria_name_of;
@@ -29,6 +31,16 @@ pub struct JsonLines {
     line: Line,
     text: String,
     rows: RowsWriter,
+}
+
+/// The line of an event, its line feed included.
+#[derive(Drop)]
+pub struct EventLine<'a> {
+    /// The text.
+    pub text: &'a [u8],
+    /// The index of the first column of the event's table that contradicts the file that declares it, counted from 0. The rows have
+    /// nothing of the file then.
+    pub contradiction: Option<usize>,
 }
 
 impl JsonLines {
@@ -64,8 +76,9 @@ impl JsonLines {
 
     /// The line of an event, with the rows of a row event: before `data` its object has the members `table` and `rows`. The
     /// table map is the one in force for the event's table id; one of another table id counts as none. The data has the
-    /// stored bytes of the rows, `rows_data`, if `keeps_stored` is true, and else only if `rows` doesn't have all rows. Any
-    /// other event has the line that [`JsonLines::event_line`] makes.
+    /// stored bytes of the rows, `rows_data`, if the options keep them, and else only if `rows` doesn't have all rows. What the
+    /// table map doesn't state of columns is what the options' files declare, unless the table contradicts that. Any other event
+    /// has the line that [`JsonLines::event_line`] makes.
     ///
     /// # Errors
     ///
@@ -76,15 +89,18 @@ impl JsonLines {
         index: u64,
         event: &EventRef<'_>,
         table_map: Option<&TableMapEvent<'_>>,
-        keeps_stored: bool,
-    ) -> Result<&[u8], Error>
-        ensures line { IfOk result (λ text. IsLineWith keeps_stored (option_copied table_map.entry) index (view_of event.now) text.now) }
+        options: &LineOptions,
+    ) -> Result<EventLine<'_>, Error>
+        ensures line { IfOk result (λ line. IsLineWith (options_of options.now) (option_copied table_map.entry) index (view_of event.now) line.contradiction line.text.now) }
         ensures memory { IfErr result (λ e. e ≡ Memory) }
     {
         if is_row_event(event) {
-            self.rows_line(alloc, index, event, table_map, keeps_stored)
+            self.rows_line(alloc, index, event, table_map, options)
         } else {
-            self.event_line(alloc, index, event)
+            Ok(EventLine {
+                text: self.event_line(alloc, index, event)?,
+                contradiction: None,
+            })
         }
     }
 
@@ -95,22 +111,25 @@ impl JsonLines {
         index: u64,
         event: &EventRef<'_>,
         table_map: Option<&TableMapEvent<'_>>,
-        keeps_stored: bool,
-    ) -> Result<&[u8], Error>
-        ensures line { IfOk result (λ text. IsRowsLine keeps_stored (option_copied table_map.entry) index (view_of event.now) text.now) }
+        options: &LineOptions,
+    ) -> Result<EventLine<'_>, Error>
+        ensures line { IfOk result (λ line. IsRowsLine (options_of options.now) (option_copied table_map.entry) index (view_of event.now) line.contradiction line.text.now) }
         ensures memory { IfErr result (λ e. e ≡ Memory) }
     {
         self.line.clear();
-        write_rows_event(
+        let contradiction = write_rows_event(
             &mut self.line,
             &mut self.rows,
             alloc,
             index,
             event,
             table_map,
-            keeps_stored,
+            options,
         )?;
-        Ok(self.line.end()?)
+        Ok(EventLine {
+            text: self.line.end()?,
+            contradiction,
+        })
     }
 
     /// The line of an error that is in the place of an event.
@@ -202,7 +221,7 @@ fn write_own_event(
     Ok(())
 }
 
-// Writes the object of a row event with its rows.
+// Writes the object of a row event with its rows. The result is the column of its table that contradicts the files of columns.
 fn write_rows_event(
     line: &mut Line,
     rows: &mut RowsWriter,
@@ -210,17 +229,17 @@ fn write_rows_event(
     index: u64,
     event: &EventRef<'_>,
     table_map: Option<&TableMapEvent<'_>>,
-    keeps_stored: bool,
-) -> Result<(), AllocError>
-    ensures { Shows result line.old line.new (IsRowsObject keeps_stored (option_copied table_map.entry) index (view_of event.now)) }
+    options: &LineOptions,
+) -> Result<Option<usize>, AllocError>
+    ensures { ShowsBy result line.old line.new (IsRowsObject (options_of options.now) (option_copied table_map.entry) index (view_of event.now)) }
 {
     line.begin_object()?;
     write_event_head(line, index, event)?;
-    let all_read = rows.write_members(line, alloc, event, table_map)?;
-    let has_stored_rows = has_stored_rows(keeps_stored, all_read);
+    let shown = rows.write_members(line, alloc, event, table_map, &options.files)?;
+    let has_stored_rows = has_stored_rows(options.keeps_stored, shown.all_read);
     write_data_member(line, alloc, event, has_stored_rows)?;
     line.end_object()?;
-    Ok(())
+    Ok(shown.contradiction)
 }
 
 // Whether the data of a row event has the stored bytes of its rows.

@@ -8,22 +8,45 @@ ghost use Rattle.binlog_wire.specs.Fields.{IsBytes};
 ghost use Rattle.binlog_events.specs.EventRefs.{view_of};
 ghost use Rattle.binlog_rows.specs.RowsData.{event_in};
 ghost use Rattle.binlog_columns.specs.Refusals.{refusal};
-ghost use Rattle.binlog_json_lines.specs.RowMembers.{name_of, unmapped_members, rows_error, map_for, ShowsStatedRows, AreRowsMembers, AreEventMembers, AreBodyMembers, AreMembers};
+ghost use Rattle.binlog_json_lines.specs.RowMembers.{name_of, nothing_shown, unmapped_members, rows_error, map_for, ShowsStatedRows, AreRowsMembers, AreEventMembers, AreBodyMembers, AreMembers};
 ghost use Rattle.binlog_json_lines.specs.Refusals.{metadata_member};
 ghost use Rattle.binlog_json_lines.specs.RowEvents.{rows_in};
 ghost use Rattle.binlog_json_bodies.specs.Shown.{ShowsBy};
 
 use crate::refusals::{write_metadata_refusal, write_refusal};
 use crate::row_events::is_row_event;
+use binlog_declared_columns::table_facts;
 use binlog_event_data::EventData;
 use binlog_events::EventRef;
 use binlog_images::{Rows, RowsEventExt};
 use binlog_json_values::ValueWriter;
 use binlog_mariadb::is_maria_log;
-use binlog_optional_metadata::{OptionalMetadataError, TableFacts, TableMapColumns};
+use binlog_optional_metadata::{OptionalMetadataError, TableMapColumns};
 use binlog_rows::{RowsEventData, TableMapEvent};
+use column_files::DeclaredTables;
 use json_line::Line;
 use std::alloc::{AllocError, Global};
+
+/// What is shown of the rows of an event.
+#[derive(Clone, Copy)]
+pub(crate) struct ShownRows {
+    /// Whether all rows are shown: false if one is refused, or if they can't be read at all.
+    pub(crate) all_read: bool,
+    /// The index of the first column that contradicts the file of columns, counted from 0.
+    pub(crate) contradiction: Option<usize>,
+}
+
+impl ShownRows {
+    // Of rows that can't be read at all, and of what isn't a row event.
+    fn nothing() -> Self
+        ensures { result ≡ nothing_shown }
+    {
+        ShownRows {
+            all_read: false,
+            contradiction: None,
+        }
+    }
+}
 
 /// Writes the rows of row events, in memory that is reused from event to event.
 #[derive(Drop)]
@@ -90,8 +113,8 @@ impl RowsWriter {
     /// table map is the one in force for the event's table id; one of another table id counts as none. The memory that is
     /// taken is that of a value's text, and of the facts of the table's columns.
     ///
-    /// The result is whether `rows` has all rows of the event: false if one is refused, or if they can't be read at all, and for
-    /// any other event.
+    /// What the table map doesn't state of columns is what these files declare of them, unless the table contradicts that. The result
+    /// says whether `rows` has all rows of the event, and which column contradicts the files.
     ///
     /// # Errors
     ///
@@ -102,21 +125,22 @@ impl RowsWriter {
         alloc: Global,
         event: &EventRef<'_>,
         table_map: Option<&TableMapEvent<'_>>,
-    ) -> Result<bool, AllocError>
-        ensures { ShowsBy result line.old line.new (AreMembers (view_of event.now) (option_copied table_map.entry)) }
+        files: &[DeclaredTables],
+    ) -> Result<ShownRows, AllocError>
+        ensures { ShowsBy result line.old line.new (AreMembers files.now (view_of event.now) (option_copied table_map.entry)) }
     {
         if !is_row_event(event) {
-            return Ok(false);
+            return Ok(ShownRows::nothing());
         }
         match event.read_data(alloc) {
             Ok(Some(body)) => {
                 let is_maria_log = is_maria_log(&event.fde());
-                let written = self.write_body(line, alloc, &body, table_map, is_maria_log);
+                let written = self.write_body(line, alloc, &body, table_map, is_maria_log, files);
                 drop(body);
                 written
             }
-            Ok(None) => Ok(false),
-            Err(_) => Ok(false),
+            Ok(None) => Ok(ShownRows::nothing()),
+            Err(_) => Ok(ShownRows::nothing()),
         }
     }
 
@@ -128,14 +152,22 @@ impl RowsWriter {
         body: &EventData<'_>,
         table_map: Option<&TableMapEvent<'_>>,
         is_maria_log: bool,
-    ) -> Result<bool, AllocError>
-        ensures { ShowsBy result line.old line.new (AreBodyMembers is_maria_log (option_copied table_map.entry) (rows_in body.now)) }
+        files: &[DeclaredTables],
+    ) -> Result<ShownRows, AllocError>
+        ensures { ShowsBy result line.old line.new (AreBodyMembers files.now is_maria_log (option_copied table_map.entry) (rows_in body.now)) }
     {
         match body {
             EventData::RowsEvent(event) => {
-                self.write_event(line, alloc, event, map_for(event, table_map), is_maria_log)
+                self.write_event(
+                    line,
+                    alloc,
+                    event,
+                    map_for(event, table_map),
+                    is_maria_log,
+                    files,
+                )
             }
-            _ => Ok(false),
+            _ => Ok(ShownRows::nothing()),
         }
     }
 
@@ -147,16 +179,17 @@ impl RowsWriter {
         body: &RowsEventData<'_>,
         table_map: Option<&TableMapEvent<'_>>,
         is_maria_log: bool,
-    ) -> Result<bool, AllocError>
-        ensures { ShowsBy result line.old line.new (AreEventMembers is_maria_log body.now (option_copied table_map.entry)) }
+        files: &[DeclaredTables],
+    ) -> Result<ShownRows, AllocError>
+        ensures { ShowsBy result line.old line.new (AreEventMembers files.now is_maria_log body.now (option_copied table_map.entry)) }
     {
         let Some(table_map) = table_map else {
             write_unmapped(line)?;
-            return Ok(false);
+            return Ok(ShownRows::nothing());
         };
         line.key("table")?;
         self.write_name(line, table_map)?;
-        self.write_rows(line, alloc, body, table_map, is_maria_log)
+        self.write_rows(line, alloc, body, table_map, is_maria_log, files)
     }
 
     // Writes the name of a table, with that of its schema.
@@ -182,22 +215,23 @@ impl RowsWriter {
         body: &RowsEventData<'_>,
         table_map: &TableMapEvent<'_>,
         is_maria_log: bool,
-    ) -> Result<bool, AllocError>
-        ensures { ShowsBy result line.old line.new (AreRowsMembers is_maria_log body.now table_map.now (rows_error table_map.now body.now)) }
+        files: &[DeclaredTables],
+    ) -> Result<ShownRows, AllocError>
+        ensures { ShowsBy result line.old line.new (AreRowsMembers files.now is_maria_log body.now table_map.now (rows_error table_map.now body.now)) }
     {
         are_bytes(body.rows_data());
         match body.rows(table_map) {
-            Ok(rows) => self.write_split_rows(line, alloc, rows, table_map, is_maria_log),
+            Ok(rows) => self.write_split_rows(line, alloc, rows, table_map, is_maria_log, files),
             Err(error) => {
                 line.key("rows")?;
                 write_refusal(line, &error)?;
-                Ok(false)
+                Ok(ShownRows::nothing())
             }
         }
     }
 
     // Writes what is refused of the table's metadata, and the rows into which the bytes of an event split, with what the table
-    // map states of their columns.
+    // map and files of columns state of their columns.
     fn write_split_rows(
         &mut self,
         line: &mut Line,
@@ -205,15 +239,26 @@ impl RowsWriter {
         rows: Rows<'_>,
         table_map: &TableMapEvent<'_>,
         is_maria_log: bool,
-    ) -> Result<bool, AllocError>
+        files: &[DeclaredTables],
+    ) -> Result<ShownRows, AllocError>
         requires { refusal 0 table_map.now.columns.types table_map.now.columns.metadata ≡ None }
-        ensures { IsBytes rows.entry.rest.now → IfOk result (λ all_read. ShowsStatedRows is_maria_log table_map.now rows.entry all_read line.old line.new) }
+        ensures { IsBytes rows.entry.rest.now → IfOk result (λ shown. ShowsStatedRows files.now is_maria_log table_map.now rows.entry shown line.old line.new) }
     {
-        let columns = table_map.table_columns().unwrap();
-        let optional_metadata = table_map.optional_metadata_raw();
-        let facts = TableFacts::new(alloc, columns, optional_metadata, is_maria_log)?;
+        let (facts, contradiction) = table_facts(
+            alloc,
+            files,
+            table_map.database_name_raw(),
+            table_map.table_name_raw(),
+            table_map.table_columns().unwrap(),
+            table_map.optional_metadata_raw(),
+            is_maria_log,
+        )?;
         write_metadata(line, &facts.refusal)?;
         line.key("rows")?;
-        self.values.write_rows(line, &facts.columns, rows)
+        let all_read = self.values.write_rows(line, &facts.columns, rows)?;
+        Ok(ShownRows {
+            all_read,
+            contradiction,
+        })
     }
 }

@@ -1,11 +1,15 @@
 //! A visitor that writes the line of each item.
-ghost use Rattle.std.specs.Prelude.{◌≡◌, false, option_copied};
+ghost use Rattle.std.specs.Prelude.{◌≡◌, false, [], option_copied, IfErr, OnOk};
+ghost use Rattle.binlog_wire.specs.declared.error.Error.TheVariants.{Memory};
 ghost use Rattle.binlog_events.specs.EventRefs.{view_of};
 ghost use Rattle.binlog_file.specs.State.{state_of};
 ghost use Rattle.binlog_json_lines.specs.Lines.{map_of_event};
+ghost use Rattle.binlog_json_lines.specs.Contradicted.{NotesIf};
 
 use crate::lines::JsonLines;
+use crate::options::LineOptions;
 use crate::row_events::table_id;
+use binlog_declared_columns::Contradictions;
 use binlog_file::{CountedRef, Error, EventRef, EventStreamReader, TableMapEvent};
 use binlog_visits::{Refusing, Visitor, write_line};
 use std::alloc::Global;
@@ -17,23 +21,25 @@ pub struct JsonWriter<W> {
     alloc: Global,
     lines: JsonLines,
     output: W,
-    keeps_stored: bool,
+    options: LineOptions,
+    contradictions: Contradictions,
     has_errors: bool,
 }
 
 impl<W> JsonWriter<W> {
-    /// Writes to this output. The lines of row events keep the stored bytes of their rows if `keeps_stored` is true, and else only
-    /// where not all rows are read. Nothing is allocated.
-    pub fn new(alloc: Global, output: W, keeps_stored: bool) -> Self
+    /// Writes to this output. The lines of row events show what these options say. Nothing is allocated.
+    pub fn new(alloc: Global, output: W, options: LineOptions) -> Self
         ensures output { result.output ≡ output }
-        ensures stored { result.keeps_stored ≡ keeps_stored }
+        ensures options { result.options ≡ options }
+        ensures none { result.contradictions.columns.entries ≡ [] }
         ensures errors { result.has_errors ≡ false }
     {
         JsonWriter {
             alloc,
             lines: JsonLines::new(alloc),
             output,
-            keeps_stored,
+            options,
+            contradictions: Contradictions::new(alloc),
             has_errors: false,
         }
     }
@@ -43,6 +49,14 @@ impl<W> JsonWriter<W> {
         ensures { result ≡ self.now.has_errors }
     {
         self.has_errors
+    }
+
+    /// The tables so far that contradict the files of columns: each once, with the first column of the first row event in which one
+    /// did. Its memory is that of one name for each table of the files, at most.
+    pub fn contradictions(&self) -> &Contradictions
+        ensures { result.now ≡ self.now.contradictions }
+    {
+        &self.contradictions
     }
 
     /// The output.
@@ -67,20 +81,43 @@ fn table_map<'a>(
     }
 }
 
-/// A visit writes the line of the item, and notes an error. It is refused with [`Error::Writer`] if the writer failed, which
-/// then has a prefix of the line, or with [`Error::Memory`] if an allocation failed for the line; nothing is written then.
-/// [`JsonWriter::has_errors`] stays as it was.
-impl<W: Write> Visitor for JsonWriter<W> {
-    ghost use Rattle.std.specs.Prelude.{◌≡◌, ◌||◌, is_err};
-    ghost use Rattle.binlog_json_lines.specs.Lines.{WritesLine, WritesNoLine};
+// Notes the column of the table of this table map that contradicts the files, if one does.
+fn note(
+    contradictions: &mut Contradictions,
+    table_map: Option<&TableMapEvent<'_>>,
+    contradiction: Option<usize>,
+) -> Result<(), Error>
+    ensures noted { OnOk result (NotesIf contradiction (option_copied table_map.entry) contradictions.old contradictions.new) }
+    ensures memory { IfErr result (λ e. e ≡ Memory) }
+{
+    let Some(column) = contradiction else {
+        return Ok(());
+    };
+    let Some(table_map) = table_map else {
+        return Ok(());
+    };
+    let (schema, table) = (table_map.database_name_raw(), table_map.table_name_raw());
+    contradictions.note(schema, table, column)?;
+    Ok(())
+}
 
-    ghost visits = { λ old maps index item new.
-        WritesLine old.keeps_stored maps index item (W.contents old.output) (W.contents new.output)
-        × (new.has_errors ≡ (old.has_errors || is_err item)) × (new.keeps_stored ≡ old.keeps_stored) };
+/// A visit writes the line of the item, and notes an error, and a table that contradicts the files of columns. It is refused with [`Error::Writer`] if the writer failed, which
+/// then has a prefix of the line, or with [`Error::Memory`] if an allocation failed for the line; nothing is written then.
+/// [`JsonWriter::has_errors`] stays as it was; it isn't said whether the table is noted.
+impl<W: Write> Visitor for JsonWriter<W> {
+    ghost use Rattle.std.specs.Prelude.{◌≡◌, ◌||◌, is_err, ℕ, Option};
+    ghost use Rattle.binlog_json_lines.specs.Lines.{WritesLine, WritesNoLine};
+    ghost use Rattle.binlog_json_lines.specs.Options.{options_of};
+    ghost use Rattle.binlog_json_lines.specs.Contradicted.{NotesIf, map_of_item};
+
+    ghost visits = { λ old maps index item new. (contradiction : Option ℕ)
+        × WritesLine (options_of old.options) maps index item contradiction (W.contents old.output) (W.contents new.output)
+        × NotesIf contradiction (map_of_item maps item) old.contradictions new.contradictions
+        × (new.has_errors ≡ (old.has_errors || is_err item)) × (new.options ≡ old.options) };
 
     ghost refuses = { λ old maps index item error new.
-        WritesNoLine old.keeps_stored maps index item (W.contents old.output) error (W.contents new.output)
-        × (new.has_errors ≡ old.has_errors) × (new.keeps_stored ≡ old.keeps_stored) };
+        WritesNoLine (options_of old.options) maps index item (W.contents old.output) error (W.contents new.output)
+        × (new.has_errors ≡ old.has_errors) × (new.options ≡ old.options) };
 
     #[inline(always)]
     fn visit_event(
@@ -92,9 +129,10 @@ impl<W: Write> Visitor for JsonWriter<W> {
         let table_map = table_map(self.alloc, event, reader);
         let line = self
             .lines
-            .event_line_with_rows(self.alloc, index, event, table_map, self.keeps_stored)?;
+            .event_line_with_rows(self.alloc, index, event, table_map, &self.options)?;
+        note(&mut self.contradictions, table_map, line.contradiction)?;
         let mut output = CountedRef::new(&mut self.output);
-        write_line(&mut output, line)
+        write_line(&mut output, line.text)
     }
 
     fn visit_error(

@@ -9,6 +9,7 @@ mod EnumTexts
 mod Commas
 mod JsonDocuments
 mod DiffLists
+mod DocumentsBefore
 mod Visits
 mod RowLists
 mod FirstRows

@@ -62,3 +62,8 @@ are_in_document (part ∷ parts) (token ∷ tokens) are = (are.0, are_in_documen
 -- Parts of a document that are written.
 pub shows_document : (old new : List Token) (parts : List documents.Part) → documents.Shows old new parts → Shows old new (map in_document parts)
 shows_document old new parts shown = record { tokens = shown.tokens; are = are_in_document parts shown.tokens shown.are; is = shown.is }
+
+-- The same, if at all.
+pub written_document : {A E : Type 0} (result : Result A E) (old new : List Token) (parts : List documents.Part) → OnOk result (documents.Shows old new parts) → OnOk result (Shows old new (map in_document parts))
+written_document (Ok x) old new parts shown = shows_document old new parts shown
+written_document (Err e) old new parts shown = shown

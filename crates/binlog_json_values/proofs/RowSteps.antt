@@ -1,5 +1,5 @@
 -- One row that is written, or refused, or isn't there.
-use Rattle.std.proofs.Common.{◌≡◌, Bool, true, false, ◌||◌, List, [], ◌++◌, Option, None, Some, Result, Ok, Err, sym, ap, subst, ◌∙◌, append_assoc}
+use Rattle.std.proofs.Common.{◌≡◌, ℕ, Bool, true, false, ◌||◌, List, [], ◌++◌, Option, None, Some, Result, Ok, Err, sym, ap, subst, ◌∙◌, append_assoc}
 use Rattle.json.specs.Token.{Token}
 use Rattle.json_line.specs.Marks.{StandsBehind, IsMarked}
 use Rattle.json_line.specs.declared.line.Mark.{Mark}
@@ -11,7 +11,9 @@ use Rattle.binlog_images.specs.Fronts.{row_front}
 use Rattle.binlog_images.specs.declared.rows_error.RowsError.{RowsError}
 use Rattle.binlog_images.specs.declared.rows.Rows.{Rows}
 use Rattle.binlog_json_values.specs.Brackets.{row_begins, row_ends}
-use Rattle.binlog_json_values.specs.RowWriting.{Keeps, ShowsColumn, WritesNext}
+use Rattle.binlog_json_values.specs.RowWriting.{Keeps, row_before, ShowsColumn, WritesNext}
+use Rattle.binlog_json_values.specs.Rows.{before_or_none}
+use Rattle.binlog_json_values.specs.Before.{before_in, cells_before}
 use Rattle.binlog_json_values.specs.Written.{HasImages}
 use Rattle.binlog_json_values.specs.declared.row_writer.RowWriter.{RowWriter}
 use Rattle.binlog_json_values.proofs.Visits.{is_begun, keeps_same, row_wrote, row_shown, row_keeps}
@@ -21,18 +23,19 @@ not_begun a b true none is = is
 not_begun a b false none is = is ∙ none
 
 -- A row is written, between its beginning and its end.
-pub row_written : (first last : RowWriter) (rows next : Rows) (start end : List Token) → HasImages first.has_before first.has_after rows
+pub row_written : (first last : RowWriter) (rows next : Rows) (start end : List Token) → HasImages first.has_before first.has_after rows → first.before.rows ≡ rows
     → first.line ≡ start ++ row_begins first.has_before → first.after_begun ≡ false → VisitsFirst ShowsColumn rows first next last → last.failed ≡ false
     → end ≡ last.line ++ row_ends last.has_before last.has_after last.after_begun → WritesNext first.columns.now rows start (Some true) next end
-row_written first last rows next start end has begins none visited works ends =
+row_written first last rows next start end has row begins none visited works ends =
     let cells : RowCells = visited.cells in
     let wrote = row_wrote cells first last visited.visited works in
     let images = has cells next.rest.now visited.first in
+    let before : row_before first ≡ before_or_none cells.0 = ap cells_before row ∙ ap (λ (r : Result (RowCells × List ℕ) RowsError). before_in r) visited.first in
     let begun : last.after_begun ≡ is_begun cells.1 = not_begun last.after_begun first.after_begun (is_begun cells.1) none wrote.begun in
     let closed : end ≡ last.line ++ row_ends first.has_before first.has_after last.after_begun =
     subst (λ (b : Bool). end ≡ last.line ++ row_ends first.has_before b last.after_begun) wrote.kept.has_after
     (subst (λ (b : Bool). end ≡ last.line ++ row_ends b last.has_after last.after_begun) wrote.kept.has_before ends) in
-    (cells, visited.first, visited.row, visited.shape, row_shown first.columns.now cells first.has_before first.has_after last.after_begun start first.line last.line end images.0 images.1 begun begins wrote.shown closed)
+    (cells, visited.first, visited.row, visited.shape, row_shown first.columns.now (row_before first) cells first.has_before first.has_after last.after_begun start first.line last.line end before images.0 images.1 begun begins wrote.shown closed)
 
 -- A line that is marked, with tokens behind the mark.
 pub marked_more : (mark : Mark) (start line more : List Token) → StandsBehind mark start → line ≡ start ++ more → IsMarked mark line

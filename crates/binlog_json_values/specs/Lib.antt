@@ -6,6 +6,7 @@ pub mod Times
 pub mod Documents
 pub mod Values
 pub mod Rows
+pub mod Before
 pub mod Keys
 pub mod Written
 pub mod Brackets

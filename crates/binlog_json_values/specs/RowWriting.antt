@@ -11,7 +11,8 @@ use Rattle.binlog_optional_metadata.specs.declared.column_facts.ColumnFacts.{Col
 use Rattle.binlog_optional_metadata.specs.Facts.{facts_of}
 use Rattle.binlog_json_values.specs.Brackets.{after_if, begins_after}
 use Rattle.binlog_json_values.specs.Parts.{Part, exact, Shows}
-use Rattle.binlog_json_values.specs.Rows.{cell_parts, row_parts, refusal_tokens, item_parts}
+use Rattle.binlog_json_values.specs.Rows.{first_document, cell_parts, row_parts, refusal_tokens, item_parts}
+use Rattle.binlog_json_values.specs.Before.{cells_before}
 use Rattle.binlog_json_values.specs.Written.{are_read}
 use Rattle.binlog_json_values.specs.declared.row_writer.RowWriter.{RowWriter}
 
@@ -22,20 +23,29 @@ pub record Keeps (old new : RowWriter) : Type 0 where
   pub has_after : new.has_after ≡ old.has_after
 
 -- The member of the first of these columns, with this index.
-abbrev pub first_member : ℕ → List ColumnFacts → Cell → List Part
-first_member index [] cell = []
-first_member index (facts ∷ others) cell = cell_parts (facts_of facts) index cell
+abbrev pub first_member : ℕ → List ColumnFacts → Option (List ℕ) → Cell → List Part
+first_member index [] before cell = []
+first_member index (facts ∷ others) before cell = cell_parts (facts_of facts) index before cell
 
--- Parts are written, and the image after is begun or not.
+-- The columns of the image before of the row that is written.
+abbrev pub row_before : RowWriter → List Cell
+row_before writer = cells_before writer.before.rows
+
+-- The document there of the column with this index.
+abbrev pub document_at : ℕ → List Cell → Option (List ℕ)
+document_at index before = first_document (drop index before)
+
+-- Parts are written of the same row, and its image after is begun or not.
 pub record Wrote (old new : RowWriter) (begins : Bool) (parts : List Part) : Type 0 where
   pub kept : Keeps old new
+  pub row : new.before.rows ≡ old.before.rows
   pub begun : new.after_begun ≡ begins || old.after_begun
   pub shown : Shows old.line new.line parts
 
 -- The member of the column with this index of an image.
 abbrev pub WroteColumn : RowWriter → ImageKind → ℕ → Cell → RowWriter → Type 0
 WroteColumn old image index cell new =
-    Wrote old new (begins_after image index) (exact (after_if (begins_after image index) old.has_before) ++ first_member index (drop index old.columns.now) cell)
+    Wrote old new (begins_after image index) (exact (after_if (begins_after image index) old.has_before) ++ first_member index (drop index old.columns.now) (document_at index (row_before old)) cell)
 
 -- A visit writes the member, or an allocation failed, now or before.
 pub record ShowsColumn (old : RowWriter) (image : ImageKind) (index : ℕ) (cell : Cell) (new : RowWriter) : Type 0 where

@@ -5,6 +5,7 @@ use Rattle.json_line.specs.Tokens.{number_value, member, object}
 use Rattle.binlog_values.specs.Contents.{bytes_in}
 use Rattle.binlog_images.specs.Cells.{Cell, absent, value, diff_list, RowCells}
 use Rattle.binlog_images.specs.Cells as cells
+use Rattle.binlog_values.specs.Values as meanings
 use Rattle.binlog_images.specs.declared.rows_error.ImageKind.{ImageKind}
 use Rattle.binlog_images.specs.declared.rows_error.ImageKind.TheVariants.{Before, After}
 use Rattle.binlog_images.specs.declared.rows_error.RowsError.{RowsError}
@@ -20,36 +21,52 @@ use Rattle.binlog_json_values.specs.Values.{value_parts}
 abbrev pub column_name : Facts → ℕ → List ℕ
 column_name facts index = unwrap_or facts.name (64 ∷ decimal (index + 1))
 
--- The member of a column; none for one that is absent.
-abbrev pub cell_parts : Facts → ℕ → Cell → List Part
-cell_parts facts index absent = []
-cell_parts facts index cells.null = exactly (key (column_name facts index)) ∷ exactly null ∷ []
-cell_parts facts index (value meaning content) = exactly (key (column_name facts index)) ∷ value_parts facts meaning content
-cell_parts facts index (diff_list content) = exactly (key (column_name facts index)) ∷ diff_list_parts (bytes_in content)
+-- The document of a column: its bytes, if it has a whole value of type JSON.
+abbrev pub document_in : Cell → Option (List ℕ)
+document_in (value meanings.json content) = Some (bytes_in content)
+document_in cell = None
+
+-- That of the first of these columns.
+abbrev pub first_document : List Cell → Option (List ℕ)
+first_document [] = None
+first_document (cell ∷ cells) = document_in cell
+
+-- The member of a column, whose document in the image before is given; none for one that is absent.
+abbrev pub cell_parts : Facts → ℕ → Option (List ℕ) → Cell → List Part
+cell_parts facts index before absent = []
+cell_parts facts index before cells.null = exactly (key (column_name facts index)) ∷ exactly null ∷ []
+cell_parts facts index before (value meaning content) = exactly (key (column_name facts index)) ∷ value_parts facts meaning content
+cell_parts facts index before (diff_list content) = exactly (key (column_name facts index)) ∷ diff_list_parts before (bytes_in content)
 
 -- The member of the first of these columns.
-abbrev pub first_parts : Facts → ℕ → List Cell → List Part
-first_parts facts index [] = []
-first_parts facts index (cell ∷ others) = cell_parts facts index cell
+abbrev pub first_parts : Facts → ℕ → Option (List ℕ) → List Cell → List Part
+first_parts facts index before [] = []
+first_parts facts index before (cell ∷ others) = cell_parts facts index before cell
 
--- The members of columns, from this index on.
-abbrev pub members_from : ℕ → List ColumnFacts → List Cell → List Part
-members_from index [] cells = []
-members_from index (facts ∷ others) cells = first_parts (facts_of facts) index cells ++ members_from (index + 1) others (drop 1 cells)
+-- The members of columns, from this index on, with those of the image before.
+abbrev pub members_from : ℕ → List ColumnFacts → List Cell → List Cell → List Part
+members_from index [] before cells = []
+members_from index (facts ∷ others) before cells =
+    first_parts (facts_of facts) index (first_document before) cells ++ members_from (index + 1) others (drop 1 before) (drop 1 cells)
 
--- An image: an object with a member for each column that is present.
-unfoldable pub image_parts : List ColumnFacts → List Cell → List Part
-image_parts columns cells = exactly begin_object ∷ [] ++ members_from 0 columns cells ++ exactly end_object ∷ []
+-- An image of a row with these columns before: an object with a member for each column that is present.
+unfoldable pub image_parts : List ColumnFacts → List Cell → List Cell → List Part
+image_parts columns before cells = exactly begin_object ∷ [] ++ members_from 0 columns before cells ++ exactly end_object ∷ []
 
 -- The member of an image that a row has.
-abbrev pub image_member : List ℕ → List ColumnFacts → Option (List Cell) → List Part
-image_member name columns None = []
-image_member name columns (Some cells) = exactly (key name) ∷ [] ++ image_parts columns cells
+abbrev pub image_member : List ℕ → List ColumnFacts → List Cell → Option (List Cell) → List Part
+image_member name columns before None = []
+image_member name columns before (Some cells) = exactly (key name) ∷ [] ++ image_parts columns before cells
+
+-- The columns of the image before; none if the row has none.
+abbrev pub before_or_none : Option (List Cell) → List Cell
+before_or_none image = unwrap_or image []
 
 -- A row: an object with its images.
 unfoldable pub row_parts : List ColumnFacts → RowCells → List Part
 row_parts columns row =
-    exactly begin_object ∷ [] ++ image_member (codes "before") columns row.0 ++ image_member (codes "after") columns row.1 ++ exactly end_object ∷ []
+    exactly begin_object ∷ [] ++ image_member (codes "before") columns (before_or_none row.0) row.0 ++ image_member (codes "after") columns (before_or_none row.0) row.1
+    ++ exactly end_object ∷ []
 
 -- What is wrong with a row, by its name.
 abbrev pub kind_name : RowsErrorKind → List ℕ

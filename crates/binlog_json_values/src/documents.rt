@@ -1,6 +1,7 @@
 //! Documents of JSON columns and lists of diffs as JSON.
 
-ghost use Rattle.std.specs.Prelude.{◌≡◌, IfSome, IfNone, true, codes};
+ghost use Rattle.std.specs.Prelude.{◌≡◌, Some, option_map, option_copied, IfOk, IfSome, IfNone};
+ghost use Rattle.std.specs.Bool.{OnTrue, OnFalse};
 ghost use Rattle.json_line.specs.Lines.{IsPlainText};
 ghost use Rattle.json_line.specs.Tokens.{Adds};
 ghost use Rattle.binary_json.specs.Values.{Json};
@@ -8,14 +9,20 @@ ghost use Rattle.binary_json.specs.Grammar.{IsDocument};
 ghost use Rattle.binary_json.specs.Views.{document_json};
 ghost use Rattle.binary_json_lines.specs.HasText.{HasText};
 ghost use Rattle.binlog_json_values.specs.Parts.{Writes};
-ghost use Rattle.binary_json.specs.Diffs.{diff_items};
-ghost use Rattle.binary_json_lines.specs.Diffs.{items_have_text, diffs_parts};
-ghost use Rattle.binlog_json_values.specs.Documents.{encoded_value, decoded_parts, shown_parts, json_parts, diff_list_parts};
+ghost use Rattle.binary_json_writing.specs.Owned.{owned_value};
+ghost use Rattle.binary_json_writing.specs.Applied.{IsMemory};
+ghost use Rattle.binlog_json_values.specs.Documents.{encoded_value, shown_parts, json_parts, diffs_value, are_few, document_after, after_member, diff_list_parts};
 
-use binary_json::Document;
+use binary_json::{Document, JsonDiffs};
 use binary_json_lines::{diffs_have_text, has_text, write_diffs, write_document};
+use binary_json_writing::{
+    JsonApplyError, JsonChangeError, JsonPathError, JsonWriteError, OwnedDocument, apply,
+};
 use json_line::Line;
-use std::alloc::AllocError;
+use std::alloc::{AllocError, Global};
+
+/// How many diffs of a list are applied at most: each of them copies the document.
+const MOST_DIFFS: usize = 100;
 
 /// Writes an object with one member: bytes that aren't decoded.
 pub(crate) fn write_encoded(line: &mut Line, name: &str, bytes: &[u8]) -> Result<(), AllocError>
@@ -74,28 +81,108 @@ pub(crate) fn write_json(
     }
 }
 
-/// Writes an object with one member: a list of diffs that has a text.
-fn write_shown_diffs(line: &mut Line, memory: &mut String, bytes: &[u8]) -> Result<(), AllocError>
-    requires { items_have_text (diff_items bytes.now) ≡ true }
-    ensures { Writes result line.old line.new (decoded_parts (codes "diffs") (diffs_parts (diff_items bytes.now))) }
+/// Writes the diffs of a list, if the bytes are such a list, and it has a text, or else the hexadecimal digits of the bytes.
+/// `memory` is memory that is reused.
+fn write_diffs_value(line: &mut Line, memory: &mut String, bytes: &[u8]) -> Result<(), AllocError>
+    ensures { Writes result line.old line.new (diffs_value bytes.now) }
 {
-    line.begin_object()?;
-    line.key("diffs")?;
-    write_diffs(line, memory, bytes)?;
-    line.end_object()
+    if diffs_have_text(bytes) {
+        return write_diffs(line, memory, bytes);
+    }
+    line.bytes(bytes)
+}
+
+/// Whether memory was refused.
+fn is_memory(error: &JsonApplyError) -> bool
+    ensures memory { OnTrue result (IsMemory error.now) }
+    ensures others { OnFalse result (¬ (IsMemory error.now)) }
+{
+    matches!(
+        error,
+        JsonApplyError::Path(JsonPathError::Memory)
+            | JsonApplyError::Change(JsonChangeError::Write(JsonWriteError::Memory))
+    )
+}
+
+/// Whether a list has so few diffs that it is applied.
+fn are_few(diffs: &[u8]) -> bool
+    ensures { result ≡ are_few diffs.now }
+{
+    // Each of them has a byte at least.
+    let _most = diffs.len();
+    JsonDiffs::new(diffs).count() <= MOST_DIFFS
+}
+
+/// The document that a list of diffs makes of the document in the bytes before. None if there are more than
+/// [`MOST_DIFFS`], if these are no document, if a diff is refused, or if the document after has no text.
+fn document_after(
+    alloc: Global,
+    before: Option<&[u8]>,
+    diffs: &[u8],
+) -> Result<Option<OwnedDocument>, AllocError>
+    ensures { IfOk result (λ found. option_map owned_value found ≡ document_after (option_copied before.entry) diffs.now) }
+{
+    let Some(bytes) = before else {
+        return Ok(None);
+    };
+    if !are_few(diffs) {
+        return Ok(None);
+    }
+    let Ok(document) = Document::read(bytes) else {
+        return Ok(None);
+    };
+    match apply(alloc, &document, JsonDiffs::new(diffs)) {
+        Ok(after) => {
+            if has_text(&after.document()) {
+                Ok(Some(after))
+            } else {
+                Ok(None)
+            }
+        }
+        Err(error) => {
+            if is_memory(&error) {
+                Err(AllocError)
+            } else {
+                Ok(None)
+            }
+        }
+    }
+}
+
+/// Writes the member of the document after, if there is one, which has a text.
+fn write_after(
+    line: &mut Line,
+    memory: &mut String,
+    after: &Option<OwnedDocument>,
+) -> Result<(), AllocError>
+    requires { (w : Json) → option_map owned_value after.now ≡ Some w → HasText w }
+    ensures { Writes result line.old line.new (after_member (option_map owned_value after.now)) }
+{
+    match after {
+        Some(document) => {
+            line.key("json")?;
+            write_document(line, memory, &document.document())
+        }
+        None => Ok(()),
+    }
 }
 
 /// Writes the bytes of a list of diffs: an object with the diffs, if they are such a list, and it has a text, or else with their
-/// hexadecimal digits. `memory` is memory that is reused.
+/// hexadecimal digits; and with the document that they make of the one in the bytes before, if they do, and it has a text.
+/// `memory` is memory that is reused.
 pub(crate) fn write_diff_list(
+    alloc: Global,
     line: &mut Line,
     memory: &mut String,
+    before: Option<&[u8]>,
     bytes: &[u8],
 ) -> Result<(), AllocError>
-    ensures { Writes result line.old line.new (diff_list_parts bytes.now) }
+    ensures { Writes result line.old line.new (diff_list_parts (option_copied before.entry) bytes.now) }
 {
-    if diffs_have_text(bytes) {
-        return write_shown_diffs(line, memory, bytes);
-    }
-    write_encoded(line, "diffs", bytes)
+    line.begin_object()?;
+    line.key("diffs")?;
+    write_diffs_value(line, memory, bytes)?;
+    let after = document_after(alloc, before, bytes)?;
+    write_after(line, memory, &after)?;
+    line.end_object()
 }

@@ -5,6 +5,7 @@
 //! number.
 #![tactic(auto)]
 
+mod before;
 mod documents;
 mod keys;
 pub mod laws;

@@ -1,13 +1,16 @@
 //! Rows as JSON, written as they are read.
-ghost use Rattle.std.specs.Prelude.{◌≡◌, ◌||◌, drop, IfOk, OnOk};
+ghost use Rattle.std.specs.Prelude.{◌≡◌, ℕ, ◌||◌, drop, option_copied, IfOk, OnOk};
 ghost use Rattle.json_line.specs.Tokens.{Adds};
 ghost use Rattle.binlog_images.specs.ColumnValues.{cell_of};
 ghost use Rattle.binlog_wire.specs.Fields.{IsBytes};
 ghost use Rattle.binlog_json_values.specs.Brackets.{closing, row_begins, after_begins, after_if, row_ends, begins_after};
 ghost use Rattle.binlog_json_values.specs.Keys.{ArePrinted};
+ghost use Rattle.binlog_optional_metadata.specs.Facts.{Facts};
 ghost use Rattle.binlog_json_values.specs.Parts.{Writes};
+ghost use Rattle.binlog_json_values.specs.Rows.{cell_parts};
 ghost use Rattle.binlog_json_values.specs.Written.{HasImages};
 
+use crate::before::DocumentsBefore;
 use crate::keys::ColumnKeys;
 use crate::refusals::write_refusal;
 use crate::values::ValueWriter;
@@ -92,12 +95,14 @@ fn images_of(rows: &Rows<'_>) -> (bool, bool)
 
 /// Writes rows: it is shown their columns, and writes each as it is read.
 #[derive(Drop)]
-pub(crate) struct RowWriter<'a, 'b> {
+pub(crate) struct RowWriter<'a, 'b, 'c> {
     pub(crate) values: ValueWriter,
     pub(crate) line: Line,
     /// The names of the columns, printed.
     pub(crate) keys: ColumnKeys,
     columns: &'a [ColumnFacts<'b>],
+    /// The documents of the row's image before.
+    before: DocumentsBefore<'c>,
     /// Whether each row has an image before.
     has_before: bool,
     /// Whether each row has an image after.
@@ -109,8 +114,8 @@ pub(crate) struct RowWriter<'a, 'b> {
     ghost printed: { ArePrinted columns.now keys.lines.items },
 }
 
-impl<'a, 'b> RowWriter<'a, 'b> {
-    ghost use Rattle.binlog_json_values.specs.RowWriting.{Keeps, first_member, WroteColumn, WritesNext, WritesRest};
+impl<'a, 'b, 'c> RowWriter<'a, 'b, 'c> {
+    ghost use Rattle.binlog_json_values.specs.RowWriting.{Keeps, first_member, row_before, document_at, WroteColumn, WritesNext, WritesRest};
 
     /// A writer of these rows, of a table with these columns, at the end of the line.
     pub(crate) fn new(
@@ -118,7 +123,8 @@ impl<'a, 'b> RowWriter<'a, 'b> {
         line: Line,
         keys: ColumnKeys,
         columns: &'a [ColumnFacts<'b>],
-        rows: &Rows<'_>,
+        before: DocumentsBefore<'c>,
+        rows: &Rows<'c>,
     ) -> Self
         requires { ArePrinted columns.now keys.lines.items }
         ensures line { result.line ≡ line }
@@ -131,6 +137,7 @@ impl<'a, 'b> RowWriter<'a, 'b> {
             line,
             keys,
             columns,
+            before,
             has_before,
             has_after,
             after_begun: false,
@@ -141,6 +148,7 @@ impl<'a, 'b> RowWriter<'a, 'b> {
     /// Begins the image after, if this column is its first.
     fn begin_image(&mut self, image: ImageKind, index: u64) -> Result<(), AllocError>
         ensures kept { Keeps self.old self.new }
+        ensures row { self.new.before.rows ≡ self.old.before.rows }
         ensures failed { self.new.failed ≡ self.old.failed }
         ensures begun { OnOk result (self.new.after_begun ≡ begins_after image index || self.old.after_begun) }
         ensures added { Adds result self.old.line self.new.line (after_if (begins_after image index) self.old.has_before) }
@@ -153,19 +161,42 @@ impl<'a, 'b> RowWriter<'a, 'b> {
         Ok(())
     }
 
+    /// The document before of the column with this index, if its value is a list of diffs.
+    #[inline(always)]
+    fn document_for(
+        &mut self,
+        index: u64,
+        value: &ColumnValue<'_>,
+    ) -> Result<Option<&'c [u8]>, AllocError>
+        ensures kept { Keeps self.old self.new }
+        ensures keys { self.new.keys ≡ self.old.keys }
+        ensures line { self.new.line ≡ self.old.line }
+        ensures row { self.new.before.rows ≡ self.old.before.rows }
+        ensures failed { self.new.failed ≡ self.old.failed }
+        ensures begun { self.new.after_begun ≡ self.old.after_begun }
+        ensures document { IfOk result (λ found. (facts : Facts) (k : ℕ) → cell_parts facts k (option_copied found) (cell_of value.now) ≡ cell_parts facts k (document_at index (row_before self.old)) (cell_of value.now)) }
+    {
+        match value {
+            ColumnValue::Absent | ColumnValue::Null | ColumnValue::Value(_) => Ok(None),
+            ColumnValue::Diffs(_) => self.before.document(index),
+        }
+    }
+
     /// Writes the member of the column with this index; nothing if it is beyond the table's columns.
     fn write_member(&mut self, index: u64, value: &ColumnValue<'_>) -> Result<(), AllocError>
         ensures kept { Keeps self.old self.new }
+        ensures row { self.new.before.rows ≡ self.old.before.rows }
         ensures failed { self.new.failed ≡ self.old.failed }
         ensures begun { self.new.after_begun ≡ self.old.after_begun }
-        ensures written { Writes result self.old.line self.new.line (first_member index (drop index self.old.columns.now) (cell_of value.now)) }
+        ensures written { Writes result self.old.line self.new.line (first_member index (drop index self.old.columns.now) (document_at index (row_before self.old)) (cell_of value.now)) }
     {
+        let before = self.document_for(index, value)?;
         let columns = self.columns;
         match columns.get(index as usize) {
             Some(facts) => {
                 let printed = &self.keys.lines[index as usize];
                 self.values
-                    .write_named_cell(&mut self.line, printed, facts, value)
+                    .write_named_cell(&mut self.line, printed, facts, before, value)
             }
             None => Ok(()),
         }
@@ -179,6 +210,7 @@ impl<'a, 'b> RowWriter<'a, 'b> {
         value: &ColumnValue<'_>,
     ) -> Result<(), AllocError>
         ensures kept { Keeps self.old self.new }
+        ensures row { self.new.before.rows ≡ self.old.before.rows }
         ensures failed { self.new.failed ≡ self.old.failed }
         ensures written { OnOk result (WroteColumn self.old image index (cell_of value.now) self.new) }
     {
@@ -187,7 +219,7 @@ impl<'a, 'b> RowWriter<'a, 'b> {
     }
 
     /// Writes the next row that is left, or why it is refused; the result is whether it is read. None if no row is left.
-    fn write_next(&mut self, rows: &mut Rows<'_>) -> Result<Option<bool>, AllocError>
+    fn write_next(&mut self, rows: &mut Rows<'c>) -> Result<Option<bool>, AllocError>
         requires { HasImages self.old.has_before self.old.has_after rows.old }
         ensures kept { Keeps self.old self.new }
         ensures written { IfOk result (λ read. WritesNext self.old.columns.now rows.old self.old.line read rows.new self.new.line) }
@@ -195,6 +227,7 @@ impl<'a, 'b> RowWriter<'a, 'b> {
         let start = self.line.mark();
         begin_row(&mut self.line, self.has_before)?;
         self.after_begun = false;
+        self.before.begin(rows);
         let Some(visited) = rows.visit_next(self) else {
             self.line.cut(start);
             return Ok(None);
@@ -221,7 +254,7 @@ impl<'a, 'b> RowWriter<'a, 'b> {
     }
 
     /// Writes the rows that are left, up to the last or to the first that is refused. The result is whether all are read.
-    pub(crate) fn write_rest(&mut self, rows: Rows<'_>) -> Result<bool, AllocError>
+    pub(crate) fn write_rest(&mut self, rows: Rows<'c>) -> Result<bool, AllocError>
         requires { HasImages self.old.has_before self.old.has_after rows }
         ensures { IsBytes rows.entry.rest.now → IfOk result (λ all_read. WritesRest self.old.columns.now rows.entry all_read self.old.line self.new.line) }
     {
@@ -236,7 +269,7 @@ impl<'a, 'b> RowWriter<'a, 'b> {
 }
 
 /// Writes the column, unless an allocation failed before.
-impl ColumnVisitor for RowWriter<'_, '_> {
+impl ColumnVisitor for RowWriter<'_, '_, '_> {
     ghost use Rattle.binlog_json_values.specs.RowWriting.{ShowsColumn};
 
     ghost visits = { ShowsColumn };

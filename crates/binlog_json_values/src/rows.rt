@@ -1,7 +1,7 @@
 //! Rows as JSON.
 #![tactic(auto, using(std::proofs::Common::append_assoc))]
 
-ghost use Rattle.std.specs.Prelude.{ℕ, ◌≡◌, ◌+◌, ◌<◌, ◌^◌, ◌++◌, ◌∷◌, [], drop, Option, option_map, IfOk};
+ghost use Rattle.std.specs.Prelude.{ℕ, ◌≡◌, ◌+◌, ◌<◌, ◌^◌, ◌++◌, ◌∷◌, [], drop, Option, option_map, option_copied, IfOk};
 ghost use Rattle.std.specs.String.{string_bytes};
 ghost use Rattle.json.specs.Token.{key};
 ghost use Rattle.json_line.specs.Keys.{IsKey};
@@ -13,10 +13,10 @@ ghost use Rattle.binlog_images.specs.ImageCells.{cells_of};
 ghost use Rattle.binlog_images.specs.RowCells.{row_cells, answer_row};
 ghost use Rattle.binlog_optional_metadata.specs.Facts.{facts_of};
 ghost use Rattle.binlog_json_values.specs.Parts.{Writes};
-ghost use Rattle.binlog_json_values.specs.Rows.{column_name, cell_parts, first_parts, image_parts, image_member, row_parts};
+ghost use Rattle.binlog_json_values.specs.Rows.{column_name, cell_parts, first_parts, image_parts, image_member, before_or_none, row_parts};
 ghost use Rattle.binlog_json_values.specs.Written.{ShowsRows};
 
-use crate::documents::write_diff_list;
+use crate::before::next_document;
 use crate::keys::write_name;
 use crate::row_writer::RowWriter;
 use crate::values::ValueWriter;
@@ -26,16 +26,17 @@ use json_line::Line;
 use std::alloc::AllocError;
 
 impl ValueWriter {
-    /// Writes the member of the column with this index; nothing for one that is absent.
+    /// Writes the member of the column with this index, whose document before is given; nothing for one that is absent.
     pub(crate) fn write_cell(
         &mut self,
         line: &mut Line,
         facts: &ColumnFacts<'_>,
         index: u64,
+        before: Option<&[u8]>,
         cell: &ColumnValue<'_>,
     ) -> Result<(), AllocError>
         requires { index + 1 < 2 ^ 64 }
-        ensures { Writes result line.old line.new (cell_parts (facts_of facts.now) index (cell_of cell.now)) }
+        ensures { Writes result line.old line.new (cell_parts (facts_of facts.now) index (option_copied before.entry) (cell_of cell.now)) }
     {
         match cell {
             ColumnValue::Absent => Ok(()),
@@ -49,21 +50,22 @@ impl ValueWriter {
             }
             ColumnValue::Diffs(bytes) => {
                 write_name(line, &mut self.names, facts, index)?;
-                write_diff_list(line, &mut self.text, bytes)
+                self.write_diffs(line, before, bytes)
             }
         }
     }
 
-    /// Writes the member of a column whose name is printed; nothing for one that is absent.
+    /// Writes the member of a column whose name is printed, and whose document before is given; nothing for one that is absent.
     pub(crate) fn write_named_cell(
         &mut self,
         line: &mut Line,
         printed: &Line,
         facts: &ColumnFacts<'_>,
+        before: Option<&[u8]>,
         cell: &ColumnValue<'_>,
     ) -> Result<(), AllocError>
         requires { IsKey printed.now }
-        ensures { (index : ℕ) → printed.now ≡ key (column_name (facts_of facts.now) index) ∷ [] → Writes result line.old line.new (cell_parts (facts_of facts.now) index (cell_of cell.now)) }
+        ensures { (index : ℕ) → printed.now ≡ key (column_name (facts_of facts.now) index) ∷ [] → Writes result line.old line.new (cell_parts (facts_of facts.now) index (option_copied before.entry) (cell_of cell.now)) }
     {
         match cell {
             ColumnValue::Absent => Ok(()),
@@ -77,30 +79,32 @@ impl ValueWriter {
             }
             ColumnValue::Diffs(bytes) => {
                 line.copied_key(printed)?;
-                write_diff_list(line, &mut self.text, bytes)
+                self.write_diffs(line, before, bytes)
             }
         }
     }
 
-    /// Writes the member of the next column of an image, if one is left.
+    /// Writes the member of the next column of an image, whose document before is given, if one is left.
     fn write_next(
         &mut self,
         line: &mut Line,
         facts: &ColumnFacts<'_>,
         index: u64,
+        before: Option<&[u8]>,
         image: &mut Image<'_>,
     ) -> Result<(), AllocError>
         requires { index + 1 < 2 ^ 64 }
-        ensures written { Writes result line.old line.new (first_parts (facts_of facts.now) index (cells_of image.old)) }
+        ensures written { Writes result line.old line.new (first_parts (facts_of facts.now) index (option_copied before.entry) (cells_of image.old)) }
         ensures rest { cells_of image.new ≡ drop 1 (cells_of image.old) }
     {
         match image.next() {
-            Some(cell) => self.write_cell(line, facts, index, &cell),
+            Some(cell) => self.write_cell(line, facts, index, before, &cell),
             None => Ok(()),
         }
     }
 
-    /// Writes an image of a table with these columns: an object with a member for each column that is present.
+    /// Writes an image of a table with these columns: an object with a member for each column that is present. `before` is the
+    /// image before of the same row, if it has one: its documents are those that lists of diffs change.
     ///
     /// # Errors
     ///
@@ -109,14 +113,17 @@ impl ValueWriter {
         &mut self,
         line: &mut Line,
         columns: &[ColumnFacts<'_>],
+        before: Option<Image<'_>>,
         image: Image<'_>,
     ) -> Result<(), AllocError>
-        ensures { Writes result line.old line.new (image_parts columns.now (cells_of image.entry)) }
+        ensures { Writes result line.old line.new (image_parts columns.now (before_or_none (option_map cells_of before.entry)) (cells_of image.entry)) }
     {
+        let mut left = before;
         let mut cells = image;
         line.begin_object()?;
         for (index, facts) in columns.iter().enumerate() {
-            self.write_next(line, facts, index as u64, &mut cells)?;
+            let document = next_document(&mut left);
+            self.write_next(line, facts, index as u64, document, &mut cells)?;
         }
         line.end_object()
     }
@@ -127,15 +134,16 @@ impl ValueWriter {
         line: &mut Line,
         name: &str,
         columns: &[ColumnFacts<'_>],
+        before: Option<Image<'_>>,
         image: Option<Image<'_>>,
     ) -> Result<(), AllocError>
         requires { IsPlainText name.now }
-        ensures { Writes result line.old line.new (image_member name.now columns.now (option_map cells_of image.entry)) }
+        ensures { Writes result line.old line.new (image_member name.now columns.now (before_or_none (option_map cells_of before.entry)) (option_map cells_of image.entry)) }
     {
         match image {
             Some(image) => {
                 line.key(name)?;
-                self.write_image(line, columns, image)
+                self.write_image(line, columns, before, image)
             }
             None => Ok(()),
         }
@@ -155,8 +163,9 @@ impl ValueWriter {
         ensures { Writes result line.old line.new (row_parts columns.now (row_cells row.now)) }
     {
         line.begin_object()?;
-        self.write_image_member(line, "before", columns, row.before())?;
-        self.write_image_member(line, "after", columns, row.after())?;
+        let before = row.before();
+        self.write_image_member(line, "before", columns, before, before)?;
+        self.write_image_member(line, "after", columns, before, row.after())?;
         line.end_object()
     }
 
@@ -177,7 +186,8 @@ impl ValueWriter {
         line.begin_array()?;
         self.keys.print(&mut self.names, columns)?;
         let keys = self.keys.take();
-        let mut writer = RowWriter::new(self.take(), line.take(), keys, columns, &rows);
+        let before = self.documents_before(&rows);
+        let mut writer = RowWriter::new(self.take(), line.take(), keys, columns, before, &rows);
         let written = writer.write_rest(rows);
         let RowWriter {
             values,

@@ -1,16 +1,18 @@
 //! Values as JSON.
 #![tactic(auto, using(std::proofs::Common::append_assoc))]
 
-ghost use Rattle.std.specs.Prelude.{◌≡◌, ◌++◌, ◌∷◌, []};
+ghost use Rattle.std.specs.Prelude.{◌≡◌, ◌++◌, ◌∷◌, [], option_copied};
 ghost use Rattle.json.specs.Token.{string};
 ghost use Rattle.json_line.specs.Tokens.{Adds};
 ghost use Rattle.binlog_values.specs.Decimals.{decimal_text};
 ghost use Rattle.binlog_values.specs.Values.{meaning_of, content_of};
 ghost use Rattle.binlog_optional_metadata.specs.Facts.{facts_of};
 ghost use Rattle.binlog_json_values.specs.Parts.{Writes};
+ghost use Rattle.binlog_json_values.specs.Documents.{diff_list_parts};
 ghost use Rattle.binlog_json_values.specs.Values.{value_tokens, value_parts};
 
-use crate::documents::{write_encoded, write_json};
+use crate::before::DocumentsBefore;
+use crate::documents::{write_diff_list, write_encoded, write_json};
 use crate::keys::ColumnKeys;
 use crate::members::{write_enum, write_set};
 use crate::names::NumberedNames;
@@ -18,6 +20,7 @@ use crate::numbers::{write_double, write_integer, write_single};
 use crate::strings::write_string;
 use crate::times::{write_date, write_datetime, write_datetime2, write_time, write_time2};
 use crate::timestamps::write_timestamp;
+use binlog_images::Rows;
 use binlog_optional_metadata::ColumnFacts;
 use binlog_values::{Decimal, Value};
 use json_line::Line;
@@ -50,6 +53,23 @@ impl ValueWriter {
     pub(crate) fn take(&mut self) -> Self {
         let empty = ValueWriter::new(self.alloc);
         mem::replace(self, empty)
+    }
+
+    /// The documents of the image before of the first of these rows. Nothing is allocated.
+    pub(crate) fn documents_before<'a>(&self, rows: &Rows<'a>) -> DocumentsBefore<'a> {
+        DocumentsBefore::new(self.alloc, rows)
+    }
+
+    /// Writes the bytes of a list of diffs of a column, whose document before is given.
+    pub(crate) fn write_diffs(
+        &mut self,
+        line: &mut Line,
+        before: Option<&[u8]>,
+        bytes: &[u8],
+    ) -> Result<(), AllocError>
+        ensures { Writes result line.old line.new (diff_list_parts (option_copied before.entry) bytes.now) }
+    {
+        write_diff_list(self.alloc, line, &mut self.text, before, bytes)
     }
 
     /// Writes a value of a column of which these facts are known.

@@ -2,6 +2,8 @@ pub mod Backwards
 pub mod Completed
 pub mod Columns
 pub mod Covered
+pub mod EventChanges
+pub mod InverseEvents
 pub mod Local
 pub mod Loop
 pub mod Prepending

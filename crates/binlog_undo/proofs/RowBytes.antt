@@ -73,7 +73,7 @@ exchange_one shape bytes row h = record {
   some = let some = h.some in omega (arith, length-append bytes.before bytes.after, length-append bytes.after bytes.before, some);
 }
 
-exchange_each : (shape : RowShape) (bytes : List RowBytes) (rows : List RowCells) → AllZip (IsRowBytes shape) bytes rows
+pub exchange_each : (shape : RowShape) (bytes : List RowBytes) (rows : List RowCells) → AllZip (IsRowBytes shape) bytes rows
     → AllZip (IsRowBytes (exchanged_shape shape)) (map exchanged bytes) (map exchanged_row rows)
 exchange_each shape [] [] h = tt
 exchange_each shape [] (row ∷ rows) h = absurd h

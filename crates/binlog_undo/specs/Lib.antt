@@ -1,6 +1,8 @@
 pub mod Backwards
 pub mod Completion
 pub mod Coverage
+pub mod EventChanges
+pub mod InverseEvents
 pub mod NewImages
 pub mod NullBits
 pub mod Outcomes

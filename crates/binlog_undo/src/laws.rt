@@ -1,11 +1,17 @@
 //! Laws of the definitions. Each is a function that does nothing and whose contract states the law.
-ghost use Rattle.std.specs.Prelude.{◌≡◌, ℕ, List, map, length, slice_index_or, Ok};
+ghost use Rattle.std.specs.Prelude.{◌≡◌, ℕ, List, map, length, slice_index_or, Ok, false};
 ghost use Rattle.std.specs.List.{AllByRecursion};
+ghost use Rattle.binlog_columns.specs.Metadata.{Typed};
 ghost use Rattle.binlog_images.specs.Cells.{absent, RowShape, RowCells, whole};
 ghost use Rattle.binlog_images.specs.Splits.{AreRows};
-ghost use Rattle.table_changes.specs.Changes.{State, AppliesAll, inverse};
+ghost use Rattle.binlog_rows.specs.RowsData.{event_in};
+ghost use Rattle.binlog_rows.specs.declared.rows_event_data.RowsEventData.{RowsEventData};
+ghost use Rattle.table_changes.specs.Changes.{State, Change, AppliesAll, inverse};
+ghost use Rattle.binlog_undo.specs.EventChanges.{HasChanges};
+ghost use Rattle.binlog_undo.specs.InverseEvents.{UndoesEvent};
 ghost use Rattle.binlog_undo.specs.RowBytes.{RowBytes, AreRowBytes, exchanged_bytes, HasSameColumns, AreUndone};
 ghost use Rattle.binlog_undo.specs.RowChanges.{TableRow, completed, row_changes, inverse_rows, HasOldColumns};
+ghost use Rattle.binlog_undo.specs.declared.inverse_event.ForeignKeyChecks.{ForeignKeyChecks};
 
 /// A column after an update is that of the image after, or, if the image after doesn't have it, that of the image before.
 pub fn rows_are_completed()
@@ -32,4 +38,29 @@ pub fn images_are_exchanged<Table>()
         → AreRows (whole shape) index s (map (λ row. Ok row) rows) → (bytes : List RowBytes) × AreRowBytes shape s bytes rows }
     ensures undone { (table : Table) (shape : RowShape) (s : List ℕ) (bytes : List RowBytes) (rows : List RowCells)
         → AreRowBytes shape s bytes rows → HasSameColumns shape.0 shape.1 → AreUndone table shape rows (exchanged_bytes bytes) }
+{}
+
+/// An event that is undone by another one is changes of its table. The other event is exactly the inverse of them, so it leads from
+/// the state behind the event back to the state that was there before it.
+pub fn events_are_undone<Table>()
+    ensures some { (table : Table) (key : List ℕ) (columns : List Typed) (checks : ForeignKeyChecks) (event undoing : RowsEventData)
+        → UndoesEvent key columns checks event undoing → (changes : List (Change Table TableRow)) × HasChanges table columns event changes }
+    ensures changes { (table : Table) (key : List ℕ) (columns : List Typed) (checks : ForeignKeyChecks) (event undoing : RowsEventData)
+        (changes : List (Change Table TableRow)) → UndoesEvent key columns checks event undoing → HasChanges table columns event changes
+        → HasChanges table columns undoing (inverse changes) }
+    ensures back { (table : Table) (key : List ℕ) (columns : List Typed) (checks : ForeignKeyChecks) (event undoing : RowsEventData)
+        (changes : List (Change Table TableRow)) (old new : State Table TableRow) → UndoesEvent key columns checks event undoing
+        → HasChanges table columns event changes → AppliesAll changes old new
+        → (back : List (Change Table TableRow)) × HasChanges table columns undoing back × AppliesAll back new old }
+{}
+
+/// What undoes the event that undoes an event has the changes of this event. It has the bytes of its rows, too, if the images were
+/// exchanged and weren't completed.
+pub fn events_are_undone_twice<Table>()
+    ensures changes { (table : Table) (key others : List ℕ) (columns : List Typed) (checks again : ForeignKeyChecks)
+        (event undoing redoing : RowsEventData) (changes : List (Change Table TableRow)) → UndoesEvent key columns checks event undoing
+        → UndoesEvent others columns again undoing redoing → HasChanges table columns event changes → HasChanges table columns redoing changes }
+    ensures bytes { (key others : List ℕ) (columns : List Typed) (checks again : ForeignKeyChecks) (event undoing redoing : RowsEventData)
+        → (undoes : UndoesEvent key columns checks event undoing) → UndoesEvent others columns again undoing redoing
+        → undoes.undone.completes ≡ false → (event_in redoing).rows ≡ (event_in event).rows }
 {}

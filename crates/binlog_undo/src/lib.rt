@@ -9,11 +9,13 @@ mod backward;
 mod completion;
 mod coverage;
 mod image_pair;
+mod inverse_event;
 pub mod laws;
 mod null_bits;
 mod undo_error;
 mod undoing;
 mod undone_rows;
 
+pub use inverse_event::{ForeignKeyChecks, InverseEvent, undo_event};
 pub use undo_error::UndoError;
 pub use undone_rows::{UndoneRows, undo_rows};

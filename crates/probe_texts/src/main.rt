@@ -19,6 +19,13 @@
 //!   have a `;` between, and no columns are `none`.
 //! - `frames LIMIT BYTES` is answered with the content of the Zstandard frames, which is at most LIMIT bytes long, or with `refused` and
 //!   why: `refused Checksum`.
+//! - `payload LIMIT BYTES` is answered with what the data of a TRANSACTION_PAYLOAD event say, as Rust's `{:?}` writes it: compression
+//!   type, size of the content, and size of the payload; the data that are written for it; the content, which is at most LIMIT bytes
+//!   long; and the type, the size and the size of the data of each event in it, and the error behind them, if there is one: `ZSTD
+//!   Some(27) 36 020100.. e803.. 16:27:8`. In place of the content, and of all, stand `refused` and why: `refused FieldTwice`.
+//! - `inner BYTES BYTES` is answered with the events of a content as the reader of a stream reads them, behind the events of a stream:
+//!   the type, the size of the data, and whether a table map is in force for the id with which the data begin, or the error; and with
+//!   the number of bytes that are left: `16:8:false 0`.
 //! - `type BYTES` is answered with the type of a column that the bytes spell, as Rust's `{:?}` writes it, or with `none`.
 //!
 //! Bytes are hexadecimal digits, and no bytes are `-`. Any other line is answered with `unknown`. The exit status is 1 where input, output
@@ -31,6 +38,7 @@ mod characters;
 mod columns;
 mod documents;
 mod frames;
+mod payloads;
 
 use bytes::bytes_of;
 use documents::Documents;
@@ -63,6 +71,8 @@ fn answer<W: Write>(
             None => writeln!(output, "unknown"),
         },
         Some(("frames", asked)) => frames::write_content(alloc, asked, output),
+        Some(("payload", asked)) => payloads::write_payload(alloc, asked, output),
+        Some(("inner", asked)) => payloads::write_read(alloc, asked, output),
         Some(("built", words)) => writeln!(output, "{}", built::answer(alloc, words)?),
         Some(("file", digits)) => match bytes_of(alloc, digits) {
             Some(bytes) => writeln!(output, "{}", columns::answer(alloc, &bytes)?),

@@ -1,45 +1,29 @@
-//! Tests of `binlog_file`: where events begin and end, which description and which table maps are in force, events that are read,
-//! borrowed, written and copied, checksums and logs that are verified, slices, large values, readers and writers that fail, and
-//! failed allocations. The functions are short, since the time of a proof grows with the square of a function's length.
+//! Tests of what reads, lists and writes logs, where no line of `tests/cases` and no test of the cargo packages can stand for them: readers
+//! and writers that fail at each of their calls, memory that is refused, what outlives what it was read of, and generic calls that no
+//! program makes. `tests/refused_memory.py` and `tests/allocations.py` run those that are about memory.
+//!
+//! The functions are short, since the time of a proof grows with the square of a function's length.
 #![tactic(auto)]
 
 #[cfg(test)]
-mod advancing;
-#[cfg(test)]
-mod bodies;
-#[cfg(test)]
 mod boundless;
 #[cfg(test)]
-mod calling;
+mod bytes;
 #[cfg(test)]
-mod checksums;
-#[cfg(test)]
-mod closed_logs;
-#[cfg(test)]
-mod describing;
+mod calls;
 #[cfg(test)]
 mod events;
 #[cfg(test)]
-mod exact_reading;
+mod failing_reader;
 #[cfg(test)]
-mod failing_ends;
+mod failing_reads;
 #[cfg(test)]
-mod framing;
+mod failing_writer;
 #[cfg(test)]
-mod large_values;
-#[cfg(test)]
-mod lending;
+mod failing_writes;
 #[cfg(test)]
 mod memory;
 #[cfg(test)]
+mod recipes;
+#[cfg(test)]
 mod slices;
-#[cfg(test)]
-mod table_maps;
-#[cfg(test)]
-mod verified_in_force;
-#[cfg(test)]
-mod verified_items;
-#[cfg(test)]
-mod writers;
-#[cfg(test)]
-mod writing;

@@ -28,6 +28,4 @@ impl AsStr for Cow<'_, str> {
 pub mod examples;
 pub mod test_base;
 pub mod test_bodies;
-pub mod test_listing;
 pub mod test_logs;
-pub mod testkit_logs;

@@ -159,3 +159,12 @@ fn wrong_checksums_are_found() {
     assert!(items[0].is_ok() && items[1].is_ok());
     assert!(matches!(items[2], Err(Error::ChecksumMismatch { .. })));
 }
+
+// The check value of CRC-32 in catalogues of CRCs. `tests/written_back.py` has the checksums of zlib's `crc32`.
+#[test]
+fn the_check_value() {
+    let crc32 = Crc32::new();
+    assert_eq!(crc32.checksum(b"123456789"), 0xcbf4_3926);
+    let parts: [&[u8]; 4] = [b"12345", b"", b"6", b"789"];
+    assert_eq!(crc32.checksum_of_parts(&parts), 0xcbf4_3926);
+}

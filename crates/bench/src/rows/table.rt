@@ -1,10 +1,10 @@
 //! The columns of the last table map.
 use binlog_columns::{Column, TableColumns};
-use binlog_file::{Error, TableMapEvent};
+use binlog_file::{Error, EventRef, TableMapEvent};
 use std::alloc::Global;
 
 /// The columns of the last table map, in memory that is reused for the next one.
-#[derive(Debug, Drop)]
+#[derive(Drop)]
 pub(crate) struct Table {
     /// The table map's id. None if there was none, or its columns were refused.
     id: Option<u64>,
@@ -20,8 +20,13 @@ impl Table {
         }
     }
 
-    /// Keeps the columns of a table map.
-    pub(crate) fn keep(&mut self, table_map: &TableMapEvent<'_>) -> Result<(), Error> {
+    /// Keeps the columns of the table map that an event is.
+    pub(crate) fn keep(&mut self, alloc: Global, event: EventRef<'_>) -> Result<(), Error> {
+        let table_map: TableMapEvent<'_> = event.read_event(alloc)?;
+        self.keep_columns(&table_map)
+    }
+
+    fn keep_columns(&mut self, table_map: &TableMapEvent<'_>) -> Result<(), Error> {
         self.id = None;
         self.columns.clear();
         let types = table_map.columns_type_raw();

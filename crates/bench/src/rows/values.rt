@@ -1,10 +1,9 @@
 //! Sums over values.
 use binlog_images::{ColumnValue, ColumnVisitor, ImageKind};
 use binlog_values::{Decimal, Value};
-use std::fmt;
 
-/// Sums over the values of rows, modulo 2^64. They are displayed in order, separated by spaces.
-#[derive(Debug, Default, Drop)]
+/// Sums over the values of rows, modulo 2^64.
+#[derive(Clone, Copy, Default)]
 pub(crate) struct ValueSums {
     /// The number of NULLs.
     nulls: u64,
@@ -22,23 +21,6 @@ pub(crate) struct ValueSums {
     seconds: u64,
     /// Microseconds.
     microseconds: u64,
-}
-
-impl fmt::Display for ValueSums {
-    fn fmt<W: fmt::Write>(&self, f: &mut fmt::Formatter<W>) -> fmt::Result {
-        write!(
-            f,
-            "{} {} {} {} {} {} {} {}",
-            self.nulls,
-            self.integers,
-            self.bytes,
-            self.decimals,
-            self.floats,
-            self.years,
-            self.seconds,
-            self.microseconds
-        )
-    }
 }
 
 /// Counts a column of an image; nothing for one that is absent.
@@ -59,6 +41,20 @@ impl ColumnVisitor for ValueSums {
 }
 
 impl ValueSums {
+    /// All sums, in order.
+    pub(crate) fn numbers(&self) -> [u64; 8] {
+        [
+            self.nulls,
+            self.integers,
+            self.bytes,
+            self.decimals,
+            self.floats,
+            self.years,
+            self.seconds,
+            self.microseconds,
+        ]
+    }
+
     #[inline(always)]
     fn count_value(&mut self, value: &Value<'_>) {
         match value {

@@ -1,9 +1,8 @@
 //! Sums over the fields of the GTIDs of a log.
 use binlog_file::GtidEvent;
-use std::fmt;
 
-/// Sums over the GTIDs of a log, modulo 2^64. They are displayed in order, separated by spaces.
-#[derive(Debug, Default, Drop)]
+/// Sums over the GTIDs of a log, modulo 2^64.
+#[derive(Clone, Copy, Default)]
 pub(crate) struct GtidSums {
     /// The number of GTIDs.
     gtids: u64,
@@ -13,13 +12,12 @@ pub(crate) struct GtidSums {
     numbers: u64,
 }
 
-impl fmt::Display for GtidSums {
-    fn fmt<W: fmt::Write>(&self, f: &mut fmt::Formatter<W>) -> fmt::Result {
-        write!(f, "{} {} {}", self.gtids, self.tag_bytes, self.numbers)
-    }
-}
-
 impl GtidSums {
+    /// All sums, in order.
+    pub(crate) fn numbers(&self) -> [u64; 3] {
+        [self.gtids, self.tag_bytes, self.numbers]
+    }
+
     pub(crate) fn count(&mut self, event: &GtidEvent) {
         self.gtids = self.gtids.wrapping_add(1);
         if let Some(tag) = event.tag() {

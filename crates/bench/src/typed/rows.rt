@@ -1,9 +1,8 @@
 //! Sums over the fields of the table maps and the row events of a log.
 use binlog_file::{BitView, RowsEvent, TableMapEvent};
-use std::fmt;
 
-/// Sums over the table maps and the row events of a log, modulo 2^64. They are displayed in order, separated by spaces.
-#[derive(Debug, Default, Drop)]
+/// Sums over the table maps and the row events of a log, modulo 2^64.
+#[derive(Clone, Copy, Default)]
 pub(crate) struct RowSums {
     /// The number of table maps.
     maps: u64,
@@ -17,17 +16,18 @@ pub(crate) struct RowSums {
     numbers: u64,
 }
 
-impl fmt::Display for RowSums {
-    fn fmt<W: fmt::Write>(&self, f: &mut fmt::Formatter<W>) -> fmt::Result {
-        write!(
-            f,
-            "{} {} {} {} {}",
-            self.maps, self.map_bytes, self.row_events, self.row_bytes, self.numbers
-        )
-    }
-}
-
 impl RowSums {
+    /// All sums, in order.
+    pub(crate) fn numbers(&self) -> [u64; 5] {
+        [
+            self.maps,
+            self.map_bytes,
+            self.row_events,
+            self.row_bytes,
+            self.numbers,
+        ]
+    }
+
     #[inline(always)]
     pub(crate) fn count_map(&mut self, map: &TableMapEvent<'_>) {
         let bytes = map

@@ -28,51 +28,42 @@ fn read_all<R: ReadCounted>(input: &mut R) -> ([u8; 4], usize, Option<usize>) {
     (bytes, len, failed_behind)
 }
 
-// Whether all bytes are read, and one failure is counted, if one call fails after this many.
-fn loses_nothing(calls_before: usize) -> bool {
+// Whether a borrowed reader gives all bytes if some calls fail after so many, and the reader counts the failures. An empty buffer
+// asks it for nothing.
+fn loses_nothing(calls_before: usize, failures: usize, kind: ErrorKind) -> bool {
     let plan = Plan {
         calls_before,
-        failures: 1,
-        kind: ErrorKind::BrokenPipe,
+        failures,
+        kind,
     };
     let mut input = Counted::new(ByteReader::new(BYTES, plan));
-    let read = read_all(&mut input);
-    let last = input.last_failure();
-    let failures = input.failures();
+    let none = (
+        input.read_some(&mut []),
+        input.failures(),
+        input.last_failure(),
+    );
+    let read = read_all(&mut &mut input);
+    let counted = (
+        input.failures(),
+        input.last_failure(),
+        input.get_ref().left(),
+    );
     drop(input);
-    read == (*b"abcd", 4, Some(calls_before.min(4)))
-        && failures == 1
-        && last == Some(ErrorKind::BrokenPipe)
+    none == (Ok(0), 0, None)
+        && read == (*b"abcd", 4, Some(calls_before.min(4)))
+        && counted == (failures as u64, Some(kind), 0)
 }
 
 #[test]
 fn a_failure_takes_no_byte_wherever_it_comes(rt: HostRuntime) {
     for calls_before in 0..6 {
-        assert!(rt; loses_nothing(calls_before));
+        assert!(rt; loses_nothing(calls_before, 1, ErrorKind::BrokenPipe));
     }
-}
-
-// Whether the calls that are interrupted are failures.
-fn fails_twice() -> bool {
-    let plan = Plan {
-        calls_before: 0,
-        failures: 2,
-        kind: ErrorKind::Interrupted,
-    };
-    let mut input = Counted::new(ByteReader::new(BYTES, plan));
-    let none = input.last_failure();
-    let first = input.read_some(&mut [0; 3]);
-    let second = input.read_some(&mut [0; 3]);
-    let (failures, last) = (input.failures(), input.last_failure());
-    drop(input);
-    first == Err(Failed)
-        && second == Err(Failed)
-        && (none, failures, last) == (None, 2, Some(ErrorKind::Interrupted))
 }
 
 #[test]
 fn an_interruption_is_a_failure(rt: HostRuntime) {
-    assert!(rt; fails_twice());
+    assert!(rt; loses_nothing(0, 2, ErrorKind::Interrupted));
 }
 
 // Whether a slice is read to its end, without a failure.
@@ -88,49 +79,4 @@ fn is_slice_read() -> bool {
 #[test]
 fn a_slice_is_read_in_pieces(rt: HostRuntime) {
     assert!(rt; is_slice_read());
-}
-
-// The result of the first call, and the number of failures after it.
-fn first_answer<R: ReadCounted>(input: &mut R) -> (Result<usize, Failed>, u64) {
-    let answer = input.read_some(&mut [0; 3]);
-    (answer, input.failures())
-}
-
-// A reader whose first call fails.
-fn failing_first() -> Counted<ByteReader<'static>> {
-    let plan = Plan {
-        calls_before: 0,
-        failures: 1,
-        kind: ErrorKind::Other,
-    };
-    Counted::new(ByteReader::new(BYTES, plan))
-}
-
-// Whether a failure of a borrowed reader is counted by the reader, which has all of its bytes.
-fn counts_on() -> bool {
-    let mut input = failing_first();
-    let first = first_answer(&mut &mut input);
-    let failures = input.failures();
-    let left = input.get_ref().left();
-    drop(input);
-    first == (Err(Failed), 1) && failures == 1 && left == 4
-}
-
-#[test]
-fn a_borrowed_reader_counts_on(rt: HostRuntime) {
-    assert!(rt; counts_on());
-}
-
-// The answer for an empty buffer, and the number of failures.
-fn empty_answer() -> (Result<usize, Failed>, u64) {
-    let mut input = failing_first();
-    let none = input.read_some(&mut []);
-    let failures = input.failures();
-    drop(input);
-    (none, failures)
-}
-
-#[test]
-fn an_empty_buffer_asks_nothing(rt: HostRuntime) {
-    assert!(rt; empty_answer() == (Ok(0), 0));
 }

@@ -1,6 +1,6 @@
 //! Calls that are interrupted.
 use crate::ends::devices::{ByteReader, ByteWriter, Plan};
-use binlog_ends::{ATTEMPTS, Counted, CountsFailures, Failed, ReadCounted, Retrying, WriteCounted};
+use binlog_ends::{ATTEMPTS, Counted, CountsFailures, ReadCounted, Retrying, WriteCounted};
 use std::alloc::Global;
 use std::io::{ErrorKind, Read};
 
@@ -67,36 +67,32 @@ fn a_read_without_a_buffer_is_tried_again(rt: HostRuntime) {
     assert!(rt; first_read(interrupted(0, ATTEMPTS - 1)) == (1, *b"a\0"));
 }
 
-// Whether four bytes are written and flushed under this plan.
-fn is_written(alloc: Global, plan: Plan) -> bool {
+// Writes four bytes and flushes under this plan. Returns whether each was Ok, the number of failures, and whether these bytes
+// were written.
+fn writes(alloc: Global, plan: Plan, wanted: &[u8]) -> (bool, bool, u64, bool) {
     let mut output = Counted::new(Retrying::new(ByteWriter::new(alloc, 4, plan)));
     let is_whole = output.write_whole(b"abcd") == Ok(());
     let is_flushed = output.flush_counted() == Ok(());
-    let device = output.into_inner().into_inner();
-    let is_written = device.written.as_slice() == b"abcd".as_slice();
-    drop(device);
-    is_whole && is_flushed && is_written
+    let failures = output.failures();
+    let is_written = output.get_ref().get_ref().written.as_slice() == wanted;
+    drop(output);
+    (is_whole, is_flushed, failures, is_written)
 }
 
+// The call that is interrupted is one of the four writes, or the flush.
 #[test]
 fn interrupted_writes_are_tried_again(rt: HostRuntime) {
     for calls_before in 0..5 {
-        assert!(rt; is_written(rt.alloc(), interrupted(calls_before, ATTEMPTS - 1)));
-        assert!(rt; !is_written(rt.alloc(), interrupted(calls_before, ATTEMPTS)));
+        let answers = writes(rt.alloc(), interrupted(calls_before, ATTEMPTS - 1), b"abcd");
+        assert!(rt; answers == (true, true, 0, true));
     }
 }
 
-// The result of writing four bytes under this plan, the number of failures, and how many bytes were written.
-fn written(alloc: Global, plan: Plan) -> (Result<(), Failed>, u64, usize) {
-    let mut output = Counted::new(Retrying::new(ByteWriter::new(alloc, 4, plan)));
-    let answer = output.write_whole(b"abcd");
-    let failures = output.failures();
-    let len = output.get_ref().get_ref().written.len();
-    drop(output);
-    (answer, failures, len)
-}
-
 #[test]
-fn an_interruption_within_the_bytes_is_a_failure(rt: HostRuntime) {
-    assert!(rt; written(rt.alloc(), interrupted(2, ATTEMPTS)) == (Err(Failed), 1, 2));
+fn too_many_interruptions_of_a_writer_are_a_failure(rt: HostRuntime) {
+    for calls_before in 0..5 {
+        let front = &b"abcd"[..calls_before];
+        let answers = writes(rt.alloc(), interrupted(calls_before, ATTEMPTS), front);
+        assert!(rt; answers == (calls_before == 4, calls_before < 4, 1, true));
+    }
 }

@@ -1,81 +1,59 @@
 //! Writers that fail, and writers that take a part of the bytes.
 use crate::ends::devices::{ByteWriter, Plan};
-use binlog_ends::{Counted, CountsFailures, Failed, WriteCounted};
+use binlog_ends::{Counted, CountsFailures, WriteCounted};
 use std::alloc::Global;
 use std::io::ErrorKind;
 
-// Writes four bytes and then four others, where one call fails after this many. Returns whether each write was Ok, the
-// failure count, the kind of the last failure, and whether these bytes were written.
-fn writes(
-    alloc: Global,
-    calls_before: usize,
-    room: usize,
-    written: &[u8],
-) -> (bool, bool, u64, Option<ErrorKind>, bool) {
+/// Whether two writes and a flush were Ok, whether the wanted bytes were written, the number of failures, and the kind of the
+/// last one.
+type Answers = ([bool; 3], bool, u64, Option<ErrorKind>);
+
+// Whether each call was Ok: a write of four bytes, one of four others, and a flush.
+fn calls<W: WriteCounted>(output: &mut W) -> [bool; 3] {
+    [
+        output.write_whole(b"abcd") == Ok(()),
+        output.write_whole(b"efgh") == Ok(()),
+        output.flush_counted() == Ok(()),
+    ]
+}
+
+/// After how many calls one fails, how much room there is, what is to be written, and the answers.
+type Row = (usize, usize, &'static [u8], Answers);
+
+// Makes these calls of a borrowed writer.
+fn answers(alloc: Global, row: &Row) -> Answers {
     let plan = Plan {
-        calls_before,
+        calls_before: row.0,
         failures: 1,
         kind: ErrorKind::BrokenPipe,
     };
-    let mut output = Counted::new(ByteWriter::new(alloc, room, plan));
-    let first = output.write_whole(b"abcd") == Ok(());
-    let second = output.write_whole(b"efgh") == Ok(());
+    let mut output = Counted::new(ByteWriter::new(alloc, row.1, plan));
+    let are_ok = calls(&mut &mut output);
     let (failures, last) = (output.failures(), output.last_failure());
     let device = output.into_inner();
-    let is_written = device.written.as_slice() == written;
+    let is_written = device.written.as_slice() == row.2;
     drop(device);
-    (first, second, failures, last, is_written)
+    (are_ok, is_written, failures, last)
 }
 
-#[test]
-fn short_writes_go_on(rt: HostRuntime) {
-    let answers = writes(rt.alloc(), 8, 8, b"abcdefgh");
-    assert!(rt; answers == (true, true, 0, None, true));
-}
+const PIPE: Option<ErrorKind> = Some(ErrorKind::BrokenPipe);
 
-/// After how many calls one fails, what is written, and whether each write is Ok.
-const FAILURES: [(usize, &[u8], bool, bool); 4] = [
-    (0, b"efgh", false, true),
-    (3, b"abcefgh", false, true),
-    (4, b"abcd", true, false),
-    (7, b"abcdefg", true, false),
+const ZERO: Option<ErrorKind> = Some(ErrorKind::WriteZero);
+
+/// Writers that don't fail and that are full, and then such that fail, which stops the call.
+const ROWS: &[Row] = &[
+    (9, 8, b"abcdefgh", ([true, true, true], true, 0, None)),
+    (9, 3, b"abc", ([false, false, true], true, 2, ZERO)),
+    (0, 8, b"efgh", ([false, true, true], true, 1, PIPE)),
+    (3, 8, b"abcefgh", ([false, true, true], true, 1, PIPE)),
+    (4, 8, b"abcd", ([true, false, true], true, 1, PIPE)),
+    (7, 8, b"abcdefg", ([true, false, true], true, 1, PIPE)),
+    (8, 8, b"abcdefgh", ([true, true, false], true, 1, PIPE)),
 ];
 
 #[test]
-fn a_failure_stops_the_call(rt: HostRuntime) {
-    let pipe = Some(ErrorKind::BrokenPipe);
-    for (calls_before, written, first, second) in FAILURES {
-        let answers = writes(rt.alloc(), calls_before, 8, written);
-        assert!(rt; answers == (first, second, 1, pipe, true));
+fn writers_take_parts_and_fail(rt: HostRuntime) {
+    for row in ROWS {
+        assert!(rt; answers(rt.alloc(), row) == row.3);
     }
-}
-
-#[test]
-fn a_full_writer_fails(rt: HostRuntime) {
-    let zero = Some(ErrorKind::WriteZero);
-    assert!(rt; writes(rt.alloc(), 9, 3, b"abc") == (false, false, 2, zero, true));
-}
-
-fn flush<W: WriteCounted>(output: &mut W) -> Result<(), Failed> {
-    output.flush_counted()
-}
-
-// Whether a flush that fails, by the borrowed writer, is counted by the writer.
-fn is_flush_counted(alloc: Global) -> bool {
-    let plan = Plan {
-        calls_before: 1,
-        failures: 1,
-        kind: ErrorKind::BrokenPipe,
-    };
-    let mut output = Counted::new(ByteWriter::new(alloc, 0, plan));
-    let first = output.flush_counted() == Ok(());
-    let second = flush(&mut &mut output) == Err(Failed);
-    let (failures, last) = (output.failures(), output.last_failure());
-    drop(output);
-    first && second && (failures, last) == (1, Some(ErrorKind::BrokenPipe))
-}
-
-#[test]
-fn a_flush_that_fails_is_counted(rt: HostRuntime) {
-    assert!(rt; is_flush_counted(rt.alloc()));
 }

@@ -2,7 +2,8 @@
 //! aren't those that their `Display` shows.
 use binlog::consts::BinlogVersion;
 use binlog::events::{EventData, RowsEventData, TableMapEvent};
-use binlog::jsondiff::{JsonDiffOperation, JsonDiffs};
+use binlog::jsonb::Document;
+use binlog::jsondiff::{JsonDiffOperation, JsonDiffs, apply};
 use binlog::mariadb::is_maria_log;
 use binlog::json_lines::{Line, ValueWriter};
 use binlog::memory::AllocError;
@@ -10,6 +11,9 @@ use binlog::values::{ColumnFacts, ColumnValue, Image, Row, Rows, RowsEventError,
 use binlog::values::{TableColumns, TableFacts, Value};
 use binlog::{BinlogFile, Error};
 use std::io::{self, BufWriter, Write};
+
+/// How many diffs of a list are applied at most.
+const MOST_DIFFS: usize = 100;
 
 /// The line of an event with these rows, of a table with this map.
 struct Printer {
@@ -78,12 +82,21 @@ fn displayed_rows(columns: &[ColumnFacts<'_>], rows: Rows<'_>) -> String {
 fn displayed_row(columns: &[ColumnFacts<'_>], row: &Row<'_>) -> String {
     let images = [("before", row.before()), ("after", row.after())].into_iter();
     let members: Vec<String> = images
-        .filter_map(|(name, image)| Some(format!("\"{name}\":{}", displayed_image(columns, image?))))
+        .filter_map(|(name, image)| {
+            let shown = displayed_image(columns, row.before(), image?);
+            Some(format!("\"{name}\":{shown}"))
+        })
         .collect();
     format!("{{{}}}", members.join(","))
 }
 
-fn displayed_image(columns: &[ColumnFacts<'_>], image: Image<'_>) -> String {
+/// An image of a row with this image before.
+fn displayed_image(
+    columns: &[ColumnFacts<'_>],
+    before: Option<Image<'_>>,
+    image: Image<'_>,
+) -> String {
+    let before: Vec<_> = before.into_iter().flatten().collect();
     let members: Vec<String> = columns
         .iter()
         .zip(image)
@@ -93,22 +106,45 @@ fn displayed_image(columns: &[ColumnFacts<'_>], image: Image<'_>) -> String {
                 Some(name) => name.to_owned(),
                 None => format!("@{}", place + 1),
             };
-            Some(format!("{}:{}", Value::Bytes(name.as_bytes()), displayed(facts, value)?))
+            let shown = displayed(facts, before.get(place), value)?;
+            Some(format!("{}:{shown}", Value::Bytes(name.as_bytes())))
         })
         .collect();
     format!("{{{}}}", members.join(","))
 }
 
-fn displayed(facts: &ColumnFacts<'_>, value: ColumnValue<'_>) -> Option<String> {
+fn displayed(
+    facts: &ColumnFacts<'_>,
+    before: Option<&ColumnValue<'_>>,
+    value: ColumnValue<'_>,
+) -> Option<String> {
     match value {
         ColumnValue::Absent => None,
         ColumnValue::Null => Some(Value::Null.to_string()),
         ColumnValue::Value(value) => Some(value.display(facts).to_string()),
-        ColumnValue::Diffs(bytes) => Some(match displayed_diffs(bytes) {
-            Some(diffs) => format!("{{\"diffs\":[{diffs}]}}"),
-            None => format!("{{\"diffs\":{}}}", Value::Geometry(bytes)),
-        }),
+        ColumnValue::Diffs(bytes) => {
+            let after = displayed_after(before, bytes).unwrap_or_default();
+            Some(match displayed_diffs(bytes) {
+                Some(diffs) => format!("{{\"diffs\":[{diffs}]{after}}}"),
+                None => format!("{{\"diffs\":{}{after}}}", Value::Geometry(bytes)),
+            })
+        }
     }
+}
+
+/// The member of the document after these diffs, behind a comma, if there is one.
+fn displayed_after(before: Option<&ColumnValue<'_>>, diffs: &[u8]) -> Option<String> {
+    let Some(ColumnValue::Value(Value::Json(before))) = before else {
+        return None;
+    };
+    if JsonDiffs::new(diffs).count() > MOST_DIFFS {
+        return None;
+    }
+    let before = Document::read(before).ok()?;
+    let after = apply(&before, JsonDiffs::new(diffs)).ok()?;
+    let shown = Value::Json(after.as_bytes()).to_string();
+    let value = shown.strip_prefix("{\"json\":")?.strip_suffix('}')?;
+    Some(format!(",\"json\":{value}"))
 }
 
 /// The diffs of a list, if each of them has a text. Their documents are cut out of the bytes here.

@@ -6,6 +6,7 @@ use Rattle.binary_json.specs.declared.diffs.JsonDiff.{JsonDiff}
 use Rattle.binary_json.specs.declared.diffs.JsonDiffError.{JsonDiffError}
 use Rattle.binary_json_writing.specs.Owned.{owned_value}
 use Rattle.binary_json_writing.proofs.DiffsLeft.{ok, made_more, refused_more, refused_here}
+use Rattle.binary_json_writing.proofs.ValuesAfter.{owned_possible}
 use Rattle.binary_json_writing.proofs.applying.apply.Goals as goal
 
 pub returns-in_err-current-2-clause-refused : goal.returns-in_err-current-2-clause-refused
@@ -23,6 +24,6 @@ diffs-preserved c =
     let v = owned_value c.diffs.current in
     let u = owned_value c.in_ok-current-2.current in
     record {
-      made = λ w all. c.diffs.invariant.made w (made_more (diffs_left c.diffs.item-iterator) rest d v u w left c.in_ok-current-2.ensures.made all);
+      made = λ w all. c.diffs.invariant.made w (made_more (diffs_left c.diffs.item-iterator) rest d v u w left (owned_possible c.diffs.current) c.in_ok-current-2.ensures.made all);
       refused = λ e why. c.diffs.invariant.refused e (refused_more (diffs_left c.diffs.item-iterator) rest d v u e left c.in_ok-current-2.ensures.made why);
     }

@@ -1,8 +1,20 @@
-use Rattle.binlog_json_lines.proofs.Output.{lines_of, errors_of}
+use Rattle.binlog_json_lines.specs.Options.{options_of}
+use Rattle.binlog_json_lines.specs.declared.writer.JsonWriter.{JsonWriter}
+use Rattle.binlog_json_lines.proofs.Output.{VisitsLines, of_options, lines_of, errors_of, first_of}
 use Rattle.binlog_json_lines.proofs.laws.json_lines.Goals as goal
 
 pub returns : goal.returns
-returns g c = record {
-  lines = lines_of (λ writer. g.W.Write.contents writer.output) (λ writer. writer.keeps_stored) (λ writer. writer.has_errors) _ (λ before maps at item after wrote. wrote);
-  errors = errors_of (λ writer. g.W.Write.contents writer.output) (λ writer. writer.keeps_stored) (λ writer. writer.has_errors) _ (λ before maps at item after wrote. wrote);
-}
+returns g c =
+    let contents = λ (writer : JsonWriter g.row.W.Denot). g.W.Write.contents writer.output in
+    let own = λ (writer : JsonWriter g.row.W.Denot). writer.options in
+    let options = λ (writer : JsonWriter g.row.W.Denot). options_of writer.options in
+    let errors = λ (writer : JsonWriter g.row.W.Denot). writer.has_errors in
+    let noted = λ (writer : JsonWriter g.row.W.Denot). writer.contradictions in
+    let visits = VisitsLines contents own options_of errors noted in
+    let writes = of_options contents own options_of errors noted in
+    record {
+      lines = lines_of contents options errors noted visits writes;
+      errors = errors_of contents options errors noted visits writes;
+      contradictions = λ maps index items old new schema table visited.
+          let first = first_of contents options errors noted visits writes maps index items old new schema table visited in (first.found, first.first, first.noted);
+    }

@@ -20,8 +20,8 @@ use Rattle.binlog_json_lines.proofs.row_members.RowsWriter.write_members.Goals a
 pub returns-then-not-is_row_event : goal.returns-then-not-is_row_event
 returns-then-not-is_row_event c =
     let e = view_of c.args.event.now in
-    no_members e (option_copied c.args.table_map) (rows_event_of e) c.args.line.now
-    (of_other_type e.fde (data_of e.fde.footer e.frame) (event_type_of (header_of e.frame).event_type) (sym c.is_row_event.ensures ∙ c.if-not-is_row_event.true))
+    rw c.nothing.ensures (no_members c.args.files.now e (option_copied c.args.table_map) (rows_event_of e) c.args.line.now
+    (of_other_type e.fde (data_of e.fde.footer e.frame) (event_type_of (header_of e.frame).event_type) (sym c.is_row_event.ensures ∙ c.if-not-is_row_event.true)))
 
 pub returns-in-Ok-Some : goal.returns-in-Ok-Some
 returns-in-Ok-Some c =
@@ -34,15 +34,15 @@ returns-in-Ok-Some c =
     let found = read_some e.fde (header_of e.frame).event_type (data_of e.fde.footer e.frame) c.in-Ok-Some.body rows reads in
     let shown =
     subst
-    (λ (f : Option RowsEventData). ShowsBy c.write_body-written.result c.args.line.now c.write_body-written.new.line (AreBodyMembers c.is_maria_log-is_maria_log.result (option_copied c.args.table_map) f))
+    (λ (f : Option RowsEventData). ShowsBy c.write_body-written.result c.args.line.now c.write_body-written.new.line (AreBodyMembers c.args.files.now c.is_maria_log-is_maria_log.result (option_copied c.args.table_map) f))
     (sym found) c.write_body-written.ensures in
     let flavour : IsFlavour e c.is_maria_log-is_maria_log.result =
     subst (λ (d : FormatDescriptionEvent). IsTrue c.is_maria_log-is_maria_log.result ↔ IsMariaVersion (take 50 d.server_version)) c.fde.ensures c.is_maria_log-is_maria_log.ensures in
-    members_of c.write_body-written.result e c.is_maria_log-is_maria_log.result (option_copied c.args.table_map) (rows_event_of e) c.args.line.now c.write_body-written.new.line flavour shown
+    members_of c.write_body-written.result c.args.files.now e c.is_maria_log-is_maria_log.result (option_copied c.args.table_map) (rows_event_of e) c.args.line.now c.write_body-written.new.line flavour shown
 
 pub returns-in-Err : goal.returns-in-Err
 returns-in-Err c =
     let e = view_of c.args.event.now in
     let rows : is_of_rows (event_type_of (header_of e.frame).event_type) ≡ true = sym c.is_row_event.ensures ∙ c.if-not-is_row_event.false in
-    no_members e (option_copied c.args.table_map) (rows_event_of e) c.args.line.now
-    (read_error e.fde (header_of e.frame).event_type (data_of e.fde.footer e.frame) c.in-Err.field-0 rows (rw c.in-Err.is at c.read_data.ensures))
+    rw c.nothing-in-Err.ensures (no_members c.args.files.now e (option_copied c.args.table_map) (rows_event_of e) c.args.line.now
+    (read_error e.fde (header_of e.frame).event_type (data_of e.fde.footer e.frame) c.in-Err.field-0 rows (rw c.in-Err.is at c.read_data.ensures)))

@@ -59,5 +59,5 @@ pub returns-in_ok-end_row-in-Ok-clause-written : goal.returns-in_ok-end_row-in-O
 returns-in_ok-end_row-in-Ok-clause-written c =
     let first = begun_writer c.args.rows.now c.visit_next.new.self _ c.visit_next.new.visitor c.visit_next.result c.visit_next.ensures in
     let visited = visited_row c.args.rows.now c.visit_next.new.self first c.visit_next.new.visitor c.visit_next.result c.in-Some.visited c.in-Ok.field-0 c.in-Some.is c.in-Ok.is c.visit_next.ensures in
-    row_written first c.visit_next.new.visitor c.args.rows.now c.visit_next.new.self c.args.self.now.line c.end_row.new.line c.requires c.in_ok-begin_row.ensures refl visited c.if-self.false
+    row_written first c.visit_next.new.visitor c.args.rows.now c.visit_next.new.self c.args.self.now.line c.end_row.new.line c.requires c.begin.ensures c.in_ok-begin_row.ensures refl visited c.if-self.false
     c.in_ok-end_row-in-Ok.ensures

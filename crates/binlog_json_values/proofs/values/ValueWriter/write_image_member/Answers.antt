@@ -4,9 +4,12 @@ use Rattle.binlog_images.specs.ImageCells.{cells_of}
 use Rattle.binlog_json_values.specs.Parts.{exactly}
 use Rattle.binlog_json_values.specs.Rows.{image_parts}
 use Rattle.binlog_json_values.proofs.Parts.{shows_exact, then_written}
+use Rattle.binlog_json_values.proofs.RowTexts.{columns_left}
 use Rattle.binlog_json_values.proofs.values.ValueWriter.write_image_member.Goals as goal
 
 pub returns-in_ok-key-in-Some : goal.returns-in_ok-key-in-Some
 returns-in_ok-key-in-Some c =
     let name = shows_exact _ _ (key c.args.name.now ∷ []) c.in_ok-key-in-Some.ensures.added in
-    rw c.in-Some.is (then_written c.write_image.result c.args.line.now c.key.new.self c.write_image.new.line (exactly (key c.args.name.now) ∷ []) (image_parts c.args.columns.now (cells_of c.in-Some.image)) name c.write_image.ensures)
+    rw c.in-Some.is
+    (then_written c.write_image.result c.args.line.now c.key.new.self c.write_image.new.line (exactly (key c.args.name.now) ∷ []) (image_parts c.args.columns.now (columns_left c.args.before) (cells_of c.in-Some.image)) name
+    c.write_image.ensures)

@@ -1,0 +1,11 @@
+pub mod FieldSteps
+pub mod Numbers
+pub mod KnownFields
+pub mod FieldLists
+pub mod WrittenFields
+pub mod InnerEvents
+pub mod InnerItems
+pub mod Padded
+pub mod PaddedItems
+pub mod OneFrame
+pub mod Bringing

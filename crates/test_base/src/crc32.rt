@@ -1,3 +1,0 @@
-//! Tests of `crc32_ieee`.
-
-mod checksums;

@@ -1,3 +1,0 @@
-//! Tests of `inflate`: texts of zlib streams, and streams that are refused.
-
-mod streams;

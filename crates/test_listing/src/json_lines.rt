@@ -1,4 +1,0 @@
-//! Tests of `binlog_json_lines`: lines of JSON.
-
-mod lines;
-mod writer;

@@ -1,4 +1,0 @@
-//! Tests of reading and writing with readers and writers that count their failures.
-
-mod reading;
-mod writing;
