@@ -1,9 +1,9 @@
 #!/usr/bin/env python3
-"""Counts the instructions that decompression takes, of probe_inflate and of zlib.
+"""Counts the instructions that decompression takes, of `probe inflate` and of zlib.
 
 Usage: measure_inflate.py [PROGRAM [FOLDER]]
 
-PROGRAM is by default the built probe_inflate. The texts are statements of SQL and the bytes of row
+PROGRAM is by default the built `probe`. The texts are statements of SQL and the bytes of row
 events, of 1, 10 and 100 KB, compressed by zlib at level 6. They are put into FOLDER (by default
 bench/work/inflate), and so is `zlib_baseline`, which a C compiler builds with zlib. Both programs have
 to write each text. `valgrind --tool=callgrind` counts, less what it counts for an empty text in a
@@ -22,8 +22,11 @@ from pathlib import Path
 from arguments import arguments
 
 BENCH = Path(__file__).resolve().parent
-PROGRAM = BENCH.parent / "crates/probe_inflate/out/probe_inflate"
+PROGRAM = BENCH.parent / "crates/probe/out/probe"
 FOLDER = BENCH / "work/inflate"
+
+# The mode of `probe`; the baseline reads no words.
+MODE = "inflate"
 
 LENGTHS = [1_000, 10_000, 100_000]
 TEXTS = 4
@@ -100,7 +103,7 @@ def build_baseline(folder):
 
 
 def instructions(program, stream, text):
-    command = ["valgrind", "--tool=callgrind", "--callgrind-out-file=/dev/null", program]
+    command = ["valgrind", "--tool=callgrind", "--callgrind-out-file=/dev/null", program, MODE]
     result = subprocess.run(command, input=stream, capture_output=True, check=True)
     if result.stdout != text:
         sys.exit(f"{program} wrote another text of {len(result.stdout)} bytes")

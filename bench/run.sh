@@ -6,7 +6,7 @@ set -eu
 here=$(cd "$(dirname "$0")" && pwd)
 lister=${1:-$here/../crates/binlog_list/out/binlog_list}
 bench=${2:-$here/../crates/bench/out/bench}
-slice_lister=${3:-$here/../crates/probe_logs/out/probe_logs}
+slice_lister=${3:-$here/../crates/probe/out/probe}
 baselines=$here/baseline/target/release
 
 for program in "$lister" "$bench" "$slice_lister"; do

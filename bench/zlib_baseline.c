@@ -1,4 +1,4 @@
-// Writes the text of the zlib stream on standard input, by zlib: what probe_inflate is compared with.
+// Writes the text of the zlib stream on standard input, by zlib: what `probe inflate` is compared with.
 #include <stdio.h>
 #include <stdlib.h>
 #include <string.h>

@@ -10,13 +10,13 @@
  *                    items[i].position, items[i].event_type, items[i].data_size);
  *
  * C11 and C++. No function keeps anything between calls, or reads anything but what it is passed, so calls in different
- * threads are independent of each other. binlog_json and binlog_json_lines alone allocate memory, by malloc and realloc, and
- * free it before they return.
+ * threads are independent of each other. Those that write lines of JSON or read files of columns alone allocate memory, by malloc
+ * and realloc, and free it before they return.
  *
  * The library is proved to be defined for all contents of the log, the cursor, the items and the buffers. The caller has
- * to ensure: each pointer and its length are memory of that length; it doesn't change during the call; the log, the
- * cursor, the items, the text and the error of one call don't overlap; pointers are aligned as their types require; items,
- * cursors, texts and errors were written before, with zeros for instance. A pointer may be NULL if its length is 0.
+ * to ensure: each pointer and its length are memory of that length; it doesn't change during the call; the log, the columns, the
+ * cursor, the items, the text, the fault and the error of one call don't overlap; pointers are aligned as their types require; items,
+ * cursors, texts, faults and errors were written before, with zeros for instance. A pointer may be NULL if its length is 0.
  *
  * docs/C.md has more examples. */
 #ifndef BINLOG_H
@@ -38,11 +38,12 @@ enum {
     BINLOG_TOO_SHORT_FOR_CHECKSUM = 4, /* an item: its event has fewer bytes after its header than the checksum has */
     BINLOG_END_OF_BODY = 5,            /* an item: a description, a rotate or a table map that ends within a field */
     BINLOG_INVALID_DATA = 6,           /* an item: one of these with a value that isn't allowed */
-    BINLOG_MEMORY = 12,                /* binlog_json, binlog_json_lines: there is no memory for a line */
+    BINLOG_MEMORY = 12,                /* lines of JSON, files of columns: there is no memory for a line, or for the tables */
     BINLOG_CHECKSUM_MISMATCH = 17,     /* an item of binlog_next_verified: its checksum isn't that of its bytes */
     BINLOG_INVALID_CURSOR = 100,       /* binlog_next, binlog_next_verified: the cursor isn't a place of this log */
-    BINLOG_INVALID_ITEM = 101,         /* binlog_json, binlog_json_lines: the item isn't one of this log */
-    BINLOG_INVALID_TABLE_MAP = 102     /* the same two: one of the table maps isn't a table map of this log */
+    BINLOG_INVALID_ITEM = 101,         /* lines of JSON: the item isn't one of this log */
+    BINLOG_INVALID_TABLE_MAP = 102,    /* lines of JSON, binlog_columns_contradiction: a table map isn't one of this log */
+    BINLOG_INVALID_COLUMNS = 103       /* files of columns: the text isn't that of one */
 };
 
 /* A place in a log: three numbers, without padding. It can be copied, stored and sent, and used with the same log, or
@@ -173,6 +174,76 @@ size_t binlog_json(const uint8_t *log, size_t size, const binlog_item *item, con
 size_t binlog_json_lines(const uint8_t *log, size_t size, const binlog_item *items, size_t count,
                          const binlog_item *table_maps, size_t map_count, uint64_t index, char *text, size_t room,
                          size_t *lines, uint8_t *error);
+
+/* ---- files of columns
+ *
+ * By default servers don't log the names, signs, members and character sets of columns. A file of columns has them: the answer of
+ * information_schema.COLUMNS as `mysql -B` prints it (docs/COMMANDS.md has the one line that makes it). `columns` is its text, in the
+ * caller's memory. It is read again by each call that takes it, in a time that grows with its length, so pass no more than the first
+ * line and the lines of the tables that are wanted: these are a file of columns, too. */
+
+/* What is wrong first in the text of a file of columns: three numbers, without padding. */
+typedef struct binlog_columns_fault {
+    uint64_t line;   /* the line, from 1 */
+    uint64_t column; /* the byte of the line, from 1; a tab is one. A fault within a field is where the field begins */
+    uint64_t kind;   /* one of the next */
+} binlog_columns_fault;
+
+enum {
+    BINLOG_COLUMNS_HEADER = 1,   /* the first line doesn't have the names of the six columns */
+    BINLOG_COLUMNS_ENCODING = 2, /* a field has bytes that aren't UTF-8 */
+    BINLOG_COLUMNS_ESCAPE = 3,   /* a field has a NUL, or a backslash without t, n, 0 or a backslash behind it */
+    BINLOG_COLUMNS_FIELDS = 4,   /* a line hasn't six fields, or the text ends within a line */
+    BINLOG_COLUMNS_POSITION = 5, /* the third field isn't a number from 1 on */
+    BINLOG_COLUMNS_ORDER = 6     /* the third field isn't the number of the column in its table: one more than the line before */
+};
+
+/* Checks the text of a file of columns of this size. Returns 0, or BINLOG_INVALID_COLUMNS, and then the fault is what is wrong first,
+ * or BINLOG_MEMORY. Otherwise the fault is unchanged.
+ *
+ *     binlog_columns_fault fault = {0};
+ *     if (binlog_columns_check(columns, columns_size, &fault) == BINLOG_INVALID_COLUMNS)
+ *         printf("line %" PRIu64 ", column %" PRIu64 "\n", fault.line, fault.column); */
+uint8_t binlog_columns_check(const uint8_t *columns, size_t size, binlog_columns_fault *fault);
+
+/* Writes what is wrong, by the kind of a fault, in one line of English with a zero after it, as binlog_error_name writes its name. A
+ * text has at most 100 bytes. */
+size_t binlog_columns_fault_text(uint64_t kind, char *text, size_t room);
+
+/* The first column of the table of a table map that can't be the one which the file declares, from 0: of another type, sign or
+ * character set, or one that the log or the file doesn't have. SIZE_MAX if there is none, if the file doesn't have the table, and if
+ * the columns of the table map can't be read. Lines have nothing of the file in the rows of a table with such a column: the log is of
+ * another time than the file.
+ *
+ * The table map is an item as for binlog_json. The error is 0, or the first of these; 0 is returned then:
+ *
+ * BINLOG_INVALID_TABLE_MAP: the item isn't a table map of the log.
+ * BINLOG_INVALID_COLUMNS: the text isn't that of a file of columns.
+ * BINLOG_MEMORY: an allocation failed.
+ *
+ *     size_t column = binlog_columns_contradiction(log, size, &maps[i], columns, columns_size, &error);
+ *     if (error == BINLOG_OK && column != SIZE_MAX)
+ *         printf("column %zu isn't that of the file\n", column + 1); */
+size_t binlog_columns_contradiction(const uint8_t *log, size_t size, const binlog_item *table_map, const uint8_t *columns,
+                                    size_t columns_size, uint8_t *error);
+
+/* Writes the line of JSON of an item, as binlog_json does. What the table map of a row event doesn't state of its columns is what the
+ * file of columns declares: names, signs, members and character sets.
+ *
+ * The error is 0, BINLOG_INVALID_COLUMNS if the text isn't that of a file of columns, BINLOG_MEMORY if there is no memory for its
+ * tables, or that of binlog_json; nothing is written then, and 0 is returned.
+ *
+ *     length = binlog_json_with_columns(log, size, &items[i], maps, count, columns, columns_size, index, text, room, &error); */
+size_t binlog_json_with_columns(const uint8_t *log, size_t size, const binlog_item *item, const binlog_item *table_maps,
+                                size_t count, const uint8_t *columns, size_t columns_size, uint64_t index, char *text,
+                                size_t room, uint8_t *error);
+
+/* Writes the lines of items of a log, as binlog_json_lines does, each as binlog_json_with_columns does. The text is read once. If it
+ * isn't that of a file of columns, or if there is no memory for its tables, no line is written. */
+size_t binlog_json_lines_with_columns(const uint8_t *log, size_t size, const binlog_item *items, size_t count,
+                                      const binlog_item *table_maps, size_t map_count, const uint8_t *columns,
+                                      size_t columns_size, uint64_t index, char *text, size_t room, size_t *lines,
+                                      uint8_t *error);
 
 /* Writes the name of an error, "EndOfInput" for 1, with a zero after it, and returns its length without the zero.
  * Nothing is written if the room isn't more than that length. The length is 0 for a number that no error has; a name

@@ -36,7 +36,7 @@ FEW, MANY = 10, 1010
 TABLE_MAP, MARIA_GTID = 19, 162
 
 # A log of a MariaDB server.
-MARIA_LOG = programs.CRATES / "probe_logs/stdin"
+MARIA_LOG = programs.REPOSITORY / "tests/samples/maria.binlog"
 
 
 def table_map(table_id):
@@ -123,8 +123,8 @@ PROGRAMS = {
 PACKAGED = ("list", "json", "gtids", "write back")
 
 # The programs that hold a whole log, for which a buffer may have twice the bytes, and others.
-HOLDING = {"probe_logs slice-listing"}
-OTHERS = HOLDING | {"probe_logs events", "bench reading"}
+HOLDING = {"probe slice-listing"}
+OTHERS = HOLDING | {"probe events", "bench reading"}
 
 # The bytes that the vector of table maps may take for each byte of a log: an entry of 216 bytes for an event of 37 bytes,
 # and twice as many entries as there are events.

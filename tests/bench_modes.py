@@ -3,7 +3,7 @@
 
 Usage: bench_modes.py FLAG
 
-FLAG is one of `programs.py`. The logs are those of the stored runs of other programs. The last line is `N passed, M failed`; the
+FLAG is one of `programs.py`. The logs are those of the stored runs of other programs, and samples. The last line is `N passed, M failed`; the
 exit status is 1 if something failed.
 """
 
@@ -22,7 +22,11 @@ def stored(crate):
 
 
 LOG = stored("binlog_list")
-CHECKSUMMED = (programs.REPOSITORY / "tests/samples/checksummed.binlog").read_bytes()
+SAMPLES = programs.REPOSITORY / "tests/samples"
+CHECKSUMMED = (SAMPLES / "checksummed.binlog").read_bytes()
+
+# A log of a MariaDB server.
+MARIA_LOG = (SAMPLES / "maria.binlog").read_bytes()
 
 # A bit of a checksum is wrong.
 MISMATCHED = CHECKSUMMED[:516] + bytes([CHECKSUMMED[516] ^ 1]) + CHECKSUMMED[517:]
@@ -38,7 +42,7 @@ LISTING = b"""\
 
 # For the words of each mode a log, and the output and the status.
 RUNS = [
-    ("maria-gtids", stored("probe_logs"), b"9 10 903\n", SUCCESS),
+    ("maria-gtids", MARIA_LOG, b"9 10 903\n", SUCCESS),
     ("reading", LOG, b"20\n", SUCCESS),
     ("reading owned", LOG, b"20\n", SUCCESS),
     ("reading slice", LOG, b"20\n", SUCCESS),

@@ -3,7 +3,7 @@
 
 Usage: binary_json.py FLAG [--count N] [--seed N]
 
-FLAG is one of `programs.py`: its program answers questions, which `crates/probe_texts/src/main.rt` lists. The cases are those of
+FLAG is one of `programs.py`: its program answers questions, which `crates/probe/src/questions.rt` lists. The cases are those of
 tests/cases/documents.txt. The model is `binary_json_model.py`: random documents as a server writes them, N damaged ones (100,000
 if it isn't stated), documents whose offsets name the same bytes again and again, 99 to 101 arrays within one another, offsets into
 headers, the greatest counts, and lengths of up to six bytes; and lists of diffs that are applied, by `json_diff_model.py`. All of them have to be answered within a minute. The last line is

@@ -27,7 +27,7 @@ INSTALLER = CONVERTER / "install_crates"
 NOT_INSTALLED = 69
 
 # The features of the packages, and the tests that each needs.
-FEATURES = {"crc32fast": "crc32"}
+FEATURES = {"crc32fast": "crc32", "serde_json": "documents"}
 
 
 def make():

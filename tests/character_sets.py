@@ -4,7 +4,7 @@
 Usage: character_sets.py FLAG
        character_sets.py --tables
 
-FLAG is one of `programs.py`: its program answers questions, which `crates/probe_texts/src/main.rt` lists. Each byte of each
+FLAG is one of `programs.py`: its program answers questions, which `crates/probe/src/questions.rt` lists. Each byte of each
 single-byte set is compared with tests/cases/character_sets.tsv, and so is a text of all characters of each set, and one of a byte that is
 none; with Python's codecs where these are known to be as the servers'. Texts of the Unicode sets are compared with Python's codecs:
 all single units, edges of the planes and of the surrogates, random texts, and damaged ones. All numbers of collations are compared with
@@ -154,12 +154,12 @@ def name_cases(sets):
 
 
 def server_cases(server):
-    """What a server answers now."""
+    """What a server answers now. A byte that is no character is a question mark; in tis620 it is U+FFFD, by the server's own table."""
     for name in single_byte_sets():
         selects = (f"hex(convert(_{name} X'{byte:02x}' using utf8mb4))" for byte in range(256))
         shown = server.run(f"select {','.join(selects)};".encode()).decode().splitlines()[1].split("\t")
         for byte, digits in enumerate(shown):
-            is_known = digits != "3F" or byte == 0x3F
+            is_known = digits != "EFBFBD" and (digits != "3F" or byte == 0x3F)
             yield question(name, bytes([byte])), answer(bytes.fromhex(digits).decode() if is_known else None)
     rows = server.run(b"select id, character_set_name from information_schema.collation_character_set_applicability;")
     for row in rows.decode().splitlines()[1:]:

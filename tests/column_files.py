@@ -1,9 +1,9 @@
 #!/usr/bin/env python3
-"""Compares what `probe_texts` reads of files of columns with cases that were worked by hand, and with a model.
+"""Compares what `probe` reads of files of columns with cases that were worked by hand, and with a model.
 
 Usage: column_files.py [--count N] FLAG
 
-FLAG is one of `programs.py`: its program answers questions, which `crates/probe_texts/src/main.rt` lists. The cases are
+FLAG is one of `programs.py`: its program answers questions, which `crates/probe/src/questions.rt` lists. The cases are
 `tests/cases/column_files.txt`. The model reads N random texts (20,000 if not given): files of random columns, most of them damaged.
 The last line is `N passed, M failed`; the exit status is 1 if something failed.
 """
@@ -19,6 +19,8 @@ import programs
 import results
 
 CASES = Path(__file__).resolve().parent / "cases/column_files.txt"
+COMMANDS = programs.REPOSITORY / "docs/COMMANDS.md"
+QUERY = re.compile(r'mysql (?P<options>--default-character-set=\S+ -B) -e "(?P<query>SELECT TABLE_SCHEMA.*)" > columns\.tsv')
 NAMES = (b"TABLE_SCHEMA", b"TABLE_NAME", b"ORDINAL_POSITION", b"COLUMN_NAME", b"COLUMN_TYPE", b"CHARACTER_SET_NAME")
 HEADER = b"\t".join(NAMES)
 LINE_ENDS = (b"\n", b"\r\n")
@@ -34,6 +36,16 @@ THIRD, SIXTH = 2, 5
 
 class Fault(Exception):
     """Why a text is no file, and at which byte."""
+
+
+# ---- a server's file
+
+
+def ask(client, path):
+    """Writes what a server answers, by the command that `docs/COMMANDS.md` has; the client's words say which server."""
+    command = QUERY.search(COMMANDS.read_text())
+    with path.open("wb") as file:
+        subprocess.run([*client, *command["options"].split(), "-e", command["query"]], stdout=file, check=True)
 
 
 # ---- the model

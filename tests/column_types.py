@@ -1,9 +1,9 @@
 #!/usr/bin/env python3
-"""Compares what `probe_texts` reads of types of columns with types as servers spell them, and with a model.
+"""Compares what `probe` reads of types of columns with types as servers spell them, and with a model.
 
 Usage: column_types.py [--count N] FLAG
 
-FLAG is one of `programs.py`: its program answers questions, which `crates/probe_texts/src/main.rt` lists. The types of servers, and
+FLAG is one of `programs.py`: its program answers questions, which `crates/probe/src/questions.rt` lists. The types of servers, and
 texts that no server writes, are `tests/cases/column_types.txt`. The model reads N random texts (20,000 if not given): types, most of
 them damaged. The last line is `N passed, M failed`; the exit status is 1 if something failed.
 """

@@ -11,6 +11,7 @@ status is 1 if something failed.
 """
 
 import argparse
+import json
 import random
 import subprocess
 import sys
@@ -272,6 +273,44 @@ def random_logs(runs, chance, count):
         content, files = random_case(chance, every_kind)
         words = ("--stored",) if place % 10 == 0 else ()
         yield runs.compared(f"random log {place} {words}", content, files, words)
+
+
+# ---- random logs with one file each, for libraries
+
+
+class Expected:
+    """The lines of JSON of a log with a file of columns, and the tables that contradict the file, by a model."""
+
+    def __init__(self, content, tables):
+        declared = Files([as_bytes(tables)])
+        self.lines, _ = json_model.expected(content, False, declared)
+        self.contradictions = declared.contradictions
+
+    def compared(self, output, columns):
+        """None if these are the lines, and these are the columns that contradict the file, from 0, by the indexes of their table
+        maps, unless they are None; else what is wrong."""
+        found, wanted = parsed(output), parsed(self.lines)
+        if len(found) != len(wanted):
+            return f"{len(found)}, not {len(wanted)} lines"
+        for line, wanted_line in zip(found, wanted):
+            if not is_same(line, wanted_line):
+                return f"{str(line[9:])[:600]}, not {str(wanted_line[9:])[:600]}"
+        if columns is None:
+            return None
+        first = {}
+        for line in map(json.loads, output.splitlines()):
+            if line["index"] in columns:
+                key = tuple(line["data"][name].encode() for name in ("database_name", "table_name"))
+                first.setdefault(key, columns[line["index"]] + 1)
+        return None if first == self.contradictions else f"{first}, not {self.contradictions}"
+
+
+def single_files(count):
+    """Random logs: for each a name, the text of a file, the log, and what is `Expected` of both."""
+    chance, every_kind = random.Random(78), list(declared_model.kinds())
+    for place in range(count):
+        content, files = random_case(chance, every_kind)
+        yield f"random log {place}", file_text(files[-1]), content, Expected(content, files[-1])
 
 
 # ---- files that can't be read

@@ -15,12 +15,15 @@ from pathlib import Path
 
 import binlog_command
 import cargo_crate
+import declared_columns
 import listing_model
 import make_sample
 import results
 import row_lines
+import row_values
 from binlog_command import CHECKSUMMED, SAMPLE, SID
 from damaged_copies import MAGIC, frame_starts, with_byte
+from declared_model import Declared
 from programs import PACKAGES, PROFILE, REPOSITORY
 
 FOLDER = REPOSITORY / "cargo/templates/binlog-tools/examples"
@@ -61,6 +64,13 @@ def count_by_type(examples):
 def rows(examples):
     examples.write("log", row_lines.content_of(row_lines.VERSIONS[0], [row_lines.FIRST, row_lines.written(1, 7, b"a")]))
     yield difference("rows", examples.run("rows", "log").splitlines(), ["shop.orders", "+ id: 7", '+ note: "a"'])
+    version, table = row_lines.VERSIONS[0], row_values.table_map(7, bytes([3, 254]), b"\xf7\1")
+    row = row_values.row_event(row_values.WHOLE[3], 7, [True, True], [True, True], b"\0\xff\xff\xff\xff\2")
+    examples.write("log", row_lines.content_of(version, [table, row]))
+    declared = {("d", "t"): [("id", Declared("int unsigned", "NULL", None)), ("size", Declared("enum('small','large')", "latin1", None))]}
+    examples.write("columns.tsv", declared_columns.file_text(declared))
+    yield difference("rows", examples.run("rows", "log").splitlines(), ["d.t", "+ 0: -1", "+ 1: 2"])
+    yield difference("rows", examples.run("rows", "log", "columns.tsv").splitlines(), ["d.t", "+ id: 4294967295", '+ size: "large"'])
 
 
 def copy_transactions(examples):

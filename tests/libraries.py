@@ -9,7 +9,8 @@ built with the sanitizers of the C compiler, and with checksums verified, as the
 the checksums by itself, bit by bit. A third program calls the library with 10,000 cursors that it did not
 make over each of some logs. A C program and a C++ one print the lines of JSON of all these logs: they have to be those of the
 built `binlog json`; another C program asks for those of 10,000 items that it changed over each of some logs, and one refuses
-each of their allocations in turn. Then the tests of the Python package run over the shared library, which is made of the static one. At last what bin/install and bin/package
+each of their allocations in turn. A C program prints the lines of random logs with files of columns, and which columns contradict
+these: they have to be those of a model of both, and the faults of files that can't be read those that are worked by hand. Then the tests of the Python package run over the shared library, which is made of the static one. At last what bin/install and bin/package
 make of the library: a C program is built against each by pkg-config and lists the sample, and Python lists it by the package
 that is installed. Without pkg-config the flags are written out; without dpkg-deb there is no package; a line says so.
 
@@ -31,6 +32,7 @@ from concurrent.futures import ThreadPoolExecutor
 from pathlib import Path
 
 import checksummed_sample
+import declared_columns
 import encoded_logs
 import make_sample
 import programs
@@ -50,6 +52,16 @@ WARNINGS = ["-Wall", "-Wextra", "-Wpedantic", "-Wconversion", "-Werror", "-O1", 
 SANITIZERS = ["-fsanitize=address,undefined", "-fno-sanitize-recover=all"]
 DAMAGED_CURSORS = 10_000
 DAMAGED_ITEMS = 10_000
+COLUMNS = 400
+# The kinds of faults of a file of columns, by the messages of the program.
+FAULTS = {
+    "no line with the names of the six columns": (1, "no line with the names of the six columns"),
+    "bytes that aren't UTF-8": (2, "bytes that are not UTF-8"),
+    "a byte that stands for none": (3, "a byte that stands for none"),
+    "not six fields": (4, "not six fields"),
+    "no position of a column": (5, "no position of a column"),
+    "a column whose position isn't the next one of its table": (6, "a column whose position is not the next one of its table"),
+}
 
 
 def build(folder, name, source, flags=(), library=(f"-I{REPOSITORY / 'include'}", LIBRARY)):
@@ -173,6 +185,40 @@ def json_failures(folder, names, contents, flags, statuses):
     yield None if found is not None and len(found) == len(contents) else "C, JSON, verified: not all logs are printed"
     yield from damaged_failures("damaged items", build(folder, "damaged_items", "damaged_items.c", flags), DAMAGED_ITEMS)
     yield from refused_memory_failures(folder)
+    yield from columns_failures(folder, flags)
+
+
+def columns_failures(folder, flags):
+    """None or what is wrong with a log's lines of JSON by a file of columns, with what contradicts the file, or with its fault."""
+    program = build(folder, "columns", "columns.c", [*flags, "-Wl,--wrap=malloc,--wrap=realloc"])
+    cases = list(declared_columns.single_files(COLUMNS))
+    found = listings(program, [part for _, text, content, _ in cases for part in (text, content)])
+    if found is None or len(found) != len(cases):
+        yield from ("C, columns: not all logs are printed" for _ in cases)
+        return
+    for (name, _, _, expected), (output, _) in zip(cases, found):
+        wrong = expected.compared(*split_contradictions(output))
+        yield wrong and f"C, columns, {name}: {wrong}"
+    content = cases[0][2]
+    found = listings(program, [part for text, _ in declared_columns.BAD_FILES for part in (text, content)])
+    for (text, message), (output, _) in zip(declared_columns.BAD_FILES, found or []):
+        place, fault = message.split(": ", 1)
+        line, column = re.findall(r"\d+", place)
+        wanted = f"fault {line} {column} {FAULTS[fault][0]} {FAULTS[fault][1]}\n"
+        yield None if output.decode() == wanted else f"C, columns, {text!r}: {output.decode()}, not {wanted}"
+    yield None if found else "C, columns: a file with a fault"
+
+
+def split_contradictions(output):
+    """The lines of JSON of a log, and the columns that contradict the file, by the indexes of their table maps."""
+    lines, columns = [], {}
+    for line in output.splitlines(keepends=True):
+        if line.startswith(b"contradiction "):
+            index, column = map(int, line.split()[1:])
+            columns[index] = column
+        else:
+            lines.append(line)
+    return b"".join(lines), columns
 
 
 def refused_memory_failures(folder):

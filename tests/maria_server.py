@@ -7,7 +7,9 @@ FLAG is one of `programs.py`. A server runs a mixed load in a temporary folder, 
 each log, a test each: that each event is listed with the type, end and checksum that `mariadb-binlog` prints; that the listing
 and the lines of JSON are those of their models; that the log is written back byte for byte; that the lines of MariaDB's own events
 have the words of another model, and that there is none under another server's version; that each of these events is printed by
-`mariadb-binlog` as these words say; and that the load has events of each kind that the server can write. Another server encrypts its log, of which the start is compared. With --logs the logs in FOLDER
+`mariadb-binlog` as these words say; and that the load has events of each kind that the server can write. Another server has tables of
+all types and character sets, whose log states nothing of columns, or little: the rows that its lines of JSON with a file of columns
+say are compared, value by value, with what the server selects. A third one encrypts its log, of which the start is compared. With --logs the logs in FOLDER
 are compared, and no server is started.
 
 Where there is no server that is known (`maria_daemon.py` says where it comes from), or the client's programs `mariadb` and
@@ -25,6 +27,7 @@ from itertools import zip_longest
 from pathlib import Path
 
 import listing_model
+import maria_columns
 import maria_model
 import maria_printed
 import programs
@@ -193,6 +196,8 @@ def server_failures(build):
             run_load(server)
         yield from all_failures(build, server.logs())
         yield from kind_failures(server.logs())
+        with Server(daemon, folder / "columns", maria_columns.BY_ROWS) as server:
+            yield from maria_columns.failures(build.command("json"), server, folder)
         try:
             yield from encrypted_failures(build, daemon, folder)
         except LeftOut as reason:

@@ -9,6 +9,8 @@ checksums, with tags and without GTIDs; it is shut down once, and killed once. T
 
 - that each event of the listing and of the lines of JSON has the header that `mysqlbinlog` prints, and each part of its data;
 - that each value of a row is the printed one, and, after all rows are applied in order, the one that the server selects;
+- that each value of a row is the one that the server selects, too, by a file of columns that is the server's own answer, where the log
+  states the names and members of no column;
 - that each field of the optional metadata states what the server says of the columns and keys;
 - that the listing, the lines and the GTIDs of a log are those of their models, and that all of its events are verified;
 - that the GTIDs are those that the next log begins with, and at the end those that the server has executed;
@@ -28,6 +30,7 @@ from itertools import zip_longest
 from pathlib import Path
 from typing import NamedTuple
 
+import column_files
 import gtid_model
 import json_model
 import listing_model
@@ -39,7 +42,7 @@ from damaged_copies import first_difference
 from mysql_columns import collations_of, columns_of
 from mysql_daemon import LeftOut, Server, unpacked
 from mysql_events import Events, gtids_of_set, previous_gtids
-from mysql_rows import Tables, printed_failures, row_events, selected
+from mysql_rows import Tables, printed_failures, row_events, selected, states_names
 from mysql_workload import METADATA, SCHEMAS_OF_ROWS, TABLES_OF_ROWS, run_load
 from programs import add_flags, parsed
 
@@ -62,8 +65,12 @@ class Log(NamedTuple):
 def read_log(program, programs, path):
     output = mysql_printed.output_of(programs, path)
     is_cut = listing_model.is_cut(path.read_bytes())
-    lines = [json.loads(line, parse_float=mysql_documents.Number) for line in output_of(program, "json", path, is_cut=is_cut).splitlines()]
+    lines = lines_of(output_of(program, "json", path, is_cut=is_cut))
     return Log(path, is_cut, lines, output, list(mysql_printed.events(output)))
+
+
+def lines_of(output):
+    return [json.loads(line, parse_float=mysql_documents.Number) for line in output.splitlines()]
 
 
 def output_of(program, *words, is_cut=False):
@@ -176,6 +183,22 @@ def table_failures(logs, columns, selected_rows):
         yield from tables.failures(table, selected_rows[table])
 
 
+def declared_failures(program, server, folder, logs, columns, selected_rows):
+    """For each value of the tables of the forms by a file of columns, None or how the server has it otherwise, and for each row whether
+    its columns have names."""
+    file = folder / "columns.tsv"
+    column_files.ask([*server.programs.command("mysql"), "--user=root", f"--socket={server.socket}"], file)
+    names = [table for table in columns if table.split(".")[0] in SCHEMAS_OF_ROWS]
+    tables = Tables(columns)
+    for log in logs:
+        for line in row_events(lines_of(output_of(program, "json", "--columns", file, log.path, is_cut=log.is_cut))):
+            if line["table"] in names:
+                yield from (None if states_names(row) else f"{line['table']} before {line['log_pos']}: {row}" for row in line["rows"])
+                yield from tables.apply(line)
+    for table in names:
+        yield from tables.failures(table, selected_rows[table])
+
+
 def copy_failures(program, target, folder, logs, columns, selected_rows):
     """Whether copies of the logs are those logs, and another server has the same tables after they are replayed there."""
     copies = []
@@ -218,6 +241,7 @@ def all_failures(program):
         selected_rows = selected(server, columns)
         yield from gtid_failures(program, server, logs)
         yield from table_failures(logs, columns, selected_rows)
+        yield from declared_failures(program, server, Path(name), logs, columns, selected_rows)
         yield from copy_failures(program, target, Path(name), logs, columns, selected_rows)
 
 

@@ -1,10 +1,10 @@
 #!/usr/bin/env python3
-"""Compares what `probe_texts` reads of TRANSACTION_PAYLOAD events with cases, and with a model of its own.
+"""Compares what `probe` reads of TRANSACTION_PAYLOAD events with cases, and with a model of its own.
 
 Usage: payloads.py [--count N] FLAG
 
 FLAG is one of `programs.py`: its program answers the questions `payload LIMIT BYTES` and `inner BYTES BYTES`, which
-`crates/probe_texts/src/main.rt` lists. The cases are `tests/cases/payloads.txt`, one of a server and one for each refusal, and below
+`crates/probe/src/questions.rt` lists. The cases are `tests/cases/payloads.txt`, one of a server and one for each refusal, and below
 what the reader of a stream reads of a content. The model, over the decoder of `zstd_model.py`, reads the cases and N random events
 (20,000 if not given), most of them damaged. Each refusal comes up. The last line of the output is `N passed, M failed`; the exit
 status is 1 if something failed.

@@ -54,7 +54,7 @@ LOGS = {
     "GTIDs": gtids_sample.sample(),
     "MariaDB's GTIDs": maria_gtids_sample.sample(),
     "long events": make_sample.sample() + 3 * LONG_EVENT,
-    "MariaDB's events": (programs.CRATES / "probe_logs/stdin").read_bytes(),
+    "MariaDB's events": (programs.REPOSITORY / "tests/samples/maria.binlog").read_bytes(),
 }
 
 
@@ -126,10 +126,10 @@ def failure_fault(_content):
 # What is wrong with a run of each program, a crate's with its arguments.
 PROGRAMS = {
     "binlog_list": listing_fault,
-    "probe_logs slice-listing": mode_listing_fault,
+    "probe slice-listing": mode_listing_fault,
     "bench write-back": written_back_fault,
     "bench typed": failure_fault,
-    "probe_logs events": failure_fault,
+    "probe events": failure_fault,
     "bench reading owned": failure_fault,
     "bench maria-gtids": failure_fault,
     "bench rows": failure_fault,

@@ -140,7 +140,19 @@ def shown(table, *rows):
 FIRST = named_map(1, "shop", "orders", [b"id", b"note"])
 OTHER = named_map(2, "shop", "users", [b"user", b"mail"])
 NEWER = named_map(1, "shop", "old_orders", [b"number", b"text"])
+RENAMED = named_map(1, "shop", "orders", [b"no", b"text"])
 ABSENT = [("table", None), ("rows", None)]
+# How many tables a log of many has.
+MANY = 300
+
+
+def many_tables():
+    """A log of many tables, with a row of each in turn, three times; and the members of the last events."""
+    numbers = range(1, MANY + 1)
+    maps = [named_map(number, "shop", f"table_{number}", [b"id", b"note_%d" % number]) for number in numbers]
+    rows = [written(number, number, b"a") for number in numbers]
+    wanted = [shown(f"shop.table_{number}", ("after", [("id", number), (f"note_{number}", "a")])) for number in numbers]
+    return [*maps, *rows * 3], wanted * 3
 
 
 def cases():
@@ -151,6 +163,12 @@ def cases():
     yield "a table map", [FIRST, row], [orders]
     yield "two tables", [FIRST, OTHER, row, written(2, 7, b"a")], [orders, of("shop.users", "user", "mail")]
     yield "a newer table map", [FIRST, row, NEWER, row], [orders, [], of("shop.old_orders", "number", "text")]
+    again = of("shop.orders", "no", "text")
+    yield "a table map of equal length", [FIRST, row, RENAMED, row, FIRST, row, row], [orders, [], again, [], orders, orders]
+    yield "an older table's id", [FIRST, row, OTHER, written(2, 7, b"a"), (TABLE_MAP, b"\2" + FIRST[1][1:]), written(2, 7, b"a"), row], [
+        orders, [], of("shop.users", "user", "mail"), [], orders, orders
+    ]
+    yield "many tables", *many_tables()
     yield "no table map", [row, OTHER, row, FIRST], [ABSENT, [], ABSENT, []]
     yield "another table's map", [OTHER, row], [ABSENT]
     yield "a ROTATE", [FIRST, row, rotate(4), row, FIRST, row], [orders, [], ABSENT, [], orders]

@@ -3,7 +3,7 @@
 
 Usage: transactions.py [--count N] FLAG
 
-FLAG is one of `programs.py`: its program answers questions, which `crates/probe_transactions/src/main.rt` lists. The cases are those of
+FLAG is one of `programs.py`: its program answers questions, which `crates/probe/src/questions/transactions.rt` lists. The cases are those of
 `tests/cases/transactions.txt`. The model tells the kinds of N random texts and the transactions of N random lists of events (20,000
 of each if not given). The last line is `N passed, M failed`; the exit status is 1 if something failed.
 """

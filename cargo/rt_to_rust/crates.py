@@ -14,6 +14,9 @@ LIBRARY = [
     "binlog_columns",
     "binlog_values",
     "binlog_optional_metadata",
+    "column_files",
+    "column_file_reading",
+    "binlog_declared_columns",
     "binlog_images",
     "binlog_row_writing",
     "binlog_event_data",
@@ -39,28 +42,30 @@ TOOLS = [
     "binlog_commands",
     "binlog_event_types",
     "binlog_json_bodies",
-    "column_files",
-    "binlog_declared_columns",
     "binlog_json_lines",
     "binlog_cli",
 ]
 
-# The crates of programs, and the programs' names; and those of programs that the scripts of `tests` run.
+# The crates of programs, and the programs' names; and that of the program that the scripts of `tests` run.
 PROGRAMS = {"binlog": "binlog"}
-PROBES = {"probe_inflate": "texts", "probe_logs": "logs"}
+PROBES = {"probe": "probe"}
+
+# Modules of these that the packages don't have, since they are of crates that the packages lack.
+LEFT_OUT = {"probe": ("questions", "undone")}
 
 # The crates of tests, and what only they use: the recipes of CALLING.md.
 TESTKITS = ["examples"]
 TESTS = ["test_base", "test_bodies", "test_logs"]
 
 # The sources that are written by hand in the packages, in `templates`: what real devices are there isn't what the proved
-# sources know of them (`devices.py`).
+# sources know of them (`devices.py`), and the program of `tests` has fewer modes there.
 BY_HAND = [
     "binlog_ends/src/lib.rt",
     "binlog_ends/src/borrowed.rt",
     "binlog_ends/src/counted.rt",
     "binlog_ends/src/failed.rt",
     "binlog_ends/src/writing.rt",
+    "probe/src/main.rt",
 ]
 
 # The crates of each package.
@@ -75,8 +80,11 @@ PUBLISHED = ("binlog", "binlog-tools")
 
 
 def sources(crate_folder):
-    """The sources of a crate that are converted: all but tests and laws."""
+    """The sources of a crate that are converted: all but tests, laws and what is left out."""
+    left_out = LEFT_OUT.get(crate_folder.name, ())
     for path in sorted((crate_folder / "src").rglob("*.rt")):
         relative = path.relative_to(crate_folder / "src")
+        if relative.with_suffix("").parts[0] in left_out:
+            continue
         if relative.stem not in ("tests", "laws") and "tests" not in relative.parts:
             yield path, relative

@@ -7,7 +7,7 @@
 """
 
 from ._bodies import Body, Diffs
-from ._errors import BinlogError, InvalidLog, LogError, RowsError
+from ._errors import BinlogError, ColumnsWarning, InvalidColumns, InvalidLog, LogError, RowsError
 from ._library import library_version
 from ._log import Cursor, Damage, Event, Log, open
 from ._types import EventType, MariaEventType
@@ -16,12 +16,14 @@ from ._whole import DamagedEvent, Stats, TypeStats, Verification, gtid_set, stat
 __all__ = [
     "BinlogError",
     "Body",
+    "ColumnsWarning",
     "Cursor",
     "Damage",
     "DamagedEvent",
     "Diffs",
     "Event",
     "EventType",
+    "InvalidColumns",
     "InvalidLog",
     "Log",
     "LogError",

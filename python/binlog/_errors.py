@@ -1,6 +1,6 @@
 """The exceptions. Those of logs have the error's number and name."""
 
-from typing import Any
+from typing import Any, Optional
 
 from . import _library
 
@@ -43,6 +43,34 @@ class LogError(BinlogError):
 
     def __reduce__(self) -> tuple:
         return type(self), (self.number, self.position)
+
+
+class InvalidColumns(BinlogError):
+    """A text isn't that of a file of columns.
+
+    path: the file's path, or None if it has none.
+    line: the line of the first fault, from 1.
+    column: the byte of the line, from 1.
+    kind: the number of what is wrong there, as include/binlog.h has it.
+    """
+
+    path: Optional[str]
+    line: int
+    column: int
+    kind: int
+
+    def __init__(self, path: Optional[str], line: int, column: int, kind: int) -> None:
+        super().__init__(_library.INVALID_COLUMNS)
+        self.path, self.line, self.column, self.kind = path, line, column, kind
+        named = "" if path is None else f"{path}: "
+        self.args = (f"{named}line {line}, column {column}: {_library.columns_fault_text(kind)}",)
+
+    def __reduce__(self) -> tuple:
+        return type(self), (self.path, self.line, self.column, self.kind)
+
+
+class ColumnsWarning(UserWarning):
+    """A table of the log contradicts the file that declares it, so its rows have nothing of the file."""
 
 
 class RowsError(Exception):

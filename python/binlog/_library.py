@@ -14,6 +14,10 @@ FILE = "libbinlog.so"
 ITEM = struct.Struct("=4Q4IHBB4s2I")
 
 
+# The number of the error of a text that isn't that of a file of columns.
+INVALID_COLUMNS = 103
+
+
 class CursorStruct(ctypes.Structure):
     """binlog_cursor"""
 
@@ -21,6 +25,16 @@ class CursorStruct(ctypes.Structure):
         ("position", ctypes.c_uint64),
         ("description", ctypes.c_uint64),
         ("ended", ctypes.c_uint64),
+    ]
+
+
+class ColumnsFaultStruct(ctypes.Structure):
+    """binlog_columns_fault"""
+
+    _fields_ = [
+        ("line", ctypes.c_uint64),
+        ("column", ctypes.c_uint64),
+        ("kind", ctypes.c_uint64),
     ]
 
 
@@ -85,6 +99,26 @@ def _load() -> ctypes.CDLL:
         ctypes.POINTER(size),
         ctypes.POINTER(byte),
     ]
+    library.binlog_columns_check.restype = byte
+    library.binlog_columns_check.argtypes = [ctypes.c_char_p, size, ctypes.POINTER(ColumnsFaultStruct)]
+    library.binlog_columns_contradiction.restype = size
+    library.binlog_columns_contradiction.argtypes = [
+        ctypes.c_void_p,
+        size,
+        ctypes.c_char_p,
+        ctypes.c_char_p,
+        size,
+        ctypes.POINTER(byte),
+    ]
+    # The same with the text of a file of columns behind the table maps, the last parameter before the index.
+    for with_columns, plain, before in (
+        (library.binlog_json_with_columns, library.binlog_json, 5),
+        (library.binlog_json_lines_with_columns, library.binlog_json_lines, 6),
+    ):
+        with_columns.restype = size
+        with_columns.argtypes = [*plain.argtypes[:before], ctypes.c_char_p, size, *plain.argtypes[before:]]
+    library.binlog_columns_fault_text.restype = size
+    library.binlog_columns_fault_text.argtypes = [ctypes.c_uint64, ctypes.c_char_p, size]
     for write in (library.binlog_error_name, library.binlog_error_text):
         write.restype = size
         write.argtypes = [byte, ctypes.c_char_p, size]
@@ -110,6 +144,11 @@ def _written(write: "ctypes._NamedFuncPointer", error: int) -> str:
 def error_name(error: int) -> str:
     """The name of an error by its number; empty where no error has it."""
     return _written(LIBRARY.binlog_error_name, error)
+
+
+def columns_fault_text(kind: int) -> str:
+    """What is wrong in a text of a file of columns, by the kind of the fault; empty where none has the number."""
+    return _written(LIBRARY.binlog_columns_fault_text, kind)
 
 
 def error_text(error: int) -> str:

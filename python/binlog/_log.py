@@ -5,11 +5,13 @@ import ctypes
 import json
 import mmap
 import os
+import warnings
 from collections.abc import Iterator
 from typing import Any, NamedTuple, Optional, Union
 
 from ._bodies import Body, row_of, value_of
-from ._errors import InvalidLog, LogError, RowsError
+from ._columns import DeclaredTables, Sources, TableName
+from ._errors import ColumnsWarning, InvalidLog, LogError, RowsError
 from ._library import ITEM, LIBRARY, CursorStruct
 from ._types import EventType
 
@@ -24,6 +26,9 @@ _LINES = 1 << 18
 
 # The types whose events name a table map by its id.
 _ROWS = frozenset((23, 24, 25, 30, 31, 32, 39))
+
+# What the library has for no column of a table.
+_NO_COLUMN = ctypes.c_size_t(-1).value
 
 Buffer = Union[bytes, bytearray, memoryview, mmap.mmap]
 
@@ -81,6 +86,57 @@ def _runs(batch: list[tuple], table_maps: _TableMaps) -> Iterator[tuple[list[tup
         run.append(fields)
     if run:
         yield run, maps or ()
+
+
+class _TableColumns:
+    """What files of columns declare of the tables of a log."""
+
+    def __init__(self, log: "Log", declared: DeclaredTables) -> None:
+        self._log = log
+        self._declared = declared
+        # By what stands behind the table id, and the place of the description, the names of the table.
+        self._names: dict[tuple[int, bytes], TableName] = {}
+        self._texts: dict[tuple[TableName, ...], bytes] = {}
+        self._warned: set[TableName] = set()
+
+    def text(self, table_maps: tuple[tuple, ...]) -> bytes:
+        """The text of a file of the tables of these table maps; empty where none is declared."""
+        names = tuple(map(self._name, table_maps))
+        text = self._texts.get(names)
+        if text is None:
+            text = self._texts[names] = self._declared.text(names)
+        return text
+
+    def _name(self, table_map: tuple) -> TableName:
+        """The names of the table of a table map. A table that contradicts its file has a warning."""
+        start = table_map[2]
+        key = (table_map[1], bytes(self._log._bytes[start + 6 : start + table_map[3]]))
+        name = self._names.get(key)
+        if name is None:
+            members = json.loads(self._log._plain_line(table_map))["data"]
+            schema, table = (value_of(members[of]) for of in ("database_name", "table_name"))
+            name = self._names[key] = (_as_bytes(schema), _as_bytes(table))
+            self._warn(name, table_map)
+        return name
+
+    def _warn(self, name: TableName, table_map: tuple) -> None:
+        text = self._declared.text([name])
+        if not text or name in self._warned:
+            return
+        error = ctypes.c_uint8()
+        log, size, item = self._log._at, self._log._size, ITEM.pack(*table_map)
+        column = LIBRARY.binlog_columns_contradiction(log, size, item, text, len(text), error)
+        if error.value:
+            raise LogError(error.value, table_map[0])
+        if column != _NO_COLUMN:
+            self._warned.add(name)
+            table = b".".join(name).decode(errors="replace")
+            said = f"table {table}: column {column + 1} contradicts the file of columns, which isn't used for this table"
+            warnings.warn(said, ColumnsWarning, stacklevel=2)
+
+
+def _as_bytes(name: Union[str, bytes]) -> bytes:
+    return name.encode() if isinstance(name, str) else name
 
 
 class _Item:
@@ -205,7 +261,7 @@ class Event(_Item):
     @property
     def rows(self) -> Optional[list[dict[str, dict[str, Any]]]]:
         """The rows of a row event: for each a dict of its images, `before` and `after`, in which columns are found by their
-        names, or by `@1`, `@2` and so on where the table map has no names. None if this is no row event, no table map is in
+        names, or by `@1`, `@2` and so on where neither the table map nor a file of columns has names. None if this is no row event, no table map is in
         force for it, or its rows aren't decoded.
 
         A value is None, an int, a float, a str or bytes, and that of a JSON column what `json.loads` makes of the document, as
@@ -251,11 +307,15 @@ class Log:
 
     verify: whether an event is damaged, too, if its stored checksum isn't the CRC-32 of its bytes: its error is
         ChecksumMismatch then. A format description whose checksum is wrong says nothing of the events behind it.
+    columns: files of columns, for what the log doesn't state of columns: a path, a binary file, or several of these, of which the
+        last one that has a table counts. They are read at once. A table that contradicts its file has a ColumnsWarning, once, and
+        its rows have nothing of the file.
 
-    Raises InvalidLog where the bytes don't begin with the file header.
+    Raises InvalidLog where the bytes don't begin with the file header, InvalidColumns where a file of columns isn't one, and OSError
+    where it can't be read.
     """
 
-    def __init__(self, content: Buffer, *, verify: bool = False) -> None:
+    def __init__(self, content: Buffer, *, verify: bool = False, columns: Optional[Sources] = None) -> None:
         if isinstance(content, memoryview) and content.readonly:
             content = bytes(content)
         self._bytes = memoryview(content)
@@ -272,6 +332,7 @@ class Log:
         self._first = Cursor(first.position, first.description, first.ended)
         self._fill = LIBRARY.binlog_next_verified if verify else LIBRARY.binlog_next
         self._rest: Optional[int] = None
+        self._columns = None if columns is None else _TableColumns(self, DeclaredTables(columns))
 
     def __len__(self) -> int:
         """How many bytes the log has."""
@@ -291,6 +352,8 @@ class Log:
 
     def _line(self, fields: tuple, table_maps: tuple[tuple, ...], index: int) -> bytes:
         """The line of JSON of an item, with these table maps."""
+        columns = self._columns_of(table_maps)
+        call = LIBRARY.binlog_json_with_columns if columns else LIBRARY.binlog_json
         item = ITEM.pack(*fields)
         maps = b"".join(ITEM.pack(*table_map) for table_map in table_maps)
         error = ctypes.c_uint8()
@@ -298,13 +361,24 @@ class Log:
         while room < size:
             room = size
             text = ctypes.create_string_buffer(room)
-            size = LIBRARY.binlog_json(self._at, self._size, item, maps, len(table_maps), index, text, room, error)
+            size = call(self._at, self._size, item, maps, len(table_maps), *columns, index, text, room, error)
             if error.value:
                 raise LogError(error.value, fields[0])
         return ctypes.string_at(text, size)
 
+    def _plain_line(self, fields: tuple) -> bytes:
+        """The line of JSON of an item that isn't a row event."""
+        return self._line(fields, (), 0)
+
+    def _columns_of(self, table_maps: tuple[tuple, ...]) -> Union[tuple[()], tuple[bytes, int]]:
+        """The text of a file of the columns of these tables, and its length; nothing if there is none."""
+        text = self._columns.text(table_maps) if self._columns and table_maps else b""
+        return (text, len(text)) if text else ()
+
     def _lines(self, run: list[tuple], table_maps: tuple[tuple, ...], index: int) -> Iterator[bytes]:
         """The lines of JSON of items, of which the first has this index, with these table maps."""
+        columns = self._columns_of(table_maps)
+        call = LIBRARY.binlog_json_lines_with_columns if columns else LIBRARY.binlog_json_lines
         items = b"".join(ITEM.pack(*fields) for fields in run)
         maps = b"".join(ITEM.pack(*table_map) for table_map in table_maps)
         text = ctypes.create_string_buffer(_LINES)
@@ -312,8 +386,8 @@ class Log:
         done = 0
         while done < len(run):
             left, first = items[done * ITEM.size :], index + done
-            size = LIBRARY.binlog_json_lines(
-                self._at, self._size, left, len(run) - done, maps, len(table_maps), first, text, _LINES, count, error
+            size = call(
+                self._at, self._size, left, len(run) - done, maps, len(table_maps), *columns, first, text, _LINES, count, error
             )
             yield from ctypes.string_at(text, size).splitlines(keepends=True)
             done += count.value
@@ -374,15 +448,18 @@ class Log:
         return self.events()
 
 
-def open(path: Union[str, "os.PathLike[str]"], *, verify: bool = False) -> Log:
+def open(path: Union[str, "os.PathLike[str]"], *, verify: bool = False, columns: Optional[Sources] = None) -> Log:
     """The binary log in a file, which is mapped into memory and has to stay as long as it is.
 
     verify: whether checksums are verified, as Log says.
+    columns: files of columns, as Log says: a path, a binary file, or several of these.
 
-    Raises InvalidLog where the file doesn't begin with the file header, and OSError where it can't be read.
+    Raises InvalidLog where the file doesn't begin with the file header, InvalidColumns where a file of columns isn't one, and OSError
+    where a file can't be read.
     """
     with builtins.open(path, "rb") as file:
         if os.fstat(file.fileno()).st_size == 0:
-            return Log(b"", verify=verify)
+            return Log(b"", verify=verify, columns=columns)
         # A private mapping: ctypes takes the place of writable memory alone. Nothing is written.
-        return Log(mmap.mmap(file.fileno(), 0, access=mmap.ACCESS_COPY), verify=verify)
+        mapping = mmap.mmap(file.fileno(), 0, access=mmap.ACCESS_COPY)
+        return Log(mapping, verify=verify, columns=columns)

@@ -13,3 +13,5 @@ pub mod TableMaps
 mod Lines
 mod LaterPlaces
 mod PlainLines
+mod DeclaredLines
+mod Contradicted

@@ -9,7 +9,6 @@ use Rattle.binlog_consts.specs.declared.event_type.UnknownEventType.{UnknownEven
 use Rattle.binlog_event_format.specs.declared.format_description.FormatDescriptionEvent.{FormatDescriptionEvent}
 use Rattle.binlog_event_data.specs.ReadData.{TakesMemory, ReadsAs, ReadsData}
 use Rattle.binlog_event_data.specs.declared.event_data.EventData.{EventData}
-use Rattle.binlog_rows.specs.declared.rows_event_data.RowsEventData.{RowsEventData}
 use Rattle.binlog_json_lines.specs.RowEvents.{is_rows_type, is_of_rows, rows_in, rows_read, rows_event_in}
 
 -- Another type.

@@ -1,5 +1,5 @@
 -- The rows of an event as the value of a member.
-use Rattle.std.proofs.Common.{◌≡◌, ℕ, Bool, true, false, cond, List, [], ◌∷◌, ◌++◌, codes, Option, None, Some, Result, Ok, Err, IfOk, refl, sym, ap, subst, ◌∙◌, append_assoc, append-nil}
+use Rattle.std.proofs.Common.{◌≡◌, Bool, List, [], ◌∷◌, ◌++◌, codes, Option, None, Some, Result, Ok, Err, IfOk, refl, sym, ap, subst, ◌∙◌, append_assoc, append-nil}
 use Rattle.json.specs.Token.{Token, key}
 use Rattle.json_line.specs.Tokens.{text_value, member}
 use Rattle.binlog_events.specs.Events.{EventView}
@@ -10,12 +10,9 @@ use Rattle.binlog_optional_metadata.specs.declared.column_facts.ColumnFacts.{Col
 use Rattle.binlog_json_values.specs.Written.{ShowsRows}
 use Rattle.binlog_rows.specs.declared.rows_event.RowsEvent as rows_events
 use Rattle.binlog_rows.specs.declared.table_map_event.TableMapEvent.{TableMapEvent}
-use Rattle.binlog_columns.specs.declared.column_error.ColumnError.{ColumnError}
 use Rattle.binlog_images.specs.EventRows.{AreRowsOf}
-use Rattle.binlog_images.specs.Events.{mapped_columns, event_error, columns_error}
 use Rattle.binlog_images.specs.declared.rows.Rows.{Rows}
 use Rattle.binlog_images.specs.declared.rows_error.RowsEventError.{RowsEventError}
-use Rattle.binlog_images.specs.declared.rows_error.RowsEventError.TheVariants.{NoTableMap}
 use Rattle.column_files.specs.declared.tables.DeclaredTables.{DeclaredTables}
 use Rattle.binlog_json_lines.specs.declared.row_members.ShownRows.{ShownRows}
 use Rattle.binlog_json_lines.specs.RowMembers.{name_of, nothing_shown, rows_error, StatesColumns, AreReadRows, ShowsStatedRows, AreRowsMembers, AreMappedMembers, IsFlavour, AreBodyMembers, AreMembersOf}
@@ -23,15 +20,6 @@ use Rattle.binlog_json_lines.specs.Refusals.{refusal_value, metadata_member}
 use Rattle.binlog_json_lines.specs.RowEvents.{rows_in}
 use Rattle.binlog_optional_metadata.specs.declared.metadata_error.OptionalMetadataError.{OptionalMetadataError}
 use Rattle.binlog_json_bodies.specs.Shown.{Appended, ShowsBy}
-
-none_of_columns : (event table : ℕ) (refused : Option ColumnError) → columns_error event table refused ≡ None → refused ≡ None
-none_of_columns event table None none = refl
-none_of_columns event table (Some error) none = absurd cc
-
--- The columns of a table map by which the rows are read aren't refused.
-pub none_refused : (is_same : Bool) (id event table : ℕ) (refused : Option ColumnError) → cond is_same (columns_error event table refused) (Some (NoTableMap id)) ≡ None → refused ≡ None
-none_refused true id event table refused none = none_of_columns event table refused none
-none_refused false id event table refused none = absurd cc
 
 -- The rows that are written are those of the event.
 pub rows_value : {E : Type 0} (result : Result ShownRows E) (files : List DeclaredTables) (is_maria_log is_partial : Bool) (map : TableMapEvent) (event : rows_events.RowsEvent) (rows : Rows) (old new : List Token)
@@ -107,7 +95,12 @@ members_of (Ok shown) files event is_maria_log map found old new flavour appende
 members_of (Err e) files event is_maria_log map found old new flavour appended = appended
 
 -- The member `rows` with what is in the place of the rows.
-pub refused_rows : (files : List DeclaredTables) (is_maria_log : Bool) (body : RowsEventData) (map : TableMapEvent) (error : RowsEventError) (old keyed new : List Token) → keyed ≡ old ++ key (codes "rows") ∷ []
-    → new ≡ keyed ++ refusal_value error → Appended (AreRowsMembers files is_maria_log body map (Some error) nothing_shown) old new
-refused_rows files is_maria_log body map error old keyed new rows_key is =
-    record { tokens = member (codes "rows") (refusal_value error); are = (refl, refl); is = rw (is, rows_key) (simp append_assoc) }
+pub refused_members : {E : Type 0} (result : Result ShownRows E) (files : List DeclaredTables) (is_maria_log : Bool) (body : RowsEventData) (map : TableMapEvent) (error : RowsEventError) (found : Option RowsEventError)
+    (old new : List Token) → found ≡ Some error → IfOk result (λ shown. (shown ≡ nothing_shown) × (new ≡ old ++ member (codes "rows") (refusal_value error)))
+    → ShowsBy result old new (AreRowsMembers files is_maria_log body map found)
+refused_members (Ok shown) files is_maria_log body map error found old new is (nothing, added) = record {
+  tokens = member (codes "rows") (refusal_value error);
+  are = subst (λ (f : Option RowsEventError). AreRowsMembers files is_maria_log body map f shown (member (codes "rows") (refusal_value error))) (sym is) (nothing, refl);
+  is = added;
+}
+refused_members (Err e) files is_maria_log body map error found old new is given = given

@@ -1,24 +1,28 @@
 //! The members `table`, `metadata` and `rows`.
 #![tactic(auto, using(std::proofs::Common::append_assoc))]
 
-ghost use Rattle.std.specs.Prelude.{◌≡◌, ◌++◌, [], ◌∷◌, codes, Bool, None, option_copied, IfOk};
+ghost use Rattle.std.specs.Prelude.{◌≡◌, ◌++◌, [], ◌∷◌, codes, Bool, map, None, option_copied, IfOk};
 ghost use Rattle.json.specs.Token.{key};
-ghost use Rattle.json_line.specs.Tokens.{Adds, text_value};
+ghost use Rattle.json_line.specs.Tokens.{Adds, member, text_value};
 ghost use Rattle.binlog_wire.specs.Fields.{IsBytes};
 ghost use Rattle.binlog_events.specs.EventRefs.{view_of};
 ghost use Rattle.binlog_rows.specs.RowsData.{event_in};
+ghost use Rattle.binlog_columns.specs.Columns.{typed_of};
 ghost use Rattle.binlog_columns.specs.Refusals.{refusal};
+ghost use Rattle.binlog_columns.specs.TableColumns.{columns_of};
+ghost use Rattle.binlog_images.specs.Events.{mapped_columns};
 ghost use Rattle.binlog_json_lines.specs.RowMembers.{name_of, nothing_shown, unmapped_members, rows_error, map_for, ShowsStatedRows, AreRowsMembers, AreEventMembers, AreBodyMembers, AreMembers};
-ghost use Rattle.binlog_json_lines.specs.Refusals.{metadata_member};
+ghost use Rattle.binlog_json_lines.specs.Refusals.{metadata_member, refusal_value};
 ghost use Rattle.binlog_json_lines.specs.RowEvents.{rows_in};
 ghost use Rattle.binlog_json_bodies.specs.Shown.{ShowsBy};
 
 use crate::refusals::{write_metadata_refusal, write_refusal};
 use crate::row_events::is_row_event;
+use binlog_columns::{Column, TableColumns};
 use binlog_declared_columns::table_facts;
 use binlog_event_data::EventData;
 use binlog_events::EventRef;
-use binlog_images::{Rows, RowsEventExt};
+use binlog_images::{Rows, RowsEventError, RowsEventExt};
 use binlog_json_values::ValueWriter;
 use binlog_mariadb::is_maria_log;
 use binlog_optional_metadata::{OptionalMetadataError, TableMapColumns};
@@ -99,6 +103,26 @@ fn map_for<'a, 'b>(
     }
 }
 
+// Writes the member `rows` of rows that can't be read at all.
+fn write_refused(line: &mut Line, error: &RowsEventError) -> Result<ShownRows, AllocError>
+    ensures { IfOk result (λ shown. (shown ≡ nothing_shown) × (line.new ≡ line.old ++ member (codes "rows") (refusal_value error.now))) }
+{
+    line.key("rows")?;
+    write_refusal(line, error)?;
+    Ok(ShownRows::nothing())
+}
+
+// The columns, in memory, where each row is read by them.
+fn collected(alloc: Global, columns: TableColumns<'_>) -> Result<Vec<Column>, AllocError>
+    ensures { IfOk result (λ kept. map typed_of kept.items ≡ columns_of columns.entry) }
+{
+    let mut kept = Vec::with_capacity(alloc, columns.num_columns())?;
+    'columns: for column in columns {
+        kept.push(column).map_err(AllocError::from)?;
+    }
+    Ok(kept)
+}
+
 impl RowsWriter {
     /// A writer. Nothing is allocated.
     pub fn new(alloc: Global) -> Self {
@@ -111,7 +135,7 @@ impl RowsWriter {
     /// Writes the members `table` and `rows` of a row event, and between them `metadata` where a field of the table map's
     /// optional metadata is refused; nothing for an event of another type, or one whose data isn't that of a row event. The
     /// table map is the one in force for the event's table id; one of another table id counts as none. The memory that is
-    /// taken is that of a value's text, and of the facts of the table's columns.
+    /// taken is that of a value's text, and of the table's columns and their facts.
     ///
     /// What the table map doesn't state of columns is what these files declare of them, unless the table contradicts that. The result
     /// says whether `rows` has all rows of the event, and which column contradicts the files.
@@ -219,14 +243,39 @@ impl RowsWriter {
     ) -> Result<ShownRows, AllocError>
         ensures { ShowsBy result line.old line.new (AreRowsMembers files.now is_maria_log body.now table_map.now (rows_error table_map.now body.now)) }
     {
-        are_bytes(body.rows_data());
-        match body.rows(table_map) {
-            Ok(rows) => self.write_split_rows(line, alloc, rows, table_map, is_maria_log, files),
-            Err(error) => {
-                line.key("rows")?;
-                write_refusal(line, &error)?;
-                Ok(ShownRows::nothing())
+        let table_id = body.table_id();
+        if table_id != table_map.table_id() {
+            return write_refused(line, &RowsEventError::NoTableMap(table_id));
+        }
+        match table_map.table_columns() {
+            Ok(columns) => {
+                let columns = collected(alloc, columns)?;
+                self.write_table_rows(line, alloc, body, &columns, table_map, is_maria_log, files)
             }
+            Err(error) => write_refused(line, &RowsEventError::Columns(error)),
+        }
+    }
+
+    // Writes the same, of an event of the table of this table map, which has these columns.
+    fn write_table_rows(
+        &mut self,
+        line: &mut Line,
+        alloc: Global,
+        body: &RowsEventData<'_>,
+        columns: &[Column],
+        table_map: &TableMapEvent<'_>,
+        is_maria_log: bool,
+        files: &[DeclaredTables],
+    ) -> Result<ShownRows, AllocError>
+        requires id { (event_in body.now).head.table_id ≡ table_map.now.table.id }
+        requires whole { refusal 0 table_map.now.columns.types table_map.now.columns.metadata ≡ None }
+        requires columns { map typed_of columns.now ≡ mapped_columns table_map.now }
+        ensures { ShowsBy result line.old line.new (AreRowsMembers files.now is_maria_log body.now table_map.now (rows_error table_map.now body.now)) }
+    {
+        are_bytes(body.rows_data());
+        match body.rows_of_table(TableColumns::known(columns)) {
+            Ok(rows) => self.write_split_rows(line, alloc, rows, table_map, is_maria_log, files),
+            Err(error) => write_refused(line, &error),
         }
     }
 

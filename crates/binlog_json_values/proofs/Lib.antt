@@ -13,6 +13,7 @@ mod DocumentsBefore
 mod Visits
 mod RowLists
 mod FirstRows
-mod Presence
+pub mod Presence
 mod RowSteps
 mod KeyedMembers
+mod KeptFacts

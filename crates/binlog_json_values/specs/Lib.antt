@@ -8,6 +8,8 @@ pub mod Values
 pub mod Rows
 pub mod Before
 pub mod Keys
+pub mod Kept
+pub mod KeptColumns
 pub mod Written
 pub mod Brackets
 pub mod RowWriting

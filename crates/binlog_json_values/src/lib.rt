@@ -7,12 +7,15 @@
 
 mod before;
 mod documents;
+mod kept_columns;
 mod keys;
 pub mod laws;
 mod members;
 mod names;
 mod numbers;
+mod owned_facts;
 mod refusals;
+mod row_images;
 mod row_writer;
 mod rows;
 mod strings;
@@ -22,4 +25,6 @@ mod timestamps;
 mod values;
 
 pub use binlog_optional_metadata::ColumnFacts;
+pub use kept_columns::KeptColumns;
+pub use row_images::RowImages;
 pub use values::ValueWriter;

@@ -1,18 +1,19 @@
 //! Rows as JSON, written as they are read.
-ghost use Rattle.std.specs.Prelude.{◌≡◌, ℕ, ◌||◌, drop, option_copied, IfOk, OnOk};
+ghost use Rattle.std.specs.Prelude.{◌≡◌, ◌∷◌, [], ℕ, List, ◌||◌, drop, IfOk, OnOk};
+ghost use Rattle.json.specs.Token.{key, null};
+ghost use Rattle.json_line.specs.Keys.{IsKey};
 ghost use Rattle.json_line.specs.Tokens.{Adds};
 ghost use Rattle.binlog_images.specs.ColumnValues.{cell_of};
 ghost use Rattle.binlog_wire.specs.Fields.{IsBytes};
 ghost use Rattle.binlog_json_values.specs.Brackets.{closing, row_begins, after_begins, after_if, row_ends, begins_after};
 ghost use Rattle.binlog_json_values.specs.Keys.{ArePrinted};
-ghost use Rattle.binlog_optional_metadata.specs.Facts.{Facts};
-ghost use Rattle.binlog_json_values.specs.Parts.{Writes};
-ghost use Rattle.binlog_json_values.specs.Rows.{cell_parts};
+ghost use Rattle.binlog_json_values.specs.Documents.{diff_list_parts};
+ghost use Rattle.binlog_json_values.specs.Parts.{exactly, Writes};
 ghost use Rattle.binlog_json_values.specs.Written.{HasImages};
 
 use crate::before::DocumentsBefore;
-use crate::keys::ColumnKeys;
 use crate::refusals::write_refusal;
+use crate::row_images::RowImages;
 use crate::values::ValueWriter;
 use binlog_images::{ColumnValue, ColumnVisitor, ImageKind, Rows};
 use binlog_optional_metadata::ColumnFacts;
@@ -82,15 +83,13 @@ fn begins_after(image: ImageKind, index: u64) -> bool
     }
 }
 
-/// Whether the first row that is left has an image before and one after.
-fn images_of(rows: &Rows<'_>) -> (bool, bool)
-    ensures { HasImages result.0 result.1 rows.now }
+/// Writes the member of a column whose name is printed and which is NULL.
+fn write_null(line: &mut Line, printed: &Line) -> Result<(), AllocError>
+    requires { IsKey printed.now }
+    ensures { (name : List ℕ) → printed.now ≡ key name ∷ [] → Writes result line.old line.new (exactly (key name) ∷ exactly null ∷ []) }
 {
-    let mut rest = *rows;
-    match rest.next() {
-        Some(Ok(row)) => (row.before().is_some(), row.after().is_some()),
-        _ => (false, false),
-    }
+    line.copied_key(printed)?;
+    line.null()
 }
 
 /// Writes rows: it is shown their columns, and writes each as it is read.
@@ -98,9 +97,9 @@ fn images_of(rows: &Rows<'_>) -> (bool, bool)
 pub(crate) struct RowWriter<'a, 'b, 'c> {
     pub(crate) values: ValueWriter,
     pub(crate) line: Line,
-    /// The names of the columns, printed.
-    pub(crate) keys: ColumnKeys,
     columns: &'a [ColumnFacts<'b>],
+    /// The names of the columns, printed.
+    keys: &'a [Line],
     /// The documents of the row's image before.
     before: DocumentsBefore<'c>,
     /// Whether each row has an image before.
@@ -111,7 +110,7 @@ pub(crate) struct RowWriter<'a, 'b, 'c> {
     after_begun: bool,
     /// Whether an allocation failed.
     failed: bool,
-    ghost printed: { ArePrinted columns.now keys.lines.items },
+    ghost printed: { ArePrinted columns.now keys.now },
 }
 
 impl<'a, 'b, 'c> RowWriter<'a, 'b, 'c> {
@@ -121,25 +120,25 @@ impl<'a, 'b, 'c> RowWriter<'a, 'b, 'c> {
     pub(crate) fn new(
         values: ValueWriter,
         line: Line,
-        keys: ColumnKeys,
         columns: &'a [ColumnFacts<'b>],
+        keys: &'a [Line],
+        images: RowImages,
         before: DocumentsBefore<'c>,
-        rows: &Rows<'c>,
     ) -> Self
-        requires { ArePrinted columns.now keys.lines.items }
+        requires { ArePrinted columns.now keys.now }
         ensures line { result.line ≡ line }
         ensures columns { result.columns.now ≡ columns.now }
-        ensures images { HasImages result.has_before result.has_after rows.now }
+        ensures before { result.has_before ≡ images.before }
+        ensures after { result.has_after ≡ images.after }
     {
-        let (has_before, has_after) = images_of(rows);
         RowWriter {
             values,
             line,
-            keys,
             columns,
+            keys,
             before,
-            has_before,
-            has_after,
+            has_before: images.before,
+            has_after: images.after,
             after_begun: false,
             failed: false,
         }
@@ -161,25 +160,19 @@ impl<'a, 'b, 'c> RowWriter<'a, 'b, 'c> {
         Ok(())
     }
 
-    /// The document before of the column with this index, if its value is a list of diffs.
-    #[inline(always)]
-    fn document_for(
-        &mut self,
-        index: u64,
-        value: &ColumnValue<'_>,
-    ) -> Result<Option<&'c [u8]>, AllocError>
+    /// Writes the member of the column with this index, whose name is printed and whose value is a list of diffs.
+    #[inline(never)]
+    fn write_diffs(&mut self, index: u64, printed: &Line, bytes: &[u8]) -> Result<(), AllocError>
+        requires { IsKey printed.now }
         ensures kept { Keeps self.old self.new }
-        ensures keys { self.new.keys ≡ self.old.keys }
-        ensures line { self.new.line ≡ self.old.line }
         ensures row { self.new.before.rows ≡ self.old.before.rows }
         ensures failed { self.new.failed ≡ self.old.failed }
         ensures begun { self.new.after_begun ≡ self.old.after_begun }
-        ensures document { IfOk result (λ found. (facts : Facts) (k : ℕ) → cell_parts facts k (option_copied found) (cell_of value.now) ≡ cell_parts facts k (document_at index (row_before self.old)) (cell_of value.now)) }
+        ensures written { (name : List ℕ) → printed.now ≡ key name ∷ [] → Writes result self.old.line self.new.line (exactly (key name) ∷ diff_list_parts (document_at index (row_before self.old)) bytes.now) }
     {
-        match value {
-            ColumnValue::Absent | ColumnValue::Null | ColumnValue::Value(_) => Ok(None),
-            ColumnValue::Diffs(_) => self.before.document(index),
-        }
+        let before = self.before.document(index)?;
+        self.values
+            .write_named_diffs(&mut self.line, printed, before, bytes)
     }
 
     /// Writes the member of the column with this index; nothing if it is beyond the table's columns.
@@ -190,15 +183,19 @@ impl<'a, 'b, 'c> RowWriter<'a, 'b, 'c> {
         ensures begun { self.new.after_begun ≡ self.old.after_begun }
         ensures written { Writes result self.old.line self.new.line (first_member index (drop index self.old.columns.now) (document_at index (row_before self.old)) (cell_of value.now)) }
     {
-        let before = self.document_for(index, value)?;
-        let columns = self.columns;
-        match columns.get(index as usize) {
-            Some(facts) => {
-                let printed = &self.keys.lines[index as usize];
+        let (columns, keys) = (self.columns, self.keys);
+        let Some(facts) = columns.get(index as usize) else {
+            return Ok(());
+        };
+        let printed = &keys[index as usize];
+        match value {
+            ColumnValue::Absent => Ok(()),
+            ColumnValue::Null => write_null(&mut self.line, printed),
+            ColumnValue::Value(value) => {
                 self.values
-                    .write_named_cell(&mut self.line, printed, facts, before, value)
+                    .write_named_value(&mut self.line, printed, facts, value)
             }
-            None => Ok(()),
+            ColumnValue::Diffs(bytes) => self.write_diffs(index, printed, bytes),
         }
     }
 

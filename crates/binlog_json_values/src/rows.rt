@@ -1,7 +1,7 @@
 //! Rows as JSON.
 #![tactic(auto, using(std::proofs::Common::append_assoc))]
 
-ghost use Rattle.std.specs.Prelude.{ℕ, ◌≡◌, ◌+◌, ◌<◌, ◌^◌, ◌++◌, ◌∷◌, [], drop, Option, option_map, option_copied, IfOk};
+ghost use Rattle.std.specs.Prelude.{ℕ, ◌≡◌, ◌+◌, ◌<◌, ◌^◌, ◌++◌, ◌∷◌, [], List, map, drop, Option, option_map, option_copied, IfOk};
 ghost use Rattle.std.specs.String.{string_bytes};
 ghost use Rattle.json.specs.Token.{key};
 ghost use Rattle.json_line.specs.Keys.{IsKey};
@@ -12,16 +12,25 @@ ghost use Rattle.binlog_images.specs.ColumnValues.{cell_of};
 ghost use Rattle.binlog_images.specs.ImageCells.{cells_of};
 ghost use Rattle.binlog_images.specs.RowCells.{row_cells, answer_row};
 ghost use Rattle.binlog_optional_metadata.specs.Facts.{facts_of};
-ghost use Rattle.binlog_json_values.specs.Parts.{Writes};
+ghost use Rattle.binlog_optional_metadata.specs.declared.column_facts.ColumnFacts.{ColumnFacts};
+ghost use Rattle.binlog_json_values.specs.KeptColumns.{kept_facts};
+ghost use Rattle.binlog_json_values.specs.Keys.{ArePrinted};
+ghost use Rattle.binlog_values.specs.Values.{meaning_of, content_of};
+ghost use Rattle.binlog_json_values.specs.Documents.{diff_list_parts};
+ghost use Rattle.binlog_json_values.specs.Values.{value_parts};
+ghost use Rattle.binlog_json_values.specs.Parts.{Writes, exactly};
 ghost use Rattle.binlog_json_values.specs.Rows.{column_name, cell_parts, first_parts, image_parts, image_member, before_or_none, row_parts};
-ghost use Rattle.binlog_json_values.specs.Written.{ShowsRows};
+ghost use Rattle.binlog_json_values.specs.Written.{HasImages, ShowsRows};
 
 use crate::before::next_document;
+use crate::kept_columns::KeptColumns;
 use crate::keys::write_name;
+use crate::row_images::{RowImages, images_of};
 use crate::row_writer::RowWriter;
 use crate::values::ValueWriter;
 use binlog_images::{ColumnValue, Image, Row, Rows};
 use binlog_optional_metadata::ColumnFacts;
+use binlog_values::Value;
 use json_line::Line;
 use std::alloc::AllocError;
 
@@ -55,33 +64,35 @@ impl ValueWriter {
         }
     }
 
-    /// Writes the member of a column whose name is printed, and whose document before is given; nothing for one that is absent.
-    pub(crate) fn write_named_cell(
+    /// Writes the member of a value of a column whose name is printed.
+    #[inline(always)]
+    pub(crate) fn write_named_value(
         &mut self,
         line: &mut Line,
         printed: &Line,
         facts: &ColumnFacts<'_>,
-        before: Option<&[u8]>,
-        cell: &ColumnValue<'_>,
+        value: &Value<'_>,
     ) -> Result<(), AllocError>
         requires { IsKey printed.now }
-        ensures { (index : ℕ) → printed.now ≡ key (column_name (facts_of facts.now) index) ∷ [] → Writes result line.old line.new (cell_parts (facts_of facts.now) index (option_copied before.entry) (cell_of cell.now)) }
+        ensures { (name : List ℕ) → printed.now ≡ key name ∷ [] → Writes result line.old line.new (exactly (key name) ∷ value_parts (facts_of facts.now) (meaning_of value.now) (content_of value.now)) }
     {
-        match cell {
-            ColumnValue::Absent => Ok(()),
-            ColumnValue::Null => {
-                line.copied_key(printed)?;
-                line.null()
-            }
-            ColumnValue::Value(value) => {
-                line.copied_key(printed)?;
-                self.write(line, facts, value)
-            }
-            ColumnValue::Diffs(bytes) => {
-                line.copied_key(printed)?;
-                self.write_diffs(line, before, bytes)
-            }
-        }
+        line.copied_key(printed)?;
+        self.write(line, facts, value)
+    }
+
+    /// Writes the member of a list of diffs of a column whose name is printed, and whose document before is given.
+    pub(crate) fn write_named_diffs(
+        &mut self,
+        line: &mut Line,
+        printed: &Line,
+        before: Option<&[u8]>,
+        bytes: &[u8],
+    ) -> Result<(), AllocError>
+        requires { IsKey printed.now }
+        ensures { (name : List ℕ) → printed.now ≡ key name ∷ [] → Writes result line.old line.new (exactly (key name) ∷ diff_list_parts (option_copied before.entry) bytes.now) }
+    {
+        line.copied_key(printed)?;
+        self.write_diffs(line, before, bytes)
     }
 
     /// Writes the member of the next column of an image, whose document before is given, if one is left.
@@ -183,20 +194,56 @@ impl ValueWriter {
     ) -> Result<bool, AllocError>
         ensures { IsBytes rows.entry.rest.now → IfOk result (λ all_read. ShowsRows columns.now rows.entry all_read line.old line.new) }
     {
-        line.begin_array()?;
         self.keys.print(&mut self.names, columns)?;
         let keys = self.keys.take();
+        let images = images_of(&rows);
+        let written = self.write_named_rows(line, columns, &keys.lines, images, rows);
+        self.keys = keys;
+        written
+    }
+
+    /// Writes the same, of a table whose columns are kept, where it is known which images each row has.
+    ///
+    /// # Errors
+    ///
+    /// [`AllocError`] if an allocation fails. Some tokens may then have been written.
+    pub fn write_kept_rows(
+        &mut self,
+        line: &mut Line,
+        columns: &KeptColumns,
+        images: RowImages,
+        rows: Rows<'_>,
+    ) -> Result<bool, AllocError>
+        requires { HasImages images.before images.after rows }
+        ensures { (facts : List ColumnFacts) → kept_facts columns.now ≡ map facts_of facts → IsBytes rows.entry.rest.now → IfOk result (λ all_read. ShowsRows facts rows.entry all_read line.old line.new) }
+    {
+        let facts = self.facts(columns)?;
+        self.write_named_rows(line, &facts, &columns.keys.lines, images, rows)
+    }
+
+    /// Writes the same, of a table with these columns, whose names are printed.
+    fn write_named_rows(
+        &mut self,
+        line: &mut Line,
+        columns: &[ColumnFacts<'_>],
+        keys: &[Line],
+        images: RowImages,
+        rows: Rows<'_>,
+    ) -> Result<bool, AllocError>
+        requires printed { ArePrinted columns.now keys.now }
+        requires images { HasImages images.before images.after rows }
+        ensures { IsBytes rows.entry.rest.now → IfOk result (λ all_read. ShowsRows columns.now rows.entry all_read line.old line.new) }
+    {
+        line.begin_array()?;
         let before = self.documents_before(&rows);
-        let mut writer = RowWriter::new(self.take(), line.take(), keys, columns, before, &rows);
+        let mut writer = RowWriter::new(self.take(), line.take(), columns, keys, images, before);
         let written = writer.write_rest(rows);
         let RowWriter {
             values,
             line: shown,
-            keys,
             ..
         } = writer;
         *self = values;
-        self.keys = keys;
         *line = shown;
         let all_read = written?;
         line.end_array()?;

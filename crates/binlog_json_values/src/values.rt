@@ -1,18 +1,20 @@
 //! Values as JSON.
 #![tactic(auto, using(std::proofs::Common::append_assoc))]
 
-ghost use Rattle.std.specs.Prelude.{◌≡◌, ◌++◌, ◌∷◌, [], option_copied};
+ghost use Rattle.std.specs.Prelude.{◌≡◌, ◌++◌, ◌∷◌, [], map, option_copied, IfOk};
 ghost use Rattle.json.specs.Token.{string};
 ghost use Rattle.json_line.specs.Tokens.{Adds};
 ghost use Rattle.binlog_values.specs.Decimals.{decimal_text};
 ghost use Rattle.binlog_values.specs.Values.{meaning_of, content_of};
 ghost use Rattle.binlog_optional_metadata.specs.Facts.{facts_of};
+ghost use Rattle.binlog_json_values.specs.KeptColumns.{kept_facts};
 ghost use Rattle.binlog_json_values.specs.Parts.{Writes};
 ghost use Rattle.binlog_json_values.specs.Documents.{diff_list_parts};
 ghost use Rattle.binlog_json_values.specs.Values.{value_tokens, value_parts};
 
 use crate::before::DocumentsBefore;
 use crate::documents::{write_diff_list, write_encoded, write_json};
+use crate::kept_columns::KeptColumns;
 use crate::keys::ColumnKeys;
 use crate::members::{write_enum, write_set};
 use crate::names::NumberedNames;
@@ -58,6 +60,16 @@ impl ValueWriter {
     /// The documents of the image before of the first of these rows. Nothing is allocated.
     pub(crate) fn documents_before<'a>(&self, rows: &Rows<'a>) -> DocumentsBefore<'a> {
         DocumentsBefore::new(self.alloc, rows)
+    }
+
+    /// The facts of columns that are kept, borrowed.
+    pub(crate) fn facts<'a>(
+        &self,
+        columns: &'a KeptColumns,
+    ) -> Result<Vec<ColumnFacts<'a>>, AllocError>
+        ensures { IfOk result (λ facts. map facts_of facts.items ≡ kept_facts columns.now) }
+    {
+        columns.facts(self.alloc)
     }
 
     /// Writes the bytes of a list of diffs of a column, whose document before is given.
@@ -136,6 +148,7 @@ impl ValueWriter {
 }
 
 /// Writes a decimal number.
+#[tactic(auto, using(crate::proofs::PlainTexts::plain_decimal_text))]
 fn write_decimal(
     line: &mut Line,
     text: &mut String,
@@ -145,5 +158,5 @@ fn write_decimal(
 {
     text.clear();
     decimal.push_to(text)?;
-    line.string(text.as_str())
+    line.plain_string(text.as_str())
 }

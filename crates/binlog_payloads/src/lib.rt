@@ -3,8 +3,8 @@
 //! With `binlog_transaction_compression=ON` a server writes a transaction as one event, whose payload is the bytes of the
 //! transaction's events, compressed.
 //!
-//! [`TransactionPayloadEvent::of_event`] reads such an event, and [`TransactionPayloadEvent::read`] its data, as `EventData` of
-//! `binlog_file` keeps them; [`TransactionPayloadEvent::decompressed`] gives the content. A [`TransactionPayloadReader`] goes over the events in it, which it
+//! [`TransactionPayloadEvent::of_event`] reads such an event, and [`TransactionPayloadEvent::read`] its data, as `EventData` keeps
+//! them; [`TransactionPayloadEvent::decompressed`] gives the content. A [`TransactionPayloadReader`] goes over the events in it, which it
 //! borrows; [`read_decompressed`] reads them one by one for the reader of a stream, so that their table maps are in force:
 //!
 //! ```text

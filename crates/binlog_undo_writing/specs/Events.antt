@@ -50,9 +50,12 @@ pub record IsUnchanged (old new : EventsWriter) : Type 0 where
   pub place : new.place ≡ old.place
   pub checksums : new.has_checksums ≡ old.has_checksums
 
--- Its header can state how long the event is, and the place behind it is a number of 64 bits.
+-- Its header can state how long an event is that begins at this place, and the place behind it is a number of 64 bits.
+abbrev pub fits_at : Bool → ℕ → List ℕ → Bool
+fits_at has_checksum place body = nat_lt (event_size has_checksum body) (2 ^ 32) && nat_lt (place + event_size has_checksum body) (2 ^ 64)
+
 abbrev pub fits : EventsWriter → List ℕ → Bool
-fits writer body = nat_lt (event_size writer.has_checksums body) (2 ^ 32) && nat_lt (writer.place + event_size writer.has_checksums body) (2 ^ 64)
+fits writer body = fits_at writer.has_checksums writer.place body
 
 -- Where it doesn't fit, that is the answer; and where it does, only memory may be refused.
 abbrev pub RefusesAs : Bool → Result (Unit {0}) WriteError → Type 0

@@ -1,14 +1,15 @@
 -- The events that are written for a transaction that is undone.
-use Rattle.std.specs.Prelude.{ℕ, ◌+◌, Bool, List, [], ◌∷◌, ◌++◌, reverse}
+use Rattle.std.specs.Prelude.{◌≡◌, ℕ, ◌+◌, ◌&&◌, Bool, List, [], ◌∷◌, ◌++◌, reverse, Result}
 use Rattle.std.specs.List.{flat_map}
 use Rattle.binlog_consts.specs.declared.event_type.EventType.{EventType}
 use Rattle.binlog_consts.specs.declared.event_type.EventType.TheVariants.{QUERY_EVENT, XID_EVENT, TABLE_MAP_EVENT}
 use Rattle.binlog_event_format.specs.declared.header.BinlogEventHeader.{BinlogEventHeader}
-use Rattle.binlog_undo_writing.specs.Events.{event_size, event_bytes, IsWritten, IsUnchanged, begin_body, xid_body}
+use Rattle.binlog_undo_writing.specs.Events.{event_size, event_bytes, IsWritten, IsUnchanged, fits, fits_at, RefusesAs, begin_body, xid_body}
 use Rattle.binlog_undo_writing.specs.Headings.{begin_heading, commit_heading, source_heading}
 use Rattle.binlog_undo_writing.specs.declared.events_writer.EventsWriter.{EventsWriter}
 use Rattle.binlog_undo_writing.specs.declared.heading.Heading.{Heading}
 use Rattle.binlog_undo_writing.specs.declared.undone_change.UndoneChange.{UndoneChange}
+use Rattle.binlog_undo_writing.specs.declared.write_error.WriteError.{WriteError}
 
 -- ---- events one after the other
 
@@ -39,6 +40,22 @@ abbrev pub change_events : UndoneChange → List Event
 change_events change =
     event (source_heading change.map_header) TABLE_MAP_EVENT change.map_body.now
     ∷ event (source_heading change.header) change.inverse.now.event_type change.inverse.now.body.items ∷ []
+
+-- Both events fit, one behind the other.
+abbrev pub fits_change : EventsWriter → UndoneChange → Bool
+fits_change writer change =
+    fits writer change.map_body.now
+    && fits_at writer.has_checksums (writer.place + event_size writer.has_checksums change.map_body.now) change.inverse.now.body.items
+
+-- Where they don't fit, that is the answer; and where they do, only memory may be refused.
+abbrev pub RefusesChange : EventsWriter → UndoneChange → Result (Unit {0}) WriteError → Type 0
+RefusesChange writer change answer = RefusesAs (fits_change writer change) answer
+
+-- Bytes may be behind the others.
+pub record HasGrown (old new : EventsWriter) : Type 0 where
+  pub more : List ℕ
+  pub bytes : new.bytes.items ≡ old.bytes.items ++ more
+  pub checksums : new.has_checksums ≡ old.has_checksums
 
 -- The last one first.
 abbrev pub changes_events : List UndoneChange → List Event

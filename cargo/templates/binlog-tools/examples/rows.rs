@@ -1,29 +1,28 @@
-//! Prints the rows of a log, each value behind the name of its column: `rows FILE`
-use binlog::BinlogFile;
-use binlog::consts::BinlogVersion;
-use binlog::events::EventData;
-use binlog::values::{ColumnFacts, ColumnValue, Image, RowsEventExt, TableFacts, TableMapColumns};
+//! Prints the rows of a log, each value behind the name of its column, by files of columns, too: `rows FILE [COLUMNS..]`
+use binlog::{BinlogFile, columns::read_tables, consts::BinlogVersion, events::EventData};
+use binlog::values::{ColumnFacts, ColumnValue, Image, RowsEventExt};
 use std::error::Error;
-use std::fs::File;
+use std::fs::{self, File};
 use std::io::BufReader;
 
 fn main() -> Result<(), Box<dyn Error>> {
-    let name = std::env::args().nth(1).ok_or("usage: rows FILE")?;
-    let mut file = BinlogFile::new(BinlogVersion::Version4, BufReader::new(File::open(name)?))?;
+    let mut names = std::env::args().skip(1);
+    let log = File::open(names.next().ok_or("usage: rows FILE [COLUMNS..]")?)?;
+    let read = |name| -> Result<_, Box<dyn Error>> { Ok(read_tables(&fs::read(name)?)?) };
+    let files = names.map(read).collect::<Result<Vec<_>, _>>()?;
+    let mut file = BinlogFile::new(BinlogVersion::Version4, BufReader::new(log))?;
     while let Some(item) = file.next() {
         let event = item?;
-        let Some(EventData::RowsEvent(rows)) = event.read_data()? else {
-            continue;
-        };
-        let Some(map) = file.reader().get_tme(rows.table_id()) else {
-            continue;
-        };
-        println!("{}.{}", map.database_name(), map.table_name());
-        let facts = TableFacts::new(map.table_columns()?, map.optional_metadata_raw(), false)?;
-        for row in rows.rows(map)? {
-            let row = row?;
-            row.before().into_iter().for_each(|image| print("-", &facts.columns, image));
-            row.after().into_iter().for_each(|image| print("+", &facts.columns, image));
+        if let Some(EventData::RowsEvent(rows)) = event.read_data()?
+            && let Some(map) = file.reader().get_tme(rows.table_id())
+        {
+            println!("{}.{}", map.database_name(), map.table_name());
+            let facts = map.facts(&files, false)?.table;
+            for row in rows.rows(map)? {
+                let row = row?;
+                row.before().into_iter().for_each(|image| print("-", &facts.columns, image));
+                row.after().into_iter().for_each(|image| print("+", &facts.columns, image));
+            }
         }
     }
     Ok(())

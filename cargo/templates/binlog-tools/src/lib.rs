@@ -5,9 +5,6 @@
 #[doc(hidden)]
 pub mod binlog_cli;
 pub mod binlog_commands;
-// The toolchain's maps have no `entry`, and its vectors no default.
-#[allow(clippy::map_entry)]
-pub mod binlog_declared_columns;
 pub mod binlog_event_types;
 pub mod binlog_filters;
 pub mod binlog_gtid_listing;
@@ -19,9 +16,6 @@ pub mod binlog_json_bodies;
 pub mod binlog_json_lines;
 pub mod binlog_listing;
 pub mod binlog_visits;
-// The fields of variants are told with their variants.
-#[allow(missing_docs, clippy::manual_unwrap_or_default)]
-pub mod column_files;
 #[doc(hidden)]
 pub mod clap;
 #[doc(hidden)]

@@ -42,6 +42,9 @@ mod binary_json_writing;
 mod binlog_bodies;
 mod binlog_columns;
 mod binlog_consts;
+// The toolchain's maps have no `entry`.
+#[allow(clippy::map_entry)]
+mod binlog_declared_columns;
 mod binlog_event_format;
 mod binlog_ends;
 mod binlog_event_data;
@@ -71,10 +74,17 @@ mod bitflags;
 mod calendar;
 mod character_sets;
 mod checksums;
+mod column_file_reading;
+// The fields of variants are told with their variants; the toolchain's vectors have no default.
+#[allow(missing_docs, clippy::manual_unwrap_or_default)]
+mod column_files;
 mod crc32_ieee;
+mod declared;
 #[doc(hidden)]
 pub mod digits;
 mod display;
+#[cfg(feature = "serde_json")]
+mod documents;
 mod fast_float;
 mod gtids;
 mod inflate;
@@ -195,16 +205,35 @@ pub mod values {
     pub use crate::binlog_values::text;
 }
 
+/// Files of columns: the answer of a server's `information_schema.COLUMNS`, for what table maps don't state of columns.
+///
+/// [`DeclaredTables`](columns::DeclaredTables) are read of the text of such a file, by
+/// [`parse`](str::parse), and [`TableMapEvent::facts`](events::TableMapEvent::facts) has what a table map and files state of a
+/// table's columns.
+pub mod columns {
+    pub use crate::binlog_declared_columns::{Contradictions, complete, declared_columns};
+    pub use crate::binlog_declared_columns::{states_signs, table_facts};
+    pub use crate::column_file_reading::{ReadTablesError, TextFault, read_tables};
+    pub use crate::column_files::{ColumnFileError, ColumnFileFault, ColumnLine, DeclaredColumn};
+    pub use crate::column_files::{DeclaredTables, DeclaredTablesError, DeclaredType, Field};
+    pub use crate::column_files::{HEADER, IntegerSize, LengthSize, Place, SimpleType, TemporalKind};
+    pub use crate::column_files::parse;
+    pub use crate::declared::{KnownFacts, TableFactsError};
+}
+
 /// The documents of JSON columns: MySQL's binary JSON.
 ///
 /// [`Document::read`](jsonb::Document::read) checks the bytes of [`Value::Json`](values::Value::Json), and
 /// [`Document::value`](jsonb::Document::value) is what they say. [`ArrayBuilder`](jsonb::ArrayBuilder) and
-/// [`ObjectBuilder`](jsonb::ObjectBuilder) make documents as a server writes them.
+/// [`ObjectBuilder`](jsonb::ObjectBuilder) make documents as a server writes them. With the feature `serde_json` a document is
+/// converted to a `serde_json::Value`.
 pub mod jsonb {
     pub use crate::binary_json::{Array, Decimal, Document, Double, Elements, JsonError, Members};
     pub use crate::binary_json::{Object, OpaqueValue, Refusal, Value};
     pub use crate::binary_json_writing::{ArrayBuilder, JsonWriteError, ObjectBuilder, OwnedDocument};
     pub use crate::binary_json_writing::rewritten;
+    #[cfg(feature = "serde_json")]
+    pub use crate::documents::DocumentError;
 }
 
 /// The diffs of partial updates of JSON columns. [`apply`](jsondiff::apply) gives the document after them.
@@ -217,7 +246,7 @@ pub mod jsondiff {
 /// Lines of JSON in memory that is reused, for `binlog-tools`.
 #[doc(hidden)]
 pub mod json_lines {
-    pub use crate::binlog_json_values::ValueWriter;
+    pub use crate::binlog_json_values::{KeptColumns, RowImages, ValueWriter};
     pub use crate::json_line::Line;
 }
 

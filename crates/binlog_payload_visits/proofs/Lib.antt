@@ -1,0 +1,4 @@
+pub mod PartMaps
+pub mod PartLists
+pub mod VisitedParts
+pub mod Splicing

@@ -1,0 +1,5 @@
+pub mod Parts
+pub mod PartMaps
+pub mod PartVisits
+pub mod Splicing
+pub mod Stepping

@@ -1,0 +1,3 @@
+mod CountedRows
+mod FoundRows
+mod CountedItems

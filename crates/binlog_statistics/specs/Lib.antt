@@ -1,0 +1,4 @@
+pub mod RowCounts
+pub mod Found
+pub mod ItemFacts
+pub mod Counting

@@ -1,0 +1,4 @@
+pub mod Skips
+pub mod Groups
+pub mod Parts
+pub mod Index

@@ -1,0 +1,4 @@
+mod Counts
+mod Transactions
+mod NamedTables
+pub mod HeldTables

@@ -1,0 +1,39 @@
+-- What statistics see of an event.
+use Rattle.std.specs.Prelude.{ℕ, Bool, List, Option}
+use Rattle.change_statistics.specs.declared.facts.ChangeKind.{ChangeKind}
+use Rattle.change_statistics.specs.declared.facts.Change.{Change}
+use Rattle.change_statistics.specs.declared.facts.Change.TheVariants as changes
+use Rattle.change_statistics.specs.declared.facts.EventFacts.{EventFacts}
+use Rattle.change_statistics.specs.declared.facts.TableChange.{TableChange}
+
+-- The names of a table.
+pub record Name : Type 0 where
+  pub database : List ℕ
+  pub table : List ℕ
+
+-- What an event says of changes of rows: nothing; that it may have rows, of a table that isn't known; or that it has rows of a table,
+-- which change the table so, and so many of them, if they can be read.
+pub data Rows : Type 0 where
+  nothing : Rows
+  unknown : Rows
+  rows : Name → ChangeKind → Option ℕ → Rows
+
+-- What statistics see of an event: whether a transaction begins with it, the number of its bytes, its time, and what it says of changes
+-- of rows.
+pub record Fact : Type 0 where
+  pub begins : Bool
+  pub bytes : ℕ
+  pub time : ℕ
+  pub rows : Rows
+
+abbrev pub name_in : TableChange → Name
+name_in change = record { database = change.database.now; table = change.table.now }
+
+abbrev pub rows_of : Change → Rows
+rows_of changes.Nothing = nothing
+rows_of changes.Unknown = unknown
+rows_of (changes.Rows change) = rows (name_in change) change.kind change.count
+
+-- The facts of an event, as contracts see them.
+abbrev pub fact_of : EventFacts → Fact
+fact_of event = record { begins = event.begins_transaction; bytes = event.bytes; time = event.time; rows = rows_of event.change }

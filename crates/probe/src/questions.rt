@@ -1,0 +1,90 @@
+//! Answers the questions on standard input, a line for each, on standard output:
+//!
+//! - `text SET BYTES` is answered with the code points of the text, and with its UTF-8, in hexadecimal digits: `20ac e282ac`, or with
+//!   `none` where the bytes are no text in the set. No characters are `-`.
+//! - `collation NUMBER` and `mariadb NUMBER` are answered with the name of the collation's character set, or `none`.
+//! - `name NAME` is answered with the name of the set of this name, or `none`, and with `decoded` if it is decoded.
+//! - `document BYTES` is answered with the text of the document of binary JSON, with `no text` where it has none, or with `refused`,
+//!   why, and the place where: `refused Short 1`.
+//! - `rewritten BYTES` is answered with the bytes of the document of the same value as a serializer writes them, or with
+//!   `refused` and why: `refused Short 1`, `refused TooLarge`.
+//! - `applied BYTES BYTES` is answered with the bytes of the document after a list of diffs, of a document and the list; or with
+//!   `refused` and why, as Rust's `{:?}` writes it: `refused Change(NoMember)`.
+//! - `built WORD,WORD..` is answered with the bytes of the document that is built of the words, or with `refused` and why: `refused
+//!   KeyOrder`. The words are `null`, `true`, `false`, a signed integer as `i:-5`, an unsigned one as `u:5`, the bits of a
+//!   floating-point number as `d:0`, a string as `s:BYTES`, an array as `[`, its elements and `]`, and an object as `{`, a key as
+//!   `k:BYTES` in front of each value, and `}`.
+//! - `file BYTES` is answered with the columns of the file, or with `refused`, why, and the line and the column where:
+//!   `refused Position 2 5`. A column is its six fields with commas between, which are hexadecimal digits but the position; columns
+//!   have a `;` between, and no columns are `none`.
+//! - `type BYTES` is answered with the type of a column that the bytes spell, as Rust's `{:?}` writes it, or with `none`.
+//! - `frames LIMIT BYTES` is answered with the content of the Zstandard frames, which is at most LIMIT bytes long, or with `refused` and
+//!   why: `refused Checksum`. `inflate LIMIT BYTES` is answered so with the text of a zlib stream.
+//! - `payload LIMIT BYTES` is answered with what the data of a TRANSACTION_PAYLOAD event say, as Rust's `{:?}` writes it: compression
+//!   type, size of the content, and size of the payload; the data that are written for it; the content, which is at most LIMIT bytes
+//!   long; and the type, the size and the size of the data of each event in it, and the error behind them, if there is one: `ZSTD
+//!   Some(27) 36 020100.. e803.. 16:27:8`. In place of the content, and of all, stand `refused` and why: `refused FieldTwice`.
+//! - `inner BYTES BYTES` is answered with the events of a content as the reader of a stream reads them, behind the events of a stream:
+//!   the type, the size of the data, and whether a table map is in force for the id with which the data begin, or the error; and with
+//!   the number of bytes that are left: `16:8:false 0`.
+//! - `statement`, `role`, `gtid`, `marks` and `written` are questions of transactions; the head of `transactions.rt` lists them.
+//! - `events BYTES`, `rows BYTES` and `undo BYTES` are answered with the lines that the mode of that name prints of a binary log; `undo`
+//!   for tables without a primary key.
+//!
+//! Bytes are hexadecimal digits, and no bytes are `-`. Any other line is answered with `unknown`.
+mod built;
+mod bytes;
+mod characters;
+mod columns;
+mod documents;
+mod frames;
+mod logs;
+mod payloads;
+mod transactions;
+
+use crate::BUFFER_SIZE;
+use documents::Documents;
+use std::alloc::Global;
+use std::io;
+use std::io::{BufRead, BufReader, BufWriter, Write};
+
+// Writes the answer to a question.
+fn answer<W: Write>(
+    alloc: Global,
+    question: &str,
+    documents: &mut Documents,
+    output: &mut W,
+) -> io::Result<()> {
+    let Some((kind, asked)) = question.split_once(' ') else {
+        return bytes::write_unknown(output);
+    };
+    match kind {
+        "document" | "rewritten" | "applied" | "built" => {
+            documents.answer(alloc, kind, asked, output)
+        }
+        "file" | "type" => columns::write_answer(alloc, kind, asked, output),
+        "frames" | "inflate" => frames::write_answer(alloc, kind, asked, output),
+        "payload" | "inner" => payloads::write_answer(alloc, kind, asked, output),
+        "events" | "rows" | "undo" => logs::write_answer(alloc, kind, asked, output),
+        "text" | "name" | "collation" | "mariadb" => {
+            characters::write_answer(alloc, kind, asked, output)
+        }
+        _ => transactions::write_answer(alloc, kind, asked, output),
+    }
+}
+
+/// Answers all questions.
+///
+/// # Errors
+///
+/// Those of memory, of standard input and of standard output. The answers before are written.
+pub(crate) fn run(rt: &(impl Input + Print + AllocGlobal)) -> io::Result<()> {
+    let input = BufReader::with_capacity(rt.alloc(), BUFFER_SIZE, rt.reader())?;
+    let mut output = BufWriter::with_capacity(rt.alloc(), BUFFER_SIZE, io::writer(rt))?;
+    let mut documents = Documents::new(rt.alloc());
+    for question in input.lines(rt.alloc()) {
+        let question = question?;
+        answer(rt.alloc(), &question, &mut documents, &mut output)?;
+    }
+    output.flush()
+}
