@@ -21,7 +21,7 @@ HERE = Path(__file__).resolve().parent
 sys.path.insert(0, str(HERE.parent / "tests"))
 
 from arguments import arguments
-import make_sample  # noqa: E402  (found by way of the line above)
+import samples  # noqa: E402  (found by way of the line above)
 
 LARGE, SMALL = 500_000_000, 5_000_000
 LONG_EVENT = 5_000_000
@@ -51,7 +51,7 @@ def statement_events(generator):
         table = generator.randrange(1, 7)
         value = generator.randrange(10 ** generator.randrange(1, 6))
         query = f"insert into t{table} (a) values ({value})".encode("ascii")
-        body = make_sample.query_body(schema, query)
+        body = samples.query_body(schema, query)
         yield event(QUERY, body, number)
 
 
@@ -65,10 +65,10 @@ def row_events(generator):
 
 def long_events(generator):
     """A statement and two row events of 5 MB each."""
-    room = LONG_EVENT - make_sample.HEADER.size
-    query_overhead = len(make_sample.query_body(b"test", b""))
+    room = LONG_EVENT - samples.HEADER.size
+    query_overhead = len(samples.query_body(b"test", b""))
     text = b"insert into t1 values (" + b"12345678, " * (LONG_EVENT // 10)
-    yield event(QUERY, make_sample.query_body(b"test", text[: room - query_overhead]), 0)
+    yield event(QUERY, samples.query_body(b"test", text[: room - query_overhead]), 0)
     rows_overhead = len(rows_body(1, b""))
     for number, type_number in enumerate([WRITE_ROWS, UPDATE_ROWS], start=1):
         rows = generator.randbytes(room - rows_overhead)
@@ -94,10 +94,10 @@ def transaction_events(generator):
     for number in range(512):
         length = generator.randrange(200, 100_000)
         yield event(GTID, untagged_gtid(sid, number, gtid_times(generator), length), number)
-        yield event(QUERY, make_sample.query_body(b"test", b"BEGIN"), number)
+        yield event(QUERY, samples.query_body(b"test", b"BEGIN"), number)
         yield event(TABLE_MAP, short_table_map_body(number % 4), number)
         for type_number in [WRITE_ROWS, UPDATE_ROWS]:
-            size = generator.randrange(1650, 1861) - make_sample.HEADER.size
+            size = generator.randrange(1650, 1861) - samples.HEADER.size
             rows = generator.randbytes(size - len(rows_body(1, b"")))
             yield event(type_number, rows_body(number % 4, rows), number)
         yield event(XID, struct.pack("<Q", number), number)
@@ -141,7 +141,7 @@ def table_map_body(table):
 
 def gtid_times(generator):
     """The immediate timestamp, in microseconds, and an original one, which differs half of the time."""
-    immediate = make_sample.TIMESTAMP * 1_000_000 + generator.randrange(10**9)
+    immediate = samples.TIMESTAMP * 1_000_000 + generator.randrange(10**9)
     return immediate, immediate - generator.choice([0, generator.randrange(1, 10**6)])
 
 
@@ -240,8 +240,8 @@ def tables_of(kind):
 
 def event(type_number, body, number):
     """An event whose position is not known yet."""
-    timestamp = make_sample.TIMESTAMP + number // 100
-    return make_sample.frame(type_number, body, log_pos=0, timestamp=timestamp)
+    timestamp = samples.TIMESTAMP + number // 100
+    return samples.frame(type_number, body, log_pos=0, timestamp=timestamp)
 
 
 def rows_body(table, rows):
@@ -267,17 +267,17 @@ def crc32_file_start():
             CRC32_ALGORITHM,
         ]
     )
-    length = make_sample.HEADER.size + len(body) + CHECKSUM.size
+    length = samples.HEADER.size + len(body) + CHECKSUM.size
     description = with_room_for_checksum(
-        make_sample.frame(
-            make_sample.FORMAT_DESCRIPTION,
+        samples.frame(
+            samples.FORMAT_DESCRIPTION,
             body,
-            len(make_sample.FILE_HEADER) + length,
-            timestamp=make_sample.START_TIMESTAMP,
+            len(samples.FILE_HEADER) + length,
+            timestamp=samples.START_TIMESTAMP,
         )
     )
     set_checksums(description, [length])
-    return make_sample.FILE_HEADER + description
+    return samples.FILE_HEADER + description
 
 
 def with_room_for_checksum(one):
@@ -298,7 +298,7 @@ def set_checksums(block, ends):
 
 
 def file_start(kind):
-    return crc32_file_start() if has_checksums(kind) else make_sample.file_start()
+    return crc32_file_start() if has_checksums(kind) else samples.file_start()
 
 
 def write_binlog(path, kind, events, target):

@@ -15,7 +15,7 @@ from pathlib import Path
 from arguments import arguments
 from make_binlogs import GTID, event, gtid_times, untagged_gtid
 
-import make_sample  # found by way of make_binlogs
+import samples  # found by way of make_binlogs
 
 EVENTS = 5_000_000
 SOURCES = 4
@@ -70,7 +70,7 @@ def make_log(path, kind, count):
     templates = [(gtid_times(generator), generator.randrange(200, 100_000)) for _ in range(BODIES)]
     unfinished = path.with_suffix(".unfinished")
     with open(unfinished, "wb", buffering=1 << 20) as file:
-        file.write(make_sample.file_start())
+        file.write(samples.file_start())
         for source, number in KINDS[kind](count, generator):
             file.write(gtid_event(source, number, sids, templates))
     unfinished.rename(path)

@@ -21,7 +21,7 @@ from arguments import arguments
 import make_binlogs
 from make_binlogs import GTID, QUERY, TABLE_MAP, XID, event, event_ends, gtid_times, set_positions, untagged_gtid, used_length
 
-import make_sample  # found by way of make_binlogs
+import samples  # found by way of make_binlogs
 from row_events import counted, datetime2, decimal, field, first_bits, names
 
 LARGE, SMALL = 100_000_000, 5_000_000
@@ -69,7 +69,7 @@ def row(generator, number):
         counted(text(generator, 5, 40), 1),
         decimal(12, 2, generator.random() < 0.2, f"{generator.randrange(10**generator.randrange(3, 13)):012}"),
         datetime2(6, fields, generator.randrange(1_000_000))[0],
-        struct.pack(">I", make_sample.TIMESTAMP + generator.randrange(10**8)),
+        struct.pack(">I", samples.TIMESTAMP + generator.randrange(10**8)),
         struct.pack("<d", generator.randrange(10**6) / 64),
         struct.pack("<b", generator.randrange(-5, 100)),
         bytes([generator.randrange(1, 1 + len(STATES))]),
@@ -133,7 +133,7 @@ def mysql_events(generator):
     for number in range(TRANSACTIONS):
         length = generator.randrange(200, 100_000)
         yield event(GTID, untagged_gtid(sid, number, gtid_times(generator), length), number)
-        yield event(QUERY, make_sample.query_body(b"shop", b"BEGIN"), number)
+        yield event(QUERY, samples.query_body(b"shop", b"BEGIN"), number)
         yield event(TABLE_MAP, table_map(number % TABLES), number)
         yield from row_events(generator, number, MYSQL_TYPES, has_extra=True)
         yield event(XID, struct.pack("<Q", number), number)
@@ -152,9 +152,9 @@ def start(version, lengths):
     """The file header and a description without checksums."""
     body = b"\4\0" + version.ljust(50, b"\0") + bytes(4) + b"\x13" + lengths + b"\0"
     # The four bytes of the description's own checksum, which nothing verifies.
-    length = len(make_sample.FILE_HEADER) + make_sample.HEADER.size + len(body) + 4
-    described = make_sample.frame(make_sample.FORMAT_DESCRIPTION, body + bytes(4), length, timestamp=make_sample.START_TIMESTAMP)
-    return make_sample.FILE_HEADER + described
+    length = len(samples.FILE_HEADER) + samples.HEADER.size + len(body) + 4
+    described = samples.frame(samples.FORMAT_DESCRIPTION, body + bytes(4), length, timestamp=samples.START_TIMESTAMP)
+    return samples.FILE_HEADER + described
 
 
 def mysql_start():

@@ -19,7 +19,7 @@ from pathlib import Path
 
 from arguments import arguments
 import make_binlogs
-from make_binlogs import GTID, XID, gtid_times, make_sample, untagged_gtid
+from make_binlogs import GTID, XID, gtid_times, samples, untagged_gtid
 
 BENCH = Path(__file__).resolve().parent
 PROGRAM = BENCH.parent / "crates/bench/out/bench"
@@ -65,7 +65,7 @@ KINDS = {
 def log_of(count, type_number, body_of):
     generator = random.Random(1)
     events = (make_binlogs.event(type_number, body_of(number, generator), number) for number in range(count))
-    return make_sample.file_start() + b"".join(events)
+    return samples.file_start() + b"".join(events)
 
 
 def counted(command, path):
@@ -97,7 +97,7 @@ def main():
     print("| | Bytes | Instructions | Without its body |")
     print("|---|---:|---:|---:|")
     for name, (type_number, body_of, mode) in KINDS.items():
-        length = len(log_of(1, type_number, body_of)) - len(make_sample.file_start())
+        length = len(log_of(1, type_number, body_of)) - len(samples.file_start())
         counts = [instructions([program, mode], folder, number, body_of) for number in (type_number, XID)]
         print(f"| {name} | {length} | {counts[0]:,.0f} | {counts[1]:,.0f} |", flush=True)
 

@@ -23,11 +23,8 @@ import struct
 import sys
 from typing import Callable, NamedTuple
 
-import checksummed_sample
-import gtids_sample
-import json_sample
-import make_sample
 import programs
+import samples
 import watched
 from damaged_copies import MAGIC
 
@@ -42,25 +39,25 @@ MARIA_LOG = programs.REPOSITORY / "tests/samples/maria.binlog"
 def table_map(table_id):
     """A table map of this id: the table `t` of the database `d`, with one column."""
     body = struct.pack("<Q", table_id)[:6] + bytes.fromhex("01 00 01 64 00 01 74 00 01 03 00 01")
-    return make_sample.frame(TABLE_MAP, body, 0)
+    return samples.frame(TABLE_MAP, body, 0)
 
 
 def statement_of(count):
     """A statement that names this many databases."""
     variables = bytes([0x0C, count]) + count * b"a\0"
     head = struct.pack("<IIBHH", 1, 0, 0, 0, len(variables))
-    return make_sample.frame(make_sample.QUERY, head + variables + b"\0q", 0)
+    return samples.frame(samples.QUERY, head + variables + b"\0q", 0)
 
 
 def maria_gtid(index):
     """A GTID of MariaDB, of a transaction: the sequence number, the domain, the flags, and reserved bytes."""
-    return make_sample.frame(MARIA_GTID, struct.pack("<QIB", index + 1, 0, 0x0C) + bytes(6), 0)
+    return samples.frame(MARIA_GTID, struct.pack("<QIB", index + 1, 0, 0x0C) + bytes(6), 0)
 
 
-PLAIN_EVENT = make_sample.frame(make_sample.XID, make_sample.XID_BODY, 0)
-STATEMENT = make_sample.frame(make_sample.QUERY, make_sample.query_body(b"d", b"q"), 0)
-CHECKSUMMED_EVENT = checksummed_sample.event(make_sample.XID, make_sample.XID_BODY)
-DESCRIPTION = make_sample.file_start()[len(MAGIC) :]
+PLAIN_EVENT = samples.frame(samples.XID, samples.XID_BODY, 0)
+STATEMENT = samples.frame(samples.QUERY, samples.query_body(b"d", b"q"), 0)
+CHECKSUMMED_EVENT = samples.checksummed_frame(samples.XID, samples.XID_BODY)
+DESCRIPTION = samples.file_start()[len(MAGIC) :]
 
 
 class Log(NamedTuple):
@@ -82,27 +79,27 @@ class Log(NamedTuple):
 # All but the last two fit into the program's input buffer of 65,536 bytes, so that each event is shown whole.
 LOGS = {
     "events under the default description": Log(MAGIC, lambda _: PLAIN_EVENT),
-    "events under a description": Log(make_sample.file_start(), lambda _: PLAIN_EVENT),
-    "statements": Log(make_sample.file_start(), lambda _: STATEMENT),
-    "events with checksums": Log(MAGIC + checksummed_sample.description(), lambda _: CHECKSUMMED_EVENT),
+    "events under a description": Log(samples.file_start(), lambda _: PLAIN_EVENT),
+    "statements": Log(samples.file_start(), lambda _: STATEMENT),
+    "events with checksums": Log(MAGIC + samples.description(), lambda _: CHECKSUMMED_EVENT),
     # The names, the types and the null bits; there is no metadata.
     "table maps": Log(MAGIC, table_map, kept=4, growths=8),
     "one table map": Log(MAGIC + table_map(7), lambda _: table_map(7)),
     # The version, the lengths and the description itself, and the same for the description under which an event is read.
     "descriptions": Log(MAGIC, lambda _: DESCRIPTION, kept=3, owned=3),
     "statements that name databases": Log(MAGIC, lambda _: statement_of(100), is_counted=False),
-    "GTIDs in order": Log(MAGIC, lambda index: gtids_sample.gtid(index + 1)),
+    "GTIDs in order": Log(MAGIC, lambda index: samples.gtid(index + 1)),
     "GTIDs of MariaDB": Log(MAGIC, maria_gtid),
 }
 
 # Logs that are read once.
 WHOLE_LOGS = {
     "no log": b"x",
-    "the sample": make_sample.sample(),
-    "the sample with checksums": checksummed_sample.sample(),
-    "each body": json_sample.sample(),
-    "each body, cut": json_sample.sample()[:-1],
-    "GTIDs": gtids_sample.sample(),
+    "the sample": samples.plain(),
+    "the sample with checksums": samples.checksummed(),
+    "each body": samples.bodies(),
+    "each body, cut": samples.bodies()[:-1],
+    "GTIDs": samples.gtids(),
     "MariaDB's events": MARIA_LOG.read_bytes(),
 }
 
@@ -135,7 +132,7 @@ LARGEST_GROWTH = 65_536
 PIECE = 20
 
 # A header that states 4,294,967,295 bytes.
-BOUNDLESS_HEADER = make_sample.HEADER.pack(0, make_sample.QUERY, 1, 0xFFFF_FFFF, 0, 0)
+BOUNDLESS_HEADER = samples.HEADER.pack(0, samples.QUERY, 1, 0xFFFF_FFFF, 0, 0)
 BOUNDLESS_LOGS = {
     "the header alone": MAGIC + BOUNDLESS_HEADER,
     "100 bytes": MAGIC + BOUNDLESS_HEADER.ljust(100, b"x"),

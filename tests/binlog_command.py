@@ -26,20 +26,17 @@ from functools import partial
 from itertools import chain, product
 from pathlib import Path
 
-import checksummed_sample
 import encoded_events
 import encoded_logs
 import gtid_model
-import gtids_sample
 import json_model
 import listing_model
-import make_sample
 import maria_events
-import maria_gtids_sample
 import maria_json_model
 import programs
 import results
 import row_lines
+import samples
 import table_filters
 from damaged_copies import EVENT, MAGIC, PROCESSES_AT_A_TIME, SIZE_OFFSET, frame_starts, with_byte
 from programs import REPOSITORY
@@ -55,22 +52,22 @@ NOT_FOUND = rf"binlog: {MISSING}: .+\n"
 # The messages of a log: each has the file, the index, and the byte if that is known, or is about the file as a whole.
 MESSAGES = r"(binlog: (0\.bin|standard input): (event \d+( at byte \d+)?: )?[^\n]+\n)+"
 
-SAMPLE = make_sample.sample()
-CHECKSUMMED = checksummed_sample.sample()
-GTIDS = gtids_sample.sample()
+SAMPLE = samples.plain()
+CHECKSUMMED = samples.checksummed()
+GTIDS = samples.gtids()
 SID = "abababab-abab-abab-abab-abababababab"
 TAGGED_SID = "00000000-0000-0000-0000-000000000000"
 
 
 def gtid_event(number):
     """The event of the GTID with this number, or with this tag and number."""
-    return gtids_sample.tagged_gtid(*number) if isinstance(number, tuple) else gtids_sample.gtid(number)
+    return samples.tagged_gtid(*number) if isinstance(number, tuple) else samples.gtid(number)
 
 
 def transactions(*numbers):
     """A log of a transaction for each number, or tag and number: its GTID, and two statements; the log begins with a rotate."""
-    statement = make_sample.frame(make_sample.QUERY, make_sample.query_body(b"test", b"select 1"), 0)
-    rotate = make_sample.frame(make_sample.ROTATE, make_sample.ROTATE_BODY, 0)
+    statement = samples.frame(samples.QUERY, samples.query_body(b"test", b"select 1"), 0)
+    rotate = samples.frame(samples.ROTATE, samples.ROTATE_BODY, 0)
     return MAGIC + rotate + b"".join(gtid_event(number) + 2 * statement for number in numbers)
 
 
@@ -281,11 +278,11 @@ def reported(runner):
         wrong = re.findall(rb"^(\d+) error E", model.expected(log)[0], re.M)
         yield None if wrong and named == wrong else f"{command}: messages of {named}, not of {wrong}"
     log = transactions(1)
-    short = make_sample.frame(gtids_sample.GTID, b"abc", 0)
+    short = samples.frame(samples.GTID, b"abc", 0)
     messages = message("0.bin", 4, len(log), "an event's body ends within a field")
     text = "the transaction number 0 is not in 1 to 9223372036854775807"
     messages += message("0.bin", 5, len(log + short), text)
-    wrong = log + short + gtids_sample.gtid(0)
+    wrong = log + short + samples.gtid(0)
     yield runner.check(["gtids", "0.bin"], Result(gtid_model.expected(wrong)[0], DAMAGED, messages), [wrong])
     yield runner.check(["gtids", "--stop-position", str(len(log)), "0.bin"], Result(gtid_model.expected(log)[0]), [wrong])
 
@@ -438,7 +435,7 @@ def names(runner):
     named = sorted((json_model.NAMES | maria_json_model.NAMES).items())
     # Without the format description and the table map, whose bodies are read.
     numbers = [number for number in range(256) if number not in (15, 19)]
-    log = MAGIC + b"".join(make_sample.frame(number, bytes(8), 0) for number in numbers)
+    log = MAGIC + b"".join(samples.frame(number, bytes(8), 0) for number in numbers)
     for number, name in named:
         indexes = [numbers.index(other) for other, same in named if same == name and other in numbers]
         for word in (name, name.lower(), name.removesuffix("_EVENT"), name.removesuffix("_EVENT").capitalize()):
@@ -458,7 +455,7 @@ def gtids(runner):
 
 def maria_gtids(runner):
     """MariaDB's last GTIDs of several logs, those that another log lacks, and beside them MySQL's."""
-    start, gtid = maria_gtids_sample.start, maria_gtids_sample.gtid
+    start, gtid = samples.maria_start, samples.maria_gtid
     first = MAGIC + start() + gtid(0, 1, 3) + gtid(1, 1, 7) + gtid(0, 2, 5)
     logs = [first, MAGIC + start() + gtid(0, 1, 5) + gtid(0, 2, 5), transactions(1, 2)]
     yield runner.check(["gtids", "0.bin"], Result(b"0-1-3\n0-2-5\n1-1-7\n"), logs)
@@ -470,7 +467,7 @@ def maria_gtids(runner):
     yield runner.check(["gtids", "--missing-in", "2.bin", "1.bin", "2.bin"], Result(b"0-1-5\n0-2-5\n"), logs)
 
 
-def samples(runner):
+def stored(runner):
     """The stored output for a log with each body, and for one with GTIDs. Both have events that are refused."""
     for command, model in MODELS[1:]:
         log = (SAMPLES / f"{command}.binlog").read_bytes()
@@ -509,7 +506,7 @@ def stats(runner):
     yield runner.check(["stats", "0.bin"], Result(counts_of(SAMPLE)), [SAMPLE])
     finished = runner.run(["stats", "0.bin", "0.bin"], [transactions(1, 2)])
     yield None if b"\ntransactions 4\n" in finished.stdout else f"stats: {finished.stdout!r}"
-    log = MAGIC + b"".join(make_sample.frame(number, bytes(8), 0) for number in range(256) if number not in (15, 19))
+    log = MAGIC + b"".join(samples.frame(number, bytes(8), 0) for number in range(256) if number not in (15, 19))
     # 33, 34 and 42 begin MySQL's transactions, and 162 MariaDB's.
     names_of_both = json_model.NAMES | maria_json_model.NAMES
     yield runner.check(["stats", "0.bin"], Result(counts_of(log, transactions=4, names=names_of_both)), [log])
@@ -582,16 +579,16 @@ def maria_transactions(runner):
 def maria_set_log():
     """A log of MariaDB's with transactions of several domains and servers: the log, and the GTID of the transaction of each event,
     "" where it can't be read, None for events of the log. A transaction is its GTID, and two statements."""
-    statement = make_sample.frame(make_sample.QUERY, make_sample.query_body(b"test", b"select 1"), 0)
-    short = maria_gtids_sample.event(maria_gtids_sample.GTID, maria_gtids_sample.gtid_body(0, 1)[:12], 1)
+    statement = samples.frame(samples.QUERY, samples.query_body(b"test", b"select 1"), 0)
+    short = samples.frame(samples.MARIA_GTID, samples.maria_gtid_body(0, 1)[:12])
     gtids = [(0, 1, 100), (0, 1, 101), (1, 1, 100), (0, 2, 100), (1, 2, 7), (2**32 - 1, 2**32 - 1, 2**64 - 1)]
-    begins = [(f"{domain}-{server}-{sequence}", maria_gtids_sample.gtid(domain, server, sequence)) for domain, server, sequence in gtids]
+    begins = [(f"{domain}-{server}-{sequence}", samples.maria_gtid(domain, server, sequence)) for domain, server, sequence in gtids]
     begins.insert(3, ("", short))
     # The entries of a list are no transactions.
-    pairs = [(None, maria_gtids_sample.start()), (None, maria_gtids_sample.gtid_list((0, 1, 100)))]
+    pairs = [(None, samples.maria_start()), (None, samples.maria_gtid_list((0, 1, 100)))]
     for gtid, event in begins:
         pairs += [(gtid, event), (gtid, statement), (gtid, statement)]
-    pairs.append((None, make_sample.frame(make_sample.ROTATE, make_sample.ROTATE_BODY, 0)))
+    pairs.append((None, samples.frame(samples.ROTATE, samples.ROTATE_BODY, 0)))
     return MAGIC + b"".join(event for _, event in pairs), [gtid for gtid, _ in pairs]
 
 
@@ -630,7 +627,7 @@ def maria_gtid_filters(runner):
         found = runner.run(["stats", *words, "0.bin"], [log]).stdout
         yield None if b"\ntransactions 1\n" in found else f"stats {words}: {found!r}"
     # In a log of another server the event has no GTID, and its transaction none.
-    other = MAGIC + maria_gtids_sample.start(maria_gtids_sample.MYSQL) + maria_gtids_sample.gtid(0, 1, 100)
+    other = MAGIC + samples.maria_start(samples.MYSQL) + samples.maria_gtid(0, 1, 100)
     yield runner.check(["list", "--include-gtids", "0-1-100", "0.bin"], Result(lines(other, [0])), [other])
     yield runner.check(["list", "--exclude-gtids", "0-1-100", "0.bin"], Result(lines(other, [0, 1])), [other])
     mysql = transactions(1, 2)
@@ -714,7 +711,7 @@ def ends(runner):
 def write_large(path):
     """Writes a log of 110 events of a mebibyte each, and returns its size."""
     size = 1 << 20
-    header = make_sample.frame(make_sample.QUERY, b"", 0)
+    header = samples.frame(samples.QUERY, b"", 0)
     header = header[:SIZE_OFFSET] + size.to_bytes(4, "little") + header[SIZE_OFFSET + 4 :]
     with open(path, "wb") as log:
         log.write(MAGIC)
@@ -847,7 +844,7 @@ def installs(runner):
     yield from laid_out(runner, runner.folder / "unpacked/usr")
 
 
-PARTS = (models, damaged, cut_logs, cut_ends, reported, several, filters, gtid_filters, names, gtids, maria_gtids, samples, stats)
+PARTS = (models, damaged, cut_logs, cut_ends, reported, several, filters, gtid_filters, names, gtids, maria_gtids, stored, stats)
 PARTS += (tables, no_tables, copies, maria, maria_transactions, maria_gtid_filters, no_sets, stored_rows, words, ends, progress, followed, installs)
 
 

@@ -20,7 +20,7 @@ from typing import NamedTuple
 
 import programs
 import results
-from make_sample import FILE_HEADER, FORMAT_DESCRIPTION, ROTATE, frame
+from samples import FILE_HEADER, FORMAT_DESCRIPTION, ROTATE, frame
 
 CASES = Path(__file__).resolve().parent / "cases"
 
@@ -291,8 +291,9 @@ def cases_of(path):
 
 
 def lines_of(words, content):
+    """The lines of a program's output, but those of events inside compressed transactions."""
     finished = subprocess.run(words, input=content, stdout=subprocess.PIPE, stderr=subprocess.DEVNULL)
-    return finished.stdout.decode().splitlines()
+    return [line for line in finished.stdout.decode().splitlines() if '"part":' not in line]
 
 
 def text_of(member, line):

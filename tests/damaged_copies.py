@@ -17,17 +17,13 @@ from itertools import islice
 from pathlib import Path
 from typing import Callable, NamedTuple
 
-import bodies_sample
-import checksummed_sample
 import encoded_logs
 import gtid_model
-import gtids_sample
 import json_model
 import listing_model
-import make_sample
-import maria_gtids_sample
 import programs
 import results
+import samples
 
 PROCESSES_AT_A_TIME = 2
 SHOWN_FAILURES = 20
@@ -84,7 +80,7 @@ def changed_sizes(sample):
 
 def frame(size, length=None, fill=0):
     """A header that states `size`, cut or filled to `length` bytes (`size` if not given)."""
-    header = make_sample.HEADER.pack(1, 2, 3, size, 4, 0x00AF)
+    header = samples.HEADER.pack(1, 2, 3, size, 4, 0x00AF)
     length = size if length is None else length
     return header[:length].ljust(length, bytes([fill]))
 
@@ -130,7 +126,7 @@ def with_tails(sample):
 
 
 def whole_files(sample):
-    greatest = make_sample.HEADER.pack(2**32 - 1, 255, 2**32 - 1, 19, 2**32 - 1, 0xFFFF)
+    greatest = samples.HEADER.pack(2**32 - 1, 255, 2**32 - 1, 19, 2**32 - 1, 0xFFFF)
     yield "file header alone", MAGIC
     yield "a frame of 19 bytes", MAGIC + frame(19)
     yield "greatest fields", MAGIC + greatest
@@ -151,7 +147,7 @@ def whole_files(sample):
 
 # Logs whose events may have checksums.
 
-DESCRIPTION = make_sample.FORMAT_DESCRIPTION
+DESCRIPTION = samples.FORMAT_DESCRIPTION
 EVENT = frame(40, fill=0xC5)
 
 # Server versions at the edges of the rule for the first one with checksums, 5.6.1.
@@ -186,7 +182,7 @@ SERVER_VERSIONS = [
 
 
 def described(*parts, **description_parts):
-    return MAGIC + checksummed_sample.description(**description_parts) + b"".join(parts)
+    return MAGIC + samples.description(**description_parts) + b"".join(parts)
 
 
 def short_events():
@@ -207,8 +203,8 @@ def stated_descriptions():
 
 def cut_description(length, server_version):
     """A description with this many bytes after its header."""
-    body = checksummed_sample.description_body(server_version)
-    return make_sample.frame(DESCRIPTION, body[:length].ljust(length, b"\x01"), 0)
+    body = samples.description_body(server_version)
+    return samples.frame(DESCRIPTION, body[:length].ljust(length, b"\x01"), 0)
 
 
 def cut_descriptions():
@@ -223,10 +219,10 @@ def changes_of_description():
     """Descriptions after other ones, each followed by events that it may cut."""
     events = EVENT + short_events()
     descriptions = {
-        "with checksums": checksummed_sample.description(),
-        "without": checksummed_sample.description(algorithm=checksummed_sample.OFF),
-        "of an old server": make_sample.file_start()[len(MAGIC) :],
-        "refused for its version": checksummed_sample.description(binlog_version=9),
+        "with checksums": samples.description(),
+        "without": samples.description(algorithm=samples.OFF),
+        "of an old server": samples.file_start()[len(MAGIC) :],
+        "refused for its version": samples.description(binlog_version=9),
         "refused for its length": cut_description(56, b"5.5.5"),
     }
     for first_name, first in descriptions.items():
@@ -238,7 +234,7 @@ def changes_of_description():
 def rotates():
     """ROTATE events of few bytes, without and with checksums, each with an event after it."""
     for length in range(20):
-        rotate = make_sample.frame(make_sample.ROTATE, b"\x04".ljust(length, b"\0")[:length], 0)
+        rotate = samples.frame(samples.ROTATE, b"\x04".ljust(length, b"\0")[:length], 0)
         yield f"a rotate of {length} bytes", MAGIC + rotate + EVENT
         yield f"a rotate of {length} bytes with its checksum", described(rotate, EVENT)
 
@@ -259,15 +255,15 @@ LONG_TABLE_MAP_BODY = b"".join(
 
 
 def table_map(body):
-    return make_sample.frame(listing_model.TABLE_MAP, body, 0)
+    return samples.frame(listing_model.TABLE_MAP, body, 0)
 
 
 def rows_log():
     """A log of rows: table maps, row events, and a ROTATE that clears the maps."""
-    rows = make_sample.frame(30, bytes.fromhex("05 00 00 00 00 00 01 00 02 00 01 01 fe 07"), 0)
-    rotate = make_sample.frame(make_sample.ROTATE, make_sample.ROTATE_BODY, 0)
+    rows = samples.frame(30, bytes.fromhex("05 00 00 00 00 00 01 00 02 00 01 01 fe 07"), 0)
+    rotate = samples.frame(samples.ROTATE, samples.ROTATE_BODY, 0)
     maps = table_map(TABLE_MAP_BODY) + table_map(LONG_TABLE_MAP_BODY)
-    description = checksummed_sample.description(algorithm=checksummed_sample.OFF)
+    description = samples.description(algorithm=samples.OFF)
     return MAGIC + description + maps + rows + rotate + maps
 
 
@@ -293,9 +289,7 @@ def stated_table_maps():
     """Table maps under descriptions that state other post-header lengths."""
     short_id = TABLE_MAP_BODY[:4] + TABLE_MAP_BODY[6:]
     for length in (0, 6, 7, 8, 10, 255):
-        stated = checksummed_sample.description(
-            algorithm=checksummed_sample.OFF, type_header_lengths=18 * b"\0" + bytes([length])
-        )
+        stated = samples.description(algorithm=samples.OFF, type_header_lengths=18 * b"\0" + bytes([length]))
         events = table_map(TABLE_MAP_BODY) + table_map(short_id) + EVENT
         yield f"table maps of {length} stated bytes", MAGIC + stated + events
 
@@ -312,7 +306,7 @@ def table_maps():
 # Post-header lengths that a description states: none, a server's, and the same one for each type.
 STATED_LENGTHS = {
     "no": b"",
-    "a server's": checksummed_sample.POST_HEADER_LENGTHS,
+    "a server's": samples.POST_HEADER_LENGTHS,
     **{f"{length} as": 43 * bytes([length]) for length in (0, 2, 6, 10, 15)},
 }
 
@@ -320,13 +314,11 @@ STATED_LENGTHS = {
 def event_data():
     """Events of each type, and damaged copies of them, under descriptions with other lengths."""
     for name, lengths in STATED_LENGTHS.items():
-        start = MAGIC + checksummed_sample.description(
-            algorithm=checksummed_sample.OFF, type_header_lengths=lengths
-        )
-        yield f"every type under {name} lengths", start + bodies_sample.every_type()
-        for number, body in bodies_sample.BODIES:
+        start = MAGIC + samples.description(algorithm=samples.OFF, type_header_lengths=lengths)
+        yield f"every type under {name} lengths", start + samples.every_type()
+        for number, body in samples.BODIES:
             case = f"type {number}, {len(body)} bytes, under {name} lengths"
-            yield case, start + bodies_sample.damaged_events(number, body)
+            yield case, start + samples.damaged_events(number, body)
 
 
 # Texts with characters that JSON escapes, of one to four bytes, and bytes that aren't UTF-8.
@@ -347,24 +339,24 @@ TEXTS = [
 def texts():
     """Statements with these texts, and ROTATE events with these file names."""
     for text in TEXTS:
-        body = make_sample.query_body(text[:255], text)
-        query = make_sample.frame(make_sample.QUERY, body, 0)
-        rotate = make_sample.frame(make_sample.ROTATE, bytes(8) + text, 0)
+        body = samples.query_body(text[:255], text)
+        query = samples.frame(samples.QUERY, body, 0)
+        rotate = samples.frame(samples.ROTATE, bytes(8) + text, 0)
         yield f"the text {text[:9]} of {len(text)} bytes", MAGIC + query + rotate
 
 
 def gtids():
     """Logs of GTIDs of several sources and tags, damaged, and intervals that meet in each way."""
     for kind in (no_change, truncations, changed_bytes, changed_sizes):
-        for name, content in kind(gtids_sample.sample()):
+        for name, content in kind(samples.gtids()):
             yield f"GTIDs: {name}", content
     for first in range(1, 8):
         for end in range(first - 1, 10):
             intervals = [(3, 5), (7, 8), (first, end)]
-            added = gtids_sample.previous((gtids_sample.SID, intervals))
+            added = samples.previous((samples.SOURCE, intervals))
             later = "".join(f", {number}" for number in (9, 6, 2))
             yield f"intervals 3 to 5, 7 to 8, {first} to {end}", MAGIC + added
-            single = b"".join(map(gtids_sample.gtid, (9, 6, 2)))
+            single = b"".join(map(samples.gtid, (9, 6, 2)))
             yield f"the same, then{later}", MAGIC + added + single
 
 
@@ -389,18 +381,18 @@ MARIA_VERSIONS = [
 
 def maria_gtids():
     """Logs of MariaDB's GTIDs, damaged, and under other descriptions."""
-    yield "GTIDs under descriptions of MariaDB and MySQL", maria_gtids_sample.sample()
+    yield "GTIDs under descriptions of MariaDB and MySQL", samples.maria_gtids()
     for kind in (no_change, truncations, changed_bytes, changed_sizes):
-        for name, content in kind(maria_gtids_sample.small_sample()):
+        for name, content in kind(samples.few_maria_gtids()):
             yield f"MariaDB's GTIDs: {name}", content
-    events = b"".join(maria_gtids_sample.events())
+    events = b"".join(samples.maria_gtid_events())
     yield "MariaDB's GTIDs without a description", MAGIC + events
     for version in MARIA_VERSIONS:
-        yield f"MariaDB's GTIDs of {version}", MAGIC + maria_gtids_sample.start(version) + events
+        yield f"MariaDB's GTIDs of {version}", MAGIC + samples.maria_start(version) + events
     for extra in range(32):
         for length in range(16):
-            event = maria_gtids_sample.gtid(1, 2, 3, behind=bytes([extra]) + bytes(length))
-            yield f"a GTID with {length} bytes behind its extra flags {extra}", MAGIC + maria_gtids_sample.start() + event
+            event = samples.maria_gtid(1, 2, 3, behind=bytes([extra]) + bytes(length))
+            yield f"a GTID with {length} bytes behind its extra flags {extra}", MAGIC + samples.maria_start() + event
 
 
 def encoded(stated):
@@ -411,7 +403,7 @@ def encoded(stated):
 
 
 def checksummed_cases():
-    sample = checksummed_sample.sample()
+    sample = samples.checksummed()
     for kind in (no_change, truncations, changed_bytes, changed_sizes, with_tails):
         for name, content in kind(sample):
             yield f"with checksums: {name}", content
@@ -505,7 +497,7 @@ def main():
     purposes = ["list", "list a slice"] if arguments.purpose == "list" else [arguments.purpose]
     found = (words for build in arguments.builds for purpose in purposes for words in build.commands(purpose))
     commands = list(dict.fromkeys(map(tuple, found)))
-    sample = arguments.sample.read_bytes() if arguments.sample else make_sample.sample()
+    sample = arguments.sample.read_bytes() if arguments.sample else samples.plain()
     cases = islice(all_cases(sample, COMPARED[arguments.purpose].stated), 0, None, arguments.every)
     with ProcessPoolExecutor(PROCESSES_AT_A_TIME) as pool:
         return results.report(pool.map(partial(failure, commands, arguments.purpose), cases, chunksize=20))

@@ -4,8 +4,7 @@ from collections import namedtuple
 from itertools import cycle
 
 import encoded_events as encode
-from checksummed_sample import CHECKSUM_LENGTH, POST_HEADER_LENGTHS, crc32
-from make_sample import FILE_HEADER, HEADER
+from samples import CHECKSUM_LENGTH, FILE_HEADER, HEADER, POST_HEADER_LENGTHS, crc32
 
 # A file, and its listing and its JSON lines, if the encoder gives them.
 Log = namedtuple("Log", "name content listing lines", defaults=[None, None])

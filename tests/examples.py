@@ -17,7 +17,6 @@ import binlog_command
 import cargo_crate
 import declared_columns
 import listing_model
-import make_sample
 import results
 import row_lines
 import row_values
@@ -25,6 +24,7 @@ from binlog_command import CHECKSUMMED, SAMPLE, SID
 from damaged_copies import MAGIC, frame_starts, with_byte
 from declared_model import Declared
 from programs import PACKAGES, PROFILE, REPOSITORY
+import samples
 
 FOLDER = REPOSITORY / "cargo/templates/binlog-tools/examples"
 LONGEST = 40
@@ -102,7 +102,7 @@ def build_log(examples):
     examples.run("build_log", "test", "create table t(a int)", "log")
     log = examples.read("log")
     frames, tail = listing_model.split(log[len(MAGIC) :])
-    yield difference("build_log", [frame[TYPE_OFFSET] for frame in frames], [15, make_sample.QUERY])
+    yield difference("build_log", [frame[TYPE_OFFSET] for frame in frames], [15, samples.QUERY])
     yield difference("build_log", (log[: len(MAGIC)], tail), (MAGIC, b""))
     yield difference("build_log", frames[1].endswith(b"\0test\0create table t(a int)"), True)
     yield difference("build_log", listing_model.expected(log)[1], listing_model.STATUS_FINE)

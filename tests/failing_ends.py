@@ -21,12 +21,11 @@ from types import ModuleType
 from typing import NamedTuple
 
 import gtid_model
-import gtids_sample
 import json_model
 import listing_model
-import make_sample
 import programs
 import results
+import samples
 from damaged_copies import EVENT, MAGIC, PROCESSES_AT_A_TIME, frame_starts
 
 FINE, NOT_A_BINLOG, DAMAGED, FAILED = 0, 1, 2, 3
@@ -43,11 +42,11 @@ class Listing(NamedTuple):
 
 
 LONG_LOG = MAGIC + 20_000 * EVENT
-LONG_GTIDS = MAGIC + 20_000 * gtids_sample.gtid(0)
+LONG_GTIDS = MAGIC + 20_000 * samples.gtid(0)
 LISTINGS = {
-    "list": Listing(listing_model, make_sample.sample(), LONG_LOG, FINE),
-    "json": Listing(json_model, make_sample.sample(), LONG_LOG, FINE),
-    "gtids": Listing(gtid_model, gtids_sample.sample(), LONG_GTIDS, DAMAGED),
+    "list": Listing(listing_model, samples.plain(), LONG_LOG, FINE),
+    "json": Listing(json_model, samples.plain(), LONG_LOG, FINE),
+    "gtids": Listing(gtid_model, samples.gtids(), LONG_GTIDS, DAMAGED),
 }
 
 

@@ -31,12 +31,12 @@ import tempfile
 from concurrent.futures import ThreadPoolExecutor
 from pathlib import Path
 
-import checksummed_sample
 import declared_columns
 import encoded_logs
-import make_sample
 import programs
+import prover
 import results
+import samples
 import static_library
 from damaged_copies import PROCESSES_AT_A_TIME, all_cases, first_difference, rows_log
 from programs import REPOSITORY
@@ -165,6 +165,11 @@ def verified_failures(plain, checked, names, contents):
     yield from listing_failures("C, verified", listings(checked, contents, "64", "verified"), names, wanted)
 
 
+def without_parts(lines):
+    """Lines without those of events in compressed transactions, which the library doesn't print."""
+    return re.sub(rb'^{"index":\d+,"part":[^\n]*\n', b"", lines, flags=re.MULTILINE)
+
+
 def json_failures(folder, names, contents, flags, statuses):
     """For each log, None or what is wrong with the programs' lines of JSON of it. The statuses are those of its listing: `binlog json`
     has another one for a log that ends within an event."""
@@ -172,7 +177,7 @@ def json_failures(folder, names, contents, flags, statuses):
     checked = build(folder, "json_checked", "json.c", flags)
     if Path(JSON[0]).exists():
         with ThreadPoolExecutor(PROCESSES_AT_A_TIME) as pool:
-            lines = pool.map(lambda content: programs.run(JSON, content)[0], contents)
+            lines = pool.map(lambda content: without_parts(programs.run(JSON, content)[0]), contents)
             wanted = list(zip(lines, statuses))
         yield from listing_failures("C, JSON", listings(plain, contents), names, wanted)
         yield from listing_failures("C with sanitizers, JSON", listings(checked, contents), names, wanted)
@@ -224,7 +229,7 @@ def split_contradictions(output):
 def refused_memory_failures(folder):
     """None or what is wrong with a line of JSON for which each allocation in turn is refused."""
     refusing = build(folder, "refused_memory", "refused_memory.c", ["-Wl,--wrap=malloc,--wrap=realloc"])
-    logs = packed([make_sample.sample(), checksummed_sample.sample()])
+    logs = packed([samples.plain(), samples.checksummed()])
     finished = subprocess.run([refusing], input=logs, stdout=subprocess.PIPE, stderr=subprocess.PIPE)
     wrong = finished.stderr.decode() or f"status {finished.returncode}"
     yield None if finished.returncode == 0 else f"refused memory: {wrong}"
@@ -233,8 +238,8 @@ def refused_memory_failures(folder):
 def damaged_failures(name, program, count):
     """Over each of some logs, None or what is wrong with an answer for a cursor, or an item, that isn't the library's."""
     logs = {
-        "the sample": make_sample.sample(),
-        "the sample with checksums": checksummed_sample.sample(),
+        "the sample": samples.plain(),
+        "the sample with checksums": samples.checksummed(),
         "a log of rows": rows_log(),
         "all descriptions": encoded_logs.log("", encoded_logs.descriptions()).content,
         "no byte": b"",
@@ -295,7 +300,7 @@ for index, event in enumerate(binlog.open(sys.argv[1])):
 
 def installed_failures(folder, name, library, python):
     """None or what is wrong with the library below one prefix and the Python package below another."""
-    content = make_sample.sample()
+    content = samples.plain()
     wanted = [listed(content)]
     folder.mkdir()
     static = build(folder, "static", "list.c", library=flags_of(library))
@@ -347,7 +352,7 @@ def is_built_over_ci():
     """Whether the library is built over what `rt ci` left, or can't be since something is missing."""
     try:
         status = static_library.build("binlog_c")
-    except static_library.NotBuilt as error:
+    except prover.NotLeft as error:
         print(error)
         return True
     if status != 0:
@@ -365,7 +370,7 @@ def main():
         return results.left_out(f"{reason}: nothing is run")
     with tempfile.TemporaryDirectory() as name:
         folder = Path(name)
-        cases = list(all_cases(make_sample.sample(), lambda log: None))
+        cases = list(all_cases(samples.plain(), lambda log: None))
         return results.report([*program_failures(folder, cases), *python_failures(folder), *install_failures(folder)])
 
 

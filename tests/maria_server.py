@@ -9,8 +9,9 @@ and the lines of JSON are those of their models; that the log is written back by
 have the words of another model, and that there is none under another server's version; that each of these events is printed by
 `mariadb-binlog` as these words say; and that the load has events of each kind that the server can write. Another server has tables of
 all types and character sets, whose log states nothing of columns, or little: the rows that its lines of JSON with a file of columns
-say are compared, value by value, with what the server selects. A third one encrypts its log, of which the start is compared. With --logs the logs in FOLDER
-are compared, and no server is started.
+say are compared, value by value, with what the server selects. A third one is sent statements in every character set, whose texts in
+lines of JSON are compared with the characters that the server made of them. A fourth one encrypts its log, of which the start is
+compared. With --logs the logs in FOLDER are compared, and no server is started.
 
 Where there is no server that is known (`maria_daemon.py` says where it comes from), or the client's programs `mariadb` and
 `mariadb-binlog` aren't there, a line says so, nothing is run, and both numbers are 0. Where the server has no plugin for
@@ -27,6 +28,7 @@ from itertools import zip_longest
 from pathlib import Path
 
 import listing_model
+import maria_clients
 import maria_columns
 import maria_model
 import maria_printed
@@ -198,6 +200,8 @@ def server_failures(build):
         yield from kind_failures(server.logs())
         with Server(daemon, folder / "columns", maria_columns.BY_ROWS) as server:
             yield from maria_columns.failures(build.command("json"), server, folder)
+        with Server(daemon, folder / "clients", maria_clients.BY_STATEMENTS) as server:
+            yield from maria_clients.failures(build.command("json"), server)
         try:
             yield from encrypted_failures(build, daemon, folder)
         except LeftOut as reason:

@@ -209,7 +209,7 @@ class Events:
 
     def payload(self, data, printed):
         found = {name.decode(): int(value) for name, value in NUMBERS.findall(printed.says)}
-        yield from unless_equal("payload", payload_sizes(bytes.fromhex(data["raw"])), found)
+        yield from unless_equal("payload", {name: data[name] for name in ("payload_size", "uncompressed_size")}, found)
 
     SAID = {
         "FORMAT_DESCRIPTION_EVENT": description,
@@ -318,18 +318,4 @@ def gtids_of_set(text):
                 found.setdefault((uuid, tag), []).append((int(first), int(last or first)))
             else:
                 tag = part
-    return found
-
-
-def payload_sizes(content):
-    """The sizes that the fields of a compressed transaction state, by its description in MySQL's documentation."""
-    names = {1: "payload_size", 3: "uncompressed_size"}
-    found, place = {}, 0
-    while content[place]:
-        kind, size = content[place], content[place + 1]
-        value = content[place + 2 : place + 2 + size]
-        if kind in names:
-            width = {0xFC: 2, 0xFD: 3, 0xFE: 8}.get(value[0])
-            found[names[kind]] = value[0] if width is None else int.from_bytes(value[1 : 1 + width], "little")
-        place += 2 + size
     return found

@@ -70,7 +70,9 @@ def read_log(program, programs, path):
 
 
 def lines_of(output):
-    return [json.loads(line, parse_float=mysql_documents.Number) for line in output.splitlines()]
+    """The lines of a log's events, without those inside compressed transactions."""
+    lines = (json.loads(line, parse_float=mysql_documents.Number) for line in output.splitlines())
+    return [line for line in lines if "part" not in line]
 
 
 def output_of(program, *words, is_cut=False):

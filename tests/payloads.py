@@ -5,7 +5,7 @@ Usage: payloads.py [--count N] FLAG
 
 FLAG is one of `programs.py`: its program answers the questions `payload LIMIT BYTES` and `inner BYTES BYTES`, which
 `crates/probe/src/questions.rt` lists. The cases are `tests/cases/payloads.txt`, one of a server and one for each refusal, and below
-what the reader of a stream reads of a content. The model, over the decoder of `zstd_model.py`, reads the cases and N random events
+what the reader of a stream reads of a content. The model, `payload_model.py`, reads the cases and N random events
 (20,000 if not given), most of them damaged. Each refusal comes up. The last line of the output is `N passed, M failed`; the exit
 status is 1 if something failed.
 """
@@ -16,115 +16,28 @@ import subprocess
 import sys
 
 import cases
+import payload_model
 import programs
 import results
-import zstd_model
+from payload_model import HEADER, KINDS, Refusal, content_of, event_of, lenenc_bytes, written
 
 TABLE = cases.CASES / "payloads.txt"
-HEADER = 19
-KINDS = {0: "ZSTD", 255: "NONE"}
+LARGEST_BLOCK = 1 << 17
 REFUSALS = (
     "EventTruncated Lenenc FieldTwice FieldLength Kind NoField PayloadSize Limit UncompressedSize Zstd InnerTruncated InnerSize Type"
 ).split()
 
 
-# ---- the model
-
-
-class Refusal(Exception):
-    """The name of a refusal, as Rust's `{:?}` writes it."""
-
-
-def lenenc(data, place):
-    """A length-encoded number, and the place behind it."""
-    if place >= len(data):
-        raise Refusal("EventTruncated")
-    first = data[place]
-    if first <= 0xFA:
-        return first, place + 1
-    if first in (0xFB, 0xFF):
-        raise Refusal("Lenenc")
-    size = {0xFC: 2, 0xFD: 3, 0xFE: 8}[first]
-    if place + 1 + size > len(data):
-        raise Refusal("EventTruncated")
-    return int.from_bytes(data[place + 1 : place + 1 + size], "little"), place + 1 + size
-
-
-def lenenc_bytes(number):
-    """The shortest form."""
-    if number <= 0xFA:
-        return bytes([number])
-    first, size = next((first, size) for first, size in ((0xFC, 2), (0xFD, 3), (0xFE, 8)) if number < 256**size)
-    return bytes([first]) + number.to_bytes(size, "little")
-
-
-def event_of(data):
-    """The compression type, the content's size or None, and the payload."""
-    stated, place = {}, 0
-    while True:
-        kind, place = lenenc(data, place)
-        if kind == 0:
-            break
-        length, place = lenenc(data, place)
-        if length > len(data) - place:
-            raise Refusal("EventTruncated")
-        value, place = data[place : place + length], place + length
-        if kind not in (1, 2, 3):
-            continue
-        if kind in stated:
-            raise Refusal("FieldTwice")
-        if length != {0xFC: 3, 0xFD: 4, 0xFE: 9}.get(value[0] if value else 0, 1):
-            raise Refusal("FieldLength")
-        stated[kind], _ = lenenc(value, 0)
-        if kind == 2 and stated[2] not in KINDS:
-            raise Refusal(f"Kind({stated[2]})")
-    if 1 not in stated or 2 not in stated:
-        raise Refusal("NoField")
-    if stated[1] != len(data) - place:
-        raise Refusal("PayloadSize")
-    return stated[2], stated.get(3), data[place:]
-
-
-def written(kind, size, payload):
-    fields = [(2, kind), (3, size), (1, len(payload))]
-    numbers = [(field, lenenc_bytes(number)) for field, number in fields if number is not None]
-    return b"".join(bytes([field, len(number)]) + number for field, number in numbers) + b"\0" + payload
-
-
-def content_of(kind, size, payload, limit):
-    if size is not None and size > limit:
-        raise Refusal("Limit")
-    if kind == 255:
-        content = payload
-        if len(content) > limit:
-            raise Refusal("Limit")
-    else:
-        try:
-            content = zstd_model.decompressed(payload, limit if size is None else size)
-        except zstd_model.Refusal as refusal:
-            name = str(refusal)
-            if name != "Limit":
-                raise Refusal(f"Zstd({name})") from None
-            raise Refusal("Limit" if size is None else "UncompressedSize") from None
-    if size is not None and size != len(content):
-        raise Refusal("UncompressedSize")
-    return content
+# ---- the answers
 
 
 def inner_events(content):
     """The events, and the refusal behind them, as the answer has them."""
-    place = 0
-    while place < len(content):
-        left = len(content) - place
-        if left < HEADER:
-            yield "InnerTruncated"
-            return
-        size, kind = int.from_bytes(content[place + 9 : place + 13], "little"), content[place + 4]
-        if size < HEADER or size > left or kind in (40, 15):
-            yield "InnerSize" if size < HEADER else "InnerTruncated" if size > left else f"Type({kind})"
-            return
-        yield f"{kind}:{size}:{size - HEADER}"
-        place += size
+    frames, refusal = payload_model.inner_frames(content)
+    for frame in frames:
+        yield f"{frame[4]}:{len(frame)}:{len(frame) - HEADER}"
+    if refusal:
+        yield refusal
 
 
 def expected(limit, data):
@@ -169,17 +82,17 @@ def random_content(chance):
 
 
 def frame_of(chance, content):
-    """A frame of raw blocks, and of such as repeat a byte."""
-    has_size = chance.random() < 0.5
+    """A frame of raw blocks, and of such as repeat a byte, with a window of 128 KiB or of the content."""
+    has_size = chance.random() < 0.5 and 256 <= len(content) < 256 + 0x10000
     blocks, place = [], 0
     while place < len(content):
-        size = chance.randrange(1, len(content) - place + 1)
+        size = chance.randrange(1, min(len(content) - place, LARGEST_BLOCK) + 1)
         part = content[place : place + size]
         same = len(set(part)) == 1
         blocks.append((2 if same else 0, size, part[:1] if same else part))
         place += size
     blocks = blocks or [(0, 0, b"")]
-    head = bytes.fromhex("28b52ffd") + (b"\x60" + (len(content) - 256).to_bytes(2, "little") if has_size and len(content) >= 256 else b"\x00\x00")
+    head = bytes.fromhex("28b52ffd") + (b"\x60" + (len(content) - 256).to_bytes(2, "little") if has_size else b"\x00\x38")
     for index, (kind, size, part) in enumerate(blocks):
         head += (size << 3 | kind | (index == len(blocks) - 1)).to_bytes(3, "little") + part
     return head

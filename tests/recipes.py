@@ -24,11 +24,10 @@ from uuid import UUID
 import encoded_events as encode
 import programs
 import results
-from checksummed_sample import POST_HEADER_LENGTHS
 from encoded_logs import framed
-from make_sample import FILE_HEADER
 from row_lines import DELETE, UPDATE, WRITE, named_map
 from row_values import SPELLING, row_event
+from samples import FILE_HEADER, POST_HEADER_LENGTHS
 
 PAGE = programs.REPOSITORY / "docs/RECIPES.md"
 SOURCE = UUID("3e11fa47-71ca-11e1-9e33-c80aa9429562").bytes

@@ -29,31 +29,27 @@ from functools import partial
 from itertools import accumulate, count
 from signal import SIGABRT
 
-import checksummed_sample
 import gtid_model
-import gtids_sample
 import json_model
-import json_sample
 import listing_model
-import make_sample
 import maria_events
-import maria_gtids_sample
 import programs
 import row_lines
+import samples
 import watched
 from damaged_copies import MAGIC
 
 SUCCESS, FAILURE, OUTSIDE = 0, 1, 3
 
 # More bytes than a buffer may grow by at a time.
-LONG_EVENT = make_sample.frame(make_sample.QUERY, make_sample.query_body(b"test", b"x" * 70_000), 0)
+LONG_EVENT = samples.frame(samples.QUERY, samples.query_body(b"test", b"x" * 70_000), 0)
 LOGS = {
-    "the sample": make_sample.sample(),
-    "the sample with checksums": checksummed_sample.sample(),
-    "each body": json_sample.sample(),
-    "GTIDs": gtids_sample.sample(),
-    "MariaDB's GTIDs": maria_gtids_sample.sample(),
-    "long events": make_sample.sample() + 3 * LONG_EVENT,
+    "the sample": samples.plain(),
+    "the sample with checksums": samples.checksummed(),
+    "each body": samples.bodies(),
+    "GTIDs": samples.gtids(),
+    "MariaDB's GTIDs": samples.maria_gtids(),
+    "long events": samples.plain() + 3 * LONG_EVENT,
     "MariaDB's events": (programs.REPOSITORY / "tests/samples/maria.binlog").read_bytes(),
 }
 

@@ -7,12 +7,17 @@ PARAMETERS = [("alloc", ":", "Global"), ("_alloc", ":", "Global")]
 # Expressions of an allocator; `*` stands for the path of a field.
 EXPRESSIONS = [("alloc",), ("_alloc",), ("self", ".", "alloc"), ("rt", ".", "alloc", "(", ")")]
 
+# Of a field that other modules of its crate see.
+SEEN_IN_CRATE = ("pub", "(", "crate", ")")
+
 WORDS = ("alloc", "_alloc", "Global", "allocator")
 
 
 def is_allocator(texts):
     """Whether a parameter, a field or an argument is an allocator."""
     texts = tuple(texts)
+    if texts[:4] == SEEN_IN_CRATE:
+        texts = texts[4:]
     return (
         texts in PARAMETERS
         or texts in EXPRESSIONS

@@ -28,6 +28,8 @@ LIBRARY = [
     "binlog_mariadb",
     "binlog_maria_gtids",
     "binlog_file",
+    "zstd_decode",
+    "binlog_payloads",
     "json_line",
     "binary_json",
     "binary_json_writing",
@@ -36,14 +38,18 @@ LIBRARY = [
 ]
 TOOLS = [
     "binlog_visits",
+    "binlog_payload_visits",
     "binlog_listing",
     "binlog_gtid_listing",
     "binlog_filters",
     "binlog_commands",
+    "change_statistics",
+    "binlog_statistics",
     "binlog_event_types",
     "binlog_json_bodies",
     "binlog_json_lines",
     "binlog_cli",
+    "binlog_summaries",
 ]
 
 # The crates of programs, and the programs' names; and that of the program that the scripts of `tests` run.

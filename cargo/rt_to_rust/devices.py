@@ -37,7 +37,7 @@ def without_copy(source, enum):
 
 
 def declarations(source):
-    """The variants of `Error`, and that of a buffer which a reader filled in part."""
+    """The variants of `Error`, that of a buffer which a reader filled in part, and what has an `Error`."""
     for enum in source.places("enum"):
         body = after_generics(source, enum + 2)
         for first, last in segments(source, body, of_types=True):
@@ -47,6 +47,8 @@ def declarations(source):
                 yield from without_copy(source, enum)
             elif source.is_at(last - 3, "Failed", "(", "usize", ")"):
                 yield source.span(last - 1, last - 1, "usize, Failed")
+                yield from without_copy(source, enum)
+            elif source.is_at(last - 3, "Event", "(", "EventError", ")"):
                 yield from without_copy(source, enum)
 
 
@@ -184,6 +186,12 @@ def tried_again(source):
         yield source.span(close, close)
 
 
+def cloned(source):
+    """`Err(*error)`: an error with a device's isn't `Copy`."""
+    for index in source.places("Err", "(", "*", "error", ")"):
+        yield source.span(index + 2, index + 3, "Clone::clone(error)")
+
+
 def with_devices(source, is_test, used):
     """The source in which failures have the device's error."""
     if is_test:
@@ -192,5 +200,5 @@ def with_devices(source, is_test, used):
     source = source.changed(declarations(source))
     in_arm, known = in_arms(source)
     flushed, more = flushes(source)
-    changes = [*in_arm, *flushed, *others(source, known | more, is_test)]
+    changes = [*in_arm, *flushed, *others(source, known | more, is_test), *cloned(source)]
     return source.changed(changes)

@@ -15,6 +15,8 @@ CALLS = {
     "push_str": "try_push_str",
 }
 TEXT_CALLS = ("push_str",)
+# The maps, and their calls that may be refused.
+MAPS, MAP_CALLS = ("BTreeMap", "IndexMap"), ("insert", "sort_by")
 # The call of texts that has the name of one of vectors.
 PUSH, PUSH_CHARACTER = "push", "try_push_char"
 # Calls that make a vector or text with memory, and the functions of the library's module for memory in their place.
@@ -69,14 +71,15 @@ def copied(source):
 
 
 def maps(source):
-    """Maps that grow: Rust has no call of theirs that returns an error where memory runs out."""
-    for index in source.places(".", "insert", "("):
-        close = source.partner[index + 2]
-        if kind_of(source, index) != "BTreeMap":
-            continue
-        if not source.is_at(close + 1, "?"):
-            raise source.refusal(index, "a map's growth whose refusal is kept")
-        yield source.span(close + 1, close + 1)
+    """Maps that grow or are sorted: Rust has no call of theirs that returns an error where memory runs out."""
+    for call in MAP_CALLS:
+        for index in source.places(".", call, "("):
+            close = source.partner[index + 2]
+            if kind_of(source, index) not in MAPS:
+                continue
+            if not source.is_at(close + 1, "?"):
+                raise source.refusal(index, "a map's growth whose refusal is kept")
+            yield source.span(close + 1, close + 1)
 
 
 def formatted(source):

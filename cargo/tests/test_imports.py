@@ -26,7 +26,7 @@ class Imports(Case):
 
     def test_programs_name_the_packages_modules(self):
         for place in (PROGRAM, TEST):
-            self.gives("use binlog_visits::status;", "use binlog_tools::binlog_visits::status;", place=place)
+            self.gives("use binlog_visits::exit_status;", "use binlog_tools::binlog_visits::exit_status;", place=place)
 
     def test_a_name_that_is_not_public_is_refused(self):
         message = "sample.rt:1: binlog_file::Hidden isn't public in the library"

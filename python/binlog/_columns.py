@@ -69,6 +69,14 @@ class DeclaredTables:
         return b"".join(line + b"\n" for line in [self._head, *lines]) if lines else b""
 
 
+Columns = Union[Sources, DeclaredTables]
+
+
+def declared(columns: Columns) -> DeclaredTables:
+    """The tables that files of columns declare, which may have been read."""
+    return columns if isinstance(columns, DeclaredTables) else DeclaredTables(columns)
+
+
 def _by_table(lines: Iterable[bytes]) -> dict[TableName, list[bytes]]:
     """The lines of each table, by its names as they are spelled. Those of a table may stand apart."""
     found: dict[TableName, list[bytes]] = {}

@@ -4,6 +4,7 @@ import ctypes
 import ctypes.util
 import os
 import struct
+from functools import cache
 from pathlib import Path
 
 VARIABLE = "BINLOG_LIBRARY"
@@ -54,6 +55,7 @@ def _path() -> str:
     return found
 
 
+@cache
 def _load() -> ctypes.CDLL:
     library = ctypes.CDLL(_path())
     byte, size = ctypes.c_uint8, ctypes.c_size_t
@@ -110,11 +112,12 @@ def _load() -> ctypes.CDLL:
         size,
         ctypes.POINTER(byte),
     ]
-    # The same with the text of a file of columns behind the table maps, the last parameter before the index.
-    for with_columns, plain, before in (
-        (library.binlog_json_with_columns, library.binlog_json, 5),
-        (library.binlog_json_lines_with_columns, library.binlog_json_lines, 6),
+    # The same with the text of a file of columns behind the table maps.
+    for with_columns, plain in (
+        (library.binlog_json_with_columns, library.binlog_json),
+        (library.binlog_json_lines_with_columns, library.binlog_json_lines),
     ):
+        before = plain.argtypes.index(ctypes.c_uint64)
         with_columns.restype = size
         with_columns.argtypes = [*plain.argtypes[:before], ctypes.c_char_p, size, *plain.argtypes[before:]]
     library.binlog_columns_fault_text.restype = size
@@ -125,7 +128,16 @@ def _load() -> ctypes.CDLL:
     return library
 
 
-LIBRARY = _load()
+class _Library:
+    """The functions of the library, which is loaded when one of them is called first. What needs none works without it."""
+
+    def __getattr__(self, name: str) -> "ctypes._NamedFuncPointer":
+        function = getattr(_load(), name)
+        setattr(self, name, function)
+        return function
+
+
+LIBRARY = _Library()
 
 
 def library_version() -> tuple[int, int, int]:

@@ -10,7 +10,7 @@ from collections.abc import Iterator
 from typing import Any, NamedTuple, Optional, Union
 
 from ._bodies import Body, row_of, value_of
-from ._columns import DeclaredTables, Sources, TableName
+from ._columns import Columns, DeclaredTables, TableName, declared
 from ._errors import ColumnsWarning, InvalidLog, LogError, RowsError
 from ._library import ITEM, LIBRARY, CursorStruct
 from ._types import EventType
@@ -315,7 +315,7 @@ class Log:
     where it can't be read.
     """
 
-    def __init__(self, content: Buffer, *, verify: bool = False, columns: Optional[Sources] = None) -> None:
+    def __init__(self, content: Buffer, *, verify: bool = False, columns: Optional[Columns] = None) -> None:
         if isinstance(content, memoryview) and content.readonly:
             content = bytes(content)
         self._bytes = memoryview(content)
@@ -332,7 +332,7 @@ class Log:
         self._first = Cursor(first.position, first.description, first.ended)
         self._fill = LIBRARY.binlog_next_verified if verify else LIBRARY.binlog_next
         self._rest: Optional[int] = None
-        self._columns = None if columns is None else _TableColumns(self, DeclaredTables(columns))
+        self._columns = None if columns is None else _TableColumns(self, declared(columns))
 
     def __len__(self) -> int:
         """How many bytes the log has."""
@@ -448,7 +448,7 @@ class Log:
         return self.events()
 
 
-def open(path: Union[str, "os.PathLike[str]"], *, verify: bool = False, columns: Optional[Sources] = None) -> Log:
+def open(path: Union[str, "os.PathLike[str]"], *, verify: bool = False, columns: Optional[Columns] = None) -> Log:
     """The binary log in a file, which is mapped into memory and has to stay as long as it is.
 
     verify: whether checksums are verified, as Log says.

@@ -8,16 +8,15 @@ from pathlib import Path
 sys.path.insert(0, str(Path(__file__).resolve().parents[2] / "tests"))
 
 import binlog
-import checksummed_sample
 import encoded_logs
 import listing_model
-import make_sample
+import samples
 
-SAMPLE = make_sample.sample()
-CHECKSUMMED = checksummed_sample.sample()
+SAMPLE = samples.plain()
+CHECKSUMMED = samples.checksummed()
 START = len(listing_model.FILE_HEADER)
 # A header that states 18 bytes.
-UNDERSIZED = make_sample.HEADER.pack(1, 2, 3, 18, 4, 0)
+UNDERSIZED = samples.HEADER.pack(1, 2, 3, 18, 4, 0)
 
 
 def listing(log):
@@ -95,7 +94,7 @@ class Events(unittest.TestCase):
         self.assertEqual(event.cursor, binlog.Cursor(START, 0))
 
     def test_an_unknown_type(self):
-        content = listing_model.FILE_HEADER + make_sample.frame(200, b"data", 0)
+        content = listing_model.FILE_HEADER + samples.frame(200, b"data", 0)
         (event,) = binlog.Log(content)
         self.assertEqual((event.event_type, event.type, event.data), (200, None, b"data"))
 
@@ -157,7 +156,7 @@ class Verified(unittest.TestCase):
         error = damage.error
         self.assertEqual((error.name, error.number), ("ChecksumMismatch", 17))
         self.assertEqual(error.position, START + len(self.frames[0]))
-        computed = checksummed_sample.crc32(frame[:-4])
+        computed = samples.crc32(frame[:-4])
         self.assertEqual((damage.checksum, damage.computed_checksum), (frame[-4:], computed))
         self.assertEqual([event.raw for event in (first, *others)], [self.frames[0], *self.frames[2:]])
         self.assertEqual([item.checksum for item in others], [frame[-4:] for frame in self.frames[2:]])

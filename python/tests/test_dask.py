@@ -1,12 +1,14 @@
 """Tests of many logs on many machines. They are skipped where Dask isn't there."""
 
 import importlib.util
+import io
 import json
 import os
 import subprocess
 import sys
 import tempfile
 import unittest
+import warnings
 from dataclasses import asdict
 from functools import partial
 from pathlib import Path
@@ -15,11 +17,11 @@ REPOSITORY = Path(__file__).resolve().parents[2]
 sys.path.insert(0, str(REPOSITORY / "tests"))
 
 import binlog
-import checksummed_sample
-import gtids_sample
+import declared_columns
 import json_model
 import listing_model
-import make_sample
+import samples
+import test_columns
 
 HAS_DASK = all(importlib.util.find_spec(name) for name in ("dask", "distributed"))
 if HAS_DASK:
@@ -27,9 +29,9 @@ if HAS_DASK:
 
 MAGIC = listing_model.FILE_HEADER
 # A header that states 18 bytes.
-UNDERSIZED = make_sample.HEADER.pack(1, 2, 3, 18, 4, 0)
-ALL_TYPES = MAGIC + b"".join(make_sample.frame(number, b"", 0) for number in range(256))
-LOGS = (make_sample.sample(), checksummed_sample.sample(), gtids_sample.sample(), MAGIC + UNDERSIZED, ALL_TYPES, MAGIC)
+UNDERSIZED = samples.HEADER.pack(1, 2, 3, 18, 4, 0)
+ALL_TYPES = MAGIC + b"".join(samples.frame(number, b"", 0) for number in range(256))
+LOGS = (samples.plain(), samples.checksummed(), samples.gtids(), MAGIC + UNDERSIZED, ALL_TYPES, MAGIC)
 SOURCE = "abababab-abab-abab-abab-abababababab"
 
 
@@ -39,6 +41,11 @@ def members(log, left_out):
         found = json.loads(line)
         found.pop(left_out, None)
         yield found
+
+
+def without_place(found):
+    """An object as the line of JSON has it."""
+    return {name: value for name, value in found.items() if name not in ("file", "position")}
 
 
 @unittest.skipUnless(HAS_DASK, "no python3-dask and python3-distributed: many logs on many machines aren't tested")
@@ -74,6 +81,38 @@ class ManyLogs(unittest.TestCase):
         paths = self.files(LOGS)
         self.check_objects(binlog.dask.events(paths, contents=True).compute(scheduler="sync"), paths, "nothing")
 
+    def test_columns(self):
+        paths = self.files([test_columns.LOG, test_columns.LOG, samples.plain()])
+        columns = self.folder / "columns.tsv"
+        columns.write_bytes(test_columns.FILE)
+        declared = binlog.dask.events(paths, contents=True, columns=columns)
+        # No process that reads a log needs the file.
+        columns.unlink()
+        for bag, row in (
+            (declared, {"id": 2**32 - 1, "size": "large"}),
+            (binlog.dask.events(paths, contents=True), {"@1": -1, "@2": 2}),
+        ):
+            rows = [(event["file"], event["rows"]) for event in bag.compute(scheduler="processes") if "rows" in event]
+            self.assertEqual(rows, [(path, [{"after": row}]) for path in paths[:2] for _ in range(2)])
+
+    def test_columns_of_random_logs(self):
+        for name, text, content, expected in declared_columns.single_files(20):
+            with self.subTest(name), warnings.catch_warnings():
+                warnings.simplefilter("ignore", binlog.ColumnsWarning)
+                (path,) = self.files([content])
+                bag = binlog.dask.events(path, contents=True, columns=io.BytesIO(text))
+                lines = [without_place(found) for found in bag.compute(scheduler="sync")]
+                self.assertEqual(lines, list(map(json.loads, expected.lines.splitlines())))
+
+    def test_columns_that_cannot_be_read(self):
+        (path,) = self.files([test_columns.LOG])
+        with self.assertRaises(binlog.InvalidColumns):
+            binlog.dask.events(path, contents=True, columns=io.BytesIO(b"shop"))
+        with self.assertRaises(OSError):
+            binlog.dask.events(path, contents=True, columns=self.folder / "none.tsv")
+        with self.assertRaises(ValueError):
+            binlog.dask.events(path, columns=io.BytesIO(test_columns.FILE))
+
     def test_stats(self):
         paths = self.files(LOGS)
         found = binlog.dask.stats(map(Path, paths)).compute(scheduler="sync")
@@ -84,7 +123,7 @@ class ManyLogs(unittest.TestCase):
         self.assertEqual(one.files, {paths[0]: one.total})
 
     def test_gtid_sets(self):
-        paths = self.files([MAGIC + b"".join(map(gtids_sample.gtid, numbers)) for numbers in ((1, 2), (3, 5), ())])
+        paths = self.files([MAGIC + b"".join(map(samples.gtid, numbers)) for numbers in ((1, 2), (3, 5), ())])
         wanted = dict(zip(paths, (f"{SOURCE}:1-2", f"{SOURCE}:3:5", "")))
         self.assertEqual(binlog.dask.gtid_sets(paths).compute(scheduler="sync"), wanted)
 
@@ -111,11 +150,11 @@ class Fleet(unittest.TestCase):
     def test_a_lost_process(self):
         with tempfile.TemporaryDirectory() as folder:
             paths = [f"{folder}/mysql-bin.{number:06}" for number in range(32)]
-            event = make_sample.frame(16, b"12345678", 0)
+            event = samples.frame(16, b"12345678", 0)
             for number, path in enumerate(paths):
                 # Four logs, which have eight names each.
                 if number < 4:
-                    Path(path).write_bytes(MAGIC + (100_000 + number) * event + gtids_sample.gtid(number + 1))
+                    Path(path).write_bytes(MAGIC + (100_000 + number) * event + samples.gtid(number + 1))
                 else:
                     os.link(paths[number % 4], path)
             words = ["--gtids", *paths]
@@ -126,7 +165,7 @@ class Fleet(unittest.TestCase):
         *each, total = map(json.loads, in_one.stdout.splitlines())
         self.assertEqual([found["file"] for found in each], paths)
         self.assertEqual(total["events"], 8 * sum(100_001 + number for number in range(4)))
-        self.assertEqual(total["types"]["GTID_EVENT"], asdict(binlog.TypeStats(32, 32 * len(gtids_sample.gtid(1)))))
+        self.assertEqual(total["types"]["GTID_EVENT"], asdict(binlog.TypeStats(32, 32 * len(samples.gtid(1)))))
         self.assertEqual([found["gtids"] for found in each], [f"{SOURCE}:{number % 4 + 1}" for number in range(32)])
 
 

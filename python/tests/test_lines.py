@@ -9,18 +9,17 @@ from pathlib import Path
 sys.path.insert(0, str(Path(__file__).resolve().parents[2] / "tests"))
 
 import binlog
-import checksummed_sample
 import encoded_logs
 import json_model
 import listing_model
-import make_sample
 import row_values
+import samples
 
-SAMPLE = make_sample.sample()
-CHECKSUMMED = checksummed_sample.sample()
+SAMPLE = samples.plain()
+CHECKSUMMED = samples.checksummed()
 MAGIC = listing_model.FILE_HEADER
 # A header that states 18 bytes.
-UNDERSIZED = make_sample.HEADER.pack(1, 2, 3, 18, 4, 0)
+UNDERSIZED = samples.HEADER.pack(1, 2, 3, 18, 4, 0)
 
 
 def lines(content, **parts):
@@ -46,7 +45,7 @@ class Lines(unittest.TestCase):
 
     def test_a_line_that_has_no_room_beside_others(self):
         def event(event_type, data):
-            return make_sample.HEADER.pack(1, event_type, 3, 19 + len(data), 4, 0) + data
+            return samples.HEADER.pack(1, event_type, 3, 19 + len(data), 4, 0) + data
 
         xid, statement = event(16, bytes(8)), event(29, b"\0" + b"a" * 300_000)
         content = MAGIC + xid + statement + xid + xid + statement
@@ -103,21 +102,21 @@ class Bodies(unittest.TestCase):
             query.body.nothing
 
     def test_bytes(self):
-        content = MAGIC + make_sample.frame(17, b"\1\0\0\0\xff\0", 0)
+        content = MAGIC + samples.frame(17, b"\1\0\0\0\xff\0", 0)
         (event,) = binlog.Log(content)
         self.assertEqual(event.body, {"file_id": 1, "block_data": b"\xff\0"})
 
     def test_a_text_that_is_not_utf_8(self):
-        content = MAGIC + make_sample.frame(29, b"\1\xff", 0)
+        content = MAGIC + samples.frame(29, b"\1\xff", 0)
         (event,) = binlog.Log(content)
         self.assertEqual(event.body.query, b"\xff")
 
     def test_an_unknown_type(self):
-        (event,) = binlog.Log(MAGIC + make_sample.frame(200, b"data", 0))
+        (event,) = binlog.Log(MAGIC + samples.frame(200, b"data", 0))
         self.assertIsNone(event.body)
 
     def test_data_that_is_not_a_body(self):
-        (event,) = binlog.Log(MAGIC + make_sample.frame(16, b"1234567", 0))
+        (event,) = binlog.Log(MAGIC + samples.frame(16, b"1234567", 0))
         with self.assertRaises(binlog.LogError) as raised:
             event.body
         self.assertEqual((raised.exception.name, raised.exception.position), ("EndOfBody", len(MAGIC)))

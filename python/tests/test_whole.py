@@ -14,21 +14,18 @@ from pathlib import Path
 sys.path.insert(0, str(Path(__file__).resolve().parents[2] / "tests"))
 
 import binlog
-import checksummed_sample
 import encoded_logs
 import gtid_model
-import gtids_sample
 import listing_model
-import make_sample
 import maria_events
-import maria_gtids_sample
+import samples
 
-SAMPLE = make_sample.sample()
-CHECKSUMMED = checksummed_sample.sample()
-GTIDS = gtids_sample.small_sample()
+SAMPLE = samples.plain()
+CHECKSUMMED = samples.checksummed()
+GTIDS = samples.few_gtids()
 MAGIC = listing_model.FILE_HEADER
 # A header that states 18 bytes.
-UNDERSIZED = make_sample.HEADER.pack(1, 2, 3, 18, 4, 0)
+UNDERSIZED = samples.HEADER.pack(1, 2, 3, 18, 4, 0)
 SOURCE = "abababab-abab-abab-abab-abababababab"
 
 
@@ -80,7 +77,7 @@ class Counts(Files):
         self.assertEqual(sum(counts.events for counts in found.types.values()), len(every))
 
     def test_damage_and_unknown_types(self):
-        unknown = make_sample.frame(200, b"data", 0)
+        unknown = samples.frame(200, b"data", 0)
         found = binlog.stats(self.file(MAGIC + unknown + UNDERSIZED))
         self.assertEqual((found.events, found.bytes, found.damaged), (1, len(unknown), 1))
         self.assertEqual(found.types, {"200": binlog.TypeStats(1, len(unknown))})
@@ -95,7 +92,7 @@ class Counts(Files):
         self.assertEqual(own, {kind.value: kind.name for kind in binlog.MariaEventType})
 
     def test_gtid_events_of_both_servers(self):
-        frames_of_both = [gtids_sample.gtid(1), maria_gtids_sample.gtid(0, 1, 2)]
+        frames_of_both = [samples.gtid(1), samples.maria_gtid(0, 1, 2)]
         wanted = {"GTID_EVENT": binlog.TypeStats(2, sum(map(len, frames_of_both)))}
         self.assertEqual(binlog.stats(self.file(MAGIC + b"".join(frames_of_both))).types, wanted)
         one, other = (binlog.stats(self.file(MAGIC + frame)) for frame in frames_of_both)
@@ -115,7 +112,7 @@ class Counts(Files):
         self.assertEqual(sum(counts.bytes for counts in both.types.values()), both.bytes)
 
     def test_batches(self):
-        log = binlog.Log(MAGIC + 1000 * make_sample.frame(16, b"12345678", 0))
+        log = binlog.Log(MAGIC + 1000 * samples.frame(16, b"12345678", 0))
         batches = list(log.batches())
         self.assertEqual([item for batch in batches for item in batch], [event._fields for event in log])
         self.assertEqual(len({item[0] for batch in batches for item in batch}), 1000)
@@ -153,7 +150,7 @@ class WholeLogs(Files):
         every = frames(GTIDS)
         whole = MAGIC + b"".join(every[:4] + every[5:])
         self.assertEqual(binlog.gtid_set(self.file(whole)), f"{SOURCE}:1-2:5:test:1-5")
-        untagged = MAGIC + b"".join(map(gtids_sample.gtid, (7, 1, 2)))
+        untagged = MAGIC + b"".join(map(samples.gtid, (7, 1, 2)))
         self.assertEqual(binlog.gtid_set(self.file(untagged)), f"{SOURCE}:1-2:7")
         self.assertEqual(binlog.gtid_set(self.file(SAMPLE)), "")
 
@@ -180,18 +177,18 @@ class WholeLogs(Files):
     def test_sets_are_those_of_the_model(self):
         for log in encoded_logs.logs():
             self.check_gtids(log.content)
-        for module in (gtids_sample, maria_gtids_sample):
-            every = frames(MAGIC + b"".join(module.events()))
+        for events in (samples.gtid_events, samples.maria_gtid_events):
+            every = frames(MAGIC + b"".join(events()))
             # Each event alone, and without those that can't be read.
             for frame in every:
                 self.check_gtids(MAGIC + frame)
             right = [frame for frame in every if b" error E" not in gtid_model.expected(MAGIC + frame)[0]]
             self.check_gtids(MAGIC + b"".join(right))
-            self.check_gtids(MAGIC + maria_gtids_sample.start() + b"".join(every))
-        self.check_gtids(gtids_sample.sample())
+            self.check_gtids(MAGIC + samples.maria_start() + b"".join(every))
+        self.check_gtids(samples.gtids())
 
     def test_marias_gtids(self):
-        sample = [maria_gtids_sample.start(), *list(maria_gtids_sample.events())[:5]]
+        sample = [samples.maria_start(), *list(samples.maria_gtid_events())[:5]]
         wanted = "0-4294967295-18446744073709551615,3-1-16,3-7-15,9-7-5,9-8-1"
         self.assertEqual(binlog.gtid_set(self.file(MAGIC + b"".join(sample))), wanted)
 

@@ -50,7 +50,7 @@ fn stated_mode(rt: &(impl Env + AllocGlobal)) -> Option<Mode> {
 fn mode_of(mode: &str, way: Option<&str>) -> Option<Mode> {
     match mode {
         "maria-gtids" => Some(Mode::MariaGtids),
-        "reading" => way_of(way.unwrap_or("lent")).map(Mode::Reading),
+        "reading" => way_of(way.unwrap_or("borrowed")).map(Mode::Reading),
         "rows" => Some(Mode::Rows),
         "typed" => Some(Mode::Typed),
         "verifying" => Some(Mode::Verifying {
@@ -63,7 +63,7 @@ fn mode_of(mode: &str, way: Option<&str>) -> Option<Mode> {
 
 fn way_of(word: &str) -> Option<Way> {
     match word {
-        "lent" => Some(Way::Lent),
+        "borrowed" => Some(Way::Lent),
         "owned" => Some(Way::Owned),
         "slice" => Some(Way::Slice),
         "memory" => Some(Way::Memory),

@@ -1,7 +1,7 @@
 //! Verifying the checksums of a log.
 use crate::BUFFER_SIZE;
 use binlog_file::Error;
-use binlog_visits::status;
+use binlog_visits::exit_status;
 use examples::verifying::{count_mismatches, list_by_crc32};
 use std::io;
 use std::io::{BufReader, BufWriter, Write};
@@ -14,7 +14,7 @@ const INPUT_BUFFER_SIZE: usize = 512;
 /// The exit status is that of a listing.
 pub(crate) fn run(rt: &(impl Input + Print + AllocGlobal), counts: bool) -> ExitCode {
     let answer = if counts { count(rt) } else { list(rt) };
-    ExitCode::from(status(&answer))
+    ExitCode::from(exit_status(&answer))
 }
 
 fn list(rt: &(impl Input + Print + AllocGlobal)) -> Result<bool, Error> {

@@ -1,17 +1,13 @@
 -- Files of columns, one after another, and why one isn't read.
 use Rattle.std.proofs.Common.{◌≡◌, ◌≢◌, ◌⊎◌, inl, inr, ℕ, ◌+◌, ◌<◌, List, [], ◌∷◌, ◌++◌, length, take, get_or, Option, Some, None, IfSome, sym, subst, arith}
 use Rattle.std.proofs.lemmas.List.{take_more}
-use Rattle.column_files.specs.Files.{IsFile, IsInvalid}
-use Rattle.column_files.specs.Tables.{IsTablesError}
-use Rattle.column_files.specs.declared.error.ColumnFileError.{ColumnFileError}
-use Rattle.column_files.specs.declared.error.ColumnFileError.TheVariants.{Invalid, Memory}
-use Rattle.column_files.specs.declared.files.ColumnLine.{ColumnLine}
 use Rattle.column_files.specs.declared.tables.DeclaredTables.{DeclaredTables}
-use Rattle.column_files.specs.declared.tables.DeclaredTablesError.{DeclaredTablesError}
-use Rattle.column_files.specs.declared.tables.DeclaredTablesError.TheVariants as tables
+use Rattle.column_file_reading.specs.Texts.{HasFault, IsColumnFile, IsReadError}
+use Rattle.column_file_reading.specs.declared.error.ReadTablesError.{ReadTablesError}
+use Rattle.column_file_reading.specs.declared.error.ReadTablesError.TheVariants.{Fault, Memory}
 use Rattle.binlog_cli.specs.declared.exit_status.Status.{Status}
 use Rattle.binlog_cli.specs.declared.exit_status.Status.TheVariants.{Failed, Usage}
-use Rattle.binlog.specs.Columns.{AreColumnFiles, HasFault, unread, misplaced, IsColumnFile, status_of_tables, status_of_text}
+use Rattle.binlog.specs.Columns.{AreColumnFiles, status_of}
 
 module _ {N : Type 0} (bytes : N → Option (List ℕ)) where
   files_more : (names : List N) (files : List DeclaredTables) (name : N) (file : DeclaredTables) → AreColumnFiles bytes names files → IfSome (bytes name) (λ text. IsColumnFile text file)
@@ -36,13 +32,6 @@ pub whole : (known remaining : Option (List ℕ)) (old new : List ℕ) → remai
 whole None remaining old new is none given = tt
 whole (Some xs) remaining old new is none given = rw (is, none) at given
 
-pub refused_text : (text : List ℕ) (error : ColumnFileError) (status : Status) → status ≡ status_of_text error → (error ≡ Memory) ⊎ IsInvalid text error
-    → ((status ≡ Usage) × HasFault text) ⊎ (status ≡ Failed)
-refused_text text (Invalid fault index) status is (inl memory) = absurd cc
-refused_text text (Invalid fault index) status is (inr invalid) = inl (is, unread (Invalid fault index) invalid)
-refused_text text Memory status is why = inr is
-
-pub refused_tables : (text : List ℕ) (lines : List ColumnLine) (error : DeclaredTablesError) (status : Status) → IsFile text lines → status ≡ status_of_tables error → IsTablesError lines error
-    → ((status ≡ Usage) × HasFault text) ⊎ (status ≡ Failed)
-refused_tables text lines (tables.Position index) status file is why = inl (is, misplaced lines index file why)
-refused_tables text lines tables.Memory status file is why = inr is
+pub refused : (text : List ℕ) (error : ReadTablesError) (status : Status) → status ≡ status_of error → IsReadError text error → ((status ≡ Usage) × HasFault text) ⊎ (status ≡ Failed)
+refused text (Fault fault place) status is why = inl (is, (fault, place, why))
+refused text Memory status is why = inr is

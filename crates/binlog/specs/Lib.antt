@@ -5,4 +5,8 @@ pub mod Verifying
 pub mod Commands
 pub mod Columns
 pub mod Requests
+pub mod WrittenRows
+pub mod IntervalStatistics
+pub mod TransactionStatistics
+pub mod Statistics
 pub mod Ends

@@ -1,13 +1,15 @@
 //! The files of columns that `binlog json` reads before its logs.
 ghost use Rattle.std.specs.Prelude.{◌≡◌, ◌⊎◌, IfErr, IfOk, IfSome};
 ghost use Rattle.binlog_cli.specs.declared.exit_status.Status.TheVariants.{Failed, Usage};
-ghost use Rattle.binlog.specs.Columns.{AreColumnFiles, HasFault, IsColumnFile, IsUnreadColumns, status_of_tables, status_of_text};
+ghost use Rattle.column_file_reading.specs.Texts.{HasFault, IsColumnFile};
+ghost use Rattle.binlog.specs.Columns.{AreColumnFiles, IsUnreadColumns, status_of};
 ghost use Rattle.binlog.specs.Ends.{EndsUnread};
 
 use crate::inputs::Inputs;
 use binlog_cli::{Status, out_of_memory, shown_name};
 use binlog_declared_columns::Contradictions;
-use column_files::{ColumnFileError, DeclaredTables, DeclaredTablesError, Place, parse};
+use column_file_reading::{ReadTablesError, read_tables};
+use column_files::DeclaredTables;
 use std::io::Read;
 use std::{io, str};
 
@@ -24,7 +26,7 @@ pub(crate) fn read_columns<S: Inputs, R: Eprint + AllocGlobal>(
 {
     let mut files = Vec::new(rt.alloc());
     for name in names {
-        let tables = read_tables(rt, inputs, name)?;
+        let tables = tables_in(rt, inputs, name)?;
         if files.push(tables).is_err() {
             return Err(out_of_memory(rt));
         }
@@ -33,7 +35,7 @@ pub(crate) fn read_columns<S: Inputs, R: Eprint + AllocGlobal>(
 }
 
 // Reads a file of columns.
-fn read_tables<S: Inputs, R: Eprint + AllocGlobal>(
+fn tables_in<S: Inputs, R: Eprint + AllocGlobal>(
     rt: &R,
     inputs: &S,
     name: &str,
@@ -83,77 +85,26 @@ fn tables_of<R: Eprint + AllocGlobal>(
     name: &str,
     text: &[u8],
 ) -> Result<DeclaredTables, Status>
-    ensures ok { IfOk result (λ tables. IsColumnFile text.now tables) }
+    ensures ok { IfOk result (IsColumnFile text.now) }
     ensures err { IfErr result (λ status. ((status ≡ Usage) × HasFault text.now) ⊎ (status ≡ Failed)) }
 {
-    let lines = match parse(rt.alloc(), text) {
-        Ok(lines) => lines,
-        Err(error) => return Err(refuse_text(rt, name, text, error)),
-    };
-    match DeclaredTables::new(rt.alloc(), &lines) {
+    match read_tables(rt.alloc(), text) {
         Ok(tables) => Ok(tables),
-        Err(error) => Err(refuse_tables(rt, name, text, error)),
+        Err(error) => Err(refuse(rt, name, error)),
     }
 }
 
 // The status if a text isn't read, after its message.
-fn refuse_text<R: Eprint>(rt: &R, name: &str, text: &[u8], error: ColumnFileError) -> Status
-    ensures { result ≡ status_of_text error }
+fn refuse<R: Eprint>(rt: &R, name: &str, error: ReadTablesError) -> Status
+    ensures { result ≡ status_of error }
 {
     match error {
-        ColumnFileError::Invalid(fault, index) => {
-            let place = Place::of_byte(text, index);
-            let _ = eprintln!(rt;
-                "binlog: {}: line {}, column {}: {fault}",
-                shown_name(name),
-                place.line,
-                place.column
-            );
+        ReadTablesError::Fault(_, _) => {
+            let _ = eprintln!(rt; "binlog: {}: {error}", shown_name(name));
             Status::Usage
         }
-        ColumnFileError::Memory => out_of_memory(rt),
+        ReadTablesError::Memory => out_of_memory(rt),
     }
-}
-
-// The status if the lines of a text aren't those of tables, after its message.
-fn refuse_tables<R: Eprint>(rt: &R, name: &str, text: &[u8], error: DeclaredTablesError) -> Status
-    ensures { result ≡ status_of_tables error }
-{
-    match error {
-        DeclaredTablesError::Position(index) => {
-            let place = Place::of_byte(text, position_of(text, index));
-            let _ = eprintln!(rt;
-                "binlog: {}: line {}, column {}: {error}",
-                shown_name(name),
-                place.line,
-                place.column
-            );
-            Status::Usage
-        }
-        DeclaredTablesError::Memory => out_of_memory(rt),
-    }
-}
-
-// The index of the byte at which the third field of a line of a text begins. The line has this index behind the first line.
-fn position_of(text: &[u8], index: usize) -> usize {
-    let mut rest = behind(text, b'\n');
-    'lines: for _ in 0..index {
-        rest = behind(rest, b'\n');
-    }
-    let position = behind(behind(rest, b'\t'), b'\t');
-    text.len().saturating_sub(position.len())
-}
-
-// What is behind the first of the bytes that is this one; nothing if none is.
-fn behind(text: &[u8], byte: u8) -> &[u8] {
-    let mut rest = text;
-    while let Some((first, others)) = rest.split_first() {
-        rest = others;
-        if *first == byte {
-            break;
-        }
-    }
-    rest
 }
 
 /// Writes a message for each table that contradicts the files of columns, with the first column that does, counted from 1.

@@ -1,6 +1,6 @@
 //! The commands that list and count events, and what all commands read. Each is generic over the files that it reads and its
 //! writer, which it gives back with its status. A status in place of a result is that of a command that can't begin.
-ghost use Rattle.std.specs.Prelude.{◌≡◌, ◌⊎◌, IfErr, IfOk};
+ghost use Rattle.std.specs.Prelude.{◌≡◌, ◌⊎◌, ◌^◌, IfErr, IfOk};
 ghost use Rattle.std.specs.Io.Buffered.{writer_capacity};
 ghost use Rattle.clap.specs.Matches.{found_of};
 ghost use Rattle.binlog_filters.specs.declared.filter.Filter.{Filter};
@@ -22,10 +22,14 @@ use binlog_file::{Counted, Retrying};
 use binlog_filters::{Filter, Filtered};
 use binlog_json_lines::{JsonWriter, LineOptions};
 use binlog_listing::TextLines;
+use binlog_payload_visits::Spliced;
 use binlog_visits::{ItemLines, LineWriter, Refusing, Visitor};
 use std::io;
 use std::io::{BufWriter, Write};
 use std::time::Clock;
+
+/// The most bytes that the events of a compressed transaction may have: 1 GiB.
+const CONTENT_LIMIT: usize = 1_073_741_824;
 
 /// `binlog list`: writes the line of the listing of each item that the filter takes.
 pub(crate) fn list<'a, S: Inputs, R: Clock + Eprint + AllocGlobal, W: Write + Drop>(
@@ -45,7 +49,8 @@ pub(crate) fn list<'a, S: Inputs, R: Clock + Eprint + AllocGlobal, W: Write + Dr
 }
 
 /// `binlog json`: writes the line of JSON of each item that the filter takes, with the stored bytes of all rows if they are asked
-/// for. The files of columns are read before; behind the logs each table that contradicts them has a message.
+/// for, and behind that of an event with a payload those of the events in it. The files of columns are read before; behind the logs
+/// each table that contradicts them has a message.
 pub(crate) fn json<'a, S: Inputs, R: Clock + Eprint + AllocGlobal, W: Write + Drop>(
     rt: &'a R,
     inputs: &S,
@@ -54,9 +59,10 @@ pub(crate) fn json<'a, S: Inputs, R: Clock + Eprint + AllocGlobal, W: Write + Dr
 ) -> Result<(Status, W), Status>
     ensures ok { IfOk result (λ ended. WritesShown ⟦<BufWriter<Retrying<W>> as Write>⟧.contents (found_of request.now.options.now) request.now.reading.is_verified request.now.reading.is_followed
         (λ name. S.bytes inputs.now name.now) request.now.files.now
-        ⟦<JsonWriter<Output<BufWriter<Retrying<W>>>> as Visitor>⟧.visits ⟦<JsonWriter<Output<BufWriter<Retrying<W>>>> as Visitor>⟧.refuses (λ lines. lines.output)
-        (λ lines. (lines.options.keeps_stored ≡ request.now.keeps_stored) × AreColumnFiles (λ name. S.bytes inputs.now name.now) request.now.columns.now lines.options.files.items
-        × (writer_capacity lines.output.inner ≡ lines_capacity request.now.reading.is_followed))
+        ⟦<Spliced<JsonWriter<Output<BufWriter<Retrying<W>>>>> as Visitor>⟧.visits ⟦<Spliced<JsonWriter<Output<BufWriter<Retrying<W>>>>> as Visitor>⟧.refuses (λ spliced. spliced.visitor.output)
+        (λ spliced. (spliced.limit ≡ 2 ^ 30) × (spliced.visitor.options.keeps_stored ≡ request.now.keeps_stored)
+        × AreColumnFiles (λ name. S.bytes inputs.now name.now) request.now.columns.now spliced.visitor.options.files.items
+        × (writer_capacity spliced.visitor.output.inner ≡ lines_capacity request.now.reading.is_followed))
         (W.contents writer) ended.0 (W.contents ended.1)) }
     ensures err { IfErr result (λ status. NeverBegins (found_of request.now.options.now) status ⊎ IsUnreadColumns request.now.columns.now status) }
 {
@@ -67,9 +73,10 @@ pub(crate) fn json<'a, S: Inputs, R: Clock + Eprint + AllocGlobal, W: Write + Dr
         files,
     };
     let lines = JsonWriter::new(rt.alloc(), output, options);
-    let (outcome, lines) = read_all(rt, inputs, request, lines)?;
-    report_contradictions(rt, lines.contradictions());
-    Ok(lines.into_output().finish(rt, outcome))
+    let spliced = Spliced::new(rt.alloc(), CONTENT_LIMIT, lines);
+    let (outcome, spliced) = read_all(rt, inputs, request, spliced)?;
+    report_contradictions(rt, spliced.visitor.contradictions());
+    Ok(spliced.visitor.into_output().finish(rt, outcome))
 }
 
 // Writes the line of each item that the filter takes.
@@ -155,8 +162,8 @@ pub(crate) fn stats<'a, S: Inputs, R: Clock + Eprint + AllocGlobal, W: Write + D
     Ok(output.finish(rt, read.worse(written)))
 }
 
-// The outcome of writing a text.
-fn outcome_of_text(answer: io::Result<()>) -> Outcome
+/// The outcome of writing a text.
+pub(crate) fn outcome_of_text(answer: io::Result<()>) -> Outcome
     ensures { result ≡ outcome_of_text answer }
 {
     match answer {

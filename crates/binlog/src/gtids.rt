@@ -144,8 +144,8 @@ fn write_set<E: Eprint, W: Write>(
     outcome_of_lines(rt, write_log_gtids(mysql, maria, others, &mut output))
 }
 
-// The outcome of writing the lines.
-fn outcome_of_lines<E: Eprint>(rt: &E, answer: Result<(), Error>) -> Outcome
+/// The outcome of writing the lines. Why the output fails is kept by the output.
+pub(crate) fn outcome_of_lines<E: Eprint>(rt: &E, answer: Result<(), Error>) -> Outcome
     ensures { result ≡ outcome_of_lines answer }
 {
     match answer {

@@ -14,7 +14,10 @@ mod files;
 mod following;
 mod gtids;
 mod inputs;
+mod interval_statistics;
 mod request;
+mod statistics;
+mod transaction_statistics;
 mod verifying;
 
 use binlog_cli::{Status, command, out_of_memory};
@@ -104,7 +107,7 @@ fn run_command<'a, R: Files + Clock + Input + Print + Eprint + AllocGlobal>(
         "json" => status_of(commands::json(rt, &inputs, &request, output)),
         "gtids" => status_of(gtids::gtids(rt, &inputs, &request, output)),
         "verify" => status_of(verifying::verify(rt, &inputs, &request, output)),
-        "stats" => status_of(commands::stats(rt, &inputs, &request, output)),
+        "stats" => status_of(statistics::stats(rt, &inputs, &request, output)),
         "copy" => match copying::copy(rt, &inputs, &request, output) {
             Ok(status) | Err(status) => status,
         },

@@ -2,7 +2,7 @@ pub mod Reporting
 mod StatsRows
 mod StatsTimes
 mod WholeStats
-mod WrittenTexts
+pub mod WrittenTexts
 mod NamedTypes
 mod CivilInstants
 pub mod TableNames

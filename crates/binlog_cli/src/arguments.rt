@@ -105,8 +105,13 @@ fn stats<'a>(alloc: Global) -> Result<Command<'a>, AllocError> {
         .after_help(
             "Examples:\n  \
              binlog stats mysql-bin.000007\n  \
-             binlog stats --server-id 1 mysql-bin.*",
-        );
+             binlog stats --server-id 1 mysql-bin.*\n  \
+             binlog stats --by table --top 20 mysql-bin.*\n  \
+             binlog stats --by table --json mysql-bin.000007 | jq 'select(.table == \"orders\").inserted'",
+        )
+        .arg(by(alloc))?
+        .arg(number(alloc, "top").help("With --by table: only the N tables with most bytes"))?
+        .arg(json_lines(alloc))?;
     with_filters(alloc, with_files(alloc, command)?)
 }
 
@@ -138,6 +143,21 @@ fn follow<'a>(alloc: Global) -> Arg<'a> {
         .long("follow")
         .action(ArgAction::SetTrue)
         .help("Waits at the end of the last file for more events, as tail -f does")
+}
+
+// The option to say what is counted together.
+fn by<'a>(alloc: Global) -> Arg<'a> {
+    text(alloc, "by").value_name("GROUP").help(
+        "What is counted: events by type, which is the default, or rows by table",
+    )
+}
+
+// The option to print lines of JSON.
+fn json_lines<'a>(alloc: Global) -> Arg<'a> {
+    Arg::new(alloc, "json")
+        .long("json")
+        .action(ArgAction::SetTrue)
+        .help("With --by table: prints lines of JSON")
 }
 
 // The option to keep the stored bytes of rows.

@@ -20,4 +20,4 @@ pub use filters::filter;
 pub use output::{BUFFER_SIZE, Output};
 pub use progress::Progress;
 pub use reported::{Reported, report_left_out, shown_name};
-pub use summaries::{write_stats, write_tally};
+pub use summaries::{datetime_of, write_stats, write_tally};

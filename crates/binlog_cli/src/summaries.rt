@@ -72,8 +72,8 @@ fn write_seconds<W: Write>(word: &str, seconds: u32, output: &mut W) -> io::Resu
     writeln!(output, "{word} {time}Z")
 }
 
-// The time in UTC.
-fn datetime_of(seconds: u32) -> DateTime
+/// The time in UTC of seconds since 1970.
+pub fn datetime_of(seconds: u32) -> DateTime
     ensures { IsTime seconds (iso_datetime_text result ++ codes "Z") }
 {
     match Timestamp::from_second(i64::from(seconds)) {

@@ -41,11 +41,12 @@ kind_of_error ends = refl
 kind_of_error (invalid why) = refl
 kind_of_error (other_type number) = refl
 
--- The error of reading a column has the kind of its refusal.
-kind_is : (e : Error) (read : Read Typed) → Refuses ⊥ e read → (d : Refusal) × (read ≡ Err d) × (kind_of e ≡ kind_as d)
-kind_is e read h =
+-- If the kind of each refusal's error is that of the refusal, the error of a refused reading has the kind of its refusal.
+pub same_kind : {V K : Type 0} (kind : Error → K) (kind_of_refusal : Refusal → K) → ((d : Refusal) → kind (error_as d) ≡ kind_of_refusal d)
+    → (e : Error) (read : Read V) → Refuses ⊥ e read → (d : Refusal) × (read ≡ Err d) × (kind e ≡ kind_of_refusal d)
+same_kind kind kind_of_refusal same e read h =
     let r = refusal_of e read h in
-    (r.0, r.1, ap kind_of r.2 ∙ kind_of_error r.0)
+    (r.0, r.1, ap kind r.2 ∙ same r.0)
 
 -- One more column is read.
 pub refusal_step : (types : List ℕ) (i number : ℕ) (m : List ℕ) (typed : Typed) (rest : List ℕ) → i < length types → number ≡ get_or types i 0
@@ -56,7 +57,7 @@ refusal_step types i number m typed rest less is e = rw (drop_item types i numbe
 pub refusal_here : (types : List ℕ) (i number : ℕ) (m : List ℕ) (e : Error) → i < length types → number ≡ get_or types i 0
     → Refuses ⊥ e ((column number).reads m) → refusal i (drop i types) m ≡ Some (record { kind = kind_of e; column = i })
 refusal_here types i number m e less is h =
-    let d = kind_is e ((column number).reads m) h in
+    let d = same_kind kind_of kind_as kind_of_error e ((column number).reads m) h in
     rw (drop_item types i number 0 less is, d.1, d.2) refl
 
 -- If no column is refused, none is with another index of the first column.

@@ -1,14 +1,13 @@
 //! The lines of MariaDB's GTIDs. No memory is taken.
-ghost use Rattle.std.specs.Prelude.{◌≡◌, decimal};
+ghost use Rattle.std.specs.Prelude.{◌≡◌};
 ghost use Rattle.binlog_events.specs.Writing.{CountsWriter};
 ghost use Rattle.binlog_gtid_listing.specs.GroupLines.{Writes};
 ghost use Rattle.binlog_gtid_listing.specs.MariaLines.{maria_line, is_missing_in, missing_line, maria_lines};
 
-use crate::parts::write_part;
+use crate::parts::{write_number, write_part};
 use binlog_file::{Error, WriteCounted};
 use binlog_maria_gtids::MariaGtidTracker;
 use binlog_mariadb::MariaGtid;
-use itoa::Buffer;
 
 /// Writes a line `domain-server_id-sequence` for the last GTID of each domain and server that `others` lack, in ascending order
 /// of the domains, and then of the servers' ids. Others lack a GTID if they have none of its domain and server, or their last
@@ -94,13 +93,4 @@ fn write_numbers<W: WriteCounted>(
     write_part(b"-", output)?;
     write_number(sequence, output)?;
     write_part(b"\n", output)
-}
-
-// Writes a number in decimal digits.
-fn write_number<W: WriteCounted>(number: u64, output: &mut W) -> Result<(), Error>
-    ensures writes { Writes (decimal number) (W.contents output.old) result (W.contents output.new) }
-    ensures writer { CountsWriter result (W.count output.old) (W.count output.new) }
-{
-    let mut digits = Buffer::new();
-    write_part(digits.format(number).as_bytes(), output)
 }

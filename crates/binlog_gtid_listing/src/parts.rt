@@ -82,8 +82,8 @@ pub(crate) fn write_tag<W: WriteCounted>(tag: Option<&[u8]>, output: &mut W) -> 
     }
 }
 
-// Writes a number in decimal digits.
-fn write_number<W: WriteCounted>(number: u64, output: &mut W) -> Result<(), Error>
+/// Writes a number in decimal digits.
+pub(crate) fn write_number<W: WriteCounted>(number: u64, output: &mut W) -> Result<(), Error>
     ensures writes { Writes (decimal number) (W.contents output.old) result (W.contents output.new) }
     ensures writer { CountsWriter result (W.count output.old) (W.count output.new) }
 {

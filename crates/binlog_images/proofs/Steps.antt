@@ -1,10 +1,10 @@
 -- Images, one column at a time.
-use Rattle.std.proofs.Common.{◌≡◌, ℕ, ◌+◌, ◌<◌, ◌≤◌, true, List, ◌∷◌, length, Option, None, Some, Result, Ok, Err, refl, ap, arith, ◌∙◌}
+use Rattle.std.proofs.Common.{◌≡◌, ℕ, ◌+◌, ◌<◌, ◌≤◌, true, List, ◌∷◌, length, Option, None, Some, Result, Ok, Err, refl, ap, arith}
 use Rattle.std.specs.Prelude.{is_ok}
 use Rattle.binlog_wire.specs.declared.error.Error.{Error}
 use Rattle.binlog_wire.specs.Reading.{Refusal, Read, ends, invalid, other_type, Refuses}
 use Rattle.binlog_columns.specs.Metadata.{Typed}
-use Rattle.binlog_columns.specs.RefusalLaws.{error_as, refusal_of}
+use Rattle.binlog_columns.specs.RefusalLaws.{error_as, same_kind}
 use Rattle.binlog_rows.specs.Columns.{Bitmap, bitmap}
 use Rattle.binlog_images.specs.Answers.{Takes}
 use Rattle.binlog_images.specs.Bits.{Bits, first_bits, next_bits}
@@ -21,9 +21,7 @@ kind_of_error (other_type number) = refl
 
 -- An error is of the kind of its refusal.
 pub kind_is : {V : Type 0} (e : Error) (read : Read V) → Refuses ⊥ e read → (d : Refusal) × (read ≡ Err d) × (kind_of e ≡ kind_as d)
-kind_is e read h =
-    let r = refusal_of e read h in
-    (r.0, r.1, ap kind_of r.2 ∙ kind_of_error r.0)
+kind_is e read h = same_kind kind_of kind_as kind_of_error e read h
 
 -- One more column is taken.
 pub left_step : (diffs : Diffs) (columns others : List Typed) (column : Typed) (bits : Bits) (s m : List ℕ) (cell : Cell) → columns ≡ column ∷ others

@@ -13,6 +13,10 @@ use Rattle.binlog_images.specs.declared.rows_error.RowsError.{RowsError}
 abbrev pub VisitRelation : Type 0 → Type 1
 VisitRelation T = T → ImageKind → ℕ → Cell → T → Type 0
 
+-- A visit of a column that changes nothing.
+abbrev pub Skips : {T : Type 0} → VisitRelation T
+Skips old image index cell new = new ≡ old
+
 module _ {T : Type 0} (visits : VisitRelation T) where
   -- These columns of an image are visited one after another, where `index` is that of the first.
   abbrev pub VisitsColumns : ImageKind → ℕ → List Cell → T → T → Type 0

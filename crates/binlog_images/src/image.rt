@@ -12,7 +12,9 @@ use crate::column_value::ColumnValue;
 use crate::diff_bits::{DiffBits, advance_diffs, first_diffs, read_diff_bits};
 use crate::image_bits::{ImageBits, read_bitmap};
 use crate::image_columns::ImageColumns;
-use crate::rows_error::{ImageError, kind_of};
+use crate::rows_error::{ImageError, ImageKind, kind_of};
+use crate::visiting::visit_columns;
+use crate::visitor::SkippingVisitor;
 use binlog_columns::TableColumns;
 use binlog_wire::{BitView, ParseBuf};
 
@@ -109,8 +111,8 @@ impl<'a> Image<'a> {
     }
 }
 
-/// Takes the columns of an image from the start of `buf`, and leaves the bytes after them.
-#[tactic(auto, using(crate::proofs::Steps::left_step, crate::proofs::Steps::left_here, crate::proofs::Steps::range_first, crate::proofs::Steps::range_step))]
+/// Takes the columns of an image from the start of `buf`, and leaves the bytes after them. This is a visit that does nothing;
+/// which image it is, is told to the visitor alone.
 #[inline(always)]
 fn skip_columns(
     columns: TableColumns<'_>,
@@ -122,20 +124,14 @@ fn skip_columns(
     requires in_place { start.place ≤ start.index }
     ensures { Leaves buf.new result (left (diffs_of start_diffs.entry) (columns_of columns.entry) (bits_of start.entry) buf.old) }
 {
-    let mut bits = start;
-    let mut diffs = start_diffs;
-    for column in columns {
-        let is_present = bits.is_present();
-        if let Err(error) = ColumnValue::read(&column, &bits, &diffs, buf) {
-            return Err(ImageError {
-                kind: kind_of(error),
-                column: Some(bits.index),
-            });
-        }
-        bits.advance(is_present);
-        advance_diffs(&mut diffs, &column);
-    }
-    Ok(())
+    visit_columns(
+        ImageKind::Before,
+        columns,
+        start,
+        start_diffs,
+        buf,
+        &mut SkippingVisitor,
+    )
 }
 
 /// The columns that are left, from left to right: absent, NULL, or a value.

@@ -24,7 +24,7 @@ use binlog_wire::{BitView, ParseBuf};
 /// Takes the columns of an image from the start of `buf`, shows each to the visitor, and leaves the bytes after them.
 #[tactic(auto, using(crate::proofs::Steps::left_step, crate::proofs::Steps::left_here, crate::proofs::Steps::range_first, crate::proofs::Steps::range_step, crate::proofs::Visited::visited_one, crate::proofs::Visited::visited_all, crate::proofs::Visited::visited_front))]
 #[inline(always)]
-fn visit_columns<T: ColumnVisitor>(
+pub(crate) fn visit_columns<T: ColumnVisitor>(
     kind: ImageKind,
     columns: TableColumns<'_>,
     start: ImageBits<'_>,

@@ -14,3 +14,16 @@ pub trait ColumnVisitor {
     fn visit_column(&mut self, image: ImageKind, index: u64, value: ColumnValue<'_>)
         ensures { visits self.old image index (cell_of value.entry) self.new };
 }
+
+/// Does nothing with any column.
+#[derive(Drop)]
+pub(crate) struct SkippingVisitor;
+
+impl ColumnVisitor for SkippingVisitor {
+    ghost use Rattle.binlog_images.specs.Visits.{Skips};
+
+    ghost visits = { Skips };
+
+    #[inline(always)]
+    fn visit_column(&mut self, _image: ImageKind, _index: u64, _value: ColumnValue<'_>) {}
+}

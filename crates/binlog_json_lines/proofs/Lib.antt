@@ -4,3 +4,4 @@ pub mod Output
 pub mod Kept
 pub mod MariaNames
 pub mod Answered
+pub mod PartOutput

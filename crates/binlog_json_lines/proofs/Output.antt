@@ -39,19 +39,19 @@ pub of_options : {T O : Type 0} (contents : T → Option (List ℕ)) (own : T �
 of_options contents own meaning errors noted old maps index item new visited =
     record { contradiction = visited.0; line = visited.1; notes = visited.2; error = visited.3; kept = ap meaning visited.4 }
 
-or_more : (a b c : Bool) → (a || b) || c ≡ a || (b || c)
+pub or_more : (a b c : Bool) → (a || b) || c ≡ a || (b || c)
 or_more true b c = refl
 or_more false b c = refl
 
-or_none : (a : Bool) → a ≡ a || false
+pub or_none : (a : Bool) → a ≡ a || false
 or_none true = refl
 or_none false = refl
 
-or_some : (a b c : Option ℕ) → option_or (option_or a b) c ≡ option_or a (option_or b c)
+pub or_some : (a b c : Option ℕ) → option_or (option_or a b) c ≡ option_or a (option_or b c)
 or_some None b c = refl
 or_some (Some x) b c = refl
 
-or_nothing : (a : Option ℕ) → a ≡ option_or a None
+pub or_nothing : (a : Option ℕ) → a ≡ option_or a None
 or_nothing None = refl
 or_nothing (Some x) = refl
 
@@ -69,7 +69,7 @@ or_no_column None schema table was = or_nothing was
 or_no_column (Some map) schema table was = or_own (bytes_eq (schema_in map) schema && bytes_eq (table_in map) table) was
 
 -- What is noted of one table.
-noted_of : (contradiction : Option ℕ) (map : Option TableMapEvent) (old new : Contradictions) (schema table : List ℕ) → NotesIf contradiction map old new
+pub noted_of : (contradiction : Option ℕ) (map : Option TableMapEvent) (old new : Contradictions) (schema table : List ℕ) → NotesIf contradiction map old new
     → column_of new schema table ≡ option_or (column_of old schema table) (own_column map schema table contradiction)
 noted_of None map old new schema table notes =
     ap (λ (tables : Contradictions). column_of tables schema table) notes ∙ or_no_column map schema table (column_of old schema table)

@@ -31,13 +31,13 @@ header_members header =
 unfoldable pub checksum_member : EventView → List Token
 checksum_member event = member (codes "checksum") (or_null bytes_value (checksum_of event.fde.footer event.frame))
 
+-- The members of the object of an event that state its header and its checksum.
+unfoldable pub event_fields : EventView → List Token
+event_fields event = type_members (header_of event.frame).event_type ++ header_members (header_of event.frame) ++ checksum_member event
+
 -- The members of the object of an event before its data.
 unfoldable pub event_head : ℕ → EventView → List Token
-event_head index event =
-    member (codes "index") (number_value index)
-    ++ type_members (header_of event.frame).event_type
-    ++ header_members (header_of event.frame)
-    ++ checksum_member event
+event_head index event = member (codes "index") (number_value index) ++ event_fields event
 
 -- The data of an event, that of a row event with its stored rows or without them.
 abbrev pub event_data : (has_stored_rows : Bool) → EventView → List Token

@@ -6,3 +6,7 @@ pub mod RowMembers
 pub mod Lines
 pub mod Output
 pub mod Contradicted
+pub mod PayloadRefusals
+pub mod PayloadLines
+pub mod PartLines
+pub mod PartOutput

@@ -1,5 +1,5 @@
 -- The lines of JSON of a log, with MariaDB's own events.
-use Rattle.std.specs.Prelude.{◌≡◌, ◌⊎◌, ◌||◌, ℕ, Bool, true, false, not, List, [], ◌∷◌, ◌++◌, codes, take, Option, None, Result, Ok, Err}
+use Rattle.std.specs.Prelude.{◌≡◌, ◌⊎◌, ◌||◌, ℕ, Bool, true, false, not, List, [], ◌∷◌, ◌++◌, codes, take, Option, None, Some, Result, Ok, Err}
 use Rattle.std.specs.Io.KnownBytes.{Appends}
 use Rattle.std.specs.Option.{option_and_then}
 use Rattle.json.specs.Print.{print}
@@ -15,6 +15,10 @@ use Rattle.binlog_json_lines.specs.ItemLines.{header_members, event_head, data_m
 use Rattle.binlog_consts.specs.EventTypes.{event_type_of}
 use Rattle.binlog_rows.specs.declared.table_map_event.TableMapEvent.{TableMapEvent}
 use Rattle.binlog_json_lines.specs.Options.{RowOptions}
+use Rattle.binlog_json_lines.specs.PayloadLines.{payload_line}
+use Rattle.binlog_payloads.specs.Events.{payload_in}
+use Rattle.binlog_payloads.specs.Fields.{Payload}
+use Rattle.binlog_payloads.specs.declared.error.PayloadError.{PayloadError}
 use Rattle.binlog_json_lines.specs.RowMembers.{AreMembers}
 use Rattle.binlog_json_lines.specs.declared.row_members.ShownRows.{ShownRows}
 use Rattle.binlog_json_lines.specs.RowEvents.{is_of_rows, table_id_of}
@@ -84,10 +88,15 @@ pub record IsRowsLine (options : RowOptions) (map : Option TableMapEvent) (index
   pub are : IsRowsObject options map index event contradiction tokens
   pub is : text ≡ print tokens ++ codes "\n"
 
+-- The text is the line of an event that is no row event, by what its data say of a payload.
+abbrev pub IsLineWithoutRows : (keeps_stored : Bool) → ℕ → EventView → Result (Option Payload) PayloadError → List ℕ → Type 0
+IsLineWithoutRows keeps_stored index event (Ok (Some payload)) text = text ≡ payload_line keeps_stored index event payload
+IsLineWithoutRows keeps_stored index event none text = IsLine index (Ok event) text
+
 -- The text is the line of an event, where a row event has its rows.
 abbrev pub IsLineOf : (is_row_event : Bool) → RowOptions → Option TableMapEvent → ℕ → EventView → (contradiction : Option ℕ) → List ℕ → Type 0
 IsLineOf true options map index event contradiction text = IsRowsLine options map index event contradiction text
-IsLineOf false options map index event contradiction text = (contradiction ≡ None) × IsLine index (Ok event) text
+IsLineOf false options map index event contradiction text = (contradiction ≡ None) × IsLineWithoutRows options.keeps_stored index event (payload_in event) text
 
 abbrev pub IsLineWith : RowOptions → Option TableMapEvent → ℕ → EventView → (contradiction : Option ℕ) → List ℕ → Type 0
 IsLineWith options map index event contradiction text = IsLineOf (is_of_rows (event_type_of (header_of event.frame).event_type)) options map index event contradiction text

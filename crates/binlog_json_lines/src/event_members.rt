@@ -3,7 +3,7 @@
 
 ghost use Rattle.binlog_file.specs.EventRefs.{view_of};
 ghost use Rattle.json_line.specs.Tokens.{Adds};
-ghost use Rattle.binlog_json_lines.specs.ItemLines.{type_members, header_members, checksum_member, event_head, data_member, event_members, event_object, error_object, mismatch_members};
+ghost use Rattle.binlog_json_lines.specs.ItemLines.{type_members, header_members, checksum_member, event_fields, event_head, data_member, event_members, event_object, error_object, mismatch_members};
 
 use binlog_file::{BinlogEventHeader, Error, EventRef};
 use binlog_json_bodies::{write_data, write_data_without_rows, write_name};
@@ -51,8 +51,19 @@ pub(crate) fn write_event_head(
 ) -> Result<(), AllocError>
     ensures { Adds result line.old line.new (event_head index (view_of event.now)) }
 {
-    let header = event.header();
     line.number_member("index", index)?;
+    write_event_fields(line, event)
+}
+
+/// Writes the members of the object of an event that state its header and its checksum.
+///
+/// # Errors
+///
+/// [`AllocError`] if an allocation fails. Some members may then have been written.
+pub(crate) fn write_event_fields(line: &mut Line, event: &EventRef<'_>) -> Result<(), AllocError>
+    ensures { Adds result line.old line.new (event_fields (view_of event.now)) }
+{
+    let header = event.header();
     write_type(line, &header)?;
     write_header(line, &header)?;
     write_checksum(line, event)?;

@@ -10,6 +10,10 @@ mod event_members;
 pub mod laws;
 mod lines;
 mod options;
+pub mod part_laws;
+mod part_members;
+mod part_writer;
+mod payload_refusals;
 mod refusals;
 mod row_events;
 mod row_members;
@@ -17,5 +21,6 @@ mod writer;
 
 pub use lines::{EventLine, JsonLines};
 pub use options::LineOptions;
+pub use part_members::PartPlace;
 pub use row_events::{is_row_event, table_id};
 pub use writer::JsonWriter;

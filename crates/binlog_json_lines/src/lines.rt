@@ -1,7 +1,8 @@
 //! The line of an item.
 #![tactic(auto, using(std::proofs::Common::append_assoc))]
 
-ghost use Rattle.std.specs.Prelude.{◌≡◌, ◌||◌, ℕ, IfErr, IfOk, MatchOption, Ok, Err, option_copied, true, not};
+ghost use Rattle.std.specs.Prelude.{◌≡◌, ◌||◌, ◌++◌, ℕ, IfErr, IfOk, MatchOption, Ok, Err, codes, option_copied, true, not};
+ghost use Rattle.json.specs.Print.{print};
 ghost use Rattle.json_line.specs.Tokens.{Adds};
 ghost use Rattle.binlog_wire.specs.declared.error.Error.TheVariants.{Memory};
 ghost use Rattle.binlog_event_format.specs.Headers.{header_of};
@@ -10,18 +11,23 @@ ghost use Rattle.binlog_mariadb.specs.EventTypes.{maria_event_type_of};
 ghost use Rattle.binlog_json_lines.specs.ItemLines.{item_line};
 ghost use Rattle.binlog_json_lines.specs.Options.{options_of};
 ghost use Rattle.binlog_json_bodies.specs.Shown.{Shows, ShowsBy};
-ghost use Rattle.binlog_json_lines.specs.Lines.{IsOfMaria, IsOther, type_members, head_members, IsEventObject, IsOwnLine, IsLine, IsRowsObject, IsRowsLine, IsLineWith};
+ghost use Rattle.binlog_json_lines.specs.Lines.{IsOfMaria, IsOther, type_members, head_members, IsEventObject, IsOwnLine, IsLine, IsRowsObject, IsRowsLine, IsLineWithoutRows, IsLineWith};
+ghost use Rattle.binlog_json_lines.specs.PartLines.{IsPartEventLine, part_error_object};
+ghost use Rattle.binlog_json_lines.specs.PayloadLines.{payload_line};
+ghost use Rattle.binlog_payloads.specs.Events.{payload_in, payload_of};
 
 use crate::event_members::{
     write_data_member, write_error, write_event, write_event_head, write_header,
 };
 use crate::options::LineOptions;
+use crate::part_members::{PartPlace, write_part, write_part_error, write_payload_event};
 use crate::row_events::is_row_event;
 use crate::row_members::RowsWriter;
 use binlog_event_types::maria_name_of;
 use binlog_file::{Error, EventRef, TableMapEvent};
 use binlog_json_bodies::write_maria_data;
 use binlog_mariadb::{MariaEventType, is_maria_log};
+use binlog_payloads::{PayloadError, TransactionPayloadEvent};
 use json_line::Line;
 use std::alloc::{AllocError, Global};
 
@@ -98,10 +104,95 @@ impl JsonLines {
             self.rows_line(alloc, index, event, table_map, options)
         } else {
             Ok(EventLine {
-                text: self.event_line(alloc, index, event)?,
+                text: self.line_without_rows(alloc, index, event, options.keeps_stored)?,
                 contradiction: None,
             })
         }
+    }
+
+    // The line of an event that is no row event. Where its data are those of a payload, they are shown with the payload's stored bytes
+    // or without them.
+    fn line_without_rows(
+        &mut self,
+        alloc: Global,
+        index: u64,
+        event: &EventRef<'_>,
+        keeps_stored: bool,
+    ) -> Result<&[u8], Error>
+        ensures line { IfOk result (λ text. IsLineWithoutRows keeps_stored index (view_of event.now) (payload_in (view_of event.now)) text.now) }
+        ensures memory { IfErr result (λ e. e ≡ Memory) }
+    {
+        match TransactionPayloadEvent::of_event(event) {
+            Ok(Some(payload)) => self.payload_line(index, event, &payload, keeps_stored),
+            _ => self.event_line(alloc, index, event),
+        }
+    }
+
+    // The line of an event with this payload.
+    fn payload_line(
+        &mut self,
+        index: u64,
+        event: &EventRef<'_>,
+        payload: &TransactionPayloadEvent<'_>,
+        keeps_stored: bool,
+    ) -> Result<&[u8], Error>
+        ensures line { IfOk result (λ text. text.now ≡ payload_line keeps_stored index (view_of event.now) (payload_of payload.now)) }
+        ensures memory { IfErr result (λ e. e ≡ Memory) }
+    {
+        self.line.clear();
+        write_payload_event(&mut self.line, index, event, payload, keeps_stored)?;
+        Ok(self.line.end()?)
+    }
+
+    /// The line of an event inside a compressed transaction, with the rows of a row event as [`JsonLines::event_line_with_rows`] has
+    /// them.
+    ///
+    /// # Errors
+    ///
+    /// [`Error::Memory`] if an allocation fails.
+    pub fn part_line(
+        &mut self,
+        alloc: Global,
+        place: PartPlace,
+        event: &EventRef<'_>,
+        table_map: Option<&TableMapEvent<'_>>,
+        options: &LineOptions,
+    ) -> Result<EventLine<'_>, Error>
+        ensures line { IfOk result (λ line. IsPartEventLine (options_of options.now) (option_copied table_map.entry) place.index place.number (view_of event.now) line.contradiction line.text.now) }
+        ensures memory { IfErr result (λ e. e ≡ Memory) }
+    {
+        self.line.clear();
+        let contradiction = write_part(
+            &mut self.line,
+            &mut self.rows,
+            alloc,
+            place,
+            event,
+            table_map,
+            options,
+        )?;
+        Ok(EventLine {
+            text: self.line.end()?,
+            contradiction,
+        })
+    }
+
+    /// The line of an error in the place of an event inside a compressed transaction, or of all.
+    ///
+    /// # Errors
+    ///
+    /// [`Error::Memory`] if an allocation fails.
+    pub fn part_error_line(
+        &mut self,
+        place: PartPlace,
+        error: &PayloadError,
+    ) -> Result<&[u8], Error>
+        ensures line { IfOk result (λ text. text.now ≡ print (part_error_object place.index place.number error.now) ++ codes "\n") }
+        ensures memory { IfErr result (λ e. e ≡ Memory) }
+    {
+        self.line.clear();
+        write_part_error(&mut self.line, place, error)?;
+        Ok(self.line.end()?)
     }
 
     // The line of a row event with its rows.
@@ -242,8 +333,8 @@ fn write_rows_event(
     Ok(shown.contradiction)
 }
 
-// Whether the data of a row event has the stored bytes of its rows.
-fn has_stored_rows(keeps_stored: bool, all_read: bool) -> bool
+/// Whether the data of a row event has the stored bytes of its rows.
+pub(crate) fn has_stored_rows(keeps_stored: bool, all_read: bool) -> bool
     ensures { result ≡ (keeps_stored || not all_read) }
 {
     keeps_stored || !all_read

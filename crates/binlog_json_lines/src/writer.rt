@@ -18,12 +18,12 @@ use std::io::Write;
 /// Writes the line of JSON of each item that it visits. The output isn't flushed.
 #[derive(Drop)]
 pub struct JsonWriter<W> {
-    alloc: Global,
-    lines: JsonLines,
-    output: W,
-    options: LineOptions,
-    contradictions: Contradictions,
-    has_errors: bool,
+    pub(crate) alloc: Global,
+    pub(crate) lines: JsonLines,
+    pub(crate) output: W,
+    pub(crate) options: LineOptions,
+    pub(crate) contradictions: Contradictions,
+    pub(crate) has_errors: bool,
 }
 
 impl<W> JsonWriter<W> {
@@ -81,8 +81,8 @@ fn table_map<'a>(
     }
 }
 
-// Notes the column of the table of this table map that contradicts the files, if one does.
-fn note(
+/// Notes the column of the table of this table map that contradicts the files, if one does.
+pub(crate) fn note(
     contradictions: &mut Contradictions,
     table_map: Option<&TableMapEvent<'_>>,
     contradiction: Option<usize>,

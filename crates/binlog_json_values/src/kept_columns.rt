@@ -48,12 +48,12 @@ impl KeptColumns {
 
     /// The facts, borrowed.
     pub(crate) fn facts(&self, alloc: Global) -> Result<Vec<ColumnFacts<'_>>, AllocError>
-        ensures { IfOk result (λ lent. map facts_of lent.items ≡ kept_facts self.now) }
+        ensures { IfOk result (λ borrowed. map facts_of borrowed.items ≡ kept_facts self.now) }
     {
-        let mut lent = Vec::with_capacity(alloc, self.facts.len())?;
+        let mut borrowed = Vec::with_capacity(alloc, self.facts.len())?;
         'columns: for facts in &self.facts {
-            lent.push(facts.lend(alloc)?)?;
+            borrowed.push(facts.lend(alloc)?)?;
         }
-        Ok(lent)
+        Ok(borrowed)
     }
 }

@@ -53,25 +53,25 @@ fn copied_members(
 }
 
 /// The members, borrowed.
-fn lent_texts(alloc: Global, members: &[Vec<u8>]) -> Result<Vec<&[u8]>, AllocError>
-    ensures { IfOk result (λ lent. texts_of lent.items ≡ map (λ member. member.items) members.now) }
+fn borrowed_texts(alloc: Global, members: &[Vec<u8>]) -> Result<Vec<&[u8]>, AllocError>
+    ensures { IfOk result (λ borrowed. texts_of borrowed.items ≡ map (λ member. member.items) members.now) }
 {
-    let mut lent = Vec::with_capacity(alloc, members.len())?;
+    let mut borrowed = Vec::with_capacity(alloc, members.len())?;
     'members: for member in members {
-        lent.push(member.as_slice())?;
+        borrowed.push(member.as_slice())?;
     }
-    Ok(lent)
+    Ok(borrowed)
 }
 
 /// The same, if they are stated.
-fn lent_members(
+fn borrowed_members(
     alloc: Global,
     members: &Option<Vec<Vec<u8>>>,
 ) -> Result<Option<Vec<&[u8]>>, AllocError>
-    ensures { IfOk result (λ lent. option_map (λ lent. texts_of lent.items) lent ≡ option_map (λ members. map (λ member. member.items) members.items) members.now) }
+    ensures { IfOk result (λ borrowed. option_map (λ borrowed. texts_of borrowed.items) borrowed ≡ option_map (λ members. map (λ member. member.items) members.items) members.now) }
 {
     match members {
-        Some(members) => Ok(Some(lent_texts(alloc, members)?)),
+        Some(members) => Ok(Some(borrowed_texts(alloc, members)?)),
         None => Ok(None),
     }
 }
@@ -109,7 +109,7 @@ impl OwnedFacts {
             is_unsigned: self.is_unsigned,
             character_set: self.character_set,
             padded_length: self.padded_length,
-            members: lent_members(alloc, &self.members)?,
+            members: borrowed_members(alloc, &self.members)?,
         })
     }
 }

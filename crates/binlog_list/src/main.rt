@@ -3,7 +3,7 @@
 
 use binlog_file::{Counted, Error, Retrying, WriteCounted};
 use binlog_listing::list_counted;
-use binlog_visits::status;
+use binlog_visits::exit_status;
 use std::io;
 use std::io::BufWriter;
 use std::process::ExitCode;
@@ -26,5 +26,5 @@ fn run(rt: &(impl Input + Print + AllocGlobal)) -> Result<bool, Error> {
 }
 
 fn main(rt: HostRuntime) -> ExitCode {
-    ExitCode::from(status(&run(&rt)))
+    ExitCode::from(exit_status(&run(&rt)))
 }

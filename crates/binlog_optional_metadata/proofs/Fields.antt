@@ -1,9 +1,9 @@
 -- Fields, one at a time.
-use Rattle.std.proofs.Common.{◌≡◌, ℕ, ◌<◌, List, [], ◌∷◌, length, Some, None, Ok, Err, refl, arith, ap, ◌∙◌}
+use Rattle.std.proofs.Common.{◌≡◌, ℕ, ◌<◌, List, [], ◌∷◌, length, Some, None, Ok, Err, refl, arith}
 use Rattle.binlog_wire.specs.declared.error.Error.{Error}
 use Rattle.binlog_wire.specs.Fields.{IsBytes}
 use Rattle.binlog_wire.specs.Reading.{Refusal, Read, ends, invalid, other_type, Refuses}
-use Rattle.binlog_columns.specs.RefusalLaws.{error_as, refusal_of}
+use Rattle.binlog_columns.specs.RefusalLaws.{error_as, same_kind}
 use Rattle.binlog_optional_metadata.specs.Fields.{Content, content, field}
 use Rattle.binlog_optional_metadata.specs.FieldsLeft.{FieldContent, whole_content, field_taken}
 use Rattle.binlog_optional_metadata.specs.Kinds.{kind_as, kind_of}
@@ -17,9 +17,7 @@ kind_of_error (other_type number) = refl
 
 -- An error is of the kind of its refusal.
 pub kind_is : {V : Type 0} (e : Error) (read : Read V) → Refuses ⊥ e read → (d : Refusal) × (read ≡ Err d) × (kind_of e ≡ kind_as d)
-kind_is e read h =
-    let r = refusal_of e read h in
-    (r.0, r.1, ap kind_of r.2 ∙ kind_of_error r.0)
+kind_is e read h = same_kind kind_of kind_as kind_of_error e read h
 
 -- A content is refused.
 pub content_refused : (number : ℕ) (read : Read Content) (e : Error) → Refuses ⊥ e read

@@ -42,17 +42,17 @@ names_behind (name ∷ names) = names
 behind_borrow : FailureCount → FailureCount
 behind_borrow count = record { failures = count.failures; held = names_behind count.held }
 
--- The count of a reader that was lent with the count `lent`, where the borrow ended with the count `ended`.
-pub lent_counts : {T : Type 0} (result : Result T Error) (name other : ℕ) (old lent ended new : FailureCount) → lent ≡ old → new ≡ ended
-    → CountsReader result (borrowed_count name lent) (borrowed_count other ended) → CountsReader result old new
+-- The count of a reader that was borrowed with the count `borrowed`, where the borrow ended with the count `ended`.
+pub borrowed_counts : {T : Type 0} (result : Result T Error) (name other : ℕ) (old borrowed ended new : FailureCount) → borrowed ≡ old → new ≡ ended
+    → CountsReader result (borrowed_count name borrowed) (borrowed_count other ended) → CountsReader result old new
 unfolding behind_borrow names_behind
-lent_counts (Ok x) name other old lent ended new begins ends counts = ends ∙ ap behind_borrow counts ∙ begins
-lent_counts (Err error) name other old lent ended new begins ends counts = ends ∙ ap behind_borrow counts ∙ ap (reader_count error) begins
+borrowed_counts (Ok x) name other old borrowed ended new begins ends counts = ends ∙ ap behind_borrow counts ∙ begins
+borrowed_counts (Err error) name other old borrowed ended new begins ends counts = ends ∙ ap behind_borrow counts ∙ ap (reader_count error) begins
 
 -- The name of a borrow stays.
-pub lent_name : {T : Type 0} (result : Result T Error) (name other : ℕ) (lent ended : FailureCount) → CountsReader result (borrowed_count name lent) (borrowed_count other ended) → other ≡ name
-lent_name (Ok x) name other lent ended counts = ap first_name counts
-lent_name (Err error) name other lent ended counts = ap first_name counts
+pub borrowed_name : {T : Type 0} (result : Result T Error) (name other : ℕ) (borrowed ended : FailureCount) → CountsReader result (borrowed_count name borrowed) (borrowed_count other ended) → other ≡ name
+borrowed_name (Ok x) name other borrowed ended counts = ap first_name counts
+borrowed_name (Err error) name other borrowed ended counts = ap first_name counts
 
 -- ---- counts that may not be known
 
@@ -80,7 +80,7 @@ pub known_more : {A B : Type 0} (x : A) (answer : Result B Error) (old mid new :
 known_more x answer None mid new kept next = tt
 known_more x answer (Some old) mid new kept next = subst (λ (m : Option FailureCount). CountsKnown answer m new) kept next
 
--- ---- a writer that was lent
+-- ---- a writer that was borrowed
 
 -- The count behind the borrow, of a known count.
 behind_known : Option FailureCount → FailureCount
@@ -92,19 +92,19 @@ known_name : Option FailureCount → ℕ
 known_name None = 0
 known_name (Some count) = first_name count
 
--- The count of a writer that was lent with the count `lent`, where the borrow ended with the count `ended`.
-pub lent_written : {T : Type 0} (result : Result T Error) (name other : ℕ) (old lent ended new : FailureCount) → lent ≡ old → new ≡ ended
-    → CountsKnown result (Some (borrowed_count name lent)) (Some (borrowed_count other ended)) → CountsWriter result old new
+-- The count of a writer that was borrowed with the count `borrowed`, where the borrow ended with the count `ended`.
+pub borrowed_written : {T : Type 0} (result : Result T Error) (name other : ℕ) (old borrowed ended new : FailureCount) → borrowed ≡ old → new ≡ ended
+    → CountsKnown result (Some (borrowed_count name borrowed)) (Some (borrowed_count other ended)) → CountsWriter result old new
 unfolding behind_known behind_borrow names_behind
-lent_written (Ok x) name other old lent ended new begins ends counts = ends ∙ ap behind_known counts ∙ begins
-lent_written (Err error) name other old lent ended new begins ends counts = ends ∙ ap behind_known counts ∙ ap (writer_count error) begins
+borrowed_written (Ok x) name other old borrowed ended new begins ends counts = ends ∙ ap behind_known counts ∙ begins
+borrowed_written (Err error) name other old borrowed ended new begins ends counts = ends ∙ ap behind_known counts ∙ ap (writer_count error) begins
 
 -- The name of its borrow stays.
-pub lent_writer_name : {T : Type 0} (result : Result T Error) (name other : ℕ) (lent ended : FailureCount)
-    → CountsKnown result (Some (borrowed_count name lent)) (Some (borrowed_count other ended)) → other ≡ name
+pub borrowed_writer_name : {T : Type 0} (result : Result T Error) (name other : ℕ) (borrowed ended : FailureCount)
+    → CountsKnown result (Some (borrowed_count name borrowed)) (Some (borrowed_count other ended)) → other ≡ name
 unfolding known_name
-lent_writer_name (Ok x) name other lent ended counts = ap known_name counts
-lent_writer_name (Err error) name other lent ended counts = ap known_name counts
+borrowed_writer_name (Ok x) name other borrowed ended counts = ap known_name counts
+borrowed_writer_name (Err error) name other borrowed ended counts = ap known_name counts
 
 -- ---- the result of a listing
 

@@ -202,8 +202,8 @@ module _ {T : Type 0} (visits : VisitRelation T) (refuses : RefusalRelation T) (
       (subst (λ (e : Option (List ℕ)). ListsBytes handles left line takes bytes (contents old) (listed answer (errors new)) e) ends (bytes_listed bytes old answer new none (visited few)))
 
 -- What was written to a borrowed output was written to the output.
-pub listed_along : (known : Option (List ℕ)) (lists : List ℕ → Option (List ℕ) → Option (List ℕ) → Type 0) (old lent after new : Option (List ℕ)) → lent ≡ old → after ≡ new
-    → IfSome known (λ bytes. length bytes < 2 ^ 64 → lists bytes lent after) → IfSome known (λ bytes. length bytes < 2 ^ 64 → lists bytes old new)
-listed_along known lists old lent after new begins ends listed =
+pub listed_along : (known : Option (List ℕ)) (lists : List ℕ → Option (List ℕ) → Option (List ℕ) → Type 0) (old borrowed after new : Option (List ℕ)) → borrowed ≡ old → after ≡ new
+    → IfSome known (λ bytes. length bytes < 2 ^ 64 → lists bytes borrowed after) → IfSome known (λ bytes. length bytes < 2 ^ 64 → lists bytes old new)
+listed_along known lists old borrowed after new begins ends listed =
     subst (λ (b : Option (List ℕ)). IfSome known (λ bytes. length bytes < 2 ^ 64 → lists bytes b new)) begins
-    (subst (λ (e : Option (List ℕ)). IfSome known (λ bytes. length bytes < 2 ^ 64 → lists bytes lent e)) ends listed)
+    (subst (λ (e : Option (List ℕ)). IfSome known (λ bytes. length bytes < 2 ^ 64 → lists bytes borrowed e)) ends listed)

@@ -108,9 +108,9 @@ listed (Ok tail_len) has_errors = Ok has_errors
 listed (Err error) has_errors = Err error
 
 -- the exit status of the program
-abbrev pub status_of : Result Bool Error → ℕ
-status_of (Ok false) = 0
-status_of (Ok true) = 2
-status_of (Err EndOfInput) = 1
-status_of (Err InvalidFileHeader) = 1
-status_of (Err _) = 3
+abbrev pub exit_status_of : Result Bool Error → ℕ
+exit_status_of (Ok false) = 0
+exit_status_of (Ok true) = 2
+exit_status_of (Err EndOfInput) = 1
+exit_status_of (Err InvalidFileHeader) = 1
+exit_status_of (Err _) = 3

@@ -15,7 +15,7 @@ mod visitor;
 
 pub use item_lines::ItemLines;
 pub use line_writer::LineWriter;
-pub use listing::{list, list_counted, list_verified, list_verified_counted, status};
+pub use listing::{exit_status, list, list_counted, list_verified, list_verified_counted};
 pub use output::write_line;
 pub use refusing::Refusing;
 pub use slice_listing::list_slice;

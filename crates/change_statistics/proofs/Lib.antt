@@ -2,3 +2,10 @@ mod Counts
 mod Transactions
 mod NamedTables
 pub mod HeldTables
+mod Numbers
+mod CountedEvents
+pub mod HeldIntervals
+mod SortedTransactions
+mod SizeClasses
+mod GrownTransactions
+pub mod HeldTransactions

@@ -1,5 +1,5 @@
 -- Counting the facts of events.
-use Rattle.std.specs.Prelude.{ℕ, ◌+◌, ◌-◌, ◌^◌, min, Bool, true, false, Option, unwrap_or, if◌then◌else◌}
+use Rattle.std.specs.Prelude.{◌≡◌, List, [], ◌∷◌, ℕ, ◌+◌, ◌-◌, ◌^◌, min, Bool, true, false, Option, unwrap_or, if◌then◌else◌}
 use Rattle.change_statistics.specs.declared.facts.ChangeKind.{ChangeKind}
 use Rattle.change_statistics.specs.declared.facts.ChangeKind.TheVariants.{Inserted, Updated, Deleted}
 
@@ -24,3 +24,8 @@ is_kind kind other = false
 -- The number of rows that change a table like this, of so many that change it like another; 0 if they can't be read.
 abbrev pub rows_as : (kind is : ChangeKind) → Option ℕ → ℕ
 rows_as kind is count = if is_kind is kind then unwrap_or count 0 else 0
+
+-- One after another is added, where `Adds old fact new` says what one makes of what is counted.
+abbrev pub AddsEach : {S F : Type 0} → (Adds : S → F → S → Type 0) → List F → S → S → Type 0
+AddsEach Adds [] old new = new ≡ old
+AddsEach {S} Adds (fact ∷ facts) old new = (mid : S) × Adds old fact mid × AddsEach Adds facts mid new

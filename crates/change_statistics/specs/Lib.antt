@@ -5,3 +5,10 @@ pub mod Tables
 pub mod SortedTables
 pub mod WholeCounts
 pub mod WholeTables
+pub mod EventCounting
+pub mod WholeEvents
+pub mod Intervals
+pub mod WholeIntervals
+pub mod PlacedFacts
+pub mod Transactions
+pub mod WholeTransactions

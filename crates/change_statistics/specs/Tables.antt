@@ -1,9 +1,9 @@
 -- Counting the changes of tables, fact by fact.
-use Rattle.std.specs.Prelude.{◌≡◌, ◌⊎◌, ℕ, ◌+◌, ◌<◌, ◌≤◌, true, false, List, [], ◌∷◌, length, Option, Some, None, IsSome, is_some, is_none, unwrap_or, nat_lt, if◌then◌else◌}
+use Rattle.std.specs.Prelude.{◌≡◌, ◌⊎◌, ℕ, ◌+◌, ◌<◌, ◌≤◌, true, false, List, [], length, Option, Some, None, IsSome, is_some, is_none, unwrap_or, nat_lt, if◌then◌else◌}
 use Rattle.indexmap.specs.IndexMap.{get_by}
 use Rattle.change_statistics.specs.Facts.{Name, Rows, nothing, unknown, rows, Fact}
 use Rattle.change_statistics.specs.Names.{name_eq, is_named}
-use Rattle.change_statistics.specs.Counting.{counted, counted_if, rows_as}
+use Rattle.change_statistics.specs.Counting.{counted, counted_if, rows_as, AddsEach}
 use Rattle.change_statistics.specs.declared.facts.ChangeKind.{ChangeKind}
 use Rattle.change_statistics.specs.declared.facts.ChangeKind.TheVariants.{Inserted, Updated, Deleted}
 use Rattle.change_statistics.specs.declared.table_counts.TableCounts.{TableCounts}
@@ -97,5 +97,4 @@ Adds old fact new =
 
 -- The facts of events one after another are counted.
 abbrev pub AddsAll : List Fact → TableStats → TableStats → Type 0
-AddsAll [] old new = new ≡ old
-AddsAll (fact ∷ facts) old new = (mid : TableStats) × Adds old fact mid × AddsAll facts mid new
+AddsAll = AddsEach Adds

@@ -1,7 +1,7 @@
 -- What is counted of whole lists of facts.
 use Rattle.std.specs.Prelude.{ℕ, ◌-◌, Bool, true, false, List, [], ◌∷◌, length, slice_get, filter, sum_by, Option, is_none, if◌then◌else◌}
 use Rattle.std.specs.List.{list_any}
-use Rattle.change_statistics.specs.Facts.{Name, Rows, unknown, rows, Fact}
+use Rattle.change_statistics.specs.Facts.{Name, Rows, nothing, unknown, rows, Fact}
 use Rattle.change_statistics.specs.Names.{name_eq}
 use Rattle.change_statistics.specs.Counting.{rows_as}
 use Rattle.change_statistics.specs.declared.facts.ChangeKind.{ChangeKind}
@@ -49,6 +49,15 @@ is_unknown_in said = false
 -- The event may have rows of a table that isn't known.
 abbrev pub is_unknown : Fact → Bool
 is_unknown fact = is_unknown_in fact.rows
+
+abbrev pub has_uncounted_in : Rows → Bool
+has_uncounted_in nothing = false
+has_uncounted_in unknown = true
+has_uncounted_in (rows name kind count) = is_none count
+
+-- The event has or may have rows which aren't counted: they can't be read, or their table isn't known.
+abbrev pub has_uncounted : Fact → Bool
+has_uncounted fact = has_uncounted_in fact.rows
 
 -- ---- facts of events one after another
 

@@ -1,12 +1,30 @@
 //! Laws of statistics over whole lists of facts. Each is a function without effect whose contract states it.
-ghost use Rattle.std.specs.Prelude.{◌≡◌, List, false};
+ghost use Rattle.std.specs.Prelude.{◌≡◌, ℕ, List, false};
 ghost use Rattle.change_statistics.specs.Facts.{Fact};
 ghost use Rattle.change_statistics.specs.Tables.{AreEmpty, AddsAll};
 ghost use Rattle.change_statistics.specs.WholeTables.{AreTableStats};
+ghost use Rattle.change_statistics.specs.PlacedFacts.{PlacedFact};
+ghost use Rattle.change_statistics.specs.Transactions.{Seen, none_seen, ended, SeesAll};
+ghost use Rattle.change_statistics.specs.WholeTransactions.{AreTransactionStats};
+ghost use Rattle.change_statistics.specs.Intervals.{seconds_of, CountsNoInterval, AddsAllByTime};
+ghost use Rattle.change_statistics.specs.WholeIntervals.{AreIntervalStats};
+ghost use Rattle.change_statistics.specs.declared.intervals.IntervalStats.{IntervalStats};
 ghost use Rattle.change_statistics.specs.declared.tables.TableStats.{TableStats};
 
 /// Where there was room for all tables, the statistics are those of all events that were counted: exactly the tables of which an event
 /// has rows have counts, each the sums and numbers over the events of that table, and over the transactions with such an event.
 pub fn table_counts_are_of_all_events()
     ensures { (facts : List Fact) (old new : TableStats) → AreEmpty old → AddsAll facts old new → new.is_full ≡ false → AreTableStats facts new }
+{}
+
+/// Where there was room for all intervals, the statistics are those of all events that were counted: exactly the intervals in which the
+/// time of an event lies have counts, each the number or the sum over those events, and they ascend.
+pub fn interval_counts_are_of_all_events()
+    ensures { (facts : List Fact) (old new : IntervalStats) → CountsNoInterval old → AddsAllByTime facts old new → new.is_full ≡ false → AreIntervalStats (seconds_of old) facts new }
+{}
+
+/// When the last transaction has ended, the statistics are those of the transactions of all events that were seen: how many there are, the
+/// largest, as many as are kept at most, and how many of them have which size.
+pub fn transaction_counts_are_of_all_events()
+    ensures { (limit : ℕ) (events : List PlacedFact) (seen : Seen) → SeesAll events (none_seen limit) seen → AreTransactionStats limit events (ended seen) }
 {}

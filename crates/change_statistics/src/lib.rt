@@ -1,13 +1,25 @@
-//! Statistics of changes of tables, from facts of events: what each number is, is a law over the whole list of facts.
+//! Statistics of changes, from facts of events: what each number is, is a law over the whole list of facts.
 #![tactic(auto)]
 
+mod event_counts;
 mod facts;
+mod intervals;
+mod largest;
 pub mod laws;
+mod sizes;
 mod table_counts;
 mod table_name;
 mod tables;
+mod transaction;
+mod transaction_stats;
 
+pub use event_counts::EventCounts;
 pub use facts::{Change, ChangeKind, EventFacts, TableChange};
+pub use intervals::{IntervalStats, MAX_INTERVALS};
+pub use largest::LargestTransactions;
+pub use sizes::{SIZE_CLASSES, SizeHistogram};
 pub use table_counts::{TableCounts, UnknownRows};
 pub use table_name::TableName;
 pub use tables::{MAX_TABLES, TableStats};
+pub use transaction::{PlacedEvent, Transaction};
+pub use transaction_stats::TransactionStats;

@@ -5,7 +5,7 @@ use std::io::{self, ErrorKind, Read, Write};
 use binlog::{BinlogFileHeader, Error};
 use binlog_tools::binlog_json_lines::JsonLines;
 use binlog_tools::binlog_listing::{list, list_slice, list_verified};
-use binlog_tools::binlog_visits::status;
+use binlog_tools::binlog_visits::exit_status;
 
 /// A format description of server 5.6.1 without its algorithm byte and its checksum.
 const DESCRIPTION: &[u8] = b"\0\0\0\0\x0f\x01\0\0\0\x51\0\0\0\0\0\0\0\0\0\
@@ -104,12 +104,12 @@ impl Write for Broken {
 
 #[test]
 fn each_answer_has_its_status() {
-    assert_eq!([status(&Ok(false)), status(&Ok(true))], [0, 2]);
+    assert_eq!([exit_status(&Ok(false)), exit_status(&Ok(true))], [0, 2]);
     for error in [Error::EndOfInput, Error::InvalidFileHeader] {
-        assert_eq!(status(&Err(error)), 1);
+        assert_eq!(exit_status(&Err(error)), 1);
     }
     for error in [Error::Memory, Error::FrameMemory] {
-        assert_eq!(status(&Err(error)), 3);
+        assert_eq!(exit_status(&Err(error)), 3);
     }
     let log = [&BinlogFileHeader::VALUE, PLAIN_XID].concat();
     let no_reader = list(io::BufReader::new(Broken), Vec::new());
@@ -120,6 +120,6 @@ fn each_answer_has_its_status() {
     assert!(matches!(no_reader_in_event, Err(Error::ReaderInFrame(_))));
     assert!(matches!(no_writer, Err(Error::Writer(_))));
     for answer in [no_reader, no_reader_in_event, no_writer, of_slice] {
-        assert_eq!(status(&answer), 3);
+        assert_eq!(exit_status(&answer), 3);
     }
 }

@@ -15,7 +15,14 @@ pub mod binlog_json_bodies;
 #[allow(unused_variables)]
 pub mod binlog_json_lines;
 pub mod binlog_listing;
+pub mod binlog_payload_visits;
+#[allow(unused_variables)]
+pub mod binlog_statistics;
+#[doc(hidden)]
+pub mod binlog_summaries;
 pub mod binlog_visits;
+/// Statistics of changes, from facts of events.
+pub mod change_statistics;
 #[doc(hidden)]
 pub mod clap;
 #[doc(hidden)]

@@ -58,6 +58,9 @@ mod binlog_gtids;
 mod binlog_images;
 mod binlog_maria_gtids;
 mod binlog_mariadb;
+// What reads a payload for the reader of a stream asks its callers for something, and so isn't public here.
+#[allow(dead_code)]
+mod binlog_payloads;
 mod binlog_variable_fields;
 // Of the counts of columns by their class two are of no use yet.
 #[allow(dead_code)]
@@ -94,6 +97,7 @@ mod json_line;
 pub mod memory;
 mod reading;
 mod simd;
+mod zstd_decode;
 
 pub use crate::binlog_event_format::{BinlogCtx, BinlogEvent, BinlogStruct, DescriptionRef, read_body};
 pub use crate::binlog_ends::DeviceError;
@@ -119,6 +123,13 @@ pub mod consts {
     pub use crate::binlog_event_format::{MAX_BODY_LEN, SERVER_VER_LEN};
     pub use crate::binlog_gtids::GtidFlags;
     pub use crate::binlog_optional_metadata::{OptionalMetadataFieldType, UnknownOptionalMetadataFieldType};
+}
+
+/// MySQL's compressed transactions: the payloads of events, their contents, and the events in them.
+pub mod payloads {
+    pub use crate::binlog_payloads::{PayloadError, TransactionPayloadCompressionType};
+    pub use crate::binlog_payloads::{TransactionPayloadEvent, TransactionPayloadReader};
+    pub use crate::zstd_decode::ZstdError;
 }
 
 /// Events: their headers and footers, and the bodies of each type.

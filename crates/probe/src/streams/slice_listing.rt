@@ -3,7 +3,7 @@
 use crate::BUFFER_SIZE;
 use binlog_file::Error;
 use binlog_listing::list_slice;
-use binlog_visits::status;
+use binlog_visits::exit_status;
 use std::alloc::Global;
 use std::io;
 use std::io::{BufReader, BufWriter, Read, Write};
@@ -44,5 +44,5 @@ fn list_input<R: Input + Print + AllocGlobal>(rt: &R, is_listed: bool) -> Result
 
 /// Lists the log, or only takes it into memory. The result is the exit status of `list`.
 pub(crate) fn run<R: Input + Print + AllocGlobal>(rt: &R, is_listed: bool) -> ExitCode {
-    ExitCode::from(status(&list_input(rt, is_listed)))
+    ExitCode::from(exit_status(&list_input(rt, is_listed)))
 }

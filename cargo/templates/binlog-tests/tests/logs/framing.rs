@@ -83,6 +83,22 @@ fn no_tail_is_told_behind_a_failure_within_an_event() {
 }
 
 #[test]
+fn nothing_is_taken_behind_a_failure_within_an_event() {
+    let begin = [FILE_HEADER, &PLAIN_XID[..20]].concat();
+    let rest = &PLAIN_XID[20..];
+    let mut input = BufReader::new(begin.chain(FailsOnce(false)).chain(rest));
+    let mut file = BinlogFile::new(VERSION, &mut input).unwrap();
+    assert!(matches!(file.next_ref(), Some(Err(Error::ReaderInFrame(_)))));
+    for _ in 0..3 {
+        assert!(file.next_ref().is_none());
+    }
+    drop(file);
+    let mut left = Vec::new();
+    input.read_to_end(&mut left).unwrap();
+    assert_eq!(left, rest);
+}
+
+#[test]
 fn the_file_header_is_four_bytes() {
     assert_eq!(
         BinlogFileHeader::read(&b"\xfebin"[..]),

@@ -6,15 +6,19 @@ pub returns-clause-ok : goal.returns-clause-ok
 returns-clause-ok g c = record {
   filter = c.in_ok-outcome.ensures.ok.0;
   states = c.in_ok-outcome.ensures.ok.1;
-  start = c.new-lines.result;
-  begins = record { has = rw c.new-lines.ensures.output c.in_ok-output.ensures.bytes; fine = rw c.new-lines.ensures.output c.in_ok-output.ensures.fine };
+  start = c.new-spliced.result;
+  begins = record {
+    has = rw (c.new-spliced.ensures.visitor, c.new-lines.ensures.output) c.in_ok-output.ensures.bytes;
+    fine = rw (c.new-spliced.ensures.visitor, c.new-lines.ensures.output) c.in_ok-output.ensures.fine;
+  };
   made = (
-    rw c.new-lines.ensures.options refl,
-    rw c.new-lines.ensures.options c.in_ok-files.ensures.ok,
-    rw c.new-lines.ensures.output (c.in_ok-output.ensures.capacity ∙ c.output_capacity.ensures),
+    c.new-spliced.ensures.limit,
+    rw (c.new-spliced.ensures.visitor, c.new-lines.ensures.options) refl,
+    rw (c.new-spliced.ensures.visitor, c.new-lines.ensures.options) c.in_ok-files.ensures.ok,
+    rw (c.new-spliced.ensures.visitor, c.new-lines.ensures.output) (c.in_ok-output.ensures.capacity ∙ c.output_capacity.ensures),
   );
   outcome = c.in_ok-outcome.outcome;
-  behind = c.in_ok-outcome.lines;
+  behind = c.in_ok-outcome.spliced;
   shown = c.in_ok-outcome.ensures.ok.2;
   ends = rw c.into_output.ensures at c.finish.ensures;
 }

@@ -11,5 +11,5 @@ write_named_rows-requires-clause-printed c =
 
 pub returns : goal.returns
 returns c = λ facts same bytes.
-    let lent : map facts_of c.deref.result.now ≡ map facts_of facts = ap (λ (l : List ColumnFacts). map facts_of l) c.deref.ensures.value ∙ c.in_ok-facts.ensures ∙ same in
-    shown_by_facts c.write_named_rows.result c.deref.result.now facts c.args.rows c.args.line.now c.write_named_rows.new.line lent (c.write_named_rows.ensures bytes)
+    let borrowed : map facts_of c.deref.result.now ≡ map facts_of facts = ap (λ (l : List ColumnFacts). map facts_of l) c.deref.ensures.value ∙ c.in_ok-facts.ensures ∙ same in
+    shown_by_facts c.write_named_rows.result c.deref.result.now facts c.args.rows c.args.line.now c.write_named_rows.new.line borrowed (c.write_named_rows.ensures bytes)

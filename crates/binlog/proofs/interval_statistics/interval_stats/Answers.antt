@@ -1,0 +1,21 @@
+use Rattle.std.proofs.Common.{ap}
+use Rattle.std.specs.Int.NonZero.{non_zero_u32_get}
+use Rattle.binlog.proofs.interval_statistics.interval_stats.Goals as goal
+
+pub returns-clause-ok : goal.returns-clause-ok
+returns-clause-ok g c = record {
+  filter = c.in_ok-read.ensures.ok.0;
+  states = c.in_ok-read.ensures.ok.1;
+  start = c.new-counter.result;
+  empty = c.new-counter.ensures.none;
+  width = ap non_zero_u32_get c.new-counter.ensures.seconds;
+  read = c.in_ok-read.read;
+  counter = c.in_ok-read.counter;
+  shown = c.in_ok-read.ensures.ok.2;
+  output = c.in_ok-output.output;
+  begins = record { has = c.in_ok-output.ensures.bytes; fine = c.in_ok-output.ensures.fine };
+  outcome = c.write_interval_stats-written.result;
+  behind = c.write_interval_stats-written.new.output;
+  writes = c.write_interval_stats-written.ensures;
+  ends = rw c.worse.ensures at c.finish.ensures;
+}

@@ -1,0 +1,16 @@
+use Rattle.std.proofs.Common.{inl, refl}
+use Rattle.binlog_json_lines.proofs.Answered.{map_ok, map_err, or_none}
+use Rattle.binlog_json_lines.proofs.part_writer.JsonWriterPartVisitor.visit_part.Goals as goal
+
+pub returns-clause-ok : goal.returns-clause-ok
+returns-clause-ok g c =
+    let line = rw c.part_table_map-table_map.ensures at c.in_ok-line.ensures.line in
+    let notes = rw c.part_table_map-table_map.ensures at c.in_ok-note.ensures.noted in
+    map_ok c.write_line.result c.write_line.ensures.ok
+    (λ appended. (c.in_ok-line.line.contradiction, record { text = c.in_ok-line.line.text.now; line = line; written = rw c.new-output.ensures.value at appended }, notes, or_none _, refl))
+
+pub returns-clause-err : goal.returns-clause-err
+returns-clause-err g c =
+    let line = rw c.part_table_map-table_map.ensures at c.in_ok-line.ensures.line in
+    map_err c.write_line.result c.write_line.ensures.front c.write_line.ensures.err
+    (λ e front is. (inl (is, record { text = c.in_ok-line.line.text.now; line = (c.in_ok-line.line.contradiction, line); written = rw c.new-output.ensures.value at front }), refl, refl))

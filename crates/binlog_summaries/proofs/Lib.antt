@@ -1,0 +1,7 @@
+pub mod ShownRows
+mod TableLines
+mod GroupingNames
+mod UnitCounts
+mod IntervalLines
+mod TransactionLines
+mod Powers

@@ -1,0 +1,82 @@
+-- Lines of tables that are written one behind the other.
+use Rattle.std.proofs.Common.{◌≡◌, inl, inr, ℕ, ◌+◌, ◌<◌, List, [], ◌∷◌, ◌++◌, codes, length, take, Option, Some, None, Result, OnOk, refl, sym, ap, subst, ◌∙◌, append_assoc, append-nil, arith}
+use Rattle.std.proofs.lemmas.Option.{slice_get_cases}
+use Rattle.std.specs.Prelude.{IfSome, slice_get, flat_map}
+use Rattle.std.specs.Io.KnownBytes.{Appends}
+use Rattle.binlog_cli.proofs.WrittenTexts.{on_ok, appends_both}
+use Rattle.binlog_cli.specs.StatsText.{Writes}
+use Rattle.change_statistics.specs.declared.table_counts.TableCounts.{TableCounts}
+use Rattle.change_statistics.specs.declared.table_name.TableName.{TableName}
+use Rattle.binlog_summaries.specs.TableText.{IsTableLine, AreTableLines, IsTimeOf, names_text, counts_text}
+use Rattle.binlog_summaries.proofs.ShownRows.{taken_more}
+
+abbrev Entry : Type 0
+Entry = TableName × TableCounts
+
+-- ---- one line
+
+-- The parts of the line of a table.
+pub whole_line : {T E : Type 0} (result : Result T E) (entry : Entry) (first last : List ℕ) (old names_end counts_end first_end last_end new : Option (List ℕ))
+    → IsTimeOf (codes " first ") entry.1.first_time first → IsTimeOf (codes " last ") entry.1.last_time last
+    → Appends old names_end (names_text entry.0) → Appends names_end counts_end (counts_text entry.1) → Appends counts_end first_end first → Appends first_end last_end last
+    → OnOk result (Appends last_end new (codes "\n")) → OnOk result (Writes (IsTableLine entry) old new)
+whole_line result entry first last old names_end counts_end first_end last_end new is_first is_last a b c d end =
+    let before : Appends old last_end (names_text entry.0 ++ counts_text entry.1 ++ first ++ last) =
+    appends_both old first_end last_end (names_text entry.0 ++ counts_text entry.1 ++ first) last
+    (appends_both old counts_end first_end (names_text entry.0 ++ counts_text entry.1) first (appends_both old names_end counts_end (names_text entry.0) (counts_text entry.1) a b) c) d in
+    on_ok result
+    (λ (line_end : Appends last_end new (codes "\n")). record {
+      text = names_text entry.0 ++ counts_text entry.1 ++ first ++ last ++ codes "\n";
+      is = record { first = first; is_first = is_first; last = last; is_last = is_last; is = refl };
+      appended = appends_both old last_end new (names_text entry.0 ++ counts_text entry.1 ++ first ++ last) (codes "\n") before line_end;
+    })
+    end
+
+-- ---- one line more
+
+pub nothing_appended : (old : Option (List ℕ)) → Appends old old []
+nothing_appended None = tt
+nothing_appended (Some bytes) = sym (append-nil bytes)
+
+lines_more : (entries : List Entry) (entry : Entry) (text line : List ℕ) → AreTableLines entries text → IsTableLine entry line → AreTableLines (entries ++ entry ∷ []) (text ++ line)
+lines_more [] entry text line none is = (line, [], is, refl, ap (λ (t : List ℕ). t ++ line) none ∙ sym (append-nil line))
+lines_more (first ∷ entries) entry text line (one, rest, is_one, are, whole) is =
+    (one, rest ++ line, is_one, lines_more entries entry rest line are is, ap (λ (t : List ℕ). t ++ line) whole ∙ append_assoc one rest line)
+
+one_line_more : (entries : List Entry) (i : ℕ) (entry : Entry) (old mid new : Option (List ℕ)) → slice_get entries i ≡ Some entry → Writes (AreTableLines (take i entries)) old mid → Writes (IsTableLine entry) mid new
+    → Writes (AreTableLines (take (i + 1) entries)) old new
+one_line_more entries i entry old mid new at so_far one = record {
+  text = so_far.text ++ one.text;
+  is = subst (λ (l : List Entry). AreTableLines l (so_far.text ++ one.text)) (sym (taken_more entries i entry at)) (lines_more (take i entries) entry so_far.text one.text so_far.is one.is);
+  appended = appends_both old mid new so_far.text one.text so_far.appended one.appended;
+}
+
+-- What is known of the entry at an index within the list.
+at_entry : (entries : List Entry) (i : ℕ) (P : Entry → Type 0) → i < length entries → IfSome (slice_get entries i) P → (entry : Entry) × (slice_get entries i ≡ Some entry) × P entry
+at_entry entries i P within holds =
+    elim (slice_get_cases entries i).1 [
+      | inl (entry, _, at, _) ↦ (entry, at, subst (λ (o : Option Entry). IfSome o P) at holds)
+      | inr (past, _) ↦ absurd (omega arith)
+    ]
+
+pub line_written : (entries : List Entry) (i : ℕ) (old mid new : Option (List ℕ)) → i < length entries → Writes (AreTableLines (take i entries)) old mid → IfSome (slice_get entries i) (λ entry. Writes (IsTableLine entry) mid new)
+    → Writes (AreTableLines (take (i + 1) entries)) old new
+line_written entries i old mid new within so_far one =
+    let found = at_entry entries i (λ (entry : Entry). Writes (IsTableLine entry) mid new) within one in
+    one_line_more entries i found.0 old mid new found.1 so_far found.2
+
+pub no_line_written : (entries : List Entry) (old : Option (List ℕ)) → Writes (AreTableLines (take 0 entries)) old old
+no_line_written entries old = record { text = []; is = refl; appended = nothing_appended old }
+
+-- ---- one row more, of any text
+
+pub flat_more : {X : Type 0} (f : X → List ℕ) (xs : List X) (x : X) → flat_map f (xs ++ x ∷ []) ≡ flat_map f xs ++ f x
+flat_more f [] x = append-nil (f x)
+flat_more f (first ∷ xs) x = ap (λ (t : List ℕ). f first ++ t) (flat_more f xs x) ∙ sym (append_assoc (f first) (flat_map f xs) (f x))
+
+pub row_written : (f : Entry → List ℕ) (entries : List Entry) (i : ℕ) (old mid new : Option (List ℕ)) → i < length entries → Appends old mid (flat_map f (take i entries)) → IfSome (slice_get entries i) (λ entry. Appends mid new (f entry))
+    → Appends old new (flat_map f (take (i + 1) entries))
+row_written f entries i old mid new within so_far one =
+    let found = at_entry entries i (λ (entry : Entry). Appends mid new (f entry)) within one in
+    subst (Appends old new) (sym (ap (flat_map f) (taken_more entries i found.0 found.1) ∙ flat_more f (take i entries) found.0))
+    (appends_both old mid new (flat_map f (take i entries)) (f found.0) so_far found.2)

@@ -1,0 +1,97 @@
+-- Lines of transactions that are written one behind the other.
+use Rattle.std.proofs.Common.{◌≡◌, ℕ, suc, ◌+◌, ◌<◌, List, [], ◌∷◌, ◌++◌, codes, length, take, get_or, Option, Some, Result, OnOk, refl, sym, ap, subst, ◌∙◌, append_assoc, append-nil, arith}
+use Rattle.std.specs.Prelude.{flat_map}
+use Rattle.std.specs.Io.KnownBytes.{Appends}
+use Rattle.std.proofs.Math.Seq.{take-suc}
+use Rattle.std.proofs.lemmas.List.{length-take-le}
+use Rattle.binlog_cli.proofs.WrittenTexts.{on_ok, appends_both}
+use Rattle.binlog_cli.specs.StatsText.{Writes, number_line}
+use Rattle.change_statistics.specs.Transactions.{Seen}
+use Rattle.change_statistics.specs.declared.transaction.Transaction.{Transaction}
+use Rattle.binlog_summaries.specs.TransactionText.{IsTransactionLine, AreTransactionLines, IsTransactionsText, size_line, size_lines, places_text, counts_text}
+use Rattle.binlog_summaries.specs.TableText.{IsTimeOf}
+use Rattle.binlog_summaries.proofs.TableLines.{nothing_appended, flat_more}
+
+lines_more : (transactions : List Transaction) (one : Transaction) (text line : List ℕ) → AreTransactionLines transactions text → IsTransactionLine one line
+    → AreTransactionLines (transactions ++ one ∷ []) (text ++ line)
+lines_more [] one text line none is = (line, [], is, refl, ap (λ (t : List ℕ). t ++ line) none ∙ sym (append-nil line))
+lines_more (first ∷ transactions) one text line (begun, rest, is_first, are, whole) is =
+    (begun, rest ++ line, is_first, lines_more transactions one rest line are is, ap (λ (t : List ℕ). t ++ line) whole ∙ append_assoc begun rest line)
+
+-- The one at an index is the next of the list.
+next_taken : {X : Type 0} (xs : List X) (i : ℕ) (x : X) → i < length xs → x ≡ get_or xs i x → take (i + 1) xs ≡ take i xs ++ x ∷ []
+next_taken {X} xs i x within is =
+    let next : i + 1 ≡ suc i = omega arith in
+    ap (λ (n : ℕ). take n xs) next ∙ take-suc xs i x within ∙ ap (λ (y : X). take i xs ++ y ∷ []) (sym is)
+
+pub transaction_appended : (f : Transaction → List ℕ) (transactions : List Transaction) (i : ℕ) (one : Transaction) (old mid new : Option (List ℕ)) → i < length transactions → one ≡ get_or transactions i one
+    → Appends old mid (flat_map f (take i transactions)) → Appends mid new (f one) → Appends old new (flat_map f (take (i + 1) transactions))
+transaction_appended f transactions i one old mid new within is so_far line =
+    subst (Appends old new) (sym (ap (flat_map f) (next_taken transactions i one within is) ∙ flat_more f (take i transactions) one))
+    (appends_both old mid new (flat_map f (take i transactions)) (f one) so_far line)
+
+pub no_transaction_written : (transactions : List Transaction) (old : Option (List ℕ)) → Writes (AreTransactionLines (take 0 transactions)) old old
+no_transaction_written transactions old = record { text = []; is = refl; appended = nothing_appended old }
+
+pub transaction_written : (transactions : List Transaction) (i : ℕ) (d : Transaction) (old mid new : Option (List ℕ)) → i < length transactions
+    → Writes (AreTransactionLines (take i transactions)) old mid → Writes (IsTransactionLine (get_or transactions i d)) mid new → Writes (AreTransactionLines (take (i + 1) transactions)) old new
+transaction_written transactions i d old mid new within so_far line =
+    let next : i + 1 ≡ suc i = omega arith in
+    let more : take (i + 1) transactions ≡ take i transactions ++ get_or transactions i d ∷ [] = ap (λ (n : ℕ). take n transactions) next ∙ take-suc transactions i d within in
+    record {
+      text = so_far.text ++ line.text;
+      is = subst (λ (l : List Transaction). AreTransactionLines l (so_far.text ++ line.text)) (sym more) (lines_more (take i transactions) (get_or transactions i d) so_far.text line.text so_far.is line.is);
+      appended = appends_both old mid new so_far.text line.text so_far.appended line.appended;
+    }
+
+sizes_more : (class : ℕ) (counts : List ℕ) (count : ℕ) → size_lines class (counts ++ count ∷ []) ≡ size_lines class counts ++ size_line (class + length counts) count
+sizes_more class [] count =
+    let same : class + 0 ≡ class = omega arith in
+    append-nil (size_line class count) ∙ ap (λ (n : ℕ). size_line n count) (sym same)
+sizes_more class (first ∷ counts) count =
+    let same : (class + 1) + length counts ≡ class + length (first ∷ counts) = omega arith in
+    ap (λ (t : List ℕ). size_line class first ++ t) (sizes_more (class + 1) counts count ∙ ap (λ (n : ℕ). size_lines (class + 1) counts ++ size_line n count) same)
+    ∙ sym (append_assoc (size_line class first) (size_lines (class + 1) counts) (size_line (class + length (first ∷ counts)) count))
+
+-- The line of one class of sizes more.
+pub size_written : (counts : List ℕ) (i : ℕ) (old mid new : Option (List ℕ)) → i < length counts → Appends old mid (size_lines 0 (take i counts)) → Appends mid new (size_line i (get_or counts i 0))
+    → Appends old new (size_lines 0 (take (i + 1) counts))
+size_written counts i old mid new within so_far one =
+    let next : i + 1 ≡ suc i = omega arith in
+    let long : 0 + length (take i counts) ≡ i = omega (arith, length-take-le i counts (omega arith)) in
+    let more : size_lines 0 (take (i + 1) counts) ≡ size_lines 0 (take i counts) ++ size_line i (get_or counts i 0) =
+    ap (size_lines 0) (ap (λ (n : ℕ). take n counts) next ∙ take-suc counts i 0 within) ∙ sizes_more 0 (take i counts) (get_or counts i 0)
+    ∙ ap (λ (n : ℕ). size_lines 0 (take i counts) ++ size_line n (get_or counts i 0)) long in
+    subst (Appends old new) (sym more) (appends_both old mid new (size_lines 0 (take i counts)) (size_line i (get_or counts i 0)) so_far one)
+
+-- The parts of the line of a transaction.
+pub whole_transaction : {T E : Type 0} (result : Result T E) (one : Transaction) (first last : List ℕ) (old places_end counts_end first_end last_end new : Option (List ℕ))
+    → IsTimeOf (codes " first ") (Some one.first_time) first → IsTimeOf (codes " last ") (Some one.last_time) last
+    → Appends old places_end (places_text one) → Appends places_end counts_end (counts_text one.counts) → Appends counts_end first_end first → Appends first_end last_end last
+    → OnOk result (Appends last_end new (codes "\n")) → OnOk result (Writes (IsTransactionLine one) old new)
+whole_transaction result one first last old places_end counts_end first_end last_end new is_first is_last a b c d end =
+    let before : Appends old last_end (places_text one ++ counts_text one.counts ++ first ++ last) =
+    appends_both old first_end last_end (places_text one ++ counts_text one.counts ++ first) last
+    (appends_both old counts_end first_end (places_text one ++ counts_text one.counts) first (appends_both old places_end counts_end (places_text one) (counts_text one.counts) a b) c) d in
+    on_ok result
+    (λ (line_end : Appends last_end new (codes "\n")). record {
+      text = places_text one ++ counts_text one.counts ++ first ++ last ++ codes "\n";
+      is = record { first = first; is_first = is_first; last = last; is_last = is_last; is = refl };
+      appended = appends_both old last_end new (places_text one ++ counts_text one.counts ++ first ++ last) (codes "\n") before line_end;
+    })
+    end
+
+-- The parts of the whole text.
+pub whole_text : {T E : Type 0} (result : Result T E) (seen : Seen) (old head_end sizes_end new : Option (List ℕ))
+    → Appends old head_end (number_line (codes "transactions") seen.transactions) → Appends head_end sizes_end (size_lines 0 seen.sizes)
+    → OnOk result (Writes (AreTransactionLines seen.kept) sizes_end new) → OnOk result (Writes (IsTransactionsText seen) old new)
+whole_text result seen old head_end sizes_end new head sizes lines =
+    let above : Appends old sizes_end (number_line (codes "transactions") seen.transactions ++ size_lines 0 seen.sizes) =
+    appends_both old head_end sizes_end (number_line (codes "transactions") seen.transactions) (size_lines 0 seen.sizes) head sizes in
+    on_ok result
+    (λ (written : Writes (AreTransactionLines seen.kept) sizes_end new). record {
+      text = number_line (codes "transactions") seen.transactions ++ size_lines 0 seen.sizes ++ written.text;
+      is = (written.text, written.is, refl);
+      appended = appends_both old sizes_end new (number_line (codes "transactions") seen.transactions ++ size_lines 0 seen.sizes) written.text above written.appended;
+    })
+    lines

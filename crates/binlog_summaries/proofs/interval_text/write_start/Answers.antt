@@ -1,0 +1,6 @@
+use Rattle.std.proofs.Common.{append_assoc}
+use Rattle.binlog_cli.proofs.WrittenTexts.{on_ok}
+use Rattle.binlog_summaries.proofs.interval_text.write_start.Goals as goal
+
+pub returns : goal.returns
+returns g c = on_ok c.write.result (λ appended. record { text = _; is = (_, c.datetime_of-time.ensures, simp append_assoc); appended = appended }) c.write.ensures.bytes

@@ -1,0 +1,8 @@
+use Rattle.binlog_summaries.proofs.TransactionLines.{whole_transaction}
+use Rattle.binlog_summaries.proofs.transaction_text.write_line.Goals as goal
+
+pub returns : goal.returns
+returns g c =
+    let first = c.in_ok-write_time.ensures in
+    let last = c.in_ok-write_time-2.ensures in
+    whole_transaction c.writeln.result c.args.transaction.now first.text last.text _ _ _ _ _ _ first.is last.is c.in_ok-write_places.ensures c.in_ok-write_counts.ensures first.appended last.appended c.writeln.ensures.bytes

@@ -1,0 +1,10 @@
+pub mod Intervals
+pub mod Options
+pub mod Shown
+pub mod JsonLines
+pub mod TableText
+pub mod TableJson
+pub mod IntervalJson
+pub mod IntervalText
+pub mod TransactionJson
+pub mod TransactionText

@@ -1,0 +1,20 @@
+//! What `binlog stats` is asked for, and the texts and the lines of JSON of statistics.
+#![tactic(auto)]
+
+mod interval_json;
+mod interval_text;
+mod intervals;
+mod json_lines;
+mod options;
+mod table_json;
+mod table_text;
+mod transaction_json;
+mod transaction_text;
+
+pub use interval_json::write_intervals_json;
+pub use interval_text::write_intervals;
+pub use options::{Grouping, StatsOptions, stats_options};
+pub use table_json::write_tables_json;
+pub use table_text::write_tables;
+pub use transaction_json::write_transactions_json;
+pub use transaction_text::write_transactions;

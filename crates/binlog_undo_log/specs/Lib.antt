@@ -1,0 +1,10 @@
+pub mod Choices
+pub mod Descriptions
+pub mod Heads
+pub mod Marks
+pub mod Undoing
+pub mod Output
+pub mod Looking
+pub mod Scanning
+pub mod Files
+pub mod LogChanges

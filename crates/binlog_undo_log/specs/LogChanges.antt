@@ -1,0 +1,105 @@
+-- Which changes of tables the events of a log are: of the log that is undone at its places, and of the log that is written.
+use Rattle.std.specs.Prelude.{◌≡◌, ◌⊎◌, ℕ, List, [], ◌∷◌, ◌++◌, Some, Ok}
+use Rattle.std.specs.List.{AllByRecursion, flat_map}
+use Rattle.binlog_columns.specs.Refusals.{columns_in}
+use Rattle.binlog_consts.specs.declared.event_type.EventType.TheVariants.{QUERY_EVENT, XID_EVENT, TABLE_MAP_EVENT}
+use Rattle.binlog_event_data.specs.declared.event_data.EventData.TheVariants as mysql
+use Rattle.binlog_event_format.specs.declared.format_description.FormatDescriptionEvent.{FormatDescriptionEvent}
+use Rattle.binlog_events.specs.Events.{EventView, ReadsEventData}
+use Rattle.binlog_events.specs.Parts.{data_of}
+use Rattle.binlog_rows.specs.Forms.{default_length}
+use Rattle.binlog_rows.specs.Rows.{rows}
+use Rattle.binlog_rows.specs.RowsData.{event_in, form_in}
+use Rattle.binlog_rows.specs.declared.rows_event_data.RowsEventData.{RowsEventData}
+use Rattle.binlog_rows.specs.declared.table_map_event.TableMapEvent.{TableMapEvent}
+use Rattle.binlog_undo.specs.EventChanges.{HasChanges}
+use Rattle.binlog_undo.specs.InverseEvents.{type_of}
+use Rattle.binlog_undo.specs.RowChanges.{TableRow}
+use Rattle.binlog_undo_index.specs.Groups.{Kept}
+use Rattle.binlog_undo_index.specs.declared.places.ChangePlace.{ChangePlace}
+use Rattle.binlog_undo_log.specs.Undoing.{FramesOf, IsEventAt}
+use Rattle.binlog_undo_writing.specs.Transactions.{Event}
+use Rattle.table_changes.specs.Changes.{Change}
+
+-- A table, by its names.
+pub record TableName : Type 0 where
+  pub database : List ℕ
+  pub table : List ℕ
+
+abbrev pub name_of : TableMapEvent → TableName
+name_of map = record { database = map.table.database_name; table = map.table.table_name }
+
+abbrev pub LogChange : Type 0
+LogChange = Change TableName TableRow
+
+-- The rows are these changes of the table with this table map.
+abbrev pub HasTableChanges : TableMapEvent → RowsEventData → List LogChange → Type 0
+HasTableChanges map event changes = HasChanges (name_of map) (columns_in map.columns.types map.columns.metadata) event changes
+
+-- ---- at the places of a log
+
+-- The row event at a place is these changes of the table whose table map is at its place.
+pub record IsChanged (is_at : FramesOf) (fde : FormatDescriptionEvent) (change : ChangePlace) (changes : List LogChange) : Type 0 where
+  pub map_event : EventView
+  pub map_at : IsEventAt is_at fde change.table_map map_event
+  pub map : TableMapEvent
+  pub map_read : ReadsEventData map_event (Ok (Some (mysql.TableMapEvent map)))
+  pub event : EventView
+  pub event_at : IsEventAt is_at fde change.rows event
+  pub read : RowsEventData
+  pub event_read : ReadsEventData event (Ok (Some (mysql.RowsEvent read)))
+  pub are : HasTableChanges map read changes
+
+abbrev pub AreChanged : FramesOf → FormatDescriptionEvent → List ChangePlace → List LogChange → Type 0
+AreChanged is_at fde [] changes = changes ≡ []
+AreChanged is_at fde (change ∷ others) changes =
+    (own : List LogChange) × (more : List LogChange) × IsChanged is_at fde change own × AreChanged is_at fde others more × (changes ≡ own ++ more)
+
+-- The transactions are these changes, one transaction after the other.
+abbrev pub AreKeptChanges : FramesOf → FormatDescriptionEvent → List Kept → List LogChange → Type 0
+AreKeptChanges is_at fde [] changes = changes ≡ []
+AreKeptChanges is_at fde (kept ∷ others) changes =
+    (own : List LogChange) × (more : List LogChange) × AreChanged is_at fde kept.changes own × AreKeptChanges is_at fde others more × (changes ≡ own ++ more)
+
+-- ---- in a log that is written
+
+-- A table map and rows behind it are these changes. The body of the table map is that of an event of the log that is undone, which is
+-- read as a table map; that of the rows is read under the post-header lengths of binlog version 4.
+pub record ArePairChanges (map_event rows_event : Event) (changes : List LogChange) : Type 0 where
+  pub source : EventView
+  pub map : TableMapEvent
+  pub map_read : ReadsEventData source (Ok (Some (mysql.TableMapEvent map)))
+  pub map_type : map_event.event_type ≡ TABLE_MAP_EVENT
+  pub map_body : map_event.body ≡ data_of source.fde.footer source.frame
+  pub event : RowsEventData
+  pub event_type : rows_event.event_type ≡ type_of event
+  pub event_read : (rows (form_in event) (default_length (form_in event))).spells rows_event.body (event_in event) []
+  pub are : HasTableChanges map event changes
+
+-- The event is a statement, or the end of a transaction.
+abbrev pub IsBesideRows : Event → Type 0
+IsBesideRows event = (event.event_type ≡ QUERY_EVENT) ⊎ (event.event_type ≡ XID_EVENT)
+
+-- A piece of a log: an event beside rows, or a table map and rows, with their changes.
+pub data LogPiece : Type 0 where
+  beside : Event → LogPiece
+  pair : (map_event rows_event : Event) → List LogChange → LogPiece
+
+abbrev pub IsLogPiece : LogPiece → Type 0
+IsLogPiece (beside event) = IsBesideRows event
+IsLogPiece (pair map_event rows_event changes) = ArePairChanges map_event rows_event changes
+
+abbrev pub piece_events : LogPiece → List Event
+piece_events (beside event) = event ∷ []
+piece_events (pair map_event rows_event changes) = map_event ∷ rows_event ∷ []
+
+abbrev pub piece_changes : LogPiece → List LogChange
+piece_changes (beside event) = []
+piece_changes (pair map_event rows_event changes) = changes
+
+-- The events are pieces, one after the other, and these are the changes of all pieces, in order.
+pub record AreLogChanges (events : List Event) (changes : List LogChange) : Type 0 where
+  pub pieces : List LogPiece
+  pub each : AllByRecursion IsLogPiece pieces
+  pub events_are : events ≡ flat_map piece_events pieces
+  pub changes_are : changes ≡ flat_map piece_changes pieces

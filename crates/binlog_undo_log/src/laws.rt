@@ -1,0 +1,41 @@
+//! Laws of the definitions. Each is a function that does nothing and whose contract states the law.
+ghost use Rattle.std.specs.Prelude.{List, ℕ};
+ghost use Rattle.binlog_event_format.specs.declared.format_description.FormatDescriptionEvent.{FormatDescriptionEvent};
+ghost use Rattle.binlog_undo.specs.RowChanges.{TableRow};
+ghost use Rattle.binlog_undo.specs.declared.inverse_event.ForeignKeyChecks.{ForeignKeyChecks};
+ghost use Rattle.binlog_undo_index.specs.Groups.{Kept};
+ghost use Rattle.binlog_undo_index.specs.Index.{Keeps};
+ghost use Rattle.binlog_undo_index.specs.Parts.{parts_of};
+ghost use Rattle.binlog_undo_index.specs.declared.places.ChangePlace.{ChangePlace};
+ghost use Rattle.binlog_undo_index.specs.declared.places.TransactionPlace.{TransactionPlace};
+ghost use Rattle.binlog_undo_index.specs.declared.skips.Skips.{Skips};
+ghost use Rattle.binlog_undo_log.specs.Files.{IsFresh, ScansWhole, AreSkipped, IsScanned};
+ghost use Rattle.binlog_undo_log.specs.LogChanges.{TableName, LogChange, AreKeptChanges, AreLogChanges};
+ghost use Rattle.binlog_undo_log.specs.Undoing.{UndoesAll, UndoesKept};
+ghost use Rattle.binlog_undo_log.specs.declared.choice.Choice.{Choice};
+ghost use Rattle.binlog_undo_log.specs.declared.scan.UndoScan.{UndoScan};
+ghost use Rattle.binlog_undo_writing.specs.Transactions.{Event};
+ghost use Rattle.table_changes.specs.Changes.{State, AppliesAll, inverse};
+
+use crate::frames::Frames;
+
+/// If the first pass over a file refused nothing, unless it is skipped, then all items of the file are events, with nothing behind them,
+/// and the places that are kept are those of the transactions of the log that are undone.
+pub fn files_are_scanned()
+    ensures { (choice : Choice) (checks : ForeignKeyChecks) (skips : Skips) (bytes : List ℕ) (start scan : UndoScan) → IsFresh choice checks skips start
+        → ScansWhole bytes start scan → AreSkipped (parts_of scan.index).refusals → IsScanned skips bytes start scan }
+{}
+
+/// The events that undo the places that were kept of some transactions undo these transactions, the last one first.
+pub fn kept_transactions_are_undone<F: Frames>()
+    ensures { (frames : F) (fde : FormatDescriptionEvent) (checks : ForeignKeyChecks) (kept : List Kept) (transactions : List TransactionPlace) (changes : List ChangePlace) (events : List Event)
+        → Keeps kept transactions changes → UndoesAll (F.is_at frames) fde checks transactions changes events → UndoesKept (F.is_at frames) fde checks kept events }
+{}
+
+/// The transactions that are undone are changes of tables, and the events that undo them are exactly the inverse of these changes. So
+/// they lead from the state behind the transactions, if no other change came in between, back to the state that was there before them.
+pub fn logs_are_undone<F: Frames>()
+    ensures changes { (frames : F) (fde : FormatDescriptionEvent) (checks : ForeignKeyChecks) (kept : List Kept) (events : List Event) → UndoesKept (F.is_at frames) fde checks kept events
+        → (changes : List LogChange) × AreKeptChanges (F.is_at frames) fde kept changes × AreLogChanges events (inverse changes) }
+    ensures back { (changes : List LogChange) (old new : State TableName TableRow) → AppliesAll changes old new → AppliesAll (inverse changes) new old }
+{}

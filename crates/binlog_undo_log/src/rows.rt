@@ -1,0 +1,155 @@
+//! Row events that are undone.
+ghost use Rattle.std.specs.Prelude.{◌≡◌, ℕ, List, IfOk, OnOk};
+ghost use Rattle.binlog_event_format.specs.DescriptionRefs.{description_of};
+ghost use Rattle.binlog_events.specs.EventRefs.{view_of};
+ghost use Rattle.binlog_undo_log.specs.Undoing.{Writes, UndoesTable, UndoesRows, UndoesReadRows, UndoesMapped, UndoesReadMap, UndoesEvents, UndoesChange};
+
+use crate::events::event_of;
+use crate::frames::Frames;
+use crate::undo_error::UndoLogError;
+use binlog_columns::TableColumns;
+use binlog_event_format::DescriptionRef;
+use binlog_file::{Error, EventData, EventRef, RowsEventData, TableMapEvent};
+use binlog_undo::{ForeignKeyChecks, InverseEvent, UndoError, undo_event};
+use binlog_undo_index::ChangePlace;
+use binlog_undo_writing::{EventsWriter, UndoneChange};
+use std::alloc::Global;
+
+// The event that undoes rows of a table.
+fn inverse_of(
+    alloc: Global,
+    map: &TableMapEvent<'_>,
+    rows: &RowsEventData<'_>,
+    checks: ForeignKeyChecks,
+) -> Result<InverseEvent, UndoLogError>
+    ensures { IfOk result (λ inverse. UndoesTable checks map.now rows.now inverse) }
+{
+    if map.table_id() != rows.table_id() {
+        return Err(UndoLogError::Changed);
+    }
+    let types = map.columns_type_raw();
+    let Ok(columns) = TableColumns::new(types, map.columns_metadata_raw()) else {
+        return Err(UndoLogError::Changed);
+    };
+    match undo_event(alloc, rows, columns, &[], checks) {
+        Ok(inverse) => Ok(inverse),
+        Err(UndoError::Memory) => Err(UndoLogError::Memory),
+        Err(_) => Err(UndoLogError::Changed),
+    }
+}
+
+// Writes what undoes rows of a table.
+fn push_rows(
+    alloc: Global,
+    map_event: &EventRef<'_>,
+    map: &TableMapEvent<'_>,
+    event: &EventRef<'_>,
+    rows: &RowsEventData<'_>,
+    checks: ForeignKeyChecks,
+    writer: &mut EventsWriter,
+) -> Result<(), UndoLogError>
+    ensures { OnOk result (Writes (UndoesRows checks (view_of map_event.now) map.now (view_of event.now) rows.now) writer.old writer.new) }
+{
+    let inverse = inverse_of(alloc, map, rows, checks)?;
+    let change = UndoneChange {
+        map_header: map_event.header(),
+        map_body: map_event.data(),
+        header: event.header(),
+        inverse: &inverse,
+    };
+    writer.push_change(alloc, &change)?;
+    Ok(())
+}
+
+// Writes what undoes a row event of which this was read.
+fn push_read_rows(
+    alloc: Global,
+    map_event: &EventRef<'_>,
+    map: &TableMapEvent<'_>,
+    event: &EventRef<'_>,
+    read: &Result<Option<EventData<'_>>, Error>,
+    checks: ForeignKeyChecks,
+    writer: &mut EventsWriter,
+) -> Result<(), UndoLogError>
+    ensures { OnOk result (Writes (UndoesReadRows checks (view_of map_event.now) map.now (view_of event.now) read.now) writer.old writer.new) }
+{
+    match read {
+        Ok(Some(EventData::RowsEvent(rows))) => {
+            push_rows(alloc, map_event, map, event, rows, checks, writer)
+        }
+        Err(Error::Memory) => Err(UndoLogError::Memory),
+        _ => Err(UndoLogError::Changed),
+    }
+}
+
+// Writes what undoes the rows of this event, of the table of this table map.
+fn push_of_table(
+    alloc: Global,
+    map_event: &EventRef<'_>,
+    map: &TableMapEvent<'_>,
+    event: &EventRef<'_>,
+    checks: ForeignKeyChecks,
+    writer: &mut EventsWriter,
+) -> Result<(), UndoLogError>
+    ensures { OnOk result (Writes (UndoesMapped checks (view_of map_event.now) map.now (view_of event.now)) writer.old writer.new) }
+{
+    let read = event.read_data(alloc);
+    let answer = push_read_rows(alloc, map_event, map, event, &read, checks, writer);
+    drop(read);
+    answer
+}
+
+// Writes what undoes a row event, of the table of a table map of which this was read.
+fn push_read_map(
+    alloc: Global,
+    map_event: &EventRef<'_>,
+    read: &Result<Option<EventData<'_>>, Error>,
+    event: &EventRef<'_>,
+    checks: ForeignKeyChecks,
+    writer: &mut EventsWriter,
+) -> Result<(), UndoLogError>
+    ensures { OnOk result (Writes (UndoesReadMap checks (view_of map_event.now) read.now (view_of event.now)) writer.old writer.new) }
+{
+    match read {
+        Ok(Some(EventData::TableMapEvent(map))) => {
+            push_of_table(alloc, map_event, map, event, checks, writer)
+        }
+        Err(Error::Memory) => Err(UndoLogError::Memory),
+        _ => Err(UndoLogError::Changed),
+    }
+}
+
+// Writes what undoes a row event, of the table of this table map.
+fn push_events(
+    alloc: Global,
+    map_event: &EventRef<'_>,
+    event: &EventRef<'_>,
+    checks: ForeignKeyChecks,
+    writer: &mut EventsWriter,
+) -> Result<(), UndoLogError>
+    ensures { OnOk result (Writes (UndoesEvents checks (view_of map_event.now) (view_of event.now)) writer.old writer.new) }
+{
+    let read = map_event.read_data(alloc);
+    let answer = push_read_map(alloc, map_event, &read, event, checks, writer);
+    drop(read);
+    answer
+}
+
+/// Writes what undoes the row event at a place.
+pub(crate) fn push_change<F: Frames>(
+    alloc: Global,
+    frames: &mut F,
+    fde: DescriptionRef<'_>,
+    change: ChangePlace,
+    checks: ForeignKeyChecks,
+    writer: &mut EventsWriter,
+) -> Result<(), UndoLogError>
+    ensures written { OnOk result (Writes (UndoesChange (F.is_at frames.old) (description_of fde.entry) checks change) writer.old writer.new) }
+    ensures same { (place : ℕ) (frame : List ℕ) → F.is_at frames.new place frame → F.is_at frames.old place frame }
+{
+    let map_frame = frames.frame_at(alloc, change.table_map)?;
+    let frame = frames.frame_at(alloc, change.rows)?;
+    let map_event = event_of(alloc, fde, &map_frame)?;
+    let event = event_of(alloc, fde, &frame)?;
+    push_events(alloc, &map_event, &event, checks, writer)
+}

@@ -1,0 +1,197 @@
+//! What the first pass sees of rows.
+ghost use Rattle.std.specs.Prelude.{◌≡◌, IfErr, IfOk};
+ghost use Rattle.std.specs.List.{list_any};
+ghost use Rattle.binlog_columns.specs.TableColumns.{columns_of};
+ghost use Rattle.binlog_event_format.specs.DescriptionRefs.{description_of};
+ghost use Rattle.binlog_wire.specs.declared.error.Error.TheVariants.{Memory};
+ghost use Rattle.binlog_events.specs.EventRefs.{view_of};
+ghost use Rattle.binlog_file.specs.State.{state_of};
+ghost use Rattle.binlog_undo_log.specs.Looking.{NamesTable, AsksFor, is_old_temporal, IsOldTemporal, LooksAs, LooksAtColumns, LooksAtTable, LooksAtChosen, LooksAtRows};
+
+use crate::heads::{has_rows_length, is_writable};
+use crate::scan::UndoScan;
+use binlog_columns::TableColumns;
+use binlog_event_format::DescriptionRef;
+use binlog_file::{Error, EventRef, EventStreamReader, RowsEventData, TableMapEvent};
+use binlog_filters::TableFilter;
+use binlog_mariadb::is_maria_log;
+use binlog_undo::{InverseEvent, UndoError, undo_event};
+use binlog_undo_index::{ChangePlace, Reason};
+
+/// What is seen of a row event.
+#[derive(Clone, Copy, Debug, PartialEq, Eq)]
+pub(crate) enum RowsLook {
+    /// It isn't to be undone.
+    Left,
+    /// It is to be undone.
+    Undone(ChangePlace),
+    /// It can't be undone.
+    Refused(Reason),
+}
+
+// Whether one of these types is TIMESTAMP, TIME or DATETIME without a statement of its fractions.
+fn has_old_temporal(types: &[u8]) -> bool
+    ensures { result ≡ list_any is_old_temporal types.now }
+{
+    let mut left = types;
+    'types: while let Some((number, others)) = left.split_first() {
+        if matches!(*number, 7 | 11 | 12) {
+            return true;
+        }
+        left = others;
+    }
+    false
+}
+
+// Whether values of these types have one form or another in the log of an event, which doesn't say which.
+fn is_old_temporal(event: &EventRef<'_>, types: &[u8]) -> bool
+    ensures { IsOldTemporal (view_of event.now) types.now result }
+{
+    is_maria_log(&event.fde()) && has_old_temporal(types)
+}
+
+// What is seen of rows at these places, of which this undoes them.
+fn look_of(
+    fde: DescriptionRef<'_>,
+    undone: &Result<InverseEvent, UndoError>,
+    place: ChangePlace,
+) -> Result<RowsLook, Error>
+    ensures ok { IfOk result (LooksAs (description_of fde.entry) place undone.now) }
+    ensures memory { IfErr result (λ e. e ≡ Memory) }
+{
+    match undone {
+        Ok(inverse) => {
+            if has_rows_length(fde, inverse.event_type()) {
+                Ok(RowsLook::Undone(place))
+            } else {
+                Ok(RowsLook::Refused(Reason::Description))
+            }
+        }
+        Err(UndoError::Memory) => Err(Error::Memory),
+        Err(UndoError::Image) => Ok(RowsLook::Refused(Reason::Image)),
+        Err(UndoError::PartialJson(_)) => Ok(RowsLook::Refused(Reason::PartialJson)),
+        Err(UndoError::Event(_) | UndoError::Rows(_)) => Ok(RowsLook::Refused(Reason::Rows)),
+    }
+}
+
+impl UndoScan {
+    // Whether the table of a row event is one of these; without conditions that is said otherwise.
+    fn names_table(
+        &self,
+        tables: &Option<TableFilter>,
+        otherwise: bool,
+        event: &EventRef<'_>,
+        reader: &EventStreamReader,
+    ) -> Result<bool, Error>
+        ensures ok { IfOk result (NamesTable otherwise tables.now (state_of reader.now).table_maps (view_of event.now)) }
+        ensures memory { IfErr result (λ e. e ≡ Memory) }
+    {
+        match tables {
+            None => Ok(otherwise),
+            Some(filter) => {
+                let concern = filter.concern(self.alloc, false, event, reader)?;
+                Ok(concern.is_taken(false, false))
+            }
+        }
+    }
+
+    // Whether the table of a row event is chosen.
+    fn asks_for(&self, event: &EventRef<'_>, reader: &EventStreamReader) -> Result<bool, Error>
+        ensures ok { IfOk result (AsksFor self.now.choice (state_of reader.now).table_maps (view_of event.now)) }
+        ensures memory { IfErr result (λ e. e ≡ Memory) }
+    {
+        let is_within = self.names_table(&self.choice.tables, true, event, reader)?;
+        let is_without = self.names_table(&self.choice.excluded, false, event, reader)?;
+        Ok(is_within && !is_without)
+    }
+
+    // What is seen of rows of a table with these columns, whose map is at this place.
+    fn look_at_columns(
+        &self,
+        event: &EventRef<'_>,
+        rows: &RowsEventData<'_>,
+        columns: TableColumns<'_>,
+        table_map: u64,
+    ) -> Result<RowsLook, Error>
+        ensures ok { IfOk result (LooksAtColumns self.now (view_of event.now) rows.now (columns_of columns.entry) table_map) }
+        ensures memory { IfErr result (λ e. e ≡ Memory) }
+    {
+        let place = ChangePlace {
+            table_map,
+            rows: self.place,
+        };
+        let undone = undo_event(self.alloc, rows, columns, &[], self.checks);
+        let look = look_of(event.fde(), &undone, place);
+        drop(undone);
+        look
+    }
+
+    // What is seen of rows of a table with this map, which is at this place.
+    fn look_at_table(
+        &self,
+        event: &EventRef<'_>,
+        rows: &RowsEventData<'_>,
+        map: &TableMapEvent<'_>,
+        table_map: u64,
+    ) -> Result<RowsLook, Error>
+        ensures ok { IfOk result (LooksAtTable self.now (view_of event.now) rows.now map.now table_map) }
+        ensures memory { IfErr result (λ e. e ≡ Memory) }
+    {
+        let types = map.columns_type_raw();
+        match TableColumns::new(types, map.columns_metadata_raw()) {
+            Err(_) => Ok(RowsLook::Refused(Reason::Rows)),
+            Ok(columns) => {
+                if is_old_temporal(event, types) {
+                    Ok(RowsLook::Refused(Reason::OldTemporal))
+                } else {
+                    self.look_at_columns(event, rows, columns, table_map)
+                }
+            }
+        }
+    }
+
+    // What is seen of rows of a table that is chosen, whose map is at this place.
+    fn look_at_chosen(
+        &self,
+        event: &EventRef<'_>,
+        rows: &RowsEventData<'_>,
+        table_map: u64,
+        reader: &EventStreamReader,
+    ) -> Result<RowsLook, Error>
+        ensures ok { IfOk result (LooksAtChosen self.now (state_of reader.now).table_maps (view_of event.now) rows.now table_map) }
+        ensures memory { IfErr result (λ e. e ≡ Memory) }
+    {
+        let has_description = self.description.is_some() && is_writable(event.fde());
+        if !has_description {
+            return Ok(RowsLook::Refused(Reason::Description));
+        }
+        match reader.get_tme(rows.table_id()) {
+            Some(map) => self.look_at_table(event, rows, map, table_map),
+            None => Ok(RowsLook::Refused(Reason::NoTableMap)),
+        }
+    }
+
+    /// What is seen of rows.
+    pub(super) fn look_at_rows(
+        &self,
+        event: &EventRef<'_>,
+        rows: &RowsEventData<'_>,
+        reader: &EventStreamReader,
+    ) -> Result<RowsLook, Error>
+        ensures ok { IfOk result (LooksAtRows self.now (state_of reader.now).table_maps (view_of event.now) rows.now) }
+        ensures memory { IfErr result (λ e. e ≡ Memory) }
+    {
+        if rows.rows_data().is_empty() {
+            return Ok(RowsLook::Left);
+        }
+        let Some(table_map) = self.index.table_map(rows.table_id()) else {
+            return Ok(RowsLook::Refused(Reason::NoTableMap));
+        };
+        let is_asked = self.asks_for(event, reader)?;
+        if is_asked {
+            self.look_at_chosen(event, rows, table_map, reader)
+        } else {
+            Ok(RowsLook::Left)
+        }
+    }
+}

@@ -1,0 +1,266 @@
+#!/usr/bin/env python3
+"""Compares `binlog stats --by table`, `--by time` and `--by transaction` with an independent count.
+
+Usage: change_statistics.py [--count N] FLAG
+
+FLAG is one of `programs.py`: it says which `binlog` is run. The text and the lines of JSON are those of the count of
+`statistics_model.py`: over logs of both servers whose table ids are given to one table after another, over N damaged row events of
+every type of column (4,000 if not given), over damaged copies, over several files, with filters, and with `--top`. A log of 65,536
+tables is counted, and one of 65,537 has a message and the status 3. The last line is `N passed, M failed`; the exit status is 1 if
+something failed.
+"""
+
+import argparse
+import random
+import subprocess
+import sys
+import tempfile
+from pathlib import Path
+
+import encoded_events as encode
+import grouped_events
+import maria_events
+import programs
+import results
+import row_events
+import row_values
+import table_filters
+from row_values import framed, start
+from statistics_model import Counts
+
+FINE, DAMAGED, FAILED, USAGE = 0, 2, 3, 64
+MOST_TABLES = 65_536
+MOST_INTERVALS = 1_048_576
+SID = bytes(range(16))
+INT = 3
+DAMAGED_COPIES = 150
+
+
+class Runner:
+    """Runs the program over logs in a folder."""
+
+    def __init__(self, binlog, folder):
+        self.binlog, self.folder = binlog, Path(folder)
+
+    def run(self, logs, words):
+        names = [f"{place}.bin" for place in range(len(logs))]
+        for name, log in zip(names, logs):
+            (self.folder / name).write_bytes(log)
+        return subprocess.run([*self.binlog, "stats", *words, *names], cwd=self.folder, capture_output=True)
+
+    def check(self, name, logs, words=(), top=None, is_taken=lambda kind: True, statuses=(FINE, DAMAGED)):
+        """None where the text and the lines of JSON are those of the count, else what is wrong."""
+        counts = Counts(is_taken)
+        for log in logs:
+            counts.add_log(log)
+        words = [*words, "--by", "table", *(() if top is None else ("--top", str(top)))]
+        yield from self.compare(name, logs, words, counts.text(top), counts.json(top), statuses)
+
+    def check_intervals(self, name, logs, seconds, spelling, words=(), is_taken=lambda kind: True):
+        """The same of the statistics by time."""
+        counts = Counts(is_taken)
+        for log in logs:
+            counts.add_log(log)
+        words = [*words, "--by", f"time={spelling}"]
+        yield from self.compare(name, logs, words, grouped_events.intervals_text(counts.events, seconds), grouped_events.intervals_json(counts.events, seconds))
+
+    def check_transactions(self, name, logs, top=None, words=(), is_taken=lambda kind: True):
+        """The same of the statistics by transaction."""
+        counts = Counts(is_taken)
+        for log in logs:
+            counts.add_log(log)
+        words = [*words, "--by", "transaction", *(() if top is None else ("--top", str(top)))]
+        yield from self.compare(name, logs, words, grouped_events.transactions_text(counts.events, top), grouped_events.transactions_json(counts.events, top))
+
+    def compare(self, name, logs, words, text, lines, statuses=(FINE, DAMAGED)):
+        for more, wanted in (((), text), (("--json",), lines)):
+            finished = self.run(logs, [*words, *more])
+            if finished.returncode not in statuses or finished.stdout != wanted:
+                found = next((pair for pair in zip(finished.stdout.split(b"\n"), wanted.split(b"\n")) if pair[0] != pair[1]), None)
+                yield f"{name} {words}: status {finished.returncode}, {found} {finished.stderr[-200:]}"
+            else:
+                yield None
+
+
+# ---- logs
+
+
+def gtid(number, is_maria):
+    made = maria_events.gtid(1, 0, number) if is_maria else encode.gtid(33, sid=SID, gno=number)
+    return made.type, made.body
+
+
+def log_of(is_maria, events):
+    """A log with these events, each one of its second."""
+    frames = ((place, framed(kind, body)) for place, (kind, body) in enumerate(events))
+    timed = b"".join((1_700_000_000 + 7 * place).to_bytes(4, "little") + frame[4:] for place, frame in frames)
+    return start(table_filters.MARIA if is_maria else table_filters.MYSQL) + timed
+
+
+def transactions(seed, is_maria, count):
+    """Random events with GTIDs among them, and rows of several tables in one transaction."""
+    chance = random.Random(seed)
+    state = table_filters.State(chance, is_maria, False)
+    events = []
+    for number in range(1, count + 1):
+        if chance.random() < 0.2:
+            events.append(gtid(number, is_maria))
+        else:
+            made = state.event()
+            events.append((made.type, made.body))
+    return log_of(is_maria, events)
+
+
+def one_row_map(number, database, table):
+    parts = {"table_id": number, "flags": 1, "types": bytes([INT]), "metadata": b"", "nulls": [True], "optional": row_events.names([b"id"])}
+    return 19, encode.table_map(row_values.SPELLING, database=database, table=table, **parts).body
+
+
+def inserted(number, *values):
+    content = b"".join(b"\0" + value.to_bytes(4, "little") for value in values)
+    return row_values.row_event(row_values.WHOLE[3], number, [True], [True], content)
+
+
+def many_tables(count):
+    """A log with one row of each of so many tables. Each of them has the id 1."""
+    for number in range(count):
+        yield one_row_map(1, b"d", b"t%d" % number)
+        yield inserted(1, number)
+
+
+# ---- cases
+
+
+def random_logs(runner):
+    for seed in range(60):
+        is_maria = seed % 2 == 1
+        yield from runner.check(f"log {seed}", [transactions(seed, is_maria, 120)], statuses=(FINE,))
+
+
+def several_files(runner):
+    logs = [transactions(seed, seed == 2, 80) for seed in range(4)]
+    yield from runner.check("four files", logs)
+    for top in (0, 1, 3, 1000):
+        yield from runner.check("four files", logs, top=top)
+    for name, number in (("WRITE_ROWS", 30), ("UPDATE_ROWS", 31), ("GTID", 33)):
+        kinds = (33, 162) if number == 33 else (number,)
+        yield from runner.check("four files", logs, ["--type", name], is_taken=lambda kind, kinds=kinds: kind in kinds)
+
+
+# Lengths of intervals, and how options spell them. The last one is the longest.
+LENGTHS = ((1, "1s"), (60, "60s"), (60, "1m"), (420, "7m"), (3600, "1h"), (2**32 - 1, f"{2**32 - 1}s"))
+
+
+def by_time(runner):
+    for seed in range(30):
+        seconds, spelling = LENGTHS[seed % len(LENGTHS)]
+        yield from runner.check_intervals(f"log {seed}", [transactions(seed, seed % 2 == 1, 120)], seconds, spelling)
+    logs = [transactions(seed, seed == 2, 80) for seed in range(4)]
+    yield from runner.check_intervals("four files", logs, 60, "1m")
+    yield from runner.check_intervals("four files", logs, 60, "1m", ["--type", "WRITE_ROWS"], lambda kind: kind == 30)
+    chance, log = random.Random(8), logs[0]
+    for _ in range(DAMAGED_COPIES):
+        place = chance.randrange(4, len(log))
+        copy = log[:place] + bytes([log[place] ^ chance.randrange(1, 256)]) + log[place + 1 :]
+        yield from runner.check_intervals(f"byte {place} changed", [copy], 60, "60s")
+
+
+def by_transaction(runner):
+    for seed in range(30):
+        yield from runner.check_transactions(f"log {seed}", [transactions(seed, seed % 2 == 1, 200)], (None, 0, 1, 3, 1000)[seed % 5])
+    logs = [transactions(seed, seed == 2, 80) for seed in range(4)]
+    yield from runner.check_transactions("four files", logs)
+    yield from runner.check_transactions("four files", logs, 7, ["--type", "GTID"], lambda kind: kind in (33, 162))
+    equal = log_of(False, [gtid(number, False) for number in range(1, 51)])
+    for top in (None, 1, 49, 50, 51):
+        yield from runner.check_transactions("50 of one size", [equal], top)
+    chance, log = random.Random(9), logs[0]
+    for _ in range(DAMAGED_COPIES):
+        place = chance.randrange(4, len(log))
+        copy = log[:place] + bytes([log[place] ^ chance.randrange(1, 256)]) + log[place + 1 :]
+        yield from runner.check_transactions(f"byte {place} changed", [copy])
+
+
+def event_at(time):
+    return time.to_bytes(4, "little") + framed(*gtid(1, False))[4:]
+
+
+def interval_caps(runner):
+    """As many intervals as are counted, one of them again, and one more. Earlier times come later."""
+    logs = start(table_filters.MYSQL), b"".join(event_at(2_000_000_000 - number) for number in range(MOST_INTERVALS - 1))
+    for name, more, is_full in (("all intervals", b"", False), ("one of them again", event_at(2_000_000_000), False), ("one more", event_at(7), True)):
+        finished = runner.run([b"".join(logs) + more], ["--by", "time=1s"])
+        if is_full:
+            is_right = (finished.returncode, finished.stdout) == (FAILED, b"") and b"more than 1048576 intervals" in finished.stderr
+        else:
+            is_right = finished.returncode == FINE and finished.stdout.startswith(b"intervals 1048576\nseconds 1\n") and finished.stdout.count(b"\n") == MOST_INTERVALS + 2
+        yield None if is_right else f"{name}: {finished.returncode} {finished.stdout[:200]} {finished.stderr[-200:]}"
+
+
+def damaged_events(runner, count):
+    chance, kinds, seed = random.Random(61), list(row_events.kinds()), 0
+    while count > 0:
+        is_maria = chance.random() < 0.5
+        events, rows = row_values.damaged_log(chance, kinds, min(count, row_values.EVENTS_OF_A_LOG))
+        found = list(runner.check(f"damaged events, {count} left", [log_of(is_maria, events)]))
+        yield from found
+        yield from [None] * (rows - len(found) if not any(found) else 0)
+        count, seed = count - rows, seed + 1
+
+
+def damaged_copies(runner):
+    chance, log = random.Random(7), transactions(3, False, 60)
+    for _ in range(DAMAGED_COPIES):
+        place = chance.randrange(4, len(log))
+        copy = log[:place] + bytes([log[place] ^ chance.randrange(1, 256)]) + log[place + 1 :]
+        yield from runner.check(f"byte {place} changed", [copy])
+    for length in (4, 5, len(log) // 2, len(log) - 1):
+        yield from runner.check(f"the first {length} bytes", [log[:length]])
+
+
+def names(runner):
+    """Names that are no UTF-8, empty, long, or need an escape."""
+    pairs = [(b"\xff", b"t"), (b"", b""), (b"d" * 255, b"t" * 255), (b'a"b', b"c\\\n"), ("sch\u00f6n".encode(), b"t.u"), (b"sch\xc3", b"t")]
+    events = [gtid(1, False)]
+    for number, pair in enumerate(pairs):
+        events += [one_row_map(number + 1, *pair), inserted(number + 1, *range(number))]
+    yield from runner.check("names", [log_of(False, events)], statuses=(FINE,))
+
+
+def caps(runner):
+    """The text above the tables, and the first one, since the count takes long over so many."""
+    again = [one_row_map(1, b"d", b"t7"), inserted(1, 9)]
+    for name, events, first in (("all tables", many_tables(MOST_TABLES), b"d.t0 1"), ("one of them again", [*many_tables(MOST_TABLES), *again], b"d.t7 2")):
+        finished = runner.run([log_of(False, events)], ["--by", "table", "--top", "1"])
+        wanted = b"tables 65536\ntransactions 0\nunknown 0 events 0 bytes\ntable %s events " % first
+        is_right = finished.returncode == FINE and finished.stdout.startswith(wanted)
+        yield None if is_right else f"{name}: {finished.returncode} {finished.stdout[:200]} {finished.stderr[-200:]}"
+    log = log_of(False, many_tables(MOST_TABLES + 1))
+    for words in ((), ("--json",)):
+        finished = runner.run([log], ["--by", "table", *words])
+        is_right = (finished.returncode, finished.stdout) == (FAILED, b"") and b"more than 65536 tables" in finished.stderr
+        yield None if is_right else f"65,537 tables: {finished.returncode} {finished.stdout[:80]} {finished.stderr[-200:]}"
+
+
+def usage(runner):
+    log = transactions(0, False, 10)
+    wrong = (["--by", "row"], ["--by", ""], ["--by", "table", "--top", "x"], ["--by", "table", "--top", "-1"], ["--top", "1"], ["--json"], ["--by", "type", "--json"])
+    for words in (*wrong, ["--by", "time=0s"], ["--by", "time=60"], ["--by", "time=s"]):
+        finished = runner.run([log], words)
+        yield None if (finished.returncode, finished.stdout) == (USAGE, b"") else f"{words}: {finished}"
+
+
+def main():
+    parser = argparse.ArgumentParser(description="Compares statistics with an independent count.")
+    programs.add_flags(parser)
+    parser.add_argument("--count", type=int, default=4_000)
+    arguments = programs.parsed(parser, "binlog")
+    with tempfile.TemporaryDirectory() as folder:
+        runner = Runner(arguments.build.command("binlog"), folder)
+        found = [result for part in (random_logs, several_files, by_time, by_transaction, damaged_copies, names, caps, interval_caps, usage) for result in part(runner)]
+        found += damaged_events(runner, arguments.count)
+    return results.report(found)
+
+
+if __name__ == "__main__":
+    sys.exit(main())

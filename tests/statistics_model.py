@@ -1,0 +1,155 @@
+"""A plain count of the changes of tables in logs, written from `docs/COMMANDS.md` over the models of events and of rows.
+
+A table is its pair of names. Its rows are counted as the model of rows finds them in each row event.
+"""
+
+import json
+from collections import Counter
+from datetime import datetime, timezone
+
+import event_data_model
+import json_model
+import listing_model
+import maria_json_model
+from grouped_events import Event
+
+BEGINS = (33, 34, 42, 162)
+TABLE_MAP, ROTATE = 19, 4
+INSERTED, UPDATED, DELETED = "inserted", "updated", "deleted"
+# Row events by their types: how they change their table. Compressed ones are MariaDB's.
+PLAIN = {23: INSERTED, 24: UPDATED, 25: DELETED, 30: INSERTED, 31: UPDATED, 32: DELETED, 39: UPDATED}
+COMPRESSED = {166: INSERTED, 167: UPDATED, 168: DELETED, 169: INSERTED, 170: UPDATED, 171: DELETED}
+# Events that may have rows, and whose bodies are kept as bytes.
+KEPT = (20, 21, 22, 40)
+
+
+class Counts:
+    """What is counted over logs one after another."""
+
+    def __init__(self, is_taken=lambda kind: True):
+        self.is_taken, self.transactions, self.unknown, self.tables, self.touched = is_taken, 0, [0, 0], {}, {}
+        # What is counted of each event that is taken.
+        self.events = []
+
+    def add_log(self, content):
+        self.maps = {}
+        frames, _ = listing_model.split(content[4:])
+        for frame, in_force in zip(frames, listing_model.in_force_at(frames)):
+            parts = listing_model.cut(frame, in_force.algorithm)
+            if parts is not None and listing_model.body_fault(frame, parts[0], in_force) is None:
+                self.add_event(frame, parts[0], in_force)
+        return self
+
+    def add_event(self, frame, data, in_force):
+        kind = listing_model.type_number(frame)
+        self.follow(kind, data, in_force)
+        if not self.is_taken(kind):
+            return
+        time, end = (int.from_bytes(frame[place : place + 4], "little") for place in (0, 13))
+        self.events.append(Event(kind in BEGINS, time, len(frame), end))
+        if kind in BEGINS:
+            self.transactions += 1
+        is_maria = json_model.is_maria(in_force.server_version)
+        if kind in PLAIN or (kind in COMPRESSED and is_maria):
+            self.add_rows(kind, frame, data, in_force, is_maria)
+        elif kind in KEPT:
+            self.add_unknown(frame)
+
+    def follow(self, kind, data, in_force):
+        if kind == ROTATE and any(data[:8]):
+            self.maps = {}
+        if kind == TABLE_MAP:
+            try:
+                found = event_data_model.fields(TABLE_MAP, data, in_force.lengths)
+            except event_data_model.Fault:
+                return
+            self.maps[found["table_id"]] = found
+
+    def add_unknown(self, frame):
+        self.events[-1].is_unread = True
+        self.unknown = [self.unknown[0] + 1, self.unknown[1] + len(frame)]
+
+    def add_rows(self, kind, frame, data, in_force, is_maria):
+        plain = maria_json_model.ROWS_COMPRESSED.get(kind, kind)
+        try:
+            event = event_data_model.fields(plain, data, in_force.lengths)
+        except event_data_model.Fault:
+            return self.add_unknown(frame)
+        table = self.maps.get(event["table_id"])
+        if table is None:
+            return self.add_unknown(frame)
+        name = table["database_name"].bytes, table["table_name"].bytes
+        count = None if kind in COMPRESSED else row_count(kind, event, table, is_maria)
+        return self.add_changes(name, (PLAIN | COMPRESSED)[kind], count, frame)
+
+    def add_changes(self, name, change, count, frame):
+        event = self.events[-1]
+        event.change, event.rows, event.is_unread = change, count or 0, count is None
+        time = event.time
+        found = self.tables.setdefault(name, Counter())
+        found["events"] += 1
+        found["bytes"] += len(frame)
+        found[change] += count or 0
+        found["unread_events"] += count is None
+        found.setdefault("first_time", time)
+        found["last_time"] = time
+        if self.transactions and self.touched.get(name) != self.transactions:
+            found["transactions"] += 1
+            self.touched[name] = self.transactions
+
+    def rows(self, top=None):
+        """The tables with their counts, those with most bytes first."""
+        return sorted(self.tables.items(), key=lambda item: -item[1]["bytes"])[:top]
+
+    def text(self, top=None):
+        lines = [f"tables {len(self.tables)}", f"transactions {self.transactions}", "unknown {} events {} bytes".format(*self.unknown)]
+        return "".join(line + "\n" for line in [*lines, *(table_text(*row) for row in self.rows(top))]).encode()
+
+    def json(self, top=None):
+        head = {"tables": len(self.tables), "transactions": self.transactions, "unknown_events": self.unknown[0], "unknown_bytes": self.unknown[1]}
+        return "".join(compact(line) + "\n" for line in [head, *(table_object(*row) for row in self.rows(top))]).encode()
+
+
+def row_count(kind, event, table, is_maria):
+    """How many rows an event has; None if one of them is refused, or the table's columns are."""
+    _, items = json_model.rows_of(kind, event, table, is_maria)
+    return None if any(json_model.is_refused(item) for item in items) else len(items)
+
+
+# ---- what is printed
+
+COUNTS = ("events", "bytes", INSERTED, UPDATED, DELETED, "unread_events", "transactions")
+WORDS = dict(zip(COUNTS, ("events", "bytes", INSERTED, UPDATED, DELETED, "unread", "transactions")))
+
+
+def compact(value):
+    return json.dumps(value, ensure_ascii=False, separators=(",", ":"))
+
+
+def text_of(name):
+    try:
+        return name.decode()
+    except UnicodeDecodeError:
+        return "?"
+
+
+def time_text(seconds):
+    return datetime.fromtimestamp(seconds, timezone.utc).strftime("%Y-%m-%dT%H:%M:%SZ")
+
+
+def table_text(name, counts):
+    numbers = " ".join(f"{counts[key]} {WORDS[key]}" for key in COUNTS)
+    times = f"first {time_text(counts['first_time'])} last {time_text(counts['last_time'])}"
+    return f"table {'.'.join(map(text_of, name))} {numbers} {times}"
+
+
+def name_value(name):
+    try:
+        return name.decode()
+    except UnicodeDecodeError:
+        return {"hex": name.hex()}
+
+
+def table_object(name, counts):
+    names = {"database": name_value(name[0]), "table": name_value(name[1])}
+    return names | {key: counts[key] for key in (*COUNTS, "first_time", "last_time")}
