@@ -112,12 +112,11 @@ def _load() -> ctypes.CDLL:
         size,
         ctypes.POINTER(byte),
     ]
-    # The same with the text of a file of columns behind the table maps.
-    for with_columns, plain in (
-        (library.binlog_json_with_columns, library.binlog_json),
-        (library.binlog_json_lines_with_columns, library.binlog_json_lines),
+    # The same with the text of a file of columns behind the table maps, the last parameter before the index.
+    for with_columns, plain, before in (
+        (library.binlog_json_with_columns, library.binlog_json, 5),
+        (library.binlog_json_lines_with_columns, library.binlog_json_lines, 6),
     ):
-        before = plain.argtypes.index(ctypes.c_uint64)
         with_columns.restype = size
         with_columns.argtypes = [*plain.argtypes[:before], ctypes.c_char_p, size, *plain.argtypes[before:]]
     library.binlog_columns_fault_text.restype = size

@@ -27,7 +27,7 @@ def lines(content, **parts):
 
 
 def wanted(content):
-    return json_model.expected(content)[0].splitlines(keepends=True)
+    return json_model.own_lines(content).splitlines(keepends=True)
 
 
 class Lines(unittest.TestCase):
