@@ -48,6 +48,7 @@ TOOLS = [
     "binlog_event_types",
     "binlog_json_bodies",
     "binlog_json_lines",
+    "binlog_change_lines",
     "binlog_cli",
     "binlog_summaries",
 ]

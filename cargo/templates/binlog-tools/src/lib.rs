@@ -2,6 +2,8 @@
 //! prints them.
 #![forbid(unsafe_code)]
 
+#[allow(unused_variables)]
+pub mod binlog_change_lines;
 #[doc(hidden)]
 pub mod binlog_cli;
 pub mod binlog_commands;

@@ -1,0 +1,8 @@
+pub mod Gtids
+pub mod Heads
+pub mod RowLines
+pub mod RowsHeads
+pub mod Mapped
+pub mod EventTexts
+pub mod Written
+pub mod WholeLines
