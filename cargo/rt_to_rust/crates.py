@@ -44,6 +44,7 @@ TOOLS = [
     "binlog_filters",
     "binlog_commands",
     "change_statistics",
+    "binlog_transaction_gtids",
     "binlog_statistics",
     "binlog_event_types",
     "binlog_json_bodies",

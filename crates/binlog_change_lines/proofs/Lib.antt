@@ -2,7 +2,6 @@ pub mod Parts
 pub mod Lines
 pub mod SameRows
 pub mod Events
-pub mod Followed
 pub mod Shown
 pub mod Refused
 pub mod WholeLines

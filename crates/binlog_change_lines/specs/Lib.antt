@@ -1,4 +1,3 @@
-pub mod Gtids
 pub mod Heads
 pub mod RowLines
 pub mod RowsHeads

@@ -20,7 +20,7 @@ use Rattle.binlog_payload_visits.specs.Parts.{Part}
 use Rattle.binlog_payload_visits.specs.PartVisits.{PartVisitRelation, PartRefusalRelation, VisitsSpliced, RefusesSpliced}
 use Rattle.binlog_payload_visits.specs.declared.spliced.Spliced.{Spliced}
 use Rattle.binlog_change_lines.specs.EventTexts.{IsEventText, IsPartText}
-use Rattle.binlog_change_lines.specs.Gtids.{FollowsGtid}
+use Rattle.binlog_transaction_gtids.specs.Gtids.{FollowsGtid}
 use Rattle.binlog_change_lines.specs.Heads.{Place}
 use Rattle.binlog_change_lines.specs.declared.change_filter.ChangeFilter.{ChangeFilter}
 use Rattle.binlog_change_lines.specs.declared.change_writer.ChangeWriter.{ChangeWriter}

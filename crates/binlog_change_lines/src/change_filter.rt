@@ -3,12 +3,12 @@ ghost use Rattle.std.specs.Prelude.{◌≡◌, [], OnOk};
 ghost use Rattle.binlog_change_lines.specs.Written.{Begins, KeepsMost};
 
 use crate::change_writer::ChangeWriter;
-use crate::gtids::follow;
 use binlog_declared_columns::Contradictions;
 use binlog_file::{Error, EventRef, EventStreamReader};
 use binlog_filters::{Filter, Filtered};
 use binlog_json_lines::LineOptions;
 use binlog_payload_visits::Spliced;
+use binlog_transaction_gtids::follow;
 use binlog_visits::{Refusing, Visitor};
 use std::alloc::{AllocError, Global};
 use std::io::Write;

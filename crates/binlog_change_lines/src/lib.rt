@@ -9,7 +9,6 @@
 mod change_filter;
 mod change_lines;
 mod change_writer;
-mod gtids;
 mod heads;
 pub mod laws;
 mod part_writer;

@@ -22,6 +22,7 @@ pub mod binlog_payload_visits;
 pub mod binlog_statistics;
 #[doc(hidden)]
 pub mod binlog_summaries;
+pub mod binlog_transaction_gtids;
 pub mod binlog_visits;
 /// Statistics of changes, from facts of events.
 pub mod change_statistics;
