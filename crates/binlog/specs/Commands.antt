@@ -1,5 +1,5 @@
 -- What each command makes of its output: the bytes of its writer, and the status.
-use Rattle.std.specs.Prelude.{◌≡◌, ◌⊎◌, ℕ, Bool, List, [], Option, None, Result, Ok, Err, OnOk}
+use Rattle.std.specs.Prelude.{◌≡◌, ◌⊎◌, ℕ, Bool, List, [], Option, None, Result, Ok, Err}
 use Rattle.std.specs.declared.io.Error.{Error as IoError}
 use Rattle.binlog_visits.specs.Visits.{VisitRelation, RefusalRelation}
 use Rattle.binlog_ends.specs.Views.{CountedView}
@@ -7,7 +7,6 @@ use Rattle.binlog_filters.specs.declared.filter.Filter.{Filter}
 use Rattle.binlog_filters.specs.declared.filtered.Filtered.{Filtered}
 use Rattle.binlog_gtid_listing.specs.LogItems.{log_gtids}
 use Rattle.binlog_commands.specs.Collecting.{collected, Collects, RefusesCollected}
-use Rattle.binlog_commands.specs.Counting.{IsNever}
 use Rattle.binlog_commands.specs.declared.gtids.GtidCollector.{GtidCollector}
 use Rattle.binlog_commands.specs.declared.tally.Tally.{Tally}
 use Rattle.clap.specs.declared.parser.matches.Found.{Found}

@@ -2,7 +2,6 @@
 use Rattle.std.specs.Prelude.{◌≡◌, ℕ, Bool, List, Option, unwrap_or}
 use Rattle.binlog_commands.specs.Counting.{IsNever}
 use Rattle.binlog_commands.specs.Statistics.{no_items, CountsItem as CountsType}
-use Rattle.binlog_commands.specs.declared.stats.Stats.{Stats}
 use Rattle.change_statistics.specs.Facts.{Fact}
 use Rattle.change_statistics.specs.Intervals.{seconds_of, CountsNoInterval, AddsByTime, AreSameIntervals}
 use Rattle.change_statistics.specs.Tables.{AreEmpty, Adds, AreSame}

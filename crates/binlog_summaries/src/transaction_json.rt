@@ -5,7 +5,7 @@ ghost use Rattle.json_line.specs.Tokens.{Adds, number_value};
 ghost use Rattle.change_statistics.specs.Names.{name_of};
 ghost use Rattle.change_statistics.specs.Transactions.{seen_by};
 ghost use Rattle.binlog_summaries.specs.JsonLines.{line_of};
-ghost use Rattle.binlog_summaries.specs.TransactionJson.{gtid_value, gtid_member, position_member, places_members, counts_members, names_members, table_object, tables_member, transaction_object, sizes_member, transactions_object, transaction_line, transactions_json};
+ghost use Rattle.binlog_summaries.specs.TransactionJson.{gtid_member, position_member, places_members, counts_members, names_members, table_object, tables_member, transaction_object, sizes_member, transactions_object, transaction_line, transactions_json};
 
 use crate::json_lines::{end_line, write_time};
 use binlog_file::Error;

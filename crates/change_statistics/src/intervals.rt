@@ -1,5 +1,5 @@
 //! Statistics by time.
-ghost use Rattle.std.specs.Prelude.{◌≡◌, ◌⊎◌, false, OnOk, OnErr};
+ghost use Rattle.std.specs.Prelude.{◌≡◌, false, OnOk, OnErr};
 ghost use Rattle.change_statistics.specs.Intervals.{counts_of, CountsNoInterval, AreSameIntervals, PutsInterval};
 
 use crate::counts::Counts;

@@ -2,7 +2,7 @@
 ghost use Rattle.std.specs.Prelude.{◌≡◌, ◌⊎◌, false, nat_lt, OnOk, OnErr};
 ghost use Rattle.std.specs.Ordering.{is_lt};
 ghost use Rattle.change_statistics.specs.Facts.{name_in};
-ghost use Rattle.change_statistics.specs.Tables.{max_tables, counts_named, table_count, AreEmpty, AreSame, AddsRows, HasNoRoom, Puts};
+ghost use Rattle.change_statistics.specs.Tables.{counts_named, AreEmpty, AreSame, AddsRows, HasNoRoom, Puts};
 ghost use Rattle.change_statistics.specs.SortedTables.{AreSorted, AreInOrder, AreDistinct, KeepsOthers};
 ghost use Rattle.std.specs.List.Sorted.{IsPermutation};
 ghost use Rattle.change_statistics.specs.Names.{name_of};

@@ -1,5 +1,5 @@
 //! Statistics by transaction.
-ghost use Rattle.std.specs.Prelude.{◌≡◌, OnOk, OnErr, option_map};
+ghost use Rattle.std.specs.Prelude.{◌≡◌, OnOk, OnErr};
 ghost use Rattle.change_statistics.specs.Facts.{fact_of};
 ghost use Rattle.change_statistics.specs.Transactions.{seen_by, none_seen, ended, with_current};
 

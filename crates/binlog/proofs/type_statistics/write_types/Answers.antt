@@ -1,4 +1,3 @@
-use Rattle.std.proofs.Common.{inl, inr, Result, Ok, Err}
 use Rattle.binlog.proofs.WrittenRows.{lines_written, text_is_written}
 use Rattle.binlog.proofs.type_statistics.write_types.Goals as goal
 
