@@ -53,9 +53,11 @@ fn json<'a>(alloc: Global) -> Result<Command<'a>, AllocError> {
              binlog json --include-gtids 3e11fa47-71ca-11e1-9e33-c80aa9429562:5 mysql-bin.000007\n  \
              binlog json --include-gtids 0-1-100,0-1-101 mariadb-bin.000007\n  \
              binlog json --columns columns.tsv mysql-bin.000007\n  \
+             binlog json --compact --table shop.orders mysql-bin.000007\n  \
              binlog json --follow --type QUERY mysql-bin.000008 | jq -r .data.query",
         )
         .arg(follow(alloc))?
+        .arg(compact(alloc))?
         .arg(stored(alloc))?
         .arg(columns(alloc))?;
     with_filters(alloc, with_files(alloc, command)?)
@@ -107,10 +109,14 @@ fn stats<'a>(alloc: Global) -> Result<Command<'a>, AllocError> {
              binlog stats mysql-bin.000007\n  \
              binlog stats --server-id 1 mysql-bin.*\n  \
              binlog stats --by table --top 20 mysql-bin.*\n  \
+             binlog stats --by time=5m mysql-bin.*\n  \
+             binlog stats --by transaction --top 10 mysql-bin.*\n  \
              binlog stats --by table --json mysql-bin.000007 | jq 'select(.table == \"orders\").inserted'",
         )
         .arg(by(alloc))?
-        .arg(number(alloc, "top").help("With --by table: only the N tables with most bytes"))?
+        .arg(number(alloc, "top").help(
+            "With --by table or --by transaction: only the N with most bytes",
+        ))?
         .arg(json_lines(alloc))?;
     with_filters(alloc, with_files(alloc, command)?)
 }
@@ -148,7 +154,7 @@ fn follow<'a>(alloc: Global) -> Arg<'a> {
 // The option to say what is counted together.
 fn by<'a>(alloc: Global) -> Arg<'a> {
     text(alloc, "by").value_name("GROUP").help(
-        "What is counted: events by type, which is the default, or rows by table",
+        "What is counted: events by type, which is the default; rows by table; events by time, as time=60s, time=5m or time=1h; or transaction sizes, by transaction",
     )
 }
 
@@ -157,7 +163,15 @@ fn json_lines<'a>(alloc: Global) -> Arg<'a> {
     Arg::new(alloc, "json")
         .long("json")
         .action(ArgAction::SetTrue)
-        .help("With --by table: prints lines of JSON")
+        .help("Prints lines of JSON")
+}
+
+// The option to write rows alone.
+fn compact<'a>(alloc: Global) -> Arg<'a> {
+    Arg::new(alloc, "compact")
+        .long("compact")
+        .action(ArgAction::SetTrue)
+        .help("Prints the rows of row events, a line for each, and nothing of other events")
 }
 
 // The option to keep the stored bytes of rows.
