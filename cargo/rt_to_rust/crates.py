@@ -35,6 +35,10 @@ LIBRARY = [
     "binary_json_writing",
     "binary_json_lines",
     "binlog_json_values",
+    "binlog_undo",
+    "binlog_transactions",
+    "binlog_undo_index",
+    "binlog_undo_writing",
 ]
 TOOLS = [
     "binlog_visits",
@@ -48,7 +52,9 @@ TOOLS = [
     "binlog_event_types",
     "binlog_json_bodies",
     "binlog_json_lines",
+    "binlog_undo_log",
     "binlog_cli",
+    "binlog_undo_command",
     "binlog_summaries",
 ]
 
