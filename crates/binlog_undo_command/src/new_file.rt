@@ -1,5 +1,5 @@
 //! A file that is there whole or not at all.
-ghost use Rattle.std.specs.Prelude.{◌≡◌, ℕ, Bool, true, List, Option, OnErr, OnOk, ⊤};
+ghost use Rattle.std.specs.Prelude.{◌≡◌, ℕ, Bool, true, false, List, Option, OnErr, OnOk, ⊤};
 
 use std::fs::{File, OpenFile};
 use std::io::Write;
