@@ -1,5 +1,5 @@
 -- The first pass over several logs, one after the other.
-use Rattle.std.proofs.Common.{◌≡◌, ◌≢◌, ◌⊎◌, inl, inr, ℕ, ◌+◌, ◌<◌, ◌^◌, Bor, List, [], ◌∷◌, ◌++◌, length, take, map, get_or, Option, IfSome, refl, sym, subst, ap, ◌∙◌}
+use Rattle.std.proofs.Common.{◌≡◌, ◌≢◌, ◌⊎◌, inl, inr, ℕ, ◌+◌, ◌<◌, ◌^◌, Bor, List, [], ◌∷◌, ◌++◌, length, take, map, get_or, Option, Some, None, IfSome, refl, sym, subst, ap, ◌∙◌}
 use Rattle.std.proofs.lemmas.List.{map-append, take_more}
 use Rattle.clap.specs.declared.parser.matches.Found.{Found}
 use Rattle.binlog_cli.specs.Statuses.{worse}
@@ -66,10 +66,10 @@ which_damaged Usage Failed is = absurd cc
 which_damaged Usage Usage is = absurd cc
 
 -- The bytes that are left of a log that was opened are all of it.
-pub known_scans : (known remaining : Option (List ℕ)) (start scan : UndoScan) → remaining ≡ known
+pub known_scans : (known remaining : Option (List ℕ)) (start scan : UndoScan) → IfSome known (λ bytes. remaining ≡ Some bytes)
     → IfSome remaining (λ bytes. length bytes < 2 ^ 64 → ScansWhole bytes start scan) → IfSome known (λ bytes. length bytes < 2 ^ 64 → ScansWhole bytes start scan)
-known_scans known remaining start scan is given =
-    subst (λ (k : Option (List ℕ)). IfSome k (λ bytes. length bytes < 2 ^ 64 → ScansWhole bytes start scan)) is given
+known_scans None remaining start scan is given = tt
+known_scans (Some bytes) remaining start scan is given = rw is at given
 
 abbrev texts_of : List (Bor (List ℕ)) → List (List ℕ)
 texts_of names = map (λ (name : Bor (List ℕ)). name.now) names

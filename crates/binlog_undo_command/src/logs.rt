@@ -1,5 +1,5 @@
 //! The logs that are undone.
-ghost use Rattle.std.specs.Prelude.{◌≡◌, ℕ, List, Option, None, IfOk, ⊤};
+ghost use Rattle.std.specs.Prelude.{◌≡◌, ℕ, List, Option, Some, None, IfOk, IfSome, ⊤};
 
 use binlog_undo_log::{Frames, SeekFrames};
 use std::io::Read;
@@ -26,7 +26,7 @@ pub trait Logs {
     ///
     /// Those of opening a file.
     fn open(&self, name: &str) -> io::Result<Self::Opened>
-        ensures { IfOk result (λ input. Self.Opened.remaining input ≡ bytes self.now name.now) };
+        ensures { IfOk result (λ input. IfSome (bytes self.now name.now) (λ known. Self.Opened.remaining input ≡ Some known)) };
 
     /// Opens a log whose frames are sought.
     ///
