@@ -2,6 +2,8 @@
 //! prints them.
 #![forbid(unsafe_code)]
 
+#[allow(unused_variables)]
+pub mod binlog_change_lines;
 #[doc(hidden)]
 pub mod binlog_cli;
 pub mod binlog_commands;
@@ -20,6 +22,7 @@ pub mod binlog_payload_visits;
 pub mod binlog_statistics;
 #[doc(hidden)]
 pub mod binlog_summaries;
+pub mod binlog_transaction_gtids;
 #[doc(hidden)]
 pub mod binlog_undo_command;
 pub mod binlog_undo_log;
