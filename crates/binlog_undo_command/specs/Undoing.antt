@@ -1,5 +1,5 @@
 -- What `binlog undo` makes of its logs.
-use Rattle.std.specs.Prelude.{ℕ, ◌+◌, ◌-◌, ◌^◌, min, List, [], ◌∷◌, ◌++◌, length, Option, codes, decimal}
+use Rattle.std.specs.Prelude.{ℕ, ◌+◌, ◌-◌, ◌^◌, min, List, [], ◌∷◌, ◌++◌, length, sum_by, Option, codes, decimal}
 use Rattle.std.specs.Io.KnownBytes.{Appends}
 use Rattle.clap.specs.declared.parser.matches.Found.{Found}
 use Rattle.binlog_cli.specs.TableWords.{texts_given}
@@ -10,12 +10,10 @@ use Rattle.binlog_undo_index.specs.Parts.{parts_of}
 
 -- How many transactions of logs are undone, and how many row events.
 abbrev pub transactions_in : List ScannedLog → ℕ
-transactions_in [] = 0
-transactions_in (log ∷ logs) = length (parts_of log.scan.index).transactions + transactions_in logs
+transactions_in logs = sum_by (λ (log : ScannedLog). length (parts_of log.scan.index).transactions) logs
 
 abbrev pub changes_in : List ScannedLog → ℕ
-changes_in [] = 0
-changes_in (log ∷ logs) = length (parts_of log.scan.index).changes + changes_in logs
+changes_in logs = sum_by (λ (log : ScannedLog). length (parts_of log.scan.index).changes) logs
 
 -- The line of these counts.
 abbrev pub counts_line : List ScannedLog → List ℕ
