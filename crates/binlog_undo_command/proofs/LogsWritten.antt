@@ -6,7 +6,7 @@ use Rattle.binlog_undo_command.specs.Written.{WritesOne, WritesLogs, WritesWhole
 use Rattle.binlog_undo_command.specs.declared.scanning.ScannedLog.{ScannedLog}
 use Rattle.binlog_undo_log.specs.declared.output.UndoOutput.{UndoOutput}
 
-drop_at : (logs : List ScannedLog) (i : ℕ) (none : ScannedLog) → i < length logs → drop i logs ≡ get_or logs i none ∷ drop (i + 1) logs
+drop_at : (logs : List ScannedLog) (i : ℕ) (none : ScannedLog) → i < length logs → drop i logs ≡ get_or logs i none ∷ drop (suc i) logs
 drop_at [] i none within = absurd (omega (arith, within))
 drop_at (log ∷ logs) zero none within = refl
 drop_at (log ∷ logs) (suc i) none within = drop_at logs i none (omega (arith, within))
@@ -18,7 +18,7 @@ module _ {F W : Type 0} (has_frames : List ℕ → F → Type 0) (is_at : F → 
   written_none (log ∷ logs) output = written_none logs output
 
   -- One more log is undone, the one in front of those so far.
-  pub written_next : (logs : List ScannedLog) (n i : ℕ) (none log : ScannedLog) (old mid new : UndoOutput W) → i + 1 ≡ n → i < length logs → log ≡ get_or logs i none
+  pub written_next : (logs : List ScannedLog) (n i : ℕ) (none log : ScannedLog) (old mid new : UndoOutput W) → suc i ≡ n → i < length logs → log ≡ get_or logs i none
       → WritesLogs has_frames is_at contents (drop n logs) old mid → WritesOne has_frames is_at contents log mid new → WritesLogs has_frames is_at contents (drop i logs) old new
   written_next logs n i none log old mid new next within is behind one =
       subst (λ (left : List ScannedLog). WritesLogs has_frames is_at contents left old new) (sym (drop_at logs i none within))

@@ -77,6 +77,10 @@ texts_of names = map (λ (name : Bor (List ℕ)). name.now) names
 texts_more : (names : List (Bor (List ℕ))) (i : ℕ) (none : Bor (List ℕ)) → i < length names → texts_of (take (i + 1) names) ≡ texts_of (take i names) ++ (get_or names i none).now ∷ []
 texts_more names i none within = ap texts_of (take_more names i none within) ∙ map-append (λ (name : Bor (List ℕ)). name.now) (take i names) (get_or names i none ∷ [])
 
+-- The default of a read.
+abbrev no_name : Bor (List ℕ)
+no_name = record { ref_ptr = (0, 0); now = [] }
+
 module _ (bytes : List ℕ → Option (List ℕ)) (found : Found) where
   undone_more : (names : List (List ℕ)) (logs : List ScannedLog) (name : List ℕ) (log : ScannedLog) → AreUndone bytes found names logs → log.name.now ≡ name → IsUndone found (bytes name) log.scan
       → AreUndone bytes found (names ++ name ∷ []) (logs ++ log ∷ [])
@@ -86,11 +90,11 @@ module _ (bytes : List ℕ → Option (List ℕ)) (found : Found) where
   undone_more (other ∷ names) (first ∷ logs) name log are named is = (are.0, are.1, undone_more names logs name log are.2 named is)
 
   -- One more log is scanned, in which nothing is refused.
-  pub undone_next : (names : List (Bor (List ℕ))) (i : ℕ) (none : Bor (List ℕ)) (logs : List ScannedLog) (log : ScannedLog) → i < length names → AreUndone bytes found (texts_of (take i names)) logs
-      → log.name.now ≡ (get_or names i none).now → IsUndone found (bytes (get_or names i none).now) log.scan → AreUndone bytes found (texts_of (take (i + 1) names)) (logs ++ log ∷ [])
-  undone_next names i none logs log within are named is =
-      subst (λ (texts : List (List ℕ)). AreUndone bytes found texts (logs ++ log ∷ [])) (sym (texts_more names i none within))
-      (undone_more (texts_of (take i names)) logs (get_or names i none).now log are named is)
+  pub undone_next : (names : List (Bor (List ℕ))) (i : ℕ) (none : Bor (List ℕ)) (logs new : List ScannedLog) (scan : UndoScan) → i < length names → AreUndone bytes found (texts_of (take i names)) logs
+      → IsUndone found (bytes (get_or names i none).now) scan → new ≡ logs ++ record { name = get_or names i none; scan = scan } ∷ [] → AreUndone bytes found (texts_of (take (i + 1) names)) new
+  undone_next names i none logs new scan within are is more =
+      rw more (subst (λ (texts : List (List ℕ)). AreUndone bytes found texts (logs ++ record { name = get_or names i none; scan = scan } ∷ [])) (sym (texts_more names i none within))
+      (undone_more (texts_of (take i names)) logs (get_or names i none).now (record { name = get_or names i none; scan = scan }) are refl is))
 
   refused_more : (names : List (List ℕ)) (name : List ℕ) → HasRefused bytes found names → HasRefused bytes found (names ++ name ∷ [])
   refused_more [] name has = absurd has
@@ -102,9 +106,9 @@ module _ (bytes : List ℕ → Option (List ℕ)) (found : Found) where
   refused_last (other ∷ names) name is = inr (refused_last names name is)
 
   -- Something is refused in the logs so far, and one more is scanned.
-  pub refused_next : (names : List (Bor (List ℕ))) (i : ℕ) (none : Bor (List ℕ)) → i < length names → HasRefused bytes found (texts_of (take i names)) → HasRefused bytes found (texts_of (take (i + 1) names))
-  refused_next names i none within has =
-      subst (λ (texts : List (List ℕ)). HasRefused bytes found texts) (sym (texts_more names i none within)) (refused_more (texts_of (take i names)) (get_or names i none).now has)
+  pub refused_next : (names : List (Bor (List ℕ))) (i : ℕ) → i < length names → HasRefused bytes found (texts_of (take i names)) → HasRefused bytes found (texts_of (take (i + 1) names))
+  refused_next names i within has =
+      subst (λ (texts : List (List ℕ)). HasRefused bytes found texts) (sym (texts_more names i no_name within)) (refused_more (texts_of (take i names)) (get_or names i no_name).now has)
 
   -- Something is refused in one more log.
   pub refused_here : (names : List (Bor (List ℕ))) (i : ℕ) (none : Bor (List ℕ)) → i < length names → IsRefused found (bytes (get_or names i none).now) → HasRefused bytes found (texts_of (take (i + 1) names))

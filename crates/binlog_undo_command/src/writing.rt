@@ -116,8 +116,8 @@ fn write_one<L: Logs, R: Eprint + AllocGlobal, W: WriteCounted>(
         }
     };
     let written = write_file(rt.alloc(), &mut frames, &log.scan, output);
-    if let Err(error) = written
-        && error != UndoLogError::Writer
+    if let Err(error) = &written
+        && *error != UndoLogError::Writer
     {
         let _ = eprintln!(rt; "binlog: {}: {error}", log.name);
     }

@@ -6,7 +6,7 @@ returns-clause-ok g c = record {
   scanned = record {
     start = c.in_ok-scan.scan;
     states = c.in_ok-scan.ensures.ok;
-    scans = known_scans (g.L.Logs.bytes c.args.logs.now c.args.name.now) (g.L.Logs.Opened.Read.remaining c.in-Ok.input) c.in_ok-scan.scan c.scan_open.new.scan c.in-Ok.ensures c.in_ok-scan_open.ensures.ok;
+    scans = known_scans (g.L.Logs.bytes c.args.logs.now c.args.name.now) (g.L.Opened.Read.remaining c.in-Ok.input) c.in_ok-scan.scan c.scan_open.new.scan c.in-Ok.ensures c.in_ok-scan_open-in-Ok.ensures.ok;
   };
   skipped = rw c.index.ensures at (c.report.ensures.skipped c.if-report.false);
 }
@@ -17,7 +17,7 @@ returns-then-report-clause-refused g c = λ damaged. record {
   scanned = record {
     start = c.in_ok-scan.scan;
     states = c.in_ok-scan.ensures.ok;
-    scans = known_scans (g.L.Logs.bytes c.args.logs.now c.args.name.now) (g.L.Logs.Opened.Read.remaining c.in-Ok.input) c.in_ok-scan.scan c.scan_open.new.scan c.in-Ok.ensures c.in_ok-scan_open.ensures.ok;
+    scans = known_scans (g.L.Logs.bytes c.args.logs.now c.args.name.now) (g.L.Opened.Read.remaining c.in-Ok.input) c.in_ok-scan.scan c.scan_open.new.scan c.in-Ok.ensures c.in_ok-scan_open-in-Ok.ensures.ok;
   };
   refused = rw c.index.ensures at (c.report.ensures.refused c.if-report.true);
 }
