@@ -35,6 +35,10 @@ LIBRARY = [
     "binary_json_writing",
     "binary_json_lines",
     "binlog_json_values",
+    "binlog_undo",
+    "binlog_transactions",
+    "binlog_undo_index",
+    "binlog_undo_writing",
 ]
 TOOLS = [
     "binlog_visits",
@@ -50,8 +54,10 @@ TOOLS = [
     "binlog_event_types",
     "binlog_json_bodies",
     "binlog_json_lines",
+    "binlog_undo_log",
     "binlog_change_lines",
     "binlog_cli",
+    "binlog_undo_command",
     "binlog_summaries",
 ]
 

@@ -13,6 +13,7 @@ from ._log import Cursor, Damage, Event, Log, open
 from ._payloads import PayloadEvent
 from ._program import ProgramError
 from ._types import EventType, MariaEventType
+from ._undo import Refusal, Undone, UndoRefused, undo
 from ._whole import DamagedEvent, Stats, TypeStats, Verification, gtid_set, stats, verify
 
 __all__ = [
@@ -33,13 +34,17 @@ __all__ = [
     "PayloadError",
     "PayloadEvent",
     "ProgramError",
+    "Refusal",
     "RowsError",
     "Stats",
     "TypeStats",
+    "UndoRefused",
+    "Undone",
     "Verification",
     "gtid_set",
     "library_version",
     "open",
     "stats",
+    "undo",
     "verify",
 ]

@@ -24,6 +24,9 @@ pub mod binlog_statistics;
 #[doc(hidden)]
 pub mod binlog_summaries;
 pub mod binlog_transaction_gtids;
+#[doc(hidden)]
+pub mod binlog_undo_command;
+pub mod binlog_undo_log;
 pub mod binlog_visits;
 /// Statistics of changes, from facts of events.
 pub mod change_statistics;
