@@ -1,5 +1,5 @@
 -- What undoes logs is written from the last one to the first.
-use Rattle.std.proofs.Common.{◌≡◌, ℕ, suc, zero, ◌+◌, ◌<◌, false, arith, List, [], ◌∷◌, length, drop, get_or, Option, None, Result, IfOk, refl, sym, subst}
+use Rattle.std.proofs.Common.{◌≡◌, ℕ, suc, zero, ◌<◌, false, arith, List, [], ◌∷◌, length, drop, get_or, Option, None, Result, IfOk, refl, sym, subst}
 use Rattle.std.proofs.lemmas.Result.{IfOk-weaker}
 use Rattle.std.specs.Io.KnownBytes.{Keeps}
 use Rattle.binlog_undo_command.specs.Written.{WritesOne, WritesLogs, WritesWhole, WritesLog}

@@ -1,5 +1,5 @@
 -- The words of an option.
-use Rattle.std.proofs.Common.{◌≡◌, true, Bool, ℕ, suc, zero, ◌+◌, ◌<◌, arith, Bor, List, [], ◌∷◌, length, get_or, map, refl, ◌∙◌, ap, bytes_eq}
+use Rattle.std.proofs.Common.{◌≡◌, true, ℕ, suc, zero, ◌<◌, arith, Bor, List, [], ◌∷◌, length, get_or, map, ◌∙◌, ap, bytes_eq}
 use Rattle.std.proofs.lemmas.List.{get_or-map, length-map}
 use Rattle.std.proofs.lemmas.List.Folds.{list_any_at}
 use Rattle.binlog_undo_command.specs.Reasons.{is_among, AreSkipNames, IsSkipName}

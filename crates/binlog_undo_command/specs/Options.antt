@@ -1,6 +1,6 @@
 -- What the options of `binlog undo` ask for.
-use Rattle.std.specs.Prelude.{◌≡◌, ◌⊎◌, ℕ, List, Option, Some, None, codes}
-use Rattle.clap.specs.Matches.{one_text}
+use Rattle.std.specs.Prelude.{◌≡◌, ◌≢◌, ◌⊎◌, ℕ, Bool, true, false, List, Option, Some, None, codes}
+use Rattle.clap.specs.Matches.{first_value, one_text}
 use Rattle.clap.specs.declared.parser.matches.Found.{Found}
 use Rattle.binlog_cli.specs.FilterWords.{NeverBegins, StatesFilter}
 use Rattle.binlog_cli.specs.TableWords.{texts_given}
@@ -37,3 +37,29 @@ pub record StatesScan (found : Found) (scan : UndoScan) : Type 0 where
 -- The status of a command that can't begin: its options can't be read, or memory ran out.
 abbrev pub RefusesOptions : Found → Status → Type 0
 RefusesOptions found status = NeverBegins found status ⊎ ((status ≡ Usage) × (AreSkipNames (texts_given found (codes "skip")) → ⊥))
+
+-- ---- `-o` and `--dry-run`
+
+-- A flag with this text, if it is there, is given or not.
+abbrev pub StatesFlag : Option (List ℕ) → Bool → Type 0
+StatesFlag text is_given = (text ≡ None → is_given ≡ false) × (text ≡ Some (codes "true") → is_given ≡ true) × (text ≡ Some (codes "false") → is_given ≡ false)
+
+-- The log that is written is the one that is named, which isn't standard output. In a dry run there is none.
+abbrev pub IsOutput : (is_dry : Bool) (named output : Option (List ℕ)) → Type 0
+IsOutput true named output = output ≡ None
+IsOutput false named None = ⊥
+IsOutput false named (Some name) = (named ≡ Some name) × (name ≢ codes "-")
+
+-- The name of the log that is written, if one is.
+pub record StatesOutput (found : Found) (output : Option (List ℕ)) : Type 0 where
+  pub is_dry : Bool
+  pub flag : StatesFlag (one_text found (codes "dry-run")) is_dry
+  pub is : IsOutput is_dry (first_value found (codes "output")) output
+
+-- No log is named that could be written.
+abbrev pub NamesNoOutput : Found → Type 0
+NamesNoOutput found = (first_value found (codes "output") ≡ None) ⊎ (first_value found (codes "output") ≡ Some (codes "-"))
+
+-- The run isn't dry, as far as its flag says.
+abbrev pub IsNotDry : Found → Type 0
+IsNotDry found = (one_text found (codes "dry-run") ≡ None) ⊎ (one_text found (codes "dry-run") ≡ Some (codes "false"))

@@ -1,4 +1,9 @@
 //! The command, on the files of the machine.
+ghost use Rattle.std.specs.Prelude.{◌≡◌, option_map, IfErr, IfOk};
+ghost use Rattle.clap.specs.Matches.{found_of};
+ghost use Rattle.binlog_cli.specs.declared.exit_status.Status.TheVariants.{Failed, Usage};
+ghost use Rattle.binlog_undo_command.specs.Options.{IsNotDry, NamesNoOutput, StatesOutput};
+
 use crate::logs::HostLogs;
 use crate::new_file::HostFile;
 use crate::undoing::{count_undo, undo};
@@ -14,7 +19,9 @@ pub fn run_undo<'a, R: Files + Eprint + AllocGlobal, W: Write + Drop>(
     rt: &'a R,
     options: &ArgMatches<'a>,
     mut output: W,
-) -> Status {
+) -> Status
+    ensures unnamed { IsNotDry (found_of options.now) → NamesNoOutput (found_of options.now) → result ≡ Usage }
+{
     let logs = HostLogs::new(rt);
     match output_of(rt, options) {
         Ok(Some(name)) => undo_into(rt, &logs, options, name, &mut output),
@@ -24,7 +31,10 @@ pub fn run_undo<'a, R: Files + Eprint + AllocGlobal, W: Write + Drop>(
 }
 
 // The name of the log that is written; None if nothing is.
-fn output_of<'a, R: Eprint>(rt: &R, options: &ArgMatches<'a>) -> Result<Option<&'a str>, Status> {
+fn output_of<'a, R: Eprint>(rt: &R, options: &ArgMatches<'a>) -> Result<Option<&'a str>, Status>
+    ensures ok { IfOk result (λ output. StatesOutput (found_of options.now) (option_map (λ name. name.now) output)) }
+    ensures err { IfErr result (λ status. (status ≡ Usage) × NamesNoOutput (found_of options.now)) }
+{
     if options.get_flag("dry-run") {
         return Ok(None);
     }
@@ -58,7 +68,9 @@ fn undo_into<'a, R: Files + Eprint + AllocGlobal, W: Write>(
 }
 
 // A file is never written over.
-fn is_free<R: Files + Eprint>(rt: &R, name: &str) -> Result<(), Status> {
+fn is_free<R: Files + Eprint>(rt: &R, name: &str) -> Result<(), Status>
+    ensures { IfErr result (λ status. status ≡ Failed) }
+{
     match fs::exists(rt, name) {
         Ok(false) => Ok(()),
         Ok(true) => {

@@ -10,15 +10,15 @@ loop-name-preserved g c =
     let found = found_of c.args.options.now in
     elim c.match-scan_log.branch [
       | in-Ok+else-is_err w ↦ rw (w.scanned-is, w.worst-is) (record {
-          undone = λ fine. undone_next bytes found c.args.names.now c.loop-name.name-index _ c.loop-name.scanned.items w.push.new.self.items w.in-Ok.scan c.loop-name-test.true (c.loop-name.invariant.undone fine)
-              w.in-Ok.ensures.ok (rw (w.is_err.ensures.negation, w.if-is_err.false) at w.push.ensures.items);
-          refused = λ damaged. refused_next bytes found c.args.names.now c.loop-name.name-index c.loop-name-test.true (c.loop-name.invariant.refused damaged);
-        })
+        undone = λ fine. undone_next bytes found c.args.names.now c.loop-name.name-index _ c.loop-name.scanned.items w.push.new.self.items w.in-Ok.scan c.loop-name-test.true (c.loop-name.invariant.undone fine)
+            w.in-Ok.ensures.ok (rw (w.is_err.ensures.negation, w.if-is_err.false) at w.push.ensures.items);
+        refused = λ damaged. refused_next bytes found c.args.names.now c.loop-name.name-index c.loop-name-test.true (c.loop-name.invariant.refused damaged);
+      })
       | in-Err w ↦ rw (w.scanned-is, w.worst-is) (record {
-          undone = λ fine. absurd (not_fine c.loop-name.worst w.in-Err.status w.in-Err.ensures.err (rw w.worse-worst.ensures at fine));
-          refused = λ damaged. elim (which_damaged c.loop-name.worst w.in-Err.status (rw w.worse-worst.ensures at damaged)) [
-            | inl is ↦ refused_next bytes found c.args.names.now c.loop-name.name-index c.loop-name-test.true (c.loop-name.invariant.refused is)
-            | inr is ↦ refused_here bytes found c.args.names.now c.loop-name.name-index _ c.loop-name-test.true (w.in-Err.ensures.refused is)
-          ];
-        })
+        undone = λ fine. elim (not_fine c.loop-name.worst w.in-Err.status w.in-Err.ensures.err (rw w.worse-worst.ensures at fine)) [ ];
+        refused = λ damaged. elim (which_damaged c.loop-name.worst w.in-Err.status (rw w.worse-worst.ensures at damaged)) [
+          | inl is ↦ refused_next bytes found c.args.names.now c.loop-name.name-index c.loop-name-test.true (c.loop-name.invariant.refused is)
+          | inr is ↦ refused_here bytes found c.args.names.now c.loop-name.name-index _ c.loop-name-test.true (w.in-Err.ensures.refused is)
+        ];
+      })
     ]

@@ -1,4 +1,3 @@
-use Rattle.std.proofs.Common.{◌≡◌}
 use Rattle.binlog_undo_command.proofs.undoing.undo.Goals as goal
 
 pub returns-in-Ok-clause-fine : goal.returns-in-Ok-clause-fine
