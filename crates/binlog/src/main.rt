@@ -69,7 +69,7 @@ fn run_words<'a, R: Files + Clock + Input + Print + Eprint + AllocGlobal>(
     words: &'a [String],
     terminals: Terminals,
 ) -> Status {
-    let Ok(command) = commands(rt.alloc()) else {
+    let Ok(command) = whole_command(rt.alloc()) else {
         return out_of_memory(rt);
     };
     match command.try_get_matches_from(words) {
@@ -81,8 +81,8 @@ fn run_words<'a, R: Files + Clock + Input + Print + Eprint + AllocGlobal>(
     }
 }
 
-// The program and all of its commands.
-fn commands<'a>(alloc: Global) -> Result<Command<'a>, AllocError> {
+// The command of the program, with all of its commands.
+fn whole_command<'a>(alloc: Global) -> Result<Command<'a>, AllocError> {
     command(alloc)?.subcommand(undo_command(alloc)?)
 }
 
