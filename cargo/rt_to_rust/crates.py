@@ -37,6 +37,7 @@ LIBRARY = [
     "binlog_json_values",
 ]
 TOOLS = [
+    "binlog_rotation",
     "binlog_visits",
     "binlog_payload_visits",
     "binlog_listing",

@@ -16,6 +16,7 @@ mod gtids;
 mod inputs;
 mod interval_statistics;
 mod request;
+mod rotations;
 mod statistics;
 mod transaction_statistics;
 mod verifying;
