@@ -4,7 +4,9 @@
 Usage: followed_files.py FLAG
 
 FLAG is one of `programs.py`: it says which `binlog` is run. Files are written by hand, as a server or a mirror writes them, and the
-lines that come are those of the models, file by file. The last line is `N passed, M failed`; the exit status is 1 if something failed.
+lines that come are those of the models, file by file. Where a MariaDB server is there, `mariadb-binlog` mirrors its log while it is
+under load and rotates, and the mirror's files are followed; else a line says so. The last line is `N passed, M failed`; the exit
+status is 1 if something failed.
 """
 
 import argparse
@@ -26,6 +28,7 @@ import json_model
 import programs
 import results
 import samples
+from maria_daemon import PRINTER, LeftOut, Server, is_within, program_in
 
 PROCESSES_AT_A_TIME = 12
 # How long a line may take, and how long nothing may come where nothing is wanted, in seconds.
@@ -310,13 +313,66 @@ def filters(program, folder):
     run.end()
 
 
-SCENES = [late, byte_by_byte, rotations, checksums, prefixes, stops, stays, refused, damages, several, filters]
+# ---- a mirror of a server's log
+
+ROTATIONS = 6
+SECONDS_TO_MIRROR = 60
+LOAD = b"insert into t (name) select repeat('x', 300) from three; update t set name = 'y' where id % 7 = 0;\n"
+
+
+def mirror_of(server, folder):
+    folder.mkdir()
+    words = [PRINTER, "--no-defaults", "--read-from-remote-server", "--raw", "--stop-never", "--stop-never-slave-server-id=4711"]
+    words += [f"--socket={server.socket}", "--user=root", f"--result-file={folder}/", server.logs()[0].name]
+    return subprocess.Popen(words, stdout=subprocess.DEVNULL, stderr=subprocess.DEVNULL)
+
+
+def is_mirrored(server, folder):
+    """Whether the mirror has all bytes of the server's log."""
+    return all((folder / log.name).exists() and (folder / log.name).stat().st_size == log.stat().st_size for log in server.logs())
+
+
+def mirrored(program, folder):
+    """The lines of a mirror's files, in order, while the server rotates under load."""
+    daemon = program_in(folder / "unpacked")
+    with Server(daemon, folder / "server", ["--server-id=7", "--binlog-format=ROW", "--binlog-checksum=CRC32"]) as server:
+        server.run(b"create database shop; create table shop.t (id int auto_increment primary key, name text);")
+        server.run(b"create view shop.three as select 1 union all select 2 union all select 3;")
+        mirror = mirror_of(server, folder / "mirror")
+        try:
+            begun = is_within(SECONDS_TO_MIRROR, (folder / "mirror" / server.logs()[0].name).exists)
+            yield None if begun else "no mirror"
+            runs = {command: followed(program, folder / "mirror", server.logs()[0].name, command=command) for command in MODELS}
+            sessions = [server.start(b"use shop;\n" + LOAD * 20) for _ in range(3)]
+            for number in range(ROTATIONS):
+                algorithm = b"NONE" if number % 2 else b"CRC32"
+                server.run(b"flush binary logs; set global binlog_checksum = %s;" % algorithm)
+                time.sleep(0.3)
+            for session in sessions:
+                server.finish(session)
+            yield None if is_within(SECONDS_TO_MIRROR, lambda: is_mirrored(server, folder / "mirror")) else "the mirror lacks bytes"
+            contents = [(folder / "mirror" / log.name).read_bytes() for log in server.logs()]
+            yield None if len(contents) > ROTATIONS else f"only {len(contents)} files"
+            for command, run in runs.items():
+                yield run.wrong_lines(*(lines_of(content, command) for content in contents))
+                run.end()
+                yield None if not run.messages else f"{command}: messages {run.messages!r}"
+        finally:
+            mirror.kill()
+            mirror.wait()
+
+
+SCENES = [mirrored, late, byte_by_byte, rotations, checksums, prefixes, stops, stays, refused, damages, several, filters]
 SCENES += [cut_at(cut) for cut in range(len(rotate(b"log.000002", b"abcd")))]
 
 
 def results_of(program, scene):
     with tempfile.TemporaryDirectory() as folder:
-        return [wrong and f"{scene.__name__}: {wrong}" for wrong in scene(program, Path(folder))]
+        try:
+            return [wrong and f"{scene.__name__}: {wrong}" for wrong in scene(program, Path(folder))]
+        except LeftOut as reason:
+            print(f"{reason}: no mirror is followed")
+            return []
 
 
 def main():
