@@ -302,13 +302,17 @@ def file_start(kind):
 
 
 def write_binlog(path, kind, events, target):
-    """Repeats the events until the file has the target length, or just above.
-
-    Each repetition gets its own positions, which grow through the file.
-    """
-    start = file_start(kind)
+    """A log of a kind with these events, as `write_repeated` repeats them."""
     if has_checksums(kind):
         events = [with_room_for_checksum(one) for one in events]
+    write_repeated(path, file_start(kind), events, target, set_checksums if has_checksums(kind) else None)
+
+
+def write_repeated(path, start, events, target, set_ends=None):
+    """Repeats the events behind the start until the file has the target length, or just above.
+
+    Each repetition gets its own positions, which grow through the file; then `set_ends` may change its events.
+    """
     block = bytearray().join(events)
     ends = event_ends(events)
     length = len(start)
@@ -317,8 +321,8 @@ def write_binlog(path, kind, events, target):
         file.write(start)
         while length < target:
             set_positions(block, ends, length)
-            if has_checksums(kind):
-                set_checksums(block, ends)
+            if set_ends is not None:
+                set_ends(block, ends)
             used = used_length(ends, target - length)
             file.write(block[:used])
             length += used

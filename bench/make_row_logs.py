@@ -19,7 +19,7 @@ from pathlib import Path
 
 from arguments import arguments
 import make_binlogs
-from make_binlogs import GTID, QUERY, TABLE_MAP, XID, event, event_ends, gtid_times, set_positions, untagged_gtid, used_length
+from make_binlogs import GTID, QUERY, TABLE_MAP, XID, event, gtid_times, untagged_gtid, write_repeated
 
 import samples  # found by way of make_binlogs
 from row_events import counted, datetime2, decimal, field, first_bits, names
@@ -170,23 +170,6 @@ def maria_start():
 KINDS = {"mysql": (mysql_start, mysql_events, 7), "maria": (maria_start, maria_events, 6)}
 
 
-def write_log(path, begin, events, target):
-    """Repeats the events until the file has the target length, or just above, and ends with a transaction."""
-    content = begin()
-    block = bytearray().join(events)
-    ends = event_ends(events)
-    length = len(content)
-    unfinished = path.with_suffix(".unfinished")
-    with open(unfinished, "wb") as file:
-        file.write(content)
-        while length < target:
-            set_positions(block, ends, length)
-            used = used_length(ends, target - length)
-            file.write(block[:used])
-            length += used
-    unfinished.rename(path)
-
-
 def make_kind(folder, kind):
     begin, make_events, count = KINDS[kind]
     events = list(make_events(random.Random("rows")))
@@ -195,8 +178,8 @@ def make_kind(folder, kind):
     for name, target in targets.items():
         path = folder / f"{name}.binlog"
         if not path.exists():
-            write_log(path, begin, events, target)
-    write_log(folder / f"start_rows_{kind}.binlog", begin, first, len(begin()) + sum(map(len, first)))
+            write_repeated(path, begin(), events, target)
+    write_repeated(folder / f"start_rows_{kind}.binlog", begin(), first, len(begin()) + sum(map(len, first)))
 
 
 def main(arguments):

@@ -26,6 +26,7 @@ from functools import partial
 from itertools import chain, product
 from pathlib import Path
 
+import compact_model
 import encoded_events
 import encoded_logs
 import gtid_model
@@ -33,9 +34,11 @@ import json_model
 import listing_model
 import maria_events
 import maria_json_model
+import payload_model
 import programs
 import results
 import row_lines
+import row_values
 import samples
 import table_filters
 from damaged_copies import EVENT, MAGIC, PROCESSES_AT_A_TIME, SIZE_OFFSET, frame_starts, with_byte
@@ -547,6 +550,52 @@ def stored_rows(runner):
     yield runner.check(["list", "--stored", "0.bin"], Result(b"", USAGE, r"(?s).+"), [log])
 
 
+def compact_rows(runner):
+    """The rows alone, a line for each, with the names of files; and those that filters take, with the GTIDs of events that they leave out."""
+    sample, _ = row_lines.sample()
+    logs = [sample, SAMPLE, CHECKSUMMED, GTIDS, places_log()[0], *(log.content for log in maria_events.logs())]
+    for log in logs:
+        for options in ([], ["--stored"]):
+            output, status = compact_model.expected(log, "0.bin", keeps_stored=bool(options))
+            yield runner.check(["json", "--compact", *options, "0.bin"], Result(output, status, MESSAGES if status else ""), [log])
+    two = [sample, transactions(1)]
+    lines = b"".join(compact_model.expected(log, f"{place}.bin")[0] for place, log in enumerate(two))
+    yield runner.check(["json", "--compact", "0.bin", MISSING, "1.bin"], Result(lines, NOT_OPENED, NOT_FOUND), two)
+    yield runner.check(["list", "--compact", "0.bin"], Result(b"", USAGE, r"(?s).+"), [sample])
+
+
+def places_log():
+    """A log of rows in four transactions, behind a damaged event, and inside a compressed transaction; and where each row stands."""
+    table, row = (row_values.framed(*event) for event in (row_lines.FIRST, row_lines.written(1, 7, b"a")))
+    broken = row_values.framed(row_lines.TABLE_MAP, row_lines.FIRST[1][:12])
+    inside = table + row + samples.gtid(9) + row
+    payload = row_values.framed(json_model.PAYLOAD, payload_model.written(255, len(inside), inside))
+    anonymous = samples.frame(compact_model.ANONYMOUS, samples.gtid_body(bytes(16), 0))
+    events = [samples.gtid(1), table, row, row, samples.gtid(2), payload, row, anonymous, row, samples.tagged_gtid(b"t", 3), row, broken, row, samples.gtid(4), row]
+    starts, log = [], row_values.start(row_lines.VERSIONS[0])
+    for event in events:
+        starts.append(len(log))
+        log += event
+    of = lambda number: f"{SID}:{number}"
+    rows = [(2, None, of(1)), (3, None, of(1)), (5, 1, of(2)), (5, 3, of(2)), (6, None, of(2)), (8, None, None), (10, None, f"{TAGGED_SID}:t:3")]
+    wanted = [(starts[index], part, gtid) for index, part, gtid in rows]
+    # Behind the damaged event neither the position nor the GTID is known: the headers state the log position 0.
+    return log, [*wanted, (None, None, None), (None, None, of(4))]
+
+
+def compact_places(runner):
+    """Where rows stand, and the GTIDs of their transactions; the same with filters."""
+    log, wanted = places_log()
+    places = lambda words: [
+        (line["pos"], line.get("part"), line["gtid"])
+        for line in map(json.loads, runner.run(["json", "--compact", *words, "0.bin"], [log]).stdout.splitlines())
+        if "op" in line
+    ]
+    outside = [place for place in wanted if place[1] is None]
+    for words, taken in (([], wanted), (["--type", "WRITE_ROWS"], outside), (["--type", "TRANSACTION_PAYLOAD"], wanted[2:4]), (["--include-gtids", f"{SID}:2"], wanted[2:5])):
+        yield None if places(words) == taken else f"json --compact {words}: {places(words)}, not {taken}"
+
+
 def maria_transactions(runner):
     """Filters take whole transactions of a log that MariaDB wrote, and the events of the log itself."""
     log, events, numbers = maria_log()
@@ -845,7 +894,7 @@ def installs(runner):
 
 
 PARTS = (models, damaged, cut_logs, cut_ends, reported, several, filters, gtid_filters, names, gtids, maria_gtids, stored, stats)
-PARTS += (tables, no_tables, copies, maria, maria_transactions, maria_gtid_filters, no_sets, stored_rows, words, ends, progress, followed, installs)
+PARTS += (tables, no_tables, copies, maria, maria_transactions, maria_gtid_filters, no_sets, stored_rows, compact_rows, compact_places, words, ends, progress, followed, installs)
 
 
 def results_of(build, part):

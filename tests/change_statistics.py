@@ -1,13 +1,14 @@
 #!/usr/bin/env python3
-"""Compares `binlog stats --by table`, `--by time` and `--by transaction` with an independent count.
+"""Compares `binlog stats --by table`, `--by time`, `--by transaction` and `--by type --json` with an independent count.
 
 Usage: change_statistics.py [--count N] FLAG
 
 FLAG is one of `programs.py`: it says which `binlog` is run. The text and the lines of JSON are those of the count of
 `statistics_model.py`: over logs of both servers whose table ids are given to one table after another, over N damaged row events of
 every type of column (4,000 if not given), over damaged copies, over several files, with filters, and with `--top`. A log of 65,536
-tables is counted, and one of 65,537 has a message and the status 3. The last line is `N passed, M failed`; the exit status is 1 if
-something failed.
+tables is counted, and one of 65,537 has a message and the status 3; so has a transaction of as many tables. MariaDB's compressed row
+events are made by Python's zlib, some damaged before they are compressed, some behind. The last line is `N passed, M failed`; the exit
+status is 1 if something failed.
 """
 
 import argparse
@@ -18,14 +19,17 @@ import tempfile
 from pathlib import Path
 
 import encoded_events as encode
+import event_data_model
 import grouped_events
 import maria_events
+import maria_json_model
 import programs
 import results
 import row_events
 import row_values
 import table_filters
 from row_values import framed, start
+from samples import POST_HEADER_LENGTHS
 from statistics_model import Counts
 
 FINE, DAMAGED, FAILED, USAGE = 0, 2, 3, 64
@@ -34,6 +38,8 @@ MOST_INTERVALS = 1_048_576
 SID = bytes(range(16))
 INT = 3
 DAMAGED_COPIES = 150
+# The types of MariaDB's compressed row events, by those of the events that were compressed.
+COMPRESSED = {plain: kind for kind, plain in maria_json_model.ROWS_COMPRESSED.items()}
 
 
 class Runner:
@@ -72,6 +78,16 @@ class Runner:
         words = [*words, "--by", "transaction", *(() if top is None else ("--top", str(top)))]
         yield from self.compare(name, logs, words, grouped_events.transactions_text(counts.events, top), grouped_events.transactions_json(counts.events, top))
 
+    def check_types(self, name, logs, words=(), is_taken=lambda kind: True):
+        """The same of the lines of JSON of the statistics by type."""
+        counts = Counts(is_taken)
+        for log in logs:
+            counts.add_log(log)
+        for grouping in ((), ("--by", "type")):
+            finished, wanted = self.run(logs, [*words, *grouping, "--json"]), grouped_events.types_json(counts.events, counts.damaged)
+            is_right = finished.returncode in (FINE, DAMAGED) and finished.stdout == wanted
+            yield None if is_right else f"{name} {words}: status {finished.returncode}, {finished.stdout}, not {wanted} {finished.stderr[-200:]}"
+
     def compare(self, name, logs, words, text, lines, statuses=(FINE, DAMAGED)):
         for more, wanted in (((), text), (("--json",), lines)):
             finished = self.run(logs, [*words, *more])
@@ -90,14 +106,21 @@ def gtid(number, is_maria):
     return made.type, made.body
 
 
-def log_of(is_maria, events):
-    """A log with these events, each one of its second."""
+def other_gtid(number):
+    """One of MySQL's with a tag, or that of an anonymous transaction."""
+    tagged = [("flags", 0), ("sid", SID), ("gno", number), ("tag", f"tag_{number}")]
+    made = encode.tagged_gtid(tagged) if number % 2 else encode.gtid(34, sid=bytes(16), gno=0)
+    return made.type, made.body
+
+
+def log_of(is_maria, events, step=7):
+    """A log with these events, each one of its second; with a negative step each is earlier than the one before it."""
     frames = ((place, framed(kind, body)) for place, (kind, body) in enumerate(events))
-    timed = b"".join((1_700_000_000 + 7 * place).to_bytes(4, "little") + frame[4:] for place, frame in frames)
+    timed = b"".join((1_700_000_000 + step * place).to_bytes(4, "little") + frame[4:] for place, frame in frames)
     return start(table_filters.MARIA if is_maria else table_filters.MYSQL) + timed
 
 
-def transactions(seed, is_maria, count):
+def transactions(seed, is_maria, count, step=7):
     """Random events with GTIDs among them, and rows of several tables in one transaction."""
     chance = random.Random(seed)
     state = table_filters.State(chance, is_maria, False)
@@ -108,7 +131,7 @@ def transactions(seed, is_maria, count):
         else:
             made = state.event()
             events.append((made.type, made.body))
-    return log_of(is_maria, events)
+    return log_of(is_maria, events, step)
 
 
 def one_row_map(number, database, table):
@@ -119,6 +142,29 @@ def one_row_map(number, database, table):
 def inserted(number, *values):
     content = b"".join(b"\0" + value.to_bytes(4, "little") for value in values)
     return row_values.row_event(row_values.WHOLE[3], number, [True], [True], content)
+
+
+def compressed(chance, kind, body):
+    """A row event as MariaDB compresses it, some of them damaged before, and some behind."""
+    rows = event_data_model.fields(kind, body, POST_HEADER_LENGTHS)["rows_data"].bytes
+    head = body[: len(body) - len(rows)]
+    if rows and chance.random() < 0.3:
+        rows = row_values.damage(chance, rows)
+    stored = head + maria_events.stored(rows, chance.choice((None, 3, 4)), chance.randrange(10))
+    return COMPRESSED[kind], row_values.damage(chance, stored) if chance.random() < 0.3 else stored
+
+
+def compressed_log(chance, kinds, is_maria, count):
+    """Row events of every type of column, compressed where MariaDB has such a type."""
+    events = []
+    while len(events) < count:
+        chosen, table = row_values.random_table(chance, kinds)
+        events.append(table)
+        for _ in range(chance.randint(1, 6)):
+            number = int.from_bytes(table[1][:6], "little") if chance.random() < 0.95 else 9
+            kind, body = row_values.random_event(chance, chosen, number)
+            events.append(compressed(chance, kind, body) if kind in COMPRESSED else (kind, body))
+    return log_of(is_maria, events)
 
 
 def many_tables(count):
@@ -174,11 +220,29 @@ def by_transaction(runner):
     equal = log_of(False, [gtid(number, False) for number in range(1, 51)])
     for top in (None, 1, 49, 50, 51):
         yield from runner.check_transactions("50 of one size", [equal], top)
+    yield from runner.check_transactions("tags, and no GTIDs", [log_of(False, [other_gtid(number) for number in range(1, 51)])])
+    yield from runner.check_transactions("back in time", [transactions(5, False, 80, step=-7)])
     chance, log = random.Random(9), logs[0]
     for _ in range(DAMAGED_COPIES):
         place = chance.randrange(4, len(log))
         copy = log[:place] + bytes([log[place] ^ chance.randrange(1, 256)]) + log[place + 1 :]
         yield from runner.check_transactions(f"byte {place} changed", [copy])
+
+
+def by_type(runner):
+    for seed in range(30):
+        yield from runner.check_types(f"log {seed}", [transactions(seed, seed % 2 == 1, 120)])
+    logs = [transactions(seed, seed == 2, 80) for seed in range(4)]
+    yield from runner.check_types("four files", logs)
+    yield from runner.check_types("four files", logs, ["--type", "WRITE_ROWS"], lambda kind: kind == 30)
+    yield from runner.check_types("no event", [start(table_filters.MYSQL)], ["--type", "XID"], lambda kind: kind == 16)
+    every_type = b"".join(framed(kind, bytes(8)) for kind in range(256) if kind not in (4, 15, 19))
+    yield from runner.check_types("every type", [start(table_filters.MYSQL) + every_type])
+    chance, log = random.Random(10), logs[0]
+    for _ in range(DAMAGED_COPIES):
+        place = chance.randrange(4, len(log))
+        copy = log[:place] + bytes([log[place] ^ chance.randrange(1, 256)]) + log[place + 1 :]
+        yield from runner.check_types(f"byte {place} changed", [copy])
 
 
 def event_at(time):
@@ -206,6 +270,21 @@ def damaged_events(runner, count):
         yield from found
         yield from [None] * (rows - len(found) if not any(found) else 0)
         count, seed = count - rows, seed + 1
+
+
+def compressed_events(runner):
+    """Compressed rows. A server of MySQL's has no such types."""
+    chance, kinds = random.Random(63), list(row_events.kinds())
+    for seed in range(40):
+        yield from runner.check(f"compressed events, log {seed}", [compressed_log(chance, kinds, seed % 8 != 0, 100)])
+    log = compressed_log(chance, kinds, True, 100)
+    yield from runner.check_intervals("compressed events", [log], 60, "1m")
+    yield from runner.check_transactions("compressed events", [log])
+    kind, body = inserted(1, *range(50_000))
+    head, rows = body[: -5 * 50_000], body[-5 * 50_000 :]
+    for content in (rows, rows[:-1], b""):
+        event = COMPRESSED[kind], head + maria_events.stored(content)
+        yield from runner.check(f"{len(content)} bytes of rows", [log_of(True, [one_row_map(1, b"d", b"t"), event])], statuses=(FINE,))
 
 
 def damaged_copies(runner):
@@ -242,9 +321,24 @@ def caps(runner):
         yield None if is_right else f"65,537 tables: {finished.returncode} {finished.stdout[:80]} {finished.stderr[-200:]}"
 
 
+def transaction_caps(runner):
+    """A transaction of as many tables as are counted, and one of one more, alone and where it isn't kept."""
+    for count, is_full in ((MOST_TABLES, False), (MOST_TABLES + 1, True)):
+        log = log_of(False, [gtid(1, False), *many_tables(count)])
+        for words in ((), ("--json",)):
+            finished = runner.run([log], ["--by", "transaction", *words])
+            if is_full:
+                is_right = (finished.returncode, finished.stdout) == (FAILED, b"") and b"more than 65536 tables" in finished.stderr
+            else:
+                is_right = finished.returncode == FINE and finished.stdout.count(b"table") >= count
+            yield None if is_right else f"a transaction of {count} tables: {finished.returncode} {finished.stdout[:80]} {finished.stderr[-200:]}"
+        finished = runner.run([log], ["--by", "transaction", "--top", "0"])
+        yield None if finished.returncode == FINE else f"{count} tables, none kept: {finished.returncode} {finished.stderr[-200:]}"
+
+
 def usage(runner):
     log = transactions(0, False, 10)
-    wrong = (["--by", "row"], ["--by", ""], ["--by", "table", "--top", "x"], ["--by", "table", "--top", "-1"], ["--top", "1"], ["--json"], ["--by", "type", "--json"])
+    wrong = (["--by", "row"], ["--by", ""], ["--by", "table", "--top", "x"], ["--by", "table", "--top", "-1"], ["--top", "1"], ["--by", "type", "--json", "--top", "1"])
     for words in (*wrong, ["--by", "time=0s"], ["--by", "time=60"], ["--by", "time=s"]):
         finished = runner.run([log], words)
         yield None if (finished.returncode, finished.stdout) == (USAGE, b"") else f"{words}: {finished}"
@@ -257,7 +351,7 @@ def main():
     arguments = programs.parsed(parser, "binlog")
     with tempfile.TemporaryDirectory() as folder:
         runner = Runner(arguments.build.command("binlog"), folder)
-        found = [result for part in (random_logs, several_files, by_time, by_transaction, damaged_copies, names, caps, interval_caps, usage) for result in part(runner)]
+        found = [result for part in (random_logs, several_files, by_type, by_time, by_transaction, compressed_events, damaged_copies, names, caps, transaction_caps, interval_caps, usage) for result in part(runner)]
         found += damaged_events(runner, arguments.count)
     return results.report(found)
 

@@ -16,12 +16,12 @@ single-byte set, and states its collations; where there is none, a line says so.
 
 import argparse
 import random
-import subprocess
 import sys
 import tempfile
 from pathlib import Path
 
 import programs
+import questions
 import results
 from character_model import UNICODE, collations, single_byte_sets, unicode_text
 from maria_daemon import LeftOut, Server, program_in
@@ -170,29 +170,19 @@ def server_cases(server):
 # ---- The comparison
 
 
-def failures(words, cases):
-    cases = list(cases)
-    content = "".join(f"{asked}\n" for asked, _ in cases).encode()
-    finished = subprocess.run(words, input=content, stdout=subprocess.PIPE)
-    answers = finished.stdout.decode().splitlines()
-    yield None if finished.returncode == 0 and len(answers) == len(cases) else f"{len(answers)} answers of {len(cases)}, status {finished.returncode}"
-    for (asked, wanted), found in zip(cases, answers):
-        yield None if found == wanted else f"{asked}: {found}, not {wanted}"
-
-
 def all_failures(words):
     sets = single_byte_sets()
-    yield from failures(words, single_byte_cases(sets))
-    yield from failures(words, codec_cases(sets))
-    yield from failures(words, unicode_cases())
-    yield from failures(words, collation_cases(collations()))
-    yield from failures(words, name_cases(sets))
+    yield from questions.compared(words, single_byte_cases(sets))
+    yield from questions.compared(words, codec_cases(sets))
+    yield from questions.compared(words, unicode_cases())
+    yield from questions.compared(words, collation_cases(collations()))
+    yield from questions.compared(words, name_cases(sets))
     try:
         with tempfile.TemporaryDirectory() as folder:
             daemon = program_in(Path(folder) / "unpacked")
             with Server(daemon, Path(folder) / "server", []) as server:
                 cases = list(server_cases(server))
-        yield from failures(words, cases)
+        yield from questions.compared(words, cases)
     except LeftOut as reason:
         print(f"{reason}: no server is asked")
 

@@ -16,6 +16,7 @@ import sys
 from pathlib import Path
 
 import programs
+import questions
 import results
 
 CASES = Path(__file__).resolve().parent / "cases/column_files.txt"
@@ -175,22 +176,9 @@ def wanted_answer(wanted):
 # ---- runs
 
 
-def answers(words, texts):
-    questions = "".join(f"file {text.hex() or '-'}\n" for text in texts)
-    return subprocess.run(words, input=questions.encode(), stdout=subprocess.PIPE, check=True).stdout.decode().splitlines()
-
-
 def faults(words, count):
-    asked = [(text, wanted_answer(wanted)) for text, wanted in cases()]
-    # The model is right about the cases, too.
-    for text, wanted in asked:
-        found = expected(text)
-        yield None if found == wanted else f"the model has {found} of {text}, not {wanted}"
-    asked += [(text, expected(text)) for text in random_texts(count)]
-    found = answers(words, [text for text, _ in asked])
-    assert len(found) == len(asked)
-    for (text, wanted), answer in zip(asked, found):
-        yield None if answer == wanted else f"{text}: {answer}, not {wanted}"
+    answered = ((text, wanted_answer(wanted)) for text, wanted in cases())
+    return questions.beside_model(words, "file", answered, random_texts(count), expected)
 
 
 def main():

@@ -11,11 +11,11 @@ them damaged. The last line is `N passed, M failed`; the exit status is 1 if som
 import argparse
 import random
 import re
-import subprocess
 import sys
 from pathlib import Path
 
 import programs
+import questions
 import results
 
 CASES = Path(__file__).resolve().parent / "cases/column_types.txt"
@@ -138,11 +138,6 @@ def cases():
             yield text.encode(), answer
 
 
-def answers(words, texts):
-    questions = "".join(f"type {text.hex() or '-'}\n" for text in texts)
-    return subprocess.run(words, input=questions.encode(), stdout=subprocess.PIPE, check=True).stdout.decode().splitlines()
-
-
 def random_texts(count):
     chance = random.Random(62)
     for index in range(count):
@@ -151,16 +146,7 @@ def random_texts(count):
 
 
 def faults(words, count):
-    asked = list(cases())
-    # The model is right about the cases, too.
-    for text, wanted in asked:
-        found = expected(text)
-        yield None if found == wanted else f"the model has {found} of {text}, not {wanted}"
-    asked += [(text, expected(text)) for text in random_texts(count)]
-    found = answers(words, [text for text, _ in asked])
-    assert len(found) == len(asked)
-    for (text, wanted), answer in zip(asked, found):
-        yield None if answer == wanted else f"{text}: {answer}, not {wanted}"
+    return questions.beside_model(words, "type", cases(), random_texts(count), expected)
 
 
 def main():

@@ -1,20 +1,30 @@
-"""Counts of events by time and by transaction, written from `docs/STATISTICS.md` over what `statistics_model.py` says of each event."""
+"""Counts of events by type, by time and by transaction, written from `docs/STATISTICS.md` over what `statistics_model.py` says of each
+event."""
 
 import json
 from dataclasses import dataclass
 from datetime import datetime, timezone
 
+import json_model
+import maria_json_model
+
 CHANGES = ("inserted", "updated", "deleted")
+# What is printed of a transaction, and of a table in it.
+COUNTS = ("events", "bytes", *CHANGES, "unread_events")
 # The classes of sizes, by the number of binary digits.
 SIZE_CLASSES = 65
 # How many of the largest transactions are printed if no number is asked for.
 DEFAULT_TOP = 20
+TYPE_NAMES = json_model.NAMES | maria_json_model.NAMES
 
 
 @dataclass
 class Event:
-    """What is counted of an event: whether a transaction begins with it, its rows by how they change a table, and where it ends."""
+    """What is counted of an event: its index in its log, its type, whether a transaction begins with it, its rows by how they change a
+    table, where it ends, and the GTID of the transaction that begins with it."""
 
+    index: int
+    kind: int
     begins: bool
     time: int
     bytes: int
@@ -22,12 +32,24 @@ class Event:
     change: str = ""
     rows: int = 0
     is_unread: bool = False
+    # The names of the table of which it has rows.
+    table: tuple = None
+    gtid: str = ""
 
 
 def counts_of(events):
     rows = {change: sum(event.rows for event in events if event.change == change) for change in CHANGES}
     sizes = {"events": len(events), "bytes": sum(event.bytes for event in events), "transactions": sum(event.begins for event in events)}
     return sizes | rows | {"unread_events": sum(event.is_unread for event in events)}
+
+
+def tables_of(events):
+    """The events of each table of which some have rows, by its names, in the order of the first ones."""
+    found = {}
+    for event in events:
+        if event.table is not None:
+            found.setdefault(event.table, []).append(event)
+    return found
 
 
 def intervals(events, seconds):
@@ -53,7 +75,21 @@ def transactions(events):
 
 
 def line(value):
-    return json.dumps(value, separators=(",", ":")) + "\n"
+    return json.dumps(value, ensure_ascii=False, separators=(",", ":")) + "\n"
+
+
+def text_of(name):
+    try:
+        return name.decode()
+    except UnicodeDecodeError:
+        return "?"
+
+
+def name_value(name):
+    try:
+        return name.decode()
+    except UnicodeDecodeError:
+        return {"hex": name.hex()}
 
 
 def time_text(seconds):
@@ -62,6 +98,24 @@ def time_text(seconds):
 
 def words_of(counts, names):
     return " ".join(f"{counts[name]} {name.removesuffix('_events')}" for name in names)
+
+
+def type_of(kind):
+    return {"type": kind, "name": TYPE_NAMES.get(kind)}
+
+
+def types_json(events, damaged):
+    """The lines of all types, and of each. The largest event is the first one of its size."""
+    first, last = (events[0].time, events[-1].time) if events else (None, None)
+    largest = max(events, key=lambda event: event.bytes, default=None)
+    head = {"events": len(events), "bytes": sum(event.bytes for event in events), "damaged": damaged, "transactions": sum(event.begins for event in events)}
+    head |= {"first_time": first, "last_time": last}
+    head["largest"] = largest and {"index": largest.index, "bytes": largest.bytes} | type_of(largest.kind)
+    by_kind = {}
+    for event in events:
+        by_kind.setdefault(event.kind, []).append(event)
+    lines = [type_of(kind) | {"events": len(found), "bytes": sum(event.bytes for event in found)} for kind, found in sorted(by_kind.items())]
+    return "".join(map(line, [head, *lines])).encode()
 
 
 def intervals_text(events, seconds):
@@ -92,7 +146,12 @@ def largest(groups, top):
 def places_of(members):
     first, last = members[0], members[-1]
     begin = first.end - first.bytes if first.bytes <= first.end else None
-    return {"position": begin, "end_position": last.end, "first_time": first.time, "last_time": last.time}
+    places = {"gtid": first.gtid or None, "position": begin, "end_position": last.end, "first_time": first.time, "last_time": last.time}
+    return places | {"duration": last.time - first.time if first.time <= last.time else None}
+
+
+def number_text(number):
+    return "?" if number is None else str(number)
 
 
 def transactions_text(events, top=None):
@@ -103,18 +162,24 @@ def transactions_text(events, top=None):
             lines.append(f"size {2**digits // 2} {count} transactions")
     for members in largest(groups, top):
         places = places_of(members)
-        begin = "?" if places["position"] is None else places["position"]
-        counts = words_of(counts_of(members), ("events", "bytes", *CHANGES, "unread_events"))
-        times = f"first {time_text(places['first_time'])} last {time_text(places['last_time'])}"
-        lines.append(f"transaction {begin} to {places['end_position']} {counts} {times}")
+        place = f"transaction {number_text(places['position'])} to {places['end_position']}"
+        named = f" gtid {places['gtid']}" if places["gtid"] else ""
+        times = f"first {time_text(places['first_time'])} last {time_text(places['last_time'])} {number_text(places['duration'])} seconds"
+        lines.append(f"{place}{named} {words_of(counts_of(members), COUNTS)} {times}")
+        for name, found in tables_of(members).items():
+            lines.append(f"  table {'.'.join(map(text_of, name))} {words_of(counts_of(found), COUNTS)}")
     return "".join(text + "\n" for text in lines).encode()
+
+
+def printed(events):
+    counts = counts_of(events)
+    return {name: counts[name] for name in COUNTS}
 
 
 def transactions_json(events, top=None):
     groups = transactions(events)
     lines = [{"transactions": len(groups), "sizes": sizes_of(groups)}]
     for members in largest(groups, top):
-        counts = counts_of(members)
-        del counts["transactions"]
-        lines.append(places_of(members) | counts)
+        tables = [{"database": name_value(name[0]), "table": name_value(name[1])} | printed(found) for name, found in tables_of(members).items()]
+        lines.append(places_of(members) | printed(members) | {"tables": tables})
     return "".join(map(line, lines)).encode()

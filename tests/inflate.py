@@ -20,6 +20,7 @@ from pathlib import Path
 
 import programs
 import results
+from compressible_texts import random_text
 
 STREAMS = 1500
 DAMAGED_COPIES = 3
@@ -34,26 +35,6 @@ STRATEGIES = [
     zlib.Z_FIXED,
 ]
 FLUSHES = [zlib.Z_NO_FLUSH, zlib.Z_SYNC_FLUSH, zlib.Z_FULL_FLUSH, zlib.Z_PARTIAL_FLUSH]
-
-
-def random_text(rng):
-    """Bytes of a few kinds: random ones, words, runs, and copies from far back."""
-    text = bytearray()
-    wanted = int(LONGEST_TEXT ** rng.random())
-    alphabet = bytes(rng.randrange(256) for _ in range(rng.choice([1, 2, 5, 20, 256])))
-    while len(text) < wanted:
-        kind = rng.randrange(4)
-        count = rng.randrange(1, 400)
-        if kind == 0:
-            text += bytes(rng.choice(alphabet) for _ in range(count))
-        elif kind == 1:
-            text += bytes([rng.choice(alphabet)]) * count
-        elif kind == 2 and text:
-            start = rng.randrange(max(0, len(text) - 32_768), len(text))
-            text += text[start : start + count]
-        else:
-            text += rng.randbytes(count % 40)
-    return bytes(text)
 
 
 def compressed(rng, text):
@@ -108,7 +89,7 @@ def wanted_of(stream):
 def streams(count):
     for seed in range(count):
         rng = random.Random(seed)
-        stream = compressed(rng, random_text(rng))
+        stream = compressed(rng, random_text(rng, LONGEST_TEXT))
         yield f"stream {seed}", stream
         for copy in range(DAMAGED_COPIES):
             changed = damaged(rng, stream)

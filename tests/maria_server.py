@@ -5,13 +5,14 @@ Usage: maria_server.py [--logs FOLDER] FLAG
 
 FLAG is one of `programs.py`. A server runs a mixed load in a temporary folder, on a socket there, and is shut down. Then, of
 each log, a test each: that each event is listed with the type, end and checksum that `mariadb-binlog` prints; that the listing
-and the lines of JSON are those of their models; that the log is written back byte for byte; that the lines of MariaDB's own events
-have the words of another model, and that there is none under another server's version; that each of these events is printed by
-`mariadb-binlog` as these words say; and that the load has events of each kind that the server can write. Another server has tables of
-all types and character sets, whose log states nothing of columns, or little: the rows that its lines of JSON with a file of columns
-say are compared, value by value, with what the server selects. A third one is sent statements in every character set, whose texts in
-lines of JSON are compared with the characters that the server made of them. A fourth one encrypts its log, of which the start is
-compared. With --logs the logs in FOLDER are compared, and no server is started.
+and the lines of JSON are those of their models; that the log is written back byte for byte; that statistics are those of an
+independent count, and count the rows of each table that `mariadb-binlog` prints; that the lines of MariaDB's own events have
+the words of another model, and that there is none under another server's version; that each of these events is printed by
+`mariadb-binlog` as these words say; and that the load has events of each kind that the server can write. Another server has
+tables of all types and character sets, whose log states nothing of columns, or little: the rows that its lines of JSON with a
+file of columns say are compared, value by value, with what the server selects. A third one is sent statements in every
+character set, whose texts in lines of JSON are compared with the characters that the server made of them. A fourth one encrypts
+its log, of which the start is compared. With --logs the logs in FOLDER are compared, and no server is started.
 
 Where there is no server that is known (`maria_daemon.py` says where it comes from), or the client's programs `mariadb` and
 `mariadb-binlog` aren't there, a line says so, nothing is run, and both numbers are 0. Where the server has no plugin for
@@ -34,6 +35,7 @@ import maria_model
 import maria_printed
 import programs
 import results
+import server_statistics
 import written_back
 from damaged_copies import failure
 from maria_daemon import SECONDS_TO_RUN, LeftOut, Server, is_within, plugins_of, program_in
@@ -108,6 +110,7 @@ def log_failures(build, path):
     yield from model_failures(build, path.name, content)
     for words in build.commands("write back"):
         yield written_back.failure(words, path.name, content)
+    yield from server_statistics.failures(build.command("binlog"), path)
 
 
 def own_event_failures(words, content):
@@ -246,7 +249,7 @@ def main():
     parser = argparse.ArgumentParser(description="Compares what is read of a MariaDB server's logs.")
     programs.add_flags(parser)
     parser.add_argument("--logs", type=Path)
-    arguments = programs.parsed(parser, "list", "json", "write back")
+    arguments = programs.parsed(parser, "list", "json", "write back", "binlog")
     try:
         if arguments.logs:
             return results.report(all_failures(arguments.build, sorted(arguments.logs.glob("*-bin.0*"))))

@@ -12,7 +12,7 @@ checksums, with tags and without GTIDs; it is shut down once, and killed once. T
 - that each value of a row is the one that the server selects, too, by a file of columns that is the server's own answer, where the log
   states the names and members of no column;
 - that each field of the optional metadata states what the server says of the columns and keys;
-- that the listing, the lines and the GTIDs of a log are those of their models, and that all of its events are verified;
+- that the listing, the lines, the GTIDs and the statistics of a log are those of their models, and that all of its events are verified;
 - that the GTIDs are those that the next log begins with, and at the end those that the server has executed;
 - that a copy has the bytes of its log, and that each table is the same in another server, in which the copies are replayed.
 
@@ -38,6 +38,7 @@ import mysql_documents
 import mysql_metadata
 import mysql_printed
 import results
+import server_statistics
 from damaged_copies import first_difference
 from mysql_columns import collations_of, columns_of
 from mysql_daemon import LeftOut, Server, unpacked
@@ -127,7 +128,7 @@ def metadata_failures(log, described):
 
 
 def model_failures(program, path):
-    """Whether listing, lines and GTIDs are those of their models."""
+    """Whether listing, lines, GTIDs and statistics are those of their models."""
     content = path.read_bytes()
     for command, model in (("list", listing_model), ("json", json_model), ("gtids", gtid_model)):
         finished = subprocess.run([program, command, path], capture_output=True)
@@ -136,6 +137,7 @@ def model_failures(program, path):
             yield f"{command}, unlike its model: status {finished.returncode}, {first_difference(finished.stdout, output)[:500]}"
         else:
             yield None
+    yield from server_statistics.model_failures([program], path)
 
 
 def verified(program, log):

@@ -95,10 +95,11 @@ def difference(name, found, wanted):
 
 
 def agrees(name, binlog, content, *words):
-    """Compares with the model."""
+    """Compares with the model, and the rows alone with theirs."""
     found, status = output_of(binlog, content, *words)
     wanted, wanted_status = json_model.expected(content, "--stored" in words)
-    return difference(name, found, wanted) or (f"{name}: status {status}" if status != wanted_status else None)
+    wrong = difference(name, found, wanted) or (f"{name}: status {status}" if status != wanted_status else None)
+    return wrong or row_lines.compact_failure(name, binlog, content, words)
 
 
 # ---- the same events outside and inside

@@ -12,12 +12,12 @@ status is 1 if something failed.
 
 import argparse
 import random
-import subprocess
 import sys
 
 import cases
 import payload_model
 import programs
+import questions
 import results
 from payload_model import HEADER, KINDS, Refusal, content_of, event_of, lenenc_bytes, written
 
@@ -213,11 +213,6 @@ def wanted_of(data, wanted, names):
     yield from parts[2:]
 
 
-def answers(words, questions):
-    text = "".join(f"{question}\n" for question in questions)
-    return subprocess.run(words, input=text.encode(), stdout=subprocess.PIPE, check=True).stdout.decode().splitlines()
-
-
 def faults(words, count):
     wanted = []
     for name, limit, data, answer in cases_of():
@@ -229,10 +224,7 @@ def faults(words, count):
         wanted.append((f"payload {limit} {data.hex() or '-'}", expected(limit, data)))
     for stream, content, answer in inner_cases():
         wanted.append((f"inner {stream.hex()} {content.hex() or '-'}", answer))
-    found = answers(words, [question for question, _ in wanted])
-    assert len(found) == len(wanted)
-    for (question, answer), given in zip(wanted, found):
-        yield None if given == answer else f"{question[:300]}: {given[:300]}, not {answer[:300]}"
+    yield from questions.compared(words, wanted)
     for refusal in REFUSALS:
         count = sum(f" {refusal}" in answer for _, answer in wanted)
         yield None if count else f"nothing is refused as {refusal}"

@@ -1,5 +1,5 @@
 #!/usr/bin/env python3
-"""Compares the rows in the lines of `binlog json` with an encoder of rows and with a model of them.
+"""Compares the rows in the lines of `binlog json` with an encoder of rows and with a model of them, and those of `--compact` with theirs.
 
 Usage: row_lines.py [--count N] FLAG
 
@@ -14,7 +14,9 @@ import json
 import random
 import subprocess
 import sys
+from itertools import zip_longest
 
+import compact_model
 import encoded_events as encode
 import json_model
 import programs
@@ -68,14 +70,24 @@ def lines_of(binlog, version, events, words=()):
 
 
 def failure(name, binlog, version, events, wanted, words=()):
-    """None if the lines are the wanted ones, else what is wrong."""
+    """None if the lines are the wanted ones, and those of rows alone the model's, else what is wrong."""
     found = lines_of(binlog, version, events, words)
     if isinstance(found, str) or len(found) != len(wanted):
         return f"{name}: {found if isinstance(found, str) else len(found)}, not {len(wanted)} lines"
     for line, wanted_line in zip(found, wanted):
         if not is_same(line, wanted_line):
             return f"{name}: {str(line[9:])[:400]}, not {str(wanted_line[9:])[:400]}"
-    return None
+    return None if "--type" in words else compact_failure(name, binlog, content_of(version, events), words)
+
+
+def compact_failure(name, binlog, content, words=()):
+    """None if the lines of rows alone are those of their model, else what is wrong."""
+    found = subprocess.run([*binlog, "json", "--compact", *words], input=content, capture_output=True)
+    wanted, status = compact_model.expected(content, "-", "--stored" in words)
+    if found.stdout == wanted and found.returncode == status:
+        return None
+    one = next(((have, want) for have, want in zip_longest(found.stdout.splitlines(), wanted.splitlines()) if have != want), found.returncode)
+    return f"{name}, rows alone: {str(one)[:800]}"
 
 
 def agrees(name, binlog, version, events, words):

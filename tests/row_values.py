@@ -103,6 +103,10 @@ class Tables:
             return [("error", "Columns")]
         if event["num_columns"] != len(columns):
             return [("error", "ColumnCount")]
+        return self.members(kind, body, event, table, columns)
+
+    def members(self, kind, body, event, table, columns):
+        """Those of an event of a table map with these columns."""
         return [("rows", row_model.rows_of_event(columns, table, event, self.is_maria, kind == PARTIAL[0]))]
 
 

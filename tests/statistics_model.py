@@ -5,13 +5,13 @@ A table is its pair of names. Its rows are counted as the model of rows finds th
 
 import json
 from collections import Counter
-from datetime import datetime, timezone
 
 import event_data_model
 import json_model
 import listing_model
 import maria_json_model
-from grouped_events import Event
+from compact_model import gtid_text
+from grouped_events import Event, name_value, text_of, time_text
 
 BEGINS = (33, 34, 42, 162)
 TABLE_MAP, ROTATE = 19, 4
@@ -28,26 +28,30 @@ class Counts:
 
     def __init__(self, is_taken=lambda kind: True):
         self.is_taken, self.transactions, self.unknown, self.tables, self.touched = is_taken, 0, [0, 0], {}, {}
-        # What is counted of each event that is taken.
-        self.events = []
+        # What is counted of each event that is taken, and how many errors are in the places of events.
+        self.events, self.damaged = [], 0
 
     def add_log(self, content):
         self.maps = {}
-        frames, _ = listing_model.split(content[4:])
-        for frame, in_force in zip(frames, listing_model.in_force_at(frames)):
+        frames, tail = listing_model.split(content[4:])
+        self.damaged += listing_model.is_undersized(tail)
+        for index, (frame, in_force) in enumerate(zip(frames, listing_model.in_force_at(frames))):
             parts = listing_model.cut(frame, in_force.algorithm)
             if parts is not None and listing_model.body_fault(frame, parts[0], in_force) is None:
-                self.add_event(frame, parts[0], in_force)
+                self.add_event(index, frame, parts[0], in_force)
+            else:
+                self.damaged += 1
         return self
 
-    def add_event(self, frame, data, in_force):
+    def add_event(self, index, frame, data, in_force):
         kind = listing_model.type_number(frame)
         self.follow(kind, data, in_force)
         if not self.is_taken(kind):
             return
         time, end = (int.from_bytes(frame[place : place + 4], "little") for place in (0, 13))
-        self.events.append(Event(kind in BEGINS, time, len(frame), end))
+        self.events.append(Event(index, kind, kind in BEGINS, time, len(frame), end))
         if kind in BEGINS:
+            self.events[-1].gtid = gtid_text(frame, data, in_force)
             self.transactions += 1
         is_maria = json_model.is_maria(in_force.server_version)
         if kind in PLAIN or (kind in COMPRESSED and is_maria):
@@ -79,12 +83,13 @@ class Counts:
         if table is None:
             return self.add_unknown(frame)
         name = table["database_name"].bytes, table["table_name"].bytes
-        count = None if kind in COMPRESSED else row_count(kind, event, table, is_maria)
+        rows = event if kind in PLAIN else uncompressed(event)
+        count = None if rows is None else row_count(plain, rows, table, is_maria)
         return self.add_changes(name, (PLAIN | COMPRESSED)[kind], count, frame)
 
     def add_changes(self, name, change, count, frame):
         event = self.events[-1]
-        event.change, event.rows, event.is_unread = change, count or 0, count is None
+        event.change, event.rows, event.is_unread, event.table = change, count or 0, count is None, name
         time = event.time
         found = self.tables.setdefault(name, Counter())
         found["events"] += 1
@@ -110,6 +115,14 @@ class Counts:
         return "".join(compact(line) + "\n" for line in [head, *(table_object(*row) for row in self.rows(top))]).encode()
 
 
+def uncompressed(event):
+    """A compressed event with the rows for which its bytes are stored; None if they are stored for none."""
+    try:
+        return event | {"rows_data": event_data_model.Bytes(maria_json_model.uncompressed(event["rows_data"].bytes))}
+    except event_data_model.Fault:
+        return None
+
+
 def row_count(kind, event, table, is_maria):
     """How many rows an event has; None if one of them is refused, or the table's columns are."""
     _, items = json_model.rows_of(kind, event, table, is_maria)
@@ -126,28 +139,10 @@ def compact(value):
     return json.dumps(value, ensure_ascii=False, separators=(",", ":"))
 
 
-def text_of(name):
-    try:
-        return name.decode()
-    except UnicodeDecodeError:
-        return "?"
-
-
-def time_text(seconds):
-    return datetime.fromtimestamp(seconds, timezone.utc).strftime("%Y-%m-%dT%H:%M:%SZ")
-
-
 def table_text(name, counts):
     numbers = " ".join(f"{counts[key]} {WORDS[key]}" for key in COUNTS)
     times = f"first {time_text(counts['first_time'])} last {time_text(counts['last_time'])}"
     return f"table {'.'.join(map(text_of, name))} {numbers} {times}"
-
-
-def name_value(name):
-    try:
-        return name.decode()
-    except UnicodeDecodeError:
-        return {"hex": name.hex()}
 
 
 def table_object(name, counts):

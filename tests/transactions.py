@@ -11,11 +11,11 @@ of each if not given). The last line is `N passed, M failed`; the exit status is
 import argparse
 import random
 import re
-import subprocess
 import sys
 from pathlib import Path
 
 import programs
+import questions
 import results
 
 CASES = Path(__file__).resolve().parent / "cases/transactions.txt"
@@ -190,13 +190,7 @@ def main():
     parser.add_argument("--count", type=int, default=20_000)
     arguments = programs.parsed(parser, "transactions")
     asked = [*cases(), *random_questions(arguments.count)]
-    questions = "".join(f"{question}\n" for question, _ in asked)
-    words = arguments.build.command("transactions")
-    found = subprocess.run(words, input=questions.encode(), stdout=subprocess.PIPE, check=True).stdout.decode().splitlines()
-    failures = [f"{question}: {answer}, not {wanted}" for (question, wanted), answer in zip(asked, found) if answer != wanted]
-    if len(found) != len(asked):
-        failures.append(f"{len(found)} answers, not {len(asked)}")
-    return results.report_counts(len(asked) - len(failures), failures)
+    return results.report(questions.compared(arguments.build.command("transactions"), asked))
 
 
 if __name__ == "__main__":

@@ -15,8 +15,6 @@ import sys
 from concurrent.futures import ProcessPoolExecutor
 
 import encoded_events as encode
-import event_data_model
-import encoded_logs
 import programs
 import results
 import row_events
@@ -143,23 +141,10 @@ class Tables(row_values.Tables):
         super().__init__(is_maria)
         self.key = key
 
-    def wanted(self, kind, body):
+    def members(self, kind, body, event, table, columns):
+        stated, _ = row_model.facts(columns, table["optional_metadata"].bytes, self.is_maria)
         try:
-            event = event_data_model.fields(kind, body, encoded_logs.POST_HEADER_LENGTHS)
-        except event_data_model.Fault:
-            return None
-        table = self.maps.get(event["table_id"])
-        if table is None:
-            return [("rows", None)]
-        try:
-            found = row_model.columns(table["columns_type"].bytes, table["columns_metadata"].bytes)
-        except Fault:
-            return [("error", "Columns")]
-        if event["num_columns"] != len(found):
-            return [("error", "ColumnCount")]
-        stated, _ = row_model.facts(found, table["optional_metadata"].bytes, self.is_maria)
-        try:
-            completes, rows = undone(found, stated, event, self.key, kind == row_values.PARTIAL[0])
+            completes, rows = undone(columns, stated, event, self.key, kind == row_values.PARTIAL[0])
         except Refused as refused:
             return refused.args[0]
         events = [inverse(kind, body, completes, rows, flags) for flags in (0, NO_FOREIGN_KEY_CHECKS)]

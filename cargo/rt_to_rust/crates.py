@@ -45,10 +45,12 @@ TOOLS = [
     "binlog_filters",
     "binlog_commands",
     "change_statistics",
+    "binlog_transaction_gtids",
     "binlog_statistics",
     "binlog_event_types",
     "binlog_json_bodies",
     "binlog_json_lines",
+    "binlog_change_lines",
     "binlog_cli",
     "binlog_summaries",
 ]

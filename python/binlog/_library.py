@@ -58,72 +58,32 @@ def _path() -> str:
 @cache
 def _load() -> ctypes.CDLL:
     library = ctypes.CDLL(_path())
-    byte, size = ctypes.c_uint8, ctypes.c_size_t
-    library.binlog_library_version.restype = ctypes.c_uint32
-    library.binlog_library_version.argtypes = []
-    library.binlog_open.restype = byte
-    library.binlog_open.argtypes = [ctypes.c_void_p, size, ctypes.POINTER(CursorStruct)]
-    for fill in (library.binlog_next, library.binlog_next_verified):
-        fill.restype = size
-        fill.argtypes = [
-            ctypes.c_void_p,
-            size,
-            ctypes.POINTER(CursorStruct),
-            ctypes.c_void_p,
-            size,
-            ctypes.POINTER(byte),
-        ]
-    library.binlog_rest.restype = size
-    library.binlog_rest.argtypes = [ctypes.c_void_p, size, ctypes.POINTER(CursorStruct)]
-    library.binlog_json.restype = size
-    library.binlog_json.argtypes = [
-        ctypes.c_void_p,
-        size,
-        ctypes.c_char_p,
-        ctypes.c_char_p,
-        size,
-        ctypes.c_uint64,
-        ctypes.c_void_p,
-        size,
-        ctypes.POINTER(byte),
-    ]
-    library.binlog_json_lines.restype = size
-    library.binlog_json_lines.argtypes = [
-        ctypes.c_void_p,
-        size,
-        ctypes.c_char_p,
-        size,
-        ctypes.c_char_p,
-        size,
-        ctypes.c_uint64,
-        ctypes.c_void_p,
-        size,
-        ctypes.POINTER(size),
-        ctypes.POINTER(byte),
-    ]
-    library.binlog_columns_check.restype = byte
-    library.binlog_columns_check.argtypes = [ctypes.c_char_p, size, ctypes.POINTER(ColumnsFaultStruct)]
-    library.binlog_columns_contradiction.restype = size
-    library.binlog_columns_contradiction.argtypes = [
-        ctypes.c_void_p,
-        size,
-        ctypes.c_char_p,
-        ctypes.c_char_p,
-        size,
-        ctypes.POINTER(byte),
-    ]
-    # The same with the text of a file of columns behind the table maps, the last parameter before the index.
-    for with_columns, plain, before in (
-        (library.binlog_json_with_columns, library.binlog_json, 5),
-        (library.binlog_json_lines_with_columns, library.binlog_json_lines, 6),
-    ):
-        with_columns.restype = size
-        with_columns.argtypes = [*plain.argtypes[:before], ctypes.c_char_p, size, *plain.argtypes[before:]]
-    library.binlog_columns_fault_text.restype = size
-    library.binlog_columns_fault_text.argtypes = [ctypes.c_uint64, ctypes.c_char_p, size]
-    for write in (library.binlog_error_name, library.binlog_error_text):
-        write.restype = size
-        write.argtypes = [byte, ctypes.c_char_p, size]
+    byte, size, index = ctypes.c_uint8, ctypes.c_size_t, ctypes.c_uint64
+    log = room = text = [ctypes.c_void_p, size]
+    items = columns = name = [ctypes.c_char_p, size]
+    item = ctypes.c_char_p
+    cursor, fault = ctypes.POINTER(CursorStruct), ctypes.POINTER(ColumnsFaultStruct)
+    error, count = ctypes.POINTER(byte), ctypes.POINTER(size)
+    # The result and the parameters of each function.
+    functions = {
+        "library_version": (ctypes.c_uint32, []),
+        "open": (byte, [*log, cursor]),
+        "next": (size, [*log, cursor, *room, error]),
+        "next_verified": (size, [*log, cursor, *room, error]),
+        "rest": (size, [*log, cursor]),
+        "json": (size, [*log, item, *items, index, *text, error]),
+        "json_lines": (size, [*log, *items, *items, index, *text, count, error]),
+        "json_with_columns": (size, [*log, item, *items, *columns, index, *text, error]),
+        "json_lines_with_columns": (size, [*log, *items, *items, *columns, index, *text, count, error]),
+        "columns_check": (byte, [*columns, fault]),
+        "columns_contradiction": (size, [*log, item, *columns, error]),
+        "columns_fault_text": (size, [ctypes.c_uint64, *name]),
+        "error_name": (size, [byte, *name]),
+        "error_text": (size, [byte, *name]),
+    }
+    for function, (result, parameters) in functions.items():
+        exported = getattr(library, f"binlog_{function}")
+        exported.restype, exported.argtypes = result, parameters
     return library
 
 

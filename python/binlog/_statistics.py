@@ -147,15 +147,23 @@ class Interval(Changes):
 
 
 @dataclass
+class TransactionTable(Changes):
+    """The row events of a table in a transaction."""
+
+    name: Name = Name(b"", b"")
+
+
+@dataclass
 class Transaction(Changes):
-    """A transaction: its file, where it begins there, if that is known, the times of its first and its last event, and its GTID, if it
-    has one."""
+    """A transaction: its file, its GTID, if it has one, where it begins in the file, if that is known, the times of its first and its last
+    event, and the tables of which it has rows, in the order of their first row events."""
 
     file: str = ""
+    gtid: Optional[str] = None
     position: Optional[int] = None
     first_time: int = 0
     last_time: int = 0
-    gtid: Optional[str] = None
+    tables: list[TransactionTable] = field(default_factory=list)
 
 
 def _row(kind: Callable[..., Row], line: dict[str, Any], **others: Any) -> Row:
@@ -231,32 +239,19 @@ def times_by_table(stated: Optional[Path], files: Sequence[Path], seconds: int, 
 
 
 def transactions(stated: Optional[Path], files: Iterable[Path]) -> Transactions:
-    """The transactions, of which the largest have their GTIDs. Each file is asked about alone, since the answer has no names of files."""
-    found = merged(all_transactions, [_transactions_in(stated, file) for file in files])
-    for rows in _grouped(found.rows, lambda row: row.file):
-        gtids_by_place = _gtids_at(stated, rows[0].file, {row.position for row in rows})
-        for row in rows:
-            row.gtid = gtids_by_place.get(row.position)
-    return found
+    """The transactions. Each file is asked about alone, since the answer has no names of files."""
+    return merged(all_transactions, [_transactions_in(stated, file) for file in files])
 
 
 def _transactions_in(stated: Optional[Path], file: Path) -> Transactions:
     head, rows = _objects(ask(stated, ["stats", "--by", "transaction", "--top", str(LARGEST), "--json"], [file]))
     sizes = {digits: count for digits, count in enumerate(head["sizes"]) if count}
-    return Transactions(head["transactions"], sizes, [_row(Transaction, row, file=os.fspath(file)) for row in rows])
+    return Transactions(head["transactions"], sizes, [_transaction(row, file) for row in rows])
 
 
-def _gtids_at(stated: Optional[Path], file: Path, places: set[Optional[int]]) -> dict[Optional[int], str]:
-    """The GTIDs of the events that begin at these places of a file."""
-    words = ["json", "--type", "GTID", "--type", "GTID_TAGGED_LOG"]
-    events = map(json.loads, ask(stated, words, [file]).lines) if places - {None} else ()
-    found = ((event["log_pos"] - event["event_size"], event) for event in events if "error" not in event)
-    return {place: _gtid(event["data"]) for place, event in found if place in places and "error" not in event["data"]}
-
-
-def _gtid(data: dict[str, Any]) -> str:
-    """The GTID of an event's data, as its server writes it."""
-    return data["gtid"] if "gtid" in data else ":".join(filter(None, (data["sid"], data["tag"], str(data["gno"]))))
+def _transaction(line: dict[str, Any], file: Path) -> Transaction:
+    tables = [_row(TransactionTable, table, name=_name(table)) for table in line["tables"]]
+    return _row(Transaction, line, file=os.fspath(file), tables=tables)
 
 
 def gtids(stated: Optional[Path], files: Iterable[Path]) -> list[str]:

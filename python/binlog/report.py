@@ -26,6 +26,8 @@ Files = Iterable[Union[str, "os.PathLike[str]"]]
 _Value = Union[str, int]
 
 _SHOWN_TABLES = 20
+# How many tables of a transaction.
+_TABLES_OF_ONE = 3
 _FAILED, _USAGE = 3, 64
 
 _CSS = """
@@ -152,10 +154,18 @@ def _place(transaction: Transaction) -> str:
     return "" if transaction.position is None else str(transaction.position)
 
 
+def _tables_of(transaction: Transaction) -> str:
+    """The rows and the bytes of the tables of a transaction, those with most bytes first."""
+    tables = sorted(transaction.tables, key=lambda it: -it.bytes)
+    shown = [f"{it.name}: {_some(it.rows, 'row')}, {_some(it.bytes, 'byte')}" for it in tables[:_TABLES_OF_ONE]]
+    more = len(tables) - _TABLES_OF_ONE
+    return "; ".join([*shown, _some(more, "more table")] if more > 0 else shown)
+
+
 def _largest(report: Report) -> str:
-    heads = ("GTID", "File", "Position", "Bytes", "Events", "Inserted", "Updated", "Deleted", "Begins", "Ends")
+    heads = ("GTID", "File", "Position", "Bytes", "Events", "Inserted", "Updated", "Deleted", "Begins", "Ends", "Tables")
     rows: list[list[_Value]] = [
-        [it.gtid or "", it.file, _place(it), it.bytes, it.events, *_rows_of(it), _time(it.first_time), _time(it.last_time)]
+        [it.gtid or "", it.file, _place(it), it.bytes, it.events, *_rows_of(it), _time(it.first_time), _time(it.last_time), _tables_of(it)]
         for it in report.transactions.rows
     ]
     return _table(heads, rows) if rows else _paragraph("No transaction.")

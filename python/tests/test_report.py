@@ -61,8 +61,10 @@ def times(seconds, *rows):
     return [{"intervals": len(rows), "seconds": seconds}, *own]
 
 
-def transaction(position, end, first, last, counts):
-    return {"position": position, "end_position": end, "first_time": first, "last_time": last, **counts}
+def transaction(gtid, position, end, first, last, counts, *tables):
+    own = [{"database": names[0], "table": names[1], **own_counts} for names, own_counts in tables]
+    places = {"gtid": gtid, "position": position, "end_position": end, "first_time": first, "last_time": last, "duration": last - first}
+    return {**places, **counts, "tables": own}
 
 
 def transactions(count, sizes, *rows):
@@ -70,15 +72,21 @@ def transactions(count, sizes, *rows):
     return [{"transactions": count, "sizes": [sizes.get(digits, 0) for digits in range(65)]}, *rows]
 
 
-def gtid_event(position, size, **data):
-    return {"event_size": size, "log_pos": position + size, "data": data}
-
-
-FIRST = transaction(120, 1020, 7200, 7205, changes(4, 900, (3, 1, 0)))
-SECOND = transaction(1020, 1120, 7260, 7260, changes(2, 100, (0, 0, 0)))
-THIRD = transaction(300, 1000, 7290, 7291, changes(3, 700, (0, 2, 9), 1))
-FOURTH = transaction(None, 1100, 7291, 7291, changes(1, 50, (0, 0, 0)))
-GTIDS = "json --type GTID --type GTID_TAGGED_LOG"
+FIRST = transaction(f"{SID}:1", 120, 1020, 7200, 7205, changes(4, 900, (3, 1, 0)), (ORDERS, changes(2, 300, (3, 1, 0))))
+SECOND = transaction("0-1-7", 1020, 1120, 7260, 7260, changes(2, 100, (0, 0, 0)))
+THIRD = transaction(
+    None,
+    300,
+    1000,
+    7290,
+    7291,
+    changes(3, 700, (0, 2, 9), 1),
+    (RAW, changes(1, 90, (0, 0, 0), 1)),
+    (STRANGE, changes(2, 400, (0, 2, 9))),
+    (ORDERS, changes(1, 80, (0, 0, 1))),
+    (STAR, changes(1, 1, (0, 0, 1))),
+)
+FOURTH = transaction(f"{SID}:tag:5", None, 1100, 7291, 7291, changes(1, 50, (0, 0, 0)))
 
 # What the program says of two logs, each alone and both.
 ANSWERS = {
@@ -115,8 +123,6 @@ ANSWERS = {
     "stats --by time=30s --json --table \udcff.t a b": times(30, (7290, 1, 90, 0, (0, 0, 0))),
     "stats --by transaction --top 20 --json a": transactions(2, {7: 1, 10: 1}, FIRST, SECOND),
     "stats --by transaction --top 20 --json b": transactions(2, {6: 1, 10: 1}, THIRD, FOURTH),
-    f"{GTIDS} a": [gtid_event(120, 65, sid=SID, tag=None, gno=1), gtid_event(1020, 60, gtid="0-1-7")],
-    f"{GTIDS} b": [{"index": 7, "error": 12}, gtid_event(300, 65, error=18), gtid_event(900, 65, sid=SID, tag="tag", gno=5)],
     "gtids a": [f"{SID} 1-2 gaps -", f"{SID}:tag 7 gaps 1-6", "0-1-7", "1-1-3"],
     "gtids b": ["3 error E18", f"{SID} 5-6,9 gaps 1-4,7-8", "0-1-6", "0-2-1"],
     "gtids a b": [f"{SID} 1-2,5-6,9 gaps 3-4,7-8", f"{SID}:tag 7 gaps 1-6", "0-1-6", "0-2-1", "1-1-3"],
@@ -218,14 +224,16 @@ class Page(WithProgram):
         self.assertIn("The rows of 1 event can't be read, and aren't counted. 1 event of 50 bytes may have rows of tables that aren't known.", cells.texts)
         first, last = self.files
         self.assertEqual(
-            [row[:-1] for row in cells.rows["largest"][1:]],
+            [row[:9] for row in cells.rows["largest"][1:]],
             [
                 [f"{SID}:1", first, "120", "900", "4", "3", "1", "0", "1970-01-01 02:00:00"],
                 ["", last, "300", "700", "3", "0", "2", "9", "1970-01-01 02:01:30"],
                 ["0-1-7", first, "1020", "100", "2", "0", "0", "0", "1970-01-01 02:01:00"],
-                ["", last, "", "50", "1", "0", "0", "0", "1970-01-01 02:01:31"],
+                [f"{SID}:tag:5", last, "", "50", "1", "0", "0", "0", "1970-01-01 02:01:31"],
             ],
         )
+        many = 'a.b.<i>"&: 11 rows, 400 bytes; \ufffd.t: 0 rows, 90 bytes; shop.orders: 1 row, 80 bytes; 1 more table'
+        self.assertEqual([row[10] for row in cells.rows["largest"][1:]], ["shop.orders: 4 rows, 300 bytes", many, "", ""])
         self.assertEqual(cells.rows["gtids"][1:][:3], [[SID, "1-2,5-6,9", "3-4,7-8"], [f"{SID}:tag", "7", "1-6"], ["0-1-6", "", ""]])
         self.assertIn("2 sources with gaps.", cells.texts)
         self.assertIn("2 files, 4 tables, 4 transactions; 1970-01-01 02:00:00 to 1970-01-01 02:02:00 UTC", cells.texts)

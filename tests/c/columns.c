@@ -7,32 +7,12 @@
 #define _DEFAULT_SOURCE
 #include "binlog.h"
 #include "logs.h"
+#include "refusing.h"
 #include "table_maps.h"
 #include <inttypes.h>
 #include <string.h>
 
 enum { ROOM = 1 << 16, REFUSED_ITEMS = 6 };
-
-void *__real_malloc(size_t);
-void *__real_realloc(void *, size_t);
-
-/* The number of allocations before the refused one; negative if none is refused. */
-static long left = -1;
-
-static int is_refused(void) { return left >= 0 && left-- == 0; }
-
-void *__wrap_malloc(size_t size);
-void *__wrap_malloc(size_t size) { return is_refused() ? NULL : __real_malloc(size); }
-
-void *__wrap_realloc(void *memory, size_t size);
-void *__wrap_realloc(void *memory, size_t size) { return is_refused() ? NULL : __real_realloc(memory, size); }
-
-/* Whether an allocation was refused since `left` was set. None is refused from here on. */
-static int was_refused(void) {
-    int was = left < 0;
-    left = -1;
-    return was;
-}
 
 /* The tables of a file: its text, and how many allocations a check of it takes. */
 typedef struct columns_text {

@@ -4,21 +4,12 @@
 #define _DEFAULT_SOURCE
 #include "binlog.h"
 #include "logs.h"
+#include "random_numbers.h"
 #include <string.h>
 
 enum { ROOM = 8 };
 
 typedef size_t fill_call(const uint8_t *, size_t, binlog_cursor *, binlog_item *, size_t, uint8_t *);
-
-static uint64_t state = 0x9e3779b97f4a7c15u;
-
-/* xorshift64 */
-static uint64_t next_random(void) {
-    state ^= state << 13;
-    state ^= state >> 7;
-    state ^= state << 17;
-    return state;
-}
 
 /* A small number, one beside the size of the log, one in it, or any. */
 static uint64_t some_place(size_t size) {

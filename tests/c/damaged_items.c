@@ -4,19 +4,10 @@
 #define _DEFAULT_SOURCE
 #include "binlog.h"
 #include "logs.h"
+#include "random_numbers.h"
 #include <string.h>
 
 enum { ROOM = 1 << 16, MAPS = 3 };
-
-static uint64_t state = 0x9e3779b97f4a7c15u;
-
-/* xorshift64 */
-static uint64_t next_random(void) {
-    state ^= state << 13;
-    state ^= state >> 7;
-    state ^= state << 17;
-    return state;
-}
 
 /* One of the first items of the log, as one of the calls gives it. */
 static binlog_item some_item(const guarded_log *log) {

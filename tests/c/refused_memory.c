@@ -3,23 +3,10 @@
 #define _DEFAULT_SOURCE
 #include "binlog.h"
 #include "logs.h"
+#include "refusing.h"
 #include <string.h>
 
 enum { ROOM = 1 << 16 };
-
-void *__real_malloc(size_t);
-void *__real_realloc(void *, size_t);
-
-/* The number of allocations before the refused one; negative if none is refused. */
-static long left = -1;
-
-static int is_refused(void) { return left >= 0 && left-- == 0; }
-
-void *__wrap_malloc(size_t size);
-void *__wrap_malloc(size_t size) { return is_refused() ? NULL : __real_malloc(size); }
-
-void *__wrap_realloc(void *memory, size_t size);
-void *__wrap_realloc(void *memory, size_t size) { return is_refused() ? NULL : __real_realloc(memory, size); }
 
 /* How often memory is refused before there is a line. */
 static size_t check_item(const guarded_log *log, const binlog_item *item, uint64_t index) {
@@ -30,9 +17,7 @@ static size_t check_item(const guarded_log *log, const binlog_item *item, uint64
         uint8_t error = 77;
         left = refused;
         size_t size = binlog_json(log->bytes, log->size, item, NULL, 0, index, text, ROOM, &error);
-        int was_refused = left < 0;
-        left = -1;
-        if (!was_refused) {
+        if (!was_refused()) {
             require(error == BINLOG_OK && size > 1 && text[0] == '{', "with memory there is a line");
             return (size_t)refused;
         }
@@ -51,9 +36,7 @@ static size_t check_items(const guarded_log *log, const binlog_item *item, uint6
         size_t lines = 77;
         left = refused;
         size_t size = binlog_json_lines(log->bytes, log->size, items, 2, NULL, 0, index, text, sizeof text, &lines, &error);
-        int was_refused = left < 0;
-        left = -1;
-        if (!was_refused) {
+        if (!was_refused()) {
             require(error == BINLOG_OK && lines == 2, "with memory there are both lines");
             return (size_t)refused;
         }

@@ -4,6 +4,7 @@ use crate::footer::Footer;
 use crate::frames::{event_type, Frames, Next, HEADER_LENGTH};
 use crate::gtids::Gtid;
 use crate::rows::{Maps, RowEvent, TableMap};
+use crate::words::PostHeaders;
 use crate::Outcome;
 use std::io::{self, Read, Write};
 
@@ -17,8 +18,6 @@ const DELETE_ROWS: u8 = 32;
 const GTID: u8 = 33;
 const GTID_TAGGED: u8 = 42;
 
-/// Where a description states the lengths of post-headers, from type 1 on.
-const STATED_LENGTHS: usize = HEADER_LENGTH + 57;
 const STATEMENT_HEAD_LENGTH: usize = 13;
 const TOO_MANY_NAMES: u8 = 254;
 
@@ -36,15 +35,6 @@ struct Sums {
     row_events: u64,
     row_bytes: u64,
     row_numbers: u64,
-}
-
-/// How long post-headers are under the description in force.
-struct PostHeaders {
-    statement: usize,
-    table_map: u8,
-    write_rows: u8,
-    update_rows: u8,
-    delete_rows: u8,
 }
 
 /// Sums over the statements, GTIDs, table maps and row events up to the first item that is an error.
@@ -110,23 +100,6 @@ pub fn sum(mut frames: Frames<impl Read>, output: &mut impl Write) -> io::Result
          {maps} {map_bytes} {row_events} {row_bytes} {row_numbers}"
     )?;
     Ok(Outcome::Fine)
-}
-
-impl PostHeaders {
-    #[cold]
-    fn stated(description: &[u8]) -> Self {
-        let stated = |event_type: u8, default: u8| {
-            let place = STATED_LENGTHS + usize::from(event_type) - 1;
-            description.get(place).copied().unwrap_or(default)
-        };
-        PostHeaders {
-            statement: usize::from(stated(QUERY, 0)).max(STATEMENT_HEAD_LENGTH),
-            table_map: stated(TABLE_MAP, 8),
-            write_rows: stated(WRITE_ROWS, 10),
-            update_rows: stated(UPDATE_ROWS, 10),
-            delete_rows: stated(DELETE_ROWS, 10),
-        }
-    }
 }
 
 /// A rotate to another position than 0 lets go of the maps.

@@ -21,11 +21,11 @@ const STATEMENT_HEAD_LENGTH: usize = 13;
 
 /// How long post-headers are under the description in force.
 pub struct PostHeaders {
-    statement: usize,
-    table_map: u8,
-    write_rows: u8,
-    update_rows: u8,
-    delete_rows: u8,
+    pub statement: usize,
+    pub table_map: u8,
+    pub write_rows: u8,
+    pub update_rows: u8,
+    pub delete_rows: u8,
 }
 
 impl PostHeaders {

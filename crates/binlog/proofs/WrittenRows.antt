@@ -7,7 +7,7 @@ use Rattle.binlog_wire.specs.declared.error.Error.TheVariants.{Writer}
 use Rattle.binlog_cli.specs.declared.exit_status.Outcome.{Outcome}
 use Rattle.binlog.specs.Commands.{outcome_of_text}
 use Rattle.binlog.specs.Gtids.{outcome_of_lines}
-use Rattle.binlog.specs.WrittenRows.{WritesOr}
+use Rattle.binlog.specs.WrittenRows.{WritesText, WritesOr}
 
 -- What follows for the value of an Ok.
 pub if_ok : {T E : Type 0} (P Q : T → Type 0) (result : Result T E) → ((value : T) → P value → Q value) → IfOk result P → IfOk result Q
@@ -31,6 +31,12 @@ pub text_written : (Written : Type 0) (answer : Result (Unit {0}) IoError) (outc
     → WritesOr Written outcome
 text_written Written (Ok done) outcome is writes = inr (inr (is, writes))
 text_written Written (Err error) outcome is writes = inl is
+
+-- The same of a text alone.
+pub text_is_written : (Written : Type 0) (answer : Result (Unit {0}) IoError) (outcome : Outcome) → outcome ≡ outcome_of_text answer → OnOk answer Written
+    → WritesText Written outcome
+text_is_written Written (Ok done) outcome is writes = inr (is, writes)
+text_is_written Written (Err error) outcome is writes = inl is
 
 pub written_of : (P Q : Type 0) (outcome : Outcome) → (P → Q) → WritesOr P outcome → WritesOr Q outcome
 written_of P Q outcome follows (inl failed) = inl failed

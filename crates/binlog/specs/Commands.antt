@@ -1,5 +1,5 @@
 -- What each command makes of its output: the bytes of its writer, and the status.
-use Rattle.std.specs.Prelude.{◌≡◌, ◌⊎◌, ℕ, Bool, List, [], Option, None, Result, Ok, Err, OnOk}
+use Rattle.std.specs.Prelude.{◌≡◌, ◌⊎◌, ℕ, Bool, List, [], Option, None, Result, Ok, Err}
 use Rattle.std.specs.declared.io.Error.{Error as IoError}
 use Rattle.binlog_visits.specs.Visits.{VisitRelation, RefusalRelation}
 use Rattle.binlog_ends.specs.Views.{CountedView}
@@ -7,10 +7,7 @@ use Rattle.binlog_filters.specs.declared.filter.Filter.{Filter}
 use Rattle.binlog_filters.specs.declared.filtered.Filtered.{Filtered}
 use Rattle.binlog_gtid_listing.specs.LogItems.{log_gtids}
 use Rattle.binlog_commands.specs.Collecting.{collected, Collects, RefusesCollected}
-use Rattle.binlog_commands.specs.Counting.{IsNever}
-use Rattle.binlog_commands.specs.Statistics.{no_items, CountsItem}
 use Rattle.binlog_commands.specs.declared.gtids.GtidCollector.{GtidCollector}
-use Rattle.binlog_commands.specs.declared.stats.Stats.{Stats}
 use Rattle.binlog_commands.specs.declared.tally.Tally.{Tally}
 use Rattle.clap.specs.declared.parser.matches.Found.{Found}
 use Rattle.binlog_cli.specs.FilterWords.{StatesFilter}
@@ -20,7 +17,6 @@ use Rattle.binlog_cli.specs.declared.output.Output.{Output}
 use Rattle.binlog_cli.specs.declared.exit_status.Outcome.{Outcome}
 use Rattle.binlog_cli.specs.declared.exit_status.Status.{Status}
 use Rattle.binlog_cli.specs.declared.exit_status.Status.TheVariants.{Fine}
-use Rattle.binlog_cli.specs.StatsText.{IsStatsText, Writes}
 use Rattle.binlog.specs.Reading.{ShowsTaken}
 use Rattle.binlog.specs.Copying.{CopiesFiles}
 use Rattle.binlog.specs.Gtids.{WritesWanted}
@@ -103,23 +99,6 @@ module _ {B N : Type 0} (contents : B → Option (List ℕ)) (options : Found) (
     pub output : Output B
     pub listed : WritesWanted bytes missing_in found.gtids (bytes_of contents found.output.inner) lines (bytes_of contents output)
     pub ends : Ends contents output (worse_outcome read lines) status new
-
-  -- ---- `stats`
-
-  -- What the filter takes of the files is counted, and the text of the counts is written, all of it if the output doesn't fail.
-  pub record WritesCounts (old : Option (List ℕ)) (status : Status) (new : Option (List ℕ)) : Type 0 where
-    pub filter : Filter
-    pub states : StatesFilter options filter
-    pub read : Outcome
-    pub counts : Stats
-    pub shown : ShowsTaken (λ before maps index item after. CountsItem before index item after) (λ before maps index item error after. IsNever) (λ counts. 0)
-        filter is_verified is_followed bytes names no_items read counts
-    pub output : Output B
-    pub begins : Begins contents old output
-    pub answer : Result (Unit {0}) IoError
-    pub behind : Output B
-    pub writes : OnOk answer (Writes (λ text. IsStatsText counts text) (bytes_of contents output) (bytes_of contents behind))
-    pub ends : Ends contents behind (worse_outcome read (outcome_of_text answer)) status new
 
   -- ---- `verify`
 

@@ -3,9 +3,13 @@ pub mod Copying
 pub mod Gtids
 pub mod Verifying
 pub mod Commands
+pub mod Changes
 pub mod Columns
 pub mod Requests
 pub mod WrittenRows
+pub mod CountedFiles
+pub mod TypeStatistics
+pub mod TableStatistics
 pub mod IntervalStatistics
 pub mod TransactionStatistics
 pub mod Statistics

@@ -5,6 +5,7 @@ use Rattle.binlog_wire.specs.declared.error.Error.TheVariants.{EndOfInput, Inval
 use Rattle.crc32_ieee.specs.Checksums.{IsCrc32}
 use Rattle.binlog_visits.specs.Visits.{VisitRelation, RefusalRelation, VisitsLog, VisitsVerifiedLog}
 use Rattle.binlog_filters.specs.Filtering.{Filters, RefusesTaken}
+use Rattle.binlog_filters.specs.Taking.{HasNoCondition}
 use Rattle.binlog_filters.specs.declared.filter.Filter.{Filter}
 use Rattle.binlog_filters.specs.declared.filtered.Filtered.{Filtered}
 use Rattle.binlog_cli.specs.Statuses.{worse}
@@ -86,4 +87,13 @@ module _ {T : Type 0} (visits : VisitRelation T) (refuses : RefusalRelation T) (
     pub shown : start.visitor ≡ old
     pub behind : ReportedView (Filtered T)
     pub reads : ReadsFiles is_verified is_followed bytes names Fine (record { visitor = start; has_errors = false; is_cut = false }) outcome behind
+    pub ends : new ≡ behind.visitor.visitor
+
+  -- The visitor is shown all items of a file.
+  pub record ShowsFile (is_verified : Bool) (known : Option (List ℕ)) (old : T) (answer : Result Status Error) (new : T) : Type 0 where
+    pub start : Filtered T
+    pub all : HasNoCondition start.filter
+    pub shown : start.visitor ≡ old
+    pub behind : ReportedView (Filtered T)
+    pub reads : ReadsFile is_verified known (record { visitor = start; has_errors = false; is_cut = false }) answer behind
     pub ends : new ≡ behind.visitor.visitor

@@ -1,78 +1,57 @@
 -- What `binlog stats` makes of its output, by what is counted together.
-use Rattle.std.specs.Prelude.{◌≡◌, ◌⊎◌, ℕ, Bool, true, false, List, Option}
-use Rattle.std.specs.Io.KnownBytes.{Appends}
-use Rattle.std.specs.List.Sorted.{IsPermutation}
-use Rattle.binlog_filters.specs.declared.filter.Filter.{Filter}
-use Rattle.change_statistics.specs.SortedTables.{AreSorted, AreInOrder, KeepsOthers}
-use Rattle.change_statistics.specs.Tables.{AreEmpty}
+use Rattle.std.specs.Prelude.{◌≡◌, ℕ, Bool, List, Option, unwrap_or}
+use Rattle.binlog_commands.specs.Counting.{IsNever}
+use Rattle.binlog_commands.specs.Statistics.{no_items, CountsItem as CountsType}
+use Rattle.change_statistics.specs.Facts.{Fact}
+use Rattle.change_statistics.specs.Intervals.{seconds_of, CountsNoInterval, AddsByTime, AreSameIntervals}
+use Rattle.change_statistics.specs.Tables.{AreEmpty, Adds, AreSame}
+use Rattle.change_statistics.specs.Transactions.{seen_by, none_seen, SeesEvent}
+use Rattle.change_statistics.specs.declared.intervals.IntervalStats.{IntervalStats}
 use Rattle.change_statistics.specs.declared.tables.TableStats.{TableStats}
+use Rattle.change_statistics.specs.declared.transaction_stats.TransactionStats.{TransactionStats}
 use Rattle.binlog_statistics.specs.Counting.{CountsItem, RefusesItem}
-use Rattle.binlog_statistics.specs.declared.tables.TableCounter.{TableCounter}
+use Rattle.binlog_statistics.specs.declared.counter.Counter.{Counter}
 use Rattle.clap.specs.declared.parser.matches.Found.{Found}
-use Rattle.binlog_cli.specs.FilterWords.{StatesFilter}
-use Rattle.binlog_cli.specs.Outputs.{worse_outcome, written}
-use Rattle.binlog_cli.specs.StatsText.{Writes}
-use Rattle.binlog_cli.specs.declared.output.Output.{Output}
 use Rattle.binlog_cli.specs.declared.exit_status.Outcome.{Outcome}
 use Rattle.binlog_cli.specs.declared.exit_status.Status.{Status}
-use Rattle.binlog_cli.specs.declared.exit_status.Status.TheVariants.{Failed}
-use Rattle.binlog_summaries.specs.TableText.{IsTablesText}
-use Rattle.binlog_summaries.specs.TableJson.{tables_json}
 use Rattle.binlog_summaries.specs.declared.options.Grouping.{Grouping}
 use Rattle.binlog_summaries.specs.declared.options.Grouping.TheVariants.{Types, Tables, Intervals, Transactions}
 use Rattle.binlog_summaries.specs.declared.options.StatsOptions.{StatsOptions}
-use Rattle.binlog.specs.Commands.{bytes_of, Begins, Ends, WritesCounts}
-use Rattle.binlog.specs.IntervalStatistics.{WritesIntervalStats}
-use Rattle.binlog.specs.Reading.{ShowsTaken}
-use Rattle.binlog.specs.TransactionStatistics.{WritesTransactionStats}
-use Rattle.binlog.specs.WrittenRows.{WritesOr}
+use Rattle.binlog.specs.CountedFiles.{WritesCounts}
+use Rattle.binlog.specs.IntervalStatistics.{WritesIntervals}
+use Rattle.binlog.specs.TableStatistics.{WritesTables}
+use Rattle.binlog.specs.TransactionStatistics.{WritesTransactions}
+use Rattle.binlog.specs.TypeStatistics.{WritesTypes}
 
--- The same tables with the same counts, those with most bytes first, and those with equally many in the order of their first row events.
-pub record IsSorted (old new : TableStats) : Type 0 where
-  pub all : IsPermutation old.tables.entries new.tables.entries
-  pub sorted : AreSorted new.tables.entries
-  pub stable : AreInOrder old.tables.entries new.tables.entries
-  pub others : KeepsOthers old new
-
--- The text of the statistics, or their lines of JSON, are written.
-abbrev pub WritesSorted : (is_json : Bool) → (top : Option ℕ) → TableStats → (old new : Option (List ℕ)) → Type 0
-WritesSorted true top sorted old new = Appends old new (tables_json top sorted)
-WritesSorted false top sorted old new = Writes (λ text. IsTablesText top sorted text) old new
-
--- Such statistics are sorted and written.
-abbrev pub WritesRows : StatsOptions → TableStats → Outcome → (old new : Option (List ℕ)) → Type 0
-WritesRows options stats outcome old new = WritesOr ((sorted : TableStats) × IsSorted stats sorted × WritesSorted options.is_json options.top sorted old new) outcome
-
--- Statistics by table are written; nothing is if there was no room for a table, and the outcome says so.
-abbrev pub WritesTables : StatsOptions → TableStats → Outcome → (old new : Option (List ℕ)) → Type 0
-WritesTables options stats outcome old new =
-    ((stats.is_full ≡ true) × (outcome ≡ written Failed) × (new ≡ old)) ⊎ ((stats.is_full ≡ false) × WritesRows options stats outcome old new)
+-- How many transactions are kept if no number is asked for.
+abbrev pub default_top : ℕ
+default_top = 20
 
 module _ {B N : Type 0} (contents : B → Option (List ℕ)) (found : Found) (is_verified is_followed : Bool) (bytes : N → Option (List ℕ)) (names : List N) (options : StatsOptions) where
-  -- What the filter takes of the files is counted by table, and the statistics are written.
-  pub record WritesTableStats (old : Option (List ℕ)) (status : Status) (new : Option (List ℕ)) : Type 0 where
-    pub filter : Filter
-    pub states : StatesFilter found filter
-    pub start : TableCounter
-    pub empty : AreEmpty start.stats
-    pub read : Outcome
-    pub counter : TableCounter
-    pub shown : ShowsTaken (λ (before : TableCounter) maps index item (after : TableCounter). CountsItem before.stats maps item after.stats)
-        (λ (before : TableCounter) maps index item error (after : TableCounter). RefusesItem before.stats error after.stats) (λ counter. 0)
-        filter is_verified is_followed bytes names start read counter
-    pub output : Output B
-    pub begins : Begins contents old output
-    pub outcome : Outcome
-    pub behind : Output B
-    pub writes : WritesTables options counter.stats outcome (bytes_of contents output) (bytes_of contents behind)
-    pub ends : Ends contents behind (worse_outcome read outcome) status new
+  -- A counter counts what the filter takes of the files, from `start` on: `adds` says what an event makes of the counts, and `keeps` that
+  -- they are the same. `writes` says what is written of them.
+  abbrev pub WritesCounted : {C : Type 0} → (adds : C → Fact → C → Type 0) → (keeps : C → C → Type 0) → (writes : C → Outcome → Option (List ℕ) → Option (List ℕ) → Type 0) → (start : C)
+      → (old : Option (List ℕ)) (status : Status) (new : Option (List ℕ)) → Type 0
+  WritesCounted {C} adds keeps writes start old status new =
+      (counter : Counter C) × (counter.stats ≡ start) × WritesCounts contents found is_verified is_followed bytes names
+      (λ (before : Counter C) maps index item (after : Counter C). CountsItem adds before.stats maps item after.stats)
+      (λ (before : Counter C) maps index item error (after : Counter C). RefusesItem keeps before.stats error after.stats) (λ counter. 0)
+      (λ (counter : Counter C) outcome before after. writes counter.stats outcome before after) counter old status new
 
-  -- What is counted together is what the options ask for.
+  -- What is counted together is what the options ask for. It is counted from nothing.
   abbrev pub WritesBy : Grouping → (old : Option (List ℕ)) (status : Status) (new : Option (List ℕ)) → Type 0
-  WritesBy Types old status new = WritesCounts contents found is_verified is_followed bytes names old status new
-  WritesBy Tables old status new = WritesTableStats old status new
-  WritesBy (Intervals seconds) old status new = WritesIntervalStats contents found is_verified is_followed bytes names options.is_json seconds old status new
-  WritesBy Transactions old status new = WritesTransactionStats contents found is_verified is_followed bytes names options old status new
+  WritesBy Types old status new =
+      WritesCounts contents found is_verified is_followed bytes names (λ before maps index item after. CountsType before index item after) (λ before maps index item error after. IsNever)
+      (λ stats. 0) (λ stats outcome before after. WritesTypes options.is_json stats outcome before after) no_items old status new
+  WritesBy Tables old status new =
+      (start : TableStats) × AreEmpty start × WritesCounted Adds AreSame (λ stats outcome before after. WritesTables options stats outcome before after) start old status new
+  WritesBy (Intervals seconds) old status new =
+      (start : IntervalStats) × CountsNoInterval start × (seconds_of start ≡ seconds)
+      × WritesCounted AddsByTime AreSameIntervals (λ stats outcome before after. WritesIntervals options.is_json stats outcome before after) start old status new
+  WritesBy Transactions old status new =
+      (start : TransactionStats) × (seen_by start ≡ none_seen (unwrap_or options.top default_top))
+      × WritesCounted (λ before fact after. SeesEvent (seen_by before) fact (seen_by after)) (λ before after. seen_by after ≡ seen_by before)
+      (λ stats outcome before after. WritesTransactions options.is_json (seen_by stats) outcome before after) start old status new
 
   abbrev pub WritesStats : (old : Option (List ℕ)) (status : Status) (new : Option (List ℕ)) → Type 0
   WritesStats old status new = WritesBy options.grouping old status new

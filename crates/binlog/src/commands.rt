@@ -1,4 +1,4 @@
-//! The commands that list and count events, and what all commands read. Each is generic over the files that it reads and its
+//! The commands that list events, and what all commands read. Each is generic over the files that it reads and its
 //! writer, which it gives back with its status. A status in place of a result is that of a command that can't begin.
 ghost use Rattle.std.specs.Prelude.{◌≡◌, ◌⊎◌, ◌^◌, IfErr, IfOk};
 ghost use Rattle.std.specs.Io.Buffered.{writer_capacity};
@@ -6,7 +6,7 @@ ghost use Rattle.clap.specs.Matches.{found_of};
 ghost use Rattle.binlog_filters.specs.declared.filter.Filter.{Filter};
 ghost use Rattle.binlog_cli.specs.FilterWords.{NeverBegins, StatesFilter};
 ghost use Rattle.binlog.specs.Columns.{AreColumnFiles, IsUnreadColumns};
-ghost use Rattle.binlog.specs.Commands.{outcome_of_text, WritesShown, WritesCounts};
+ghost use Rattle.binlog.specs.Commands.{outcome_of_text, WritesShown};
 ghost use Rattle.binlog.specs.Reading.{ShowsTaken};
 ghost use Rattle.binlog.specs.Requests.{lines_capacity};
 
@@ -14,10 +14,7 @@ use crate::columns::{read_columns, report_contradictions};
 use crate::inputs::Inputs;
 use crate::request::{Reading, Request};
 use crate::rotations::read_all_files;
-use binlog_cli::{
-    BUFFER_SIZE, Outcome, Output, Reported, Status, filter, report_left_out, write_stats,
-};
-use binlog_commands::Stats;
+use binlog_cli::{Outcome, Output, Reported, Status, filter, report_left_out};
 use binlog_file::{Counted, Retrying};
 use binlog_filters::{Filter, Filtered};
 use binlog_json_lines::{JsonWriter, LineOptions};
@@ -29,7 +26,7 @@ use std::io::{BufWriter, Write};
 use std::time::Clock;
 
 /// The most bytes that the events of a compressed transaction may have: 1 GiB.
-const CONTENT_LIMIT: usize = 1_073_741_824;
+pub(crate) const CONTENT_LIMIT: usize = 1_073_741_824;
 
 /// `binlog list`: writes the line of the listing of each item that the filter takes.
 pub(crate) fn list<'a, S: Inputs, R: Clock + Eprint + AllocGlobal, W: Write + Drop>(
@@ -141,24 +138,6 @@ pub(crate) fn read_taken<
     let (outcome, filtered) = read_all_files(rt, inputs, files, reading, reported);
     report_left_out(rt, filtered.state.left_out);
     (outcome, filtered.visitor)
-}
-
-/// `binlog stats`: counts what the filter takes of all files, and writes the counts.
-pub(crate) fn stats<'a, S: Inputs, R: Clock + Eprint + AllocGlobal, W: Write + Drop>(
-    rt: &'a R,
-    inputs: &S,
-    request: &Request<'_, 'a>,
-    writer: W,
-) -> Result<(Status, W), Status>
-    ensures ok { IfOk result (λ ended. WritesCounts ⟦<BufWriter<Retrying<W>> as Write>⟧.contents (found_of request.now.options.now) request.now.reading.is_verified request.now.reading.is_followed
-        (λ name. S.bytes inputs.now name.now) request.now.files.now (W.contents writer) ended.0 (W.contents ended.1)) }
-    ensures err { IfErr result (λ status. NeverBegins (found_of request.now.options.now) status) }
-{
-    let mut output = Output::new(rt, BUFFER_SIZE, writer)?;
-    let (read, stats) = read_all(rt, inputs, request, Stats::new())?;
-    // Why the output fails is kept by the output.
-    let written = outcome_of_text(write_stats(&stats, &mut output));
-    Ok(output.finish(rt, read.worse(written)))
 }
 
 /// The outcome of writing a text.

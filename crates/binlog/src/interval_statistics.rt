@@ -1,42 +1,29 @@
-//! `binlog stats --by time`: what is counted of each interval, and how it is written.
-ghost use Rattle.std.specs.Prelude.{IfErr, IfOk};
-ghost use Rattle.std.specs.Int.NonZero.{non_zero_u32_get};
-ghost use Rattle.clap.specs.Matches.{found_of};
-ghost use Rattle.binlog_cli.specs.FilterWords.{NeverBegins};
-ghost use Rattle.binlog.specs.IntervalStatistics.{WritesCounted, WritesIntervals, WritesIntervalStats};
+//! `binlog stats --by time`: how what is counted of each interval is written.
+ghost use Rattle.binlog.specs.IntervalStatistics.{WritesCounted, WritesIntervals};
 ghost use Rattle.binlog.specs.WrittenRows.{WritesOr};
 
-use crate::commands::{outcome_of_text, read_all};
+use crate::commands::outcome_of_text;
 use crate::gtids::outcome_of_lines;
-use crate::inputs::Inputs;
-use crate::request::Request;
-use binlog_cli::{BUFFER_SIZE, Outcome, Output, Status};
-use binlog_file::Retrying;
-use binlog_statistics::IntervalCounter;
-use binlog_summaries::{write_intervals, write_intervals_json};
+use crate::statistics::Statistics;
+use binlog_cli::{Outcome, Status};
+use binlog_statistics::Counter;
+use binlog_summaries::{StatsOptions, write_intervals, write_intervals_json};
 use change_statistics::{IntervalStats, MAX_INTERVALS};
-use std::io::{BufWriter, Write};
-use std::num::NonZeroU32;
-use std::time::Clock;
+use std::io::Write;
 
-/// Counts the events of each interval of so many seconds, and writes the counts.
-pub(crate) fn interval_stats<'a, S: Inputs, R: Clock + Eprint + AllocGlobal, W: Write + Drop>(
-    rt: &'a R,
-    inputs: &S,
-    request: &Request<'_, 'a>,
-    seconds: NonZeroU32,
-    is_json: bool,
-    writer: W,
-) -> Result<(Status, W), Status>
-    ensures ok { IfOk result (λ ended. WritesIntervalStats ⟦<BufWriter<Retrying<W>> as Write>⟧.contents (found_of request.now.options.now) request.now.reading.is_verified request.now.reading.is_followed
-        (λ name. S.bytes inputs.now name.now) request.now.files.now is_json (non_zero_u32_get seconds) (W.contents writer) ended.0 (W.contents ended.1)) }
-    ensures err { IfErr result (λ status. NeverBegins (found_of request.now.options.now) status) }
-{
-    let mut output = Output::new(rt, BUFFER_SIZE, writer)?;
-    let counter = IntervalCounter::new(rt.alloc(), seconds);
-    let (read, counter) = read_all(rt, inputs, request, counter)?;
-    let written = write_interval_stats(rt, &counter.stats, is_json, &mut output);
-    Ok(output.finish(rt, read.worse(written)))
+impl Statistics for Counter<IntervalStats> {
+    ghost use Rattle.binlog.specs.IntervalStatistics.{WritesIntervals};
+
+    ghost writes = { λ options counter outcome old new. WritesIntervals options.is_json counter.stats outcome old new };
+
+    fn write<R: Eprint + AllocGlobal, W: Write>(
+        self,
+        rt: &R,
+        options: StatsOptions,
+        output: &mut W,
+    ) -> Outcome {
+        write_interval_stats(rt, &self.stats, options.is_json, output)
+    }
 }
 
 // Writes statistics by time. Nothing is written of more intervals than can be counted, which has a message.

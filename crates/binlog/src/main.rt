@@ -7,6 +7,7 @@ ghost use Rattle.clap.specs.Values.{kind_of};
 ghost use Rattle.binlog.specs.Ends.{EndsRefused, EndsUnread, status_of};
 ghost use Rattle.binlog.specs.Requests.{IsNoCommand};
 
+mod changes;
 mod columns;
 mod commands;
 mod copying;
@@ -18,7 +19,9 @@ mod interval_statistics;
 mod request;
 mod rotations;
 mod statistics;
+mod table_statistics;
 mod transaction_statistics;
+mod type_statistics;
 mod verifying;
 
 use binlog_cli::{Status, command, out_of_memory};
@@ -105,6 +108,9 @@ fn run_command<'a, R: Files + Clock + Input + Print + Eprint + AllocGlobal>(
     let (inputs, output) = (HostInputs::new(rt), io::writer(rt));
     match name {
         "list" => status_of(commands::list(rt, &inputs, &request, output)),
+        "json" if request.is_compact => {
+            status_of(changes::changes(rt, &inputs, &request, output))
+        }
         "json" => status_of(commands::json(rt, &inputs, &request, output)),
         "gtids" => status_of(gtids::gtids(rt, &inputs, &request, output)),
         "verify" => status_of(verifying::verify(rt, &inputs, &request, output)),

@@ -74,6 +74,8 @@ pub(crate) struct Request<'m, 'a> {
     pub(crate) reading: Reading,
     /// Whether no lines are written.
     pub(crate) is_quiet: bool,
+    /// Whether rows alone are written as lines of JSON.
+    pub(crate) is_compact: bool,
     /// Whether lines of JSON keep the stored bytes of rows.
     pub(crate) keeps_stored: bool,
     /// The names of the files of columns, in order.
@@ -92,6 +94,7 @@ impl<'m, 'a> Request<'m, 'a> {
         ensures files { map (λ file. file.now) result.files.now ≡ unwrap_or (option_map raw_values (matched_of (found_of options.now) (codes "FILE"))) [] }
         ensures followed { Flags (one_text (found_of options.now) (codes "follow")) result.reading.is_followed }
         ensures quiet { Flags (one_text (found_of options.now) (codes "quiet")) result.is_quiet }
+        ensures compact { Flags (one_text (found_of options.now) (codes "compact")) result.is_compact }
         ensures stored { Flags (one_text (found_of options.now) (codes "stored")) result.keeps_stored }
         ensures columns { map (λ file. file.now) result.columns.now ≡ unwrap_or (option_map raw_values (matched_of (found_of options.now) (codes "columns"))) [] }
         ensures missing { option_map (λ file. file.now) result.missing_in ≡ first_value (found_of options.now) (codes "missing-in") }
@@ -109,6 +112,7 @@ impl<'m, 'a> Request<'m, 'a> {
                 is_followed,
             },
             is_quiet: options.get_flag("quiet"),
+            is_compact: options.get_flag("compact"),
             keeps_stored: options.get_flag("stored"),
             columns: options.get_strs("columns").unwrap_or(&[]),
             missing_in: options.get_str("missing-in"),

@@ -1,28 +1,43 @@
 //! `binlog stats`: what is counted together, and how it is written.
-ghost use Rattle.std.specs.Prelude.{◌≡◌, ◌⊎◌, true, IfErr, IfOk};
+ghost use Rattle.std.specs.Prelude.{◌≡◌, ◌⊎◌, ℕ, List, Option, true, IfErr, IfOk};
 ghost use Rattle.clap.specs.Matches.{found_of};
 ghost use Rattle.binlog_cli.specs.FilterWords.{NeverBegins};
+ghost use Rattle.binlog_cli.specs.declared.exit_status.Outcome.{Outcome};
 ghost use Rattle.binlog_cli.specs.declared.exit_status.Status.TheVariants.{Usage};
 ghost use Rattle.binlog_summaries.specs.Options.{fits, StatesOptions, RefusesOptions};
 ghost use Rattle.binlog_summaries.specs.declared.options.StatsOptions.{StatsOptions};
-ghost use Rattle.binlog.specs.WrittenRows.{WritesOr};
-ghost use Rattle.binlog.specs.Statistics.{WritesStats, WritesSorted, WritesRows, WritesTables, WritesTableStats};
+ghost use Rattle.binlog.specs.CountedFiles.{WritesCounts};
+ghost use Rattle.binlog.specs.Statistics.{WritesStats};
 
-use crate::commands;
-use crate::commands::{outcome_of_text, read_all};
-use crate::gtids::outcome_of_lines;
+use crate::commands::read_all;
 use crate::inputs::Inputs;
-use crate::interval_statistics::interval_stats;
 use crate::request::Request;
-use crate::transaction_statistics::transaction_stats;
-use binlog_cli::{BUFFER_SIZE, Outcome, Output, Status, out_of_memory};
+use crate::transaction_statistics::DEFAULT_TOP;
+use binlog_cli::{BUFFER_SIZE, Outcome, Output, Status};
+use binlog_commands::Stats;
 use binlog_file::Retrying;
-use binlog_statistics::TableCounter;
-use binlog_summaries::{Grouping, StatsOptions, stats_options, write_tables, write_tables_json};
-use change_statistics::{MAX_TABLES, TableStats};
+use binlog_statistics::Counter;
+use binlog_summaries::{Grouping, StatsOptions, stats_options};
+use binlog_visits::{Refusing, Visitor};
+use change_statistics::{IntervalStats, TableStats, TransactionStats};
 use std::io::{BufWriter, Write};
 use std::num::NonZeroU32;
 use std::time::Clock;
+
+/// A visitor that counts, and what is written of its counts.
+pub(crate) trait Statistics: Visitor + Refusing {
+    /// What is written of the counts as these options ask for it, and with which outcome.
+    ghost writes: { StatsOptions → Self → Outcome → Option (List ℕ) → Option (List ℕ) → Type 0 };
+
+    /// Writes the counts, where all files are read.
+    fn write<R: Eprint + AllocGlobal, W: Write>(
+        self,
+        rt: &R,
+        options: StatsOptions,
+        output: &mut W,
+    ) -> Outcome
+        ensures { writes options self result (W.contents output.old) (W.contents output.new) };
+}
 
 /// `binlog stats`: counts what the filter takes of all files, together as the options ask for it, and writes the counts.
 pub(crate) fn stats<'a, S: Inputs, R: Clock + Eprint + AllocGlobal, W: Write + Drop>(
@@ -54,78 +69,41 @@ fn grouped_stats<'a, S: Inputs, R: Clock + Eprint + AllocGlobal, W: Write + Drop
     ensures err { IfErr result (λ status. NeverBegins (found_of request.now.options.now) status) }
 {
     match options.grouping {
-        Grouping::Types => commands::stats(rt, inputs, request, writer),
-        Grouping::Tables => table_stats(rt, inputs, request, options, writer),
-        Grouping::Intervals(seconds) => match NonZeroU32::new(seconds) {
-            Some(seconds) => interval_stats(rt, inputs, request, seconds, options.is_json, writer),
-            None => unreachable!(),
-        },
-        Grouping::Transactions => transaction_stats(rt, inputs, request, options, writer),
+        Grouping::Types => count(rt, inputs, request, options, Stats::new(), writer),
+        Grouping::Tables => {
+            let counter = Counter::new(rt.alloc(), TableStats::new(rt.alloc()));
+            count(rt, inputs, request, options, counter, writer)
+        }
+        Grouping::Intervals(seconds) => {
+            let Some(seconds) = NonZeroU32::new(seconds) else {
+                unreachable!()
+            };
+            let counter = Counter::new(rt.alloc(), IntervalStats::new(rt.alloc(), seconds));
+            count(rt, inputs, request, options, counter, writer)
+        }
+        Grouping::Transactions => {
+            let limit = options.top.unwrap_or(DEFAULT_TOP) as usize;
+            let counter = Counter::new(rt.alloc(), TransactionStats::new(rt.alloc(), limit));
+            count(rt, inputs, request, options, counter, writer)
+        }
     }
 }
 
-// Counts the changes of each table.
-fn table_stats<'a, S: Inputs, R: Clock + Eprint + AllocGlobal, W: Write + Drop>(
+// Counts with this visitor what the filter takes of all files, and writes the counts.
+fn count<'a, S: Inputs, R: Clock + Eprint + AllocGlobal, T: Statistics + Drop, W: Write + Drop>(
     rt: &'a R,
     inputs: &S,
     request: &Request<'_, 'a>,
     options: StatsOptions,
+    counter: T,
     writer: W,
 ) -> Result<(Status, W), Status>
-    ensures ok { IfOk result (λ ended. WritesTableStats ⟦<BufWriter<Retrying<W>> as Write>⟧.contents (found_of request.now.options.now) request.now.reading.is_verified request.now.reading.is_followed
-        (λ name. S.bytes inputs.now name.now) request.now.files.now options (W.contents writer) ended.0 (W.contents ended.1)) }
+    ensures ok { IfOk result (λ ended. WritesCounts ⟦<BufWriter<Retrying<W>> as Write>⟧.contents (found_of request.now.options.now) request.now.reading.is_verified request.now.reading.is_followed
+        (λ name. S.bytes inputs.now name.now) request.now.files.now T.visits T.refuses T.refusals (T.writes options) counter (W.contents writer) ended.0 (W.contents ended.1)) }
     ensures err { IfErr result (λ status. NeverBegins (found_of request.now.options.now) status) }
 {
     let mut output = Output::new(rt, BUFFER_SIZE, writer)?;
-    let (read, counter) = read_all(rt, inputs, request, TableCounter::new(rt.alloc()))?;
-    let written = write_table_stats(rt, counter.stats, options, &mut output);
+    let (read, counter) = read_all(rt, inputs, request, counter)?;
+    let written = counter.write(rt, options, &mut output);
     Ok(output.finish(rt, read.worse(written)))
-}
-
-// Writes statistics by table. Nothing is written of more tables than can be counted, which has a message.
-fn write_table_stats<R: Eprint + AllocGlobal, W: Write>(
-    rt: &R,
-    stats: TableStats,
-    options: StatsOptions,
-    output: &mut W,
-) -> Outcome
-    ensures { WritesTables options stats result (W.contents output.old) (W.contents output.new) }
-{
-    if stats.is_full {
-        let _ = eprintln!(rt; "binlog: the logs have rows of more than {MAX_TABLES} tables");
-        return Outcome::written(Status::Failed);
-    }
-    write_rows(rt, stats, options, output)
-}
-
-// Writes statistics by table, those with most bytes first.
-fn write_rows<R: Eprint + AllocGlobal, W: Write>(
-    rt: &R,
-    stats: TableStats,
-    options: StatsOptions,
-    output: &mut W,
-) -> Outcome
-    ensures { WritesRows options stats result (W.contents output.old) (W.contents output.new) }
-{
-    let mut sorted = stats;
-    match sorted.sort_by_bytes() {
-        Ok(()) => write_sorted(rt, &sorted, options, output),
-        Err(_) => Outcome::written(out_of_memory(rt)),
-    }
-}
-
-// Writes statistics by table, as lines of JSON or as text.
-fn write_sorted<R: Eprint + AllocGlobal, W: Write>(
-    rt: &R,
-    stats: &TableStats,
-    options: StatsOptions,
-    output: &mut W,
-) -> Outcome
-    ensures { WritesOr (WritesSorted options.is_json options.top stats.now (W.contents output.old) (W.contents output.new)) result }
-{
-    if options.is_json {
-        let written = write_tables_json(rt.alloc(), stats, options.top, output);
-        return outcome_of_lines(rt, written);
-    }
-    outcome_of_text(write_tables(stats, options.top, output))
 }

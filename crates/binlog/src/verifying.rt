@@ -1,6 +1,7 @@
 //! The command that verifies checksums.
 ghost use Rattle.std.specs.Prelude.{◌≡◌, IfErr, IfOk};
 ghost use Rattle.clap.specs.Matches.{found_of};
+ghost use Rattle.binlog_wire.specs.declared.error.Error.TheVariants.{Writer};
 ghost use Rattle.binlog_cli.specs.FilterWords.{NeverBegins};
 ghost use Rattle.binlog_cli.specs.declared.exit_status.Status.TheVariants.{Fine};
 ghost use Rattle.binlog.specs.Commands.{WritesTallies};
@@ -81,8 +82,9 @@ fn verify_file<'a, S: Inputs, R: Clock + Eprint + AllocGlobal, W: Write>(
     reported: &mut Reported<'a, R, Filtered<Tally>>,
     output: &mut W,
 ) -> Result<Status, Error>
-    ensures { VerifiesFile reading.is_verified (unless_followed reading.is_followed (S.bytes inputs.now file.now)) is_quiet file.now
+    ensures verifies { VerifiesFile reading.is_verified (unless_followed reading.is_followed (S.bytes inputs.now file.now)) is_quiet file.now
         (verifying reported.old (W.contents output.old)) result (verifying reported.new (W.contents output.new)) }
+    ensures err { IfErr result (λ error. error ≡ Writer) }
 {
     reported.replace_visitor(Tally::new());
     let read = read_file(rt, inputs, file, reading, reported);
@@ -99,7 +101,8 @@ fn write_line<W: Write>(
     read: Result<Status, Error>,
     output: &mut W,
 ) -> Result<Status, Error>
-    ensures { WritesLine (has_line is_quiet read) name.now tally.now read (W.contents output.old) result (W.contents output.new) }
+    ensures line { WritesLine (has_line is_quiet read) name.now tally.now read (W.contents output.old) result (W.contents output.new) }
+    ensures err { IfErr read (λ error. error ≡ Writer) → IfErr result (λ error. error ≡ Writer) }
 {
     if !has_line(is_quiet, &read) {
         return read;

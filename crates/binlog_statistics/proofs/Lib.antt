@@ -1,3 +1,6 @@
 mod CountedRows
+mod Fronts
+mod UncompressedRows
 mod FoundRows
 mod CountedItems
+mod SeenTransactions

@@ -17,6 +17,7 @@ use Rattle.binlog_file.specs.declared.log_data.LogEventData.{LogEventData}
 use Rattle.binlog_file.specs.declared.log_data.LogEventData.TheVariants.{Mysql, Maria}
 use Rattle.binlog_images.specs.EventRows.{is_partial}
 use Rattle.binlog_statistics.specs.RowCounts.{IsRowCount}
+use Rattle.binlog_statistics.specs.CompressedRows.{IsStoredCount}
 use Rattle.change_statistics.specs.declared.facts.ChangeKind.{ChangeKind}
 use Rattle.change_statistics.specs.declared.facts.ChangeKind.TheVariants.{Inserted, Updated, Deleted}
 use Rattle.binlog_statistics.specs.declared.finding.RowsFound.{RowsFound}
@@ -44,11 +45,20 @@ abbrev pub IsMappedCount : RowsEventData → Option TableMapEvent → Option ℕ
 IsMappedCount rows None count = count ≡ None
 IsMappedCount rows (Some table_map) count = IsRowCount (is_partial rows) (event_in rows) table_map count
 
--- What the data of an event that may have rows says of them. Compressed rows aren't counted.
+-- The same of a compressed event.
+abbrev pub IsMappedStoredCount : RowsEvent → Option TableMapEvent → Option ℕ → Type 0
+IsMappedStoredCount event None count = count ≡ None
+IsMappedStoredCount event (Some table_map) count = IsStoredCount event table_map count
+
+-- What a compressed event says of rows.
+abbrev pub IsFoundStored : TableMaps → RowsEvent → RowsFound → Type 0
+IsFoundStored maps event found = (count : Option ℕ) × IsMappedStoredCount event (maps event.head.table_id) count × (found ≡ rows_found event count)
+
+-- What the data of an event that may have rows says of them.
 abbrev pub IsFound : TableMaps → Result (Option LogEventData) Error → RowsFound → Type 0
 IsFound maps (Ok (Some (Mysql (mysql.RowsEvent rows)))) found =
     (count : Option ℕ) × IsMappedCount rows (maps (event_in rows).head.table_id) count × (found ≡ rows_found (event_in rows) count)
-IsFound maps (Ok (Some (Maria (maria.RowsCompressedEvent rows)))) found = found ≡ rows_found (event_in rows.event) None
+IsFound maps (Ok (Some (Maria (maria.RowsCompressedEvent rows)))) found = IsFoundStored maps (event_in rows.event) found
 IsFound maps (Ok None) found = found ≡ Other
 IsFound maps read found = found ≡ Unreadable
 

@@ -1,4 +1,5 @@
 pub mod RowCounts
+pub mod CompressedRows
 pub mod Found
 pub mod ItemFacts
 pub mod Counting

@@ -10,18 +10,22 @@ use binlog_file::{EventRef, EventStreamReader};
 use binlog_filters::begins_transaction;
 use change_statistics::{Change, EventFacts, TableChange};
 
-/// The facts of an event that says this of rows. The names are those of the table map in force.
+/// The facts of an event that says this of rows. The GTID is that of the transaction that begins with it, and empty if none does. The names
+/// are those of the table map in force.
 pub(crate) fn facts_of<'a>(
     found: RowsFound,
+    gtid: &'a str,
     event: &EventRef<'_>,
     reader: &'a EventStreamReader,
 ) -> EventFacts<'a>
-    ensures { fact_of result ≡ fact_with (state_of reader.now).table_maps (view_of event.now) found }
+    ensures { fact_of result ≡ fact_with (state_of reader.now).table_maps (view_of event.now) found gtid.now }
 {
     let header = event.header();
     EventFacts {
         begins_transaction: begins_transaction(header.event_type_raw()),
+        gtid,
         bytes: event.frame().len() as u64,
+        end_position: u64::from(header.log_pos()),
         time: header.timestamp(),
         change: change_of(found, reader),
     }

@@ -26,7 +26,7 @@ fn count_rows(rows: Rows<'_>) -> Option<u64>
 }
 
 // Bytes are below 256, which is a premise of how they split into rows.
-fn are_bytes(bytes: &[u8])
+pub(crate) fn are_bytes(bytes: &[u8])
     ensures { IsBytes bytes.now }
 {}
 

@@ -5,3 +5,4 @@ mod UnitCounts
 mod IntervalLines
 mod TransactionLines
 mod Powers
+mod TypeLines

@@ -52,10 +52,10 @@ one_line_more entries i entry old mid new at so_far one = record {
 }
 
 -- What is known of the entry at an index within the list.
-at_entry : (entries : List Entry) (i : ℕ) (P : Entry → Type 0) → i < length entries → IfSome (slice_get entries i) P → (entry : Entry) × (slice_get entries i ≡ Some entry) × P entry
-at_entry entries i P within holds =
+pub at_entry : {X : Type 0} (entries : List X) (i : ℕ) (P : X → Type 0) → i < length entries → IfSome (slice_get entries i) P → (entry : X) × (slice_get entries i ≡ Some entry) × P entry
+at_entry {X} entries i P within holds =
     elim (slice_get_cases entries i).1 [
-      | inl (entry, _, at, _) ↦ (entry, at, subst (λ (o : Option Entry). IfSome o P) at holds)
+      | inl (entry, _, at, _) ↦ (entry, at, subst (λ (o : Option X). IfSome o P) at holds)
       | inr (past, _) ↦ absurd (omega arith)
     ]
 
@@ -70,13 +70,13 @@ no_line_written entries old = record { text = []; is = refl; appended = nothing_
 
 -- ---- one row more, of any text
 
-pub flat_more : {X : Type 0} (f : X → List ℕ) (xs : List X) (x : X) → flat_map f (xs ++ x ∷ []) ≡ flat_map f xs ++ f x
+pub flat_more : {X Y : Type 0} (f : X → List Y) (xs : List X) (x : X) → flat_map f (xs ++ x ∷ []) ≡ flat_map f xs ++ f x
 flat_more f [] x = append-nil (f x)
-flat_more f (first ∷ xs) x = ap (λ (t : List ℕ). f first ++ t) (flat_more f xs x) ∙ sym (append_assoc (f first) (flat_map f xs) (f x))
+flat_more {X} {Y} f (first ∷ xs) x = ap (λ (t : List Y). f first ++ t) (flat_more f xs x) ∙ sym (append_assoc (f first) (flat_map f xs) (f x))
 
-pub row_written : (f : Entry → List ℕ) (entries : List Entry) (i : ℕ) (old mid new : Option (List ℕ)) → i < length entries → Appends old mid (flat_map f (take i entries)) → IfSome (slice_get entries i) (λ entry. Appends mid new (f entry))
+pub row_written : {X : Type 0} (f : X → List ℕ) (entries : List X) (i : ℕ) (old mid new : Option (List ℕ)) → i < length entries → Appends old mid (flat_map f (take i entries)) → IfSome (slice_get entries i) (λ entry. Appends mid new (f entry))
     → Appends old new (flat_map f (take (i + 1) entries))
-row_written f entries i old mid new within so_far one =
-    let found = at_entry entries i (λ (entry : Entry). Appends mid new (f entry)) within one in
+row_written {X} f entries i old mid new within so_far one =
+    let found = at_entry entries i (λ (entry : X). Appends mid new (f entry)) within one in
     subst (Appends old new) (sym (ap (flat_map f) (taken_more entries i found.0 found.1) ∙ flat_more f (take i entries) found.0))
     (appends_both old mid new (flat_map f (take i entries)) (f found.0) so_far found.2)

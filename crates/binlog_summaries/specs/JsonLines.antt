@@ -8,7 +8,7 @@ use Rattle.json_line.specs.Tokens.{number_value, or_null, member}
 abbrev pub number_member : List ℕ → ℕ → List Token
 number_member name number = member name (number_value number)
 
--- A member with a time in seconds since 1970, or null.
+-- A member with a time in seconds since 1970 or with a number of seconds, or null.
 abbrev pub time_member : List ℕ → Option ℕ → List Token
 time_member name time = member name (or_null number_value time)
 

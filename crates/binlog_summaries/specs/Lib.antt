@@ -8,3 +8,4 @@ pub mod IntervalJson
 pub mod IntervalText
 pub mod TransactionJson
 pub mod TransactionText
+pub mod TypeJson

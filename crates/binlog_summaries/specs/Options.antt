@@ -1,5 +1,5 @@
 -- What the options of `binlog stats` ask for.
-use Rattle.std.specs.Prelude.{◌≡◌, ◌⊎◌, ℕ, Bool, true, false, not, ◌&&◌, List, Option, Some, None, is_none, nat_lt, codes}
+use Rattle.std.specs.Prelude.{◌≡◌, ◌⊎◌, ℕ, Bool, true, false, ◌&&◌, List, Option, Some, None, is_none, nat_lt, codes}
 use Rattle.clap.specs.Matches.{first_value, one_text}
 use Rattle.clap.specs.declared.parser.matches.Found.{Found}
 use Rattle.binlog_cli.specs.FilterWords.{StatesNumber}
@@ -34,16 +34,16 @@ pub record StatesOptions (found : Found) (options : StatsOptions) : Type 0 where
   pub top : StatesNumber (one_text found (codes "top")) options.top
   pub json : Flags (one_text found (codes "json")) options.is_json
 
--- Events by type are neither cut nor written as lines of JSON. Intervals aren't cut, and have at least a second.
-abbrev pub fits_as : Grouping → Option ℕ → Bool → Bool
-fits_as Types top is_json = is_none top && not is_json
-fits_as Tables top is_json = true
-fits_as (Intervals seconds) top is_json = nat_lt 0 seconds && is_none top
-fits_as Transactions top is_json = true
+-- Types and intervals aren't cut. Intervals have at least a second.
+abbrev pub fits_as : Grouping → Option ℕ → Bool
+fits_as Types top = is_none top
+fits_as Tables top = true
+fits_as (Intervals seconds) top = nat_lt 0 seconds && is_none top
+fits_as Transactions top = true
 
 abbrev pub fits : StatsOptions → Bool
-fits options = fits_as options.grouping options.top options.is_json
+fits options = fits_as options.grouping options.top
 
--- The options ask for nothing that is counted together, or for what it isn't written as.
+-- The options ask for nothing that is counted together, or cut what isn't cut.
 abbrev pub RefusesOptions : Found → Type 0
 RefusesOptions found = NamesNoGrouping (first_value found (codes "by")) ⊎ ((options : StatsOptions) × StatesOptions found options × (fits options ≡ false))

@@ -1,9 +1,11 @@
 -- The text of statistics by transaction.
-use Rattle.std.specs.Prelude.{◌≡◌, ℕ, ◌+◌, ◌/◌, ◌^◌, ◌==◌, List, [], ◌∷◌, ◌++◌, codes, decimal, Option, Some, None, if◌then◌else◌}
+use Rattle.std.specs.Prelude.{◌≡◌, ℕ, ◌+◌, ◌/◌, ◌^◌, ◌==◌, List, [], ◌∷◌, ◌++◌, flat_map, codes, decimal, Option, Some, None, if◌then◌else◌}
 use Rattle.binlog_cli.specs.StatsText.{number_line}
-use Rattle.change_statistics.specs.Transactions.{Seen}
+use Rattle.change_statistics.specs.Facts.{Name}
+use Rattle.change_statistics.specs.Transactions.{Seen, duration_of}
 use Rattle.change_statistics.specs.declared.event_counts.EventCounts.{EventCounts}
 use Rattle.change_statistics.specs.declared.transaction.Transaction.{Transaction}
+use Rattle.binlog_summaries.specs.Shown.{name_text}
 use Rattle.binlog_summaries.specs.TableText.{IsTimeOf}
 
 -- The smallest number with so many binary digits.
@@ -23,14 +25,19 @@ abbrev pub size_lines : (class : ℕ) → List ℕ → List ℕ
 size_lines class [] = []
 size_lines class (count ∷ counts) = size_line class count ++ size_lines (class + 1) counts
 
--- A position, and a question mark for none.
-abbrev pub position_text : Option ℕ → List ℕ
-position_text None = codes "?"
-position_text (Some position) = decimal position
+-- A number, and a question mark for none.
+abbrev pub number_text : Option ℕ → List ℕ
+number_text None = codes "?"
+number_text (Some number) = decimal number
 
 -- Where a transaction begins and ends.
 abbrev pub places_text : Transaction → List ℕ
-places_text transaction = codes "transaction " ++ position_text transaction.begin_position ++ codes " to " ++ decimal transaction.end_position ++ codes " "
+places_text transaction = codes "transaction " ++ number_text transaction.begin_position ++ codes " to " ++ decimal transaction.end_position ++ codes " "
+
+-- A GTID, and nothing for none.
+abbrev pub gtid_text : List ℕ → List ℕ
+gtid_text [] = []
+gtid_text (b ∷ text) = codes "gtid " ++ (b ∷ text) ++ codes " "
 
 -- The counts of a transaction.
 abbrev pub counts_text : EventCounts → List ℕ
@@ -38,21 +45,38 @@ counts_text counts =
     decimal counts.events ++ codes " events " ++ decimal counts.bytes ++ codes " bytes " ++ decimal counts.inserted ++ codes " inserted " ++ decimal counts.updated ++ codes " updated "
     ++ decimal counts.deleted ++ codes " deleted " ++ decimal counts.unread_events ++ codes " unread"
 
--- The line of a transaction: where it begins and ends, its counts, and the times of its first and its last event.
+-- How long a transaction lasts, and the end of its line.
+abbrev pub duration_text : Option ℕ → List ℕ
+duration_text duration = codes " " ++ number_text duration ++ codes " seconds\n"
+
+-- The line of a transaction: where it begins and ends, its GTID, its counts, the times of its first and its last event, and the seconds
+-- between them.
 pub record IsTransactionLine (transaction : Transaction) (text : List ℕ) : Type 0 where
   pub first : List ℕ
   pub is_first : IsTimeOf (codes " first ") (Some transaction.first_time) first
   pub last : List ℕ
   pub is_last : IsTimeOf (codes " last ") (Some transaction.last_time) last
-  pub is : text ≡ places_text transaction ++ counts_text transaction.counts ++ first ++ last ++ codes "\n"
+  pub is : text ≡ places_text transaction ++ gtid_text transaction.gtid ++ counts_text transaction.counts ++ first ++ last ++ duration_text (duration_of transaction)
+
+-- The names of a table of a transaction.
+abbrev pub table_names : Name → List ℕ
+table_names name = codes "  table " ++ name_text name.database ++ codes "." ++ name_text name.table ++ codes " "
+
+-- The line of a table of a transaction: its names, and the counts of its row events.
+abbrev pub table_line : Name × EventCounts → List ℕ
+table_line entry = table_names entry.0 ++ counts_text entry.1 ++ codes "\n"
+
+-- The line of a transaction, above those of its tables.
+abbrev pub IsTransactionText : Transaction → List ℕ → Type 0
+IsTransactionText transaction text = (line : List ℕ) × IsTransactionLine transaction line × (text ≡ line ++ flat_map table_line transaction.tables.entries)
 
 -- The lines of transactions one after another.
-abbrev pub AreTransactionLines : List Transaction → List ℕ → Type 0
-AreTransactionLines [] text = text ≡ []
-AreTransactionLines (transaction ∷ transactions) text =
-    (line rest : List ℕ) × IsTransactionLine transaction line × AreTransactionLines transactions rest × (text ≡ line ++ rest)
+abbrev pub AreTransactionTexts : List Transaction → List ℕ → Type 0
+AreTransactionTexts [] text = text ≡ []
+AreTransactionTexts (transaction ∷ transactions) text =
+    (one rest : List ℕ) × IsTransactionText transaction one × AreTransactionTexts transactions rest × (text ≡ one ++ rest)
 
--- The whole text: the number of the transactions, their sizes, and the largest.
+-- The whole text: the number of the transactions, their sizes, and the largest, each above its tables.
 abbrev pub IsTransactionsText : Seen → List ℕ → Type 0
 IsTransactionsText seen text =
-    (lines : List ℕ) × AreTransactionLines seen.kept lines × (text ≡ number_line (codes "transactions") seen.transactions ++ size_lines 0 seen.sizes ++ lines)
+    (lines : List ℕ) × AreTransactionTexts seen.kept lines × (text ≡ number_line (codes "transactions") seen.transactions ++ size_lines 0 seen.sizes ++ lines)

@@ -20,7 +20,7 @@ pub(crate) fn end_line<W: Write>(line: &mut Line, output: &mut W) -> Result<(), 
     write_line(&mut output, text)
 }
 
-/// Writes a member of an object with a time: a number of seconds, or null. The name must need no escape.
+/// Writes a member of an object with a time or a duration: a number of seconds, or null. The name must need no escape.
 pub(crate) fn write_time(line: &mut Line, name: &str, time: Option<u32>) -> Result<(), AllocError>
     requires { IsPlainText name.now }
     ensures { Adds result line.old line.new (time_member name.now time) }

@@ -10,6 +10,7 @@ mod table_json;
 mod table_text;
 mod transaction_json;
 mod transaction_text;
+mod type_json;
 
 pub use interval_json::write_intervals_json;
 pub use interval_text::write_intervals;
@@ -18,3 +19,4 @@ pub use table_json::write_tables_json;
 pub use table_text::write_tables;
 pub use transaction_json::write_transactions_json;
 pub use transaction_text::write_transactions;
+pub use type_json::write_types_json;

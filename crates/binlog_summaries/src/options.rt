@@ -37,8 +37,8 @@ pub struct StatsOptions {
 ///
 /// # Errors
 ///
-/// [`Status::Usage`], after its message, if the value of `--by` names nothing that is counted together, if `--top` or `--json` are
-/// given and events by type are counted, or if `--top` is given and events by time are.
+/// [`Status::Usage`], after its message, if the value of `--by` names nothing that is counted together, or if `--top` is given and events
+/// by type or by time are counted.
 pub fn stats_options<R: Eprint>(rt: &R, matches: &ArgMatches<'_>) -> Result<StatsOptions, Status>
     ensures ok { IfOk result (λ options. StatesOptions (found_of matches.now) options × (fits options ≡ true)) }
     ensures err { IfErr result (λ status. (status ≡ Usage) × RefusesOptions (found_of matches.now)) }
@@ -55,7 +55,7 @@ pub fn stats_options<R: Eprint>(rt: &R, matches: &ArgMatches<'_>) -> Result<Stat
 // Why options don't fit.
 fn refusal(grouping: Grouping) -> &'static str {
     match grouping {
-        Grouping::Types => "--top and --json don't go with --by type",
+        Grouping::Types => "--top doesn't go with --by type",
         Grouping::Tables | Grouping::Intervals(_) | Grouping::Transactions => {
             "--top doesn't go with --by time"
         }
@@ -79,7 +79,7 @@ fn fits(options: StatsOptions) -> bool
     ensures { result ≡ fits options }
 {
     match options.grouping {
-        Grouping::Types => options.top.is_none() && !options.is_json,
+        Grouping::Types => options.top.is_none(),
         Grouping::Intervals(seconds) => seconds > 0 && options.top.is_none(),
         Grouping::Tables | Grouping::Transactions => true,
     }

@@ -108,8 +108,8 @@ fn write_names<W: Write>(name: &TableName, output: &mut W) -> io::Result<()>
     write!(output, "table {database}.{table} ")
 }
 
-// A name as a text.
-fn name_text(name: &[u8]) -> &str
+/// A name as a text.
+pub(crate) fn name_text(name: &[u8]) -> &str
     ensures { result.now ≡ name_text name.now }
 {
     match str::from_utf8(name) {

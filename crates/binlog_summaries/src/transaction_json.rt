@@ -1,14 +1,17 @@
 //! The lines of JSON of statistics by transaction.
 ghost use Rattle.std.specs.Io.KnownBytes.{Appends};
-ghost use Rattle.std.specs.Prelude.{◌≡◌, OnOk, flat_map};
+ghost use Rattle.std.specs.Prelude.{◌≡◌, ◌<◌, IfSome, OnOk, length, slice_get, flat_map};
 ghost use Rattle.json_line.specs.Tokens.{Adds, number_value};
+ghost use Rattle.change_statistics.specs.Names.{name_of};
 ghost use Rattle.change_statistics.specs.Transactions.{seen_by};
 ghost use Rattle.binlog_summaries.specs.JsonLines.{line_of};
-ghost use Rattle.binlog_summaries.specs.TransactionJson.{position_member, places_members, counts_members, transaction_object, sizes_member, transactions_object, transaction_line, transactions_json};
+ghost use Rattle.binlog_summaries.specs.TransactionJson.{gtid_member, position_member, places_members, counts_members, names_members, table_object, tables_member, transaction_object, sizes_member, transactions_object, transaction_line, transactions_json};
 
-use crate::json_lines::end_line;
+use crate::json_lines::{end_line, write_time};
 use binlog_file::Error;
-use change_statistics::{EventCounts, SizeHistogram, Transaction, TransactionStats};
+use change_statistics::{
+    EventCounts, SizeHistogram, TableName, Transaction, TransactionStats, TransactionTables,
+};
 use json_line::Line;
 use std::alloc::{AllocError, Global};
 use std::io::Write;
@@ -120,13 +123,15 @@ fn write_transaction(line: &mut Line, transaction: &Transaction) -> Result<(), A
 {
     line.clear();
     line.begin_object()?;
+    write_gtid(line, transaction.gtid.as_str())?;
     write_places(line, transaction)?;
     write_counts(line, &transaction.counts)?;
+    write_tables(line, &transaction.tables)?;
     line.end_object()?;
     Ok(())
 }
 
-// Writes the members of where and when a transaction begins and ends.
+// Writes the members of where and when a transaction begins and ends, and of how long it lasts.
 fn write_places(line: &mut Line, transaction: &Transaction) -> Result<(), AllocError>
     ensures { Adds result line.old line.new (places_members transaction.now) }
 {
@@ -134,7 +139,19 @@ fn write_places(line: &mut Line, transaction: &Transaction) -> Result<(), AllocE
     line.number_member("end_position", transaction.end_position)?;
     line.number_member("first_time", transaction.first_time as u64)?;
     line.number_member("last_time", transaction.last_time as u64)?;
+    write_time(line, "duration", transaction.duration())?;
     Ok(())
+}
+
+// Writes the member of the GTID of a transaction, or null.
+fn write_gtid(line: &mut Line, gtid: &str) -> Result<(), AllocError>
+    ensures { Adds result line.old line.new (gtid_member gtid.now) }
+{
+    line.key("gtid")?;
+    if gtid.is_empty() {
+        return line.null();
+    }
+    line.string(gtid)
 }
 
 // Writes the member of the position where a transaction begins, or null.
@@ -159,4 +176,53 @@ fn write_counts(line: &mut Line, counts: &EventCounts) -> Result<(), AllocError>
     line.number_member("deleted", counts.deleted)?;
     line.number_member("unread_events", counts.unread_events)?;
     Ok(())
+}
+
+// Writes the member of the tables of a transaction.
+fn write_tables(line: &mut Line, tables: &TransactionTables) -> Result<(), AllocError>
+    ensures { Adds result line.old line.new (tables_member tables.now.entries) }
+{
+    line.key("tables")?;
+    line.begin_array()?;
+    write_objects_of(line, tables)?;
+    line.end_array()
+}
+
+// Writes the objects of the tables of a transaction.
+fn write_objects_of(line: &mut Line, tables: &TransactionTables) -> Result<(), AllocError>
+    ensures { Adds result line.old line.new (flat_map table_object tables.now.entries) }
+{
+    'tables: for index in 0..tables.count() {
+        write_row(line, tables, index)?;
+    }
+    Ok(())
+}
+
+// Writes the object of one table of these.
+fn write_row(line: &mut Line, tables: &TransactionTables, index: usize) -> Result<(), AllocError>
+    requires { index < length tables.now.entries }
+    ensures { IfSome (slice_get tables.now.entries index) (λ entry. Adds result line.old line.new (table_object entry)) }
+{
+    match tables.get_index(index) {
+        Some((name, counts)) => write_table(line, name, counts),
+        None => unreachable!(),
+    }
+}
+
+// Writes the object of a table of a transaction.
+fn write_table(line: &mut Line, name: &TableName, counts: &EventCounts) -> Result<(), AllocError>
+    ensures { Adds result line.old line.new (table_object (name_of name.now, counts.now)) }
+{
+    line.begin_object()?;
+    write_names(line, name)?;
+    write_counts(line, counts)?;
+    line.end_object()
+}
+
+// Writes the members of the names of a table.
+fn write_names(line: &mut Line, name: &TableName) -> Result<(), AllocError>
+    ensures { Adds result line.old line.new (names_members (name_of name.now)) }
+{
+    line.text_member("database", &name.database)?;
+    line.text_member("table", &name.table)
 }

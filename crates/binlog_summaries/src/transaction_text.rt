@@ -1,12 +1,16 @@
 //! The text of statistics by transaction.
 ghost use Rattle.std.specs.Io.KnownBytes.{Appends};
-ghost use Rattle.std.specs.Prelude.{◌≡◌, ◌<◌, OnOk, Some};
+ghost use Rattle.std.specs.Prelude.{◌≡◌, ◌<◌, IfSome, OnOk, Some, length, slice_get, flat_map};
 ghost use Rattle.binlog_cli.specs.StatsText.{Writes};
+ghost use Rattle.change_statistics.specs.Names.{name_of};
 ghost use Rattle.change_statistics.specs.Transactions.{seen_by};
-ghost use Rattle.binlog_summaries.specs.TransactionText.{smallest_of, class_line, size_line, size_lines, places_text, counts_text, IsTransactionLine, AreTransactionLines, IsTransactionsText};
+ghost use Rattle.binlog_summaries.specs.TransactionText.{smallest_of, class_line, size_line, size_lines, places_text, gtid_text, counts_text, duration_text, table_names, table_line, IsTransactionLine, IsTransactionText, AreTransactionTexts, IsTransactionsText};
 
-use crate::table_text::{write_number, write_time};
-use change_statistics::{EventCounts, SIZE_CLASSES, SizeHistogram, Transaction, TransactionStats};
+use crate::table_text::{name_text, write_number, write_time};
+use change_statistics::{
+    EventCounts, SIZE_CLASSES, SizeHistogram, TableName, Transaction, TransactionStats,
+    TransactionTables,
+};
 use std::io;
 use std::io::Write;
 
@@ -56,15 +60,23 @@ fn smallest_of(class: usize) -> u64
     if class == 0 { 0 } else { 1 << (class - 1) }
 }
 
-// Writes the lines of transactions.
+// Writes the lines of transactions, each above those of its tables.
 #[tactic(auto, using(crate::proofs::TransactionLines::no_transaction_written))]
 fn write_lines<W: Write>(transactions: &[Transaction], output: &mut W) -> io::Result<()>
-    ensures { OnOk result (Writes (AreTransactionLines transactions.now) (W.contents output.old) (W.contents output.new)) }
+    ensures { OnOk result (Writes (AreTransactionTexts transactions.now) (W.contents output.old) (W.contents output.new)) }
 {
     'transactions: for transaction in transactions {
-        write_line(transaction, output)?;
+        write_transaction(transaction, output)?;
     }
     Ok(())
+}
+
+// Writes the lines of a transaction and of its tables.
+fn write_transaction<W: Write>(transaction: &Transaction, output: &mut W) -> io::Result<()>
+    ensures { OnOk result (Writes (IsTransactionText transaction.now) (W.contents output.old) (W.contents output.new)) }
+{
+    write_line(transaction, output)?;
+    write_tables(&transaction.tables, output)
 }
 
 // Writes the line of a transaction.
@@ -72,10 +84,11 @@ fn write_line<W: Write>(transaction: &Transaction, output: &mut W) -> io::Result
     ensures { OnOk result (Writes (IsTransactionLine transaction.now) (W.contents output.old) (W.contents output.new)) }
 {
     write_places(transaction, output)?;
+    write_gtid(transaction.gtid.as_str(), output)?;
     write_counts(&transaction.counts, output)?;
     write_time(" first ", Some(transaction.first_time), output)?;
     write_time(" last ", Some(transaction.last_time), output)?;
-    writeln!(output, "")
+    write_duration(transaction.duration(), output)
 }
 
 // Writes where a transaction begins and ends.
@@ -87,6 +100,16 @@ fn write_places<W: Write>(transaction: &Transaction, output: &mut W) -> io::Resu
         Some(begin) => write!(output, "transaction {begin} to {end} "),
         None => write!(output, "transaction ? to {end} "),
     }
+}
+
+// Writes a GTID, if there is one.
+fn write_gtid<W: Write>(gtid: &str, output: &mut W) -> io::Result<()>
+    ensures { OnOk result (Appends (W.contents output.old) (W.contents output.new) (gtid_text gtid.now)) }
+{
+    if gtid.is_empty() {
+        return Ok(());
+    }
+    write!(output, "gtid {gtid} ")
 }
 
 // Writes the counts of a transaction.
@@ -103,4 +126,54 @@ fn write_counts<W: Write>(counts: &EventCounts, output: &mut W) -> io::Result<()
         output,
         "{events} events {bytes} bytes {inserted} inserted {updated} updated {deleted} deleted {unread} unread"
     )
+}
+
+// Writes how long a transaction lasts, and ends its line.
+fn write_duration<W: Write>(duration: Option<u32>, output: &mut W) -> io::Result<()>
+    ensures { OnOk result (Appends (W.contents output.old) (W.contents output.new) (duration_text duration)) }
+{
+    match duration {
+        Some(seconds) => writeln!(output, " {seconds} seconds"),
+        None => writeln!(output, " ? seconds"),
+    }
+}
+
+// Writes the lines of the tables of a transaction.
+#[tactic(auto, using(crate::proofs::TableLines::row_written, crate::proofs::TableLines::nothing_appended))]
+fn write_tables<W: Write>(tables: &TransactionTables, output: &mut W) -> io::Result<()>
+    ensures { OnOk result (Appends (W.contents output.old) (W.contents output.new) (flat_map table_line tables.now.entries)) }
+{
+    'tables: for index in 0..tables.count() {
+        write_row(tables, index, output)?;
+    }
+    Ok(())
+}
+
+// Writes the line of one table of these.
+fn write_row<W: Write>(tables: &TransactionTables, index: usize, output: &mut W) -> io::Result<()>
+    requires { index < length tables.now.entries }
+    ensures { IfSome (slice_get tables.now.entries index) (λ entry. OnOk result (Appends (W.contents output.old) (W.contents output.new) (table_line entry))) }
+{
+    match tables.get_index(index) {
+        Some((name, counts)) => write_table(name, counts, output),
+        None => unreachable!(),
+    }
+}
+
+// Writes the line of a table of a transaction.
+fn write_table<W: Write>(name: &TableName, counts: &EventCounts, output: &mut W) -> io::Result<()>
+    ensures { OnOk result (Appends (W.contents output.old) (W.contents output.new) (table_line (name_of name.now, counts.now))) }
+{
+    write_names(name, output)?;
+    write_counts(counts, output)?;
+    writeln!(output, "")
+}
+
+// Writes the names of a table of a transaction.
+fn write_names<W: Write>(name: &TableName, output: &mut W) -> io::Result<()>
+    ensures { OnOk result (Appends (W.contents output.old) (W.contents output.new) (table_names (name_of name.now))) }
+{
+    let database = name_text(&name.database);
+    let table = name_text(&name.table);
+    write!(output, "  table {database}.{table} ")
 }

@@ -10,7 +10,7 @@ use Rattle.change_statistics.specs.WholeCounts.{begins, bytes, rows_in, has_unco
 use Rattle.change_statistics.specs.WholeEvents.{AreEventCounts}
 use Rattle.change_statistics.specs.declared.facts.ChangeKind.TheVariants.{Inserted, Updated, Deleted}
 use Rattle.change_statistics.specs.declared.event_counts.EventCounts.{EventCounts}
-use Rattle.change_statistics.proofs.Counts.{counted_more, counted_if_more, count_more}
+use Rattle.change_statistics.proofs.MoreCounted.{counted_more, counted_if_more, count_more}
 
 pub none_counted : AreEventCounts [] no_event_counts
 none_counted = record { events = refl; bytes = refl; transactions = refl; inserted = refl; updated = refl; deleted = refl; unread_events = refl }

@@ -14,7 +14,7 @@ use Rattle.change_statistics.specs.WholeEvents.{AreEventCounts}
 use Rattle.change_statistics.specs.EventCounting.{no_event_counts, with_event}
 use Rattle.change_statistics.specs.declared.event_counts.EventCounts.{EventCounts}
 use Rattle.change_statistics.specs.declared.intervals.IntervalStats.{IntervalStats}
-use Rattle.change_statistics.proofs.Counts.{filter_more, filter_same}
+use Rattle.change_statistics.proofs.MoreCounted.{filter_more, filter_same}
 use Rattle.change_statistics.proofs.CountedEvents.{none_counted, one_counted}
 use Rattle.change_statistics.proofs.Numbers.{same_number, own_number}
 

@@ -15,7 +15,7 @@ use Rattle.change_statistics.specs.declared.facts.ChangeKind.TheVariants.{Insert
 use Rattle.change_statistics.specs.declared.table_counts.TableCounts.{TableCounts}
 use Rattle.change_statistics.specs.declared.table_counts.UnknownRows.{UnknownRows}
 use Rattle.change_statistics.specs.declared.tables.TableStats.{TableStats}
-use Rattle.change_statistics.proofs.Counts.{counted_more, counted_if_more, count_more, filter_more, filter_same, first_more, last_more}
+use Rattle.change_statistics.proofs.MoreCounted.{counted_more, counted_if_more, count_more, filter_more, filter_same, first_more, last_more}
 use Rattle.change_statistics.proofs.Transactions.{is_open, touching_more, open_more}
 use Rattle.change_statistics.proofs.NamedTables.{same_name, own_name}
 
@@ -117,12 +117,12 @@ module _ (facts : List Fact) (fact : Fact) (name : Name) (transactions : ℕ) (c
         ∙ sym (touching_more name facts fact)
 
 -- An event of the table.
-held_more : (facts : List Fact) (begins_one : Bool) (size at : ℕ) (other name : Name) (kind : ChangeKind) (count : Option ℕ) (transactions : ℕ) (counts : TableCounts)
+held_more : (facts : List Fact) (begins_one : Bool) (gtid : List ℕ) (size end at : ℕ) (other name : Name) (kind : ChangeKind) (count : Option ℕ) (transactions : ℕ) (counts : TableCounts)
     → transactions ≡ saturated (count_by begins facts) → IsHeld facts name transactions counts → name_eq other name ≡ true
-    → IsHeld (facts ++ record { begins = begins_one; bytes = size; time = at; rows = rows other kind count } ∷ []) name (counted_if begins_one transactions)
+    → IsHeld (facts ++ record { begins = begins_one; gtid = gtid; bytes = size; end = end; time = at; rows = rows other kind count } ∷ []) name (counted_if begins_one transactions)
     (with_rows counts (counted_if begins_one transactions) size at kind count)
-held_more facts begins_one size at other name kind count transactions counts are was is =
-    let fact : Fact = record { begins = begins_one; bytes = size; time = at; rows = rows other kind count } in
+held_more facts begins_one gtid size end at other name kind count transactions counts are was is =
+    let fact : Fact = record { begins = begins_one; gtid = gtid; bytes = size; end = end; time = at; rows = rows other kind count } in
     let l : List Fact = of_table name facts in
     let sums : (f : Fact → ℕ) → sum_by f (of_table name (facts ++ fact ∷ [])) ≡ sum_by f l + f fact = sum_more facts fact name transactions counts are was is in
     let now : of_table name (facts ++ fact ∷ []) ≡ l ++ fact ∷ [] = more facts fact name transactions counts are was is in
@@ -187,9 +187,9 @@ none_held stats empty =
       unknown_bytes = rw empty.unknown refl;
     }
 
-module _ (facts : List Fact) (old : TableStats) (was : Held facts old) (begins_one : Bool) (size at : ℕ) where
+module _ (facts : List Fact) (old : TableStats) (was : Held facts old) (begins_one : Bool) (gtid : List ℕ) (size end at : ℕ) where
   abbrev With : Rows → Fact
-  With said = record { begins = begins_one; bytes = size; time = at; rows = said }
+  With said = record { begins = begins_one; gtid = gtid; bytes = size; end = end; time = at; rows = said }
 
   abbrev Then : ℕ
   Then = counted_if begins_one old.transactions
@@ -247,7 +247,7 @@ module _ (facts : List Fact) (old : TableStats) (was : Held facts old) (begins_o
     own_held : IsHeld (facts ++ Event ∷ []) own Then (counts_at new own)
     own_held =
         subst (λ (found : Option TableCounts). IsHeld (facts ++ Event ∷ []) own Then (unwrap_or found no_counts)) (sym own_counts)
-        (held_more facts begins_one size at own own kind count old.transactions (counts_at old own) was.transactions (was.tables own) (own_name own))
+        (held_more facts begins_one gtid size end at own own kind count old.transactions (counts_at old own) was.transactions (was.tables own) (own_name own))
 
     each_held : (name : Name) (b : Bool) → name_eq own name ≡ b → IsHeld (facts ++ Event ∷ []) name Then (counts_at new name)
     each_held name true is = subst (λ (n : Name). IsHeld (facts ++ Event ∷ []) n Then (counts_at new n)) (same_name own name is) own_held
@@ -288,7 +288,7 @@ stays_full (fact ∷ facts) old new (mid, inr added, rest) full = absurd (let no
 
 fact_held : (facts : List Fact) (old new : TableStats) (fact : Fact) → Held facts old → Adds old fact new → new.is_full ≡ false → Held (facts ++ fact ∷ []) new
 fact_held facts old new fact was (inl kept) room = absurd (let no : true ≡ false = sym kept.0 ∙ sym (ap (λ (s : TableStats). s.is_full) kept.1) ∙ room in cc)
-fact_held facts old new fact was (inr added) room = one_held facts old was fact.begins fact.bytes fact.time fact.rows new added.1 room
+fact_held facts old new fact was (inr added) room = one_held facts old was fact.begins fact.gtid fact.bytes fact.end fact.time fact.rows new added.1 room
 
 all_held : (done facts : List Fact) (old new : TableStats) → Held done old → AddsAll facts old new → new.is_full ≡ false → Held (done ++ facts) new
 all_held done [] old new was same room = subst (Held (done ++ [])) (sym same) (subst (λ (l : List Fact). Held l old) (sym (append-nil done)) was)

@@ -3,13 +3,13 @@ use Rattle.std.proofs.Common.{◌≡◌, ℕ, zero, suc, ◌+◌, ◌<◌, Bool,
 use Rattle.std.specs.Prelude.{count_by, slice_index, replicate}
 use Rattle.std.proofs.lemmas.List.{length-set}
 use Rattle.std.proofs.lemmas.List.Sums.{sum_by-cons}
-use Rattle.change_statistics.specs.Facts.{Rows}
+use Rattle.change_statistics.specs.Facts.{Rows, Fact}
 use Rattle.change_statistics.specs.Counting.{saturated, counted}
-use Rattle.change_statistics.specs.PlacedFacts.{PlacedFact}
 use Rattle.change_statistics.specs.Transactions.{begun, extended, class_of, kept_with, sizes_with, Seen, none_seen, counted_one, ended, added, SeesAll}
-use Rattle.change_statistics.specs.WholeTransactions.{until_next, transactions_of, is_of_class, AreLargest, AreTransactionStats}
+use Rattle.change_statistics.specs.WholeCounts.{until_begin, transactions_in}
+use Rattle.change_statistics.specs.WholeTransactions.{is_of_class, AreLargest, AreTransactionStats}
 use Rattle.change_statistics.specs.declared.transaction.Transaction.{Transaction}
-use Rattle.change_statistics.proofs.Counts.{counted_more, counted_if_more}
+use Rattle.change_statistics.proofs.MoreCounted.{counted_more, counted_if_more}
 use Rattle.change_statistics.proofs.GrownTransactions.{grown, all_of, all_are, AreSmall, all_small}
 use Rattle.change_statistics.proofs.SizeClasses.{sizes_more}
 use Rattle.change_statistics.proofs.SortedTransactions.{inserted, all_inserted, kept_is, taken_inserted, first_are_largest}
@@ -25,29 +25,29 @@ all_counted_in [] seen = seen
 all_counted_in (transaction ∷ transactions) seen = all_counted_in transactions (counted_one transaction seen)
 
 -- The transactions of events, behind one that has begun, if there is one.
-abbrev all_behind : Option Transaction → List PlacedFact → List Transaction
+abbrev all_behind : Option Transaction → List Fact → List Transaction
 all_behind None events = all_of events
-all_behind (Some transaction) events = grown transaction (until_next events) ∷ all_of events
+all_behind (Some transaction) events = grown transaction (until_begin events) ∷ all_of events
 
 -- All are counted, when the last one has ended.
-all_seen : (events : List PlacedFact) (current : Option Transaction) (n limit : ℕ) (kept : List Transaction) (sizes : List ℕ) (new : Seen) → SeesAll events (seen_as current n limit kept sizes) new
+all_seen : (events : List Fact) (current : Option Transaction) (n limit : ℕ) (kept : List Transaction) (sizes : List ℕ) (new : Seen) → SeesAll events (seen_as current n limit kept sizes) new
     → ended new ≡ all_counted_in (all_behind current events) (seen_as None n limit kept sizes)
 all_seen [] None n limit kept sizes new same = ap ended same
 all_seen [] (Some transaction) n limit kept sizes new same = ap ended same
 all_seen (event ∷ events) current n limit kept sizes new (mid, is, rest) =
-    by event.fact.begins event.fact.bytes event.fact.time event.fact.rows event.end current is
+    by event.begins event.gtid event.bytes event.end event.time event.rows current is
     (λ c m k z same. all_seen events c m limit k z new (subst (λ (s : Seen). SeesAll events s new) same rest))
   where
-    by : (b : Bool) (bytes time : ℕ) (said : Rows) (end : ℕ) (o : Option Transaction)
-        → mid ≡ added (seen_as o n limit kept sizes) (record { fact = record { begins = b; bytes = bytes; time = time; rows = said }; end = end })
+    by : (b : Bool) (gtid : List ℕ) (bytes end time : ℕ) (said : Rows) (o : Option Transaction)
+        → mid ≡ added (seen_as o n limit kept sizes) (record { begins = b; gtid = gtid; bytes = bytes; end = end; time = time; rows = said })
         → ((c : Option Transaction) (m : ℕ) (k : List Transaction) (z : List ℕ) → mid ≡ seen_as c m limit k z → ended new ≡ all_counted_in (all_behind c events) (seen_as None m limit k z))
-        → ended new ≡ all_counted_in (all_behind o (record { fact = record { begins = b; bytes = bytes; time = time; rows = said }; end = end } ∷ events)) (seen_as None n limit kept sizes)
-    by true bytes time said end None same others = others (Some (begun (record { fact = record { begins = true; bytes = bytes; time = time; rows = said }; end = end }))) n kept sizes same
-    by true bytes time said end (Some t) same others =
-        others (Some (begun (record { fact = record { begins = true; bytes = bytes; time = time; rows = said }; end = end }))) (counted n 1) (kept_with limit t kept) (sizes_with t.counts.bytes sizes) same
-    by false bytes time said end None same others = others None n kept sizes same
-    by false bytes time said end (Some t) same others =
-        others (Some (extended t (record { fact = record { begins = false; bytes = bytes; time = time; rows = said }; end = end }))) n kept sizes same
+        → ended new ≡ all_counted_in (all_behind o (record { begins = b; gtid = gtid; bytes = bytes; end = end; time = time; rows = said } ∷ events)) (seen_as None n limit kept sizes)
+    by true gtid bytes end time said None same others = others (Some (begun (record { begins = true; gtid = gtid; bytes = bytes; end = end; time = time; rows = said }))) n kept sizes same
+    by true gtid bytes end time said (Some t) same others =
+        others (Some (begun (record { begins = true; gtid = gtid; bytes = bytes; end = end; time = time; rows = said }))) (counted n 1) (kept_with limit t kept) (sizes_with t.counts.bytes sizes) same
+    by false gtid bytes end time said None same others = others None n kept sizes same
+    by false gtid bytes end time said (Some t) same others =
+        others (Some (extended t (record { begins = false; gtid = gtid; bytes = bytes; end = end; time = time; rows = said }))) n kept sizes same
 
 -- ---- what is counted of them
 
@@ -88,7 +88,7 @@ take_none (suc n) none is = rw is refl
 
 -- ---- all
 
-pub all_transactions : (limit : ℕ) (events : List PlacedFact) (seen : Seen) → SeesAll events (none_seen limit) seen → AreTransactionStats limit events (ended seen)
+pub all_transactions : (limit : ℕ) (events : List Fact) (seen : Seen) → SeesAll events (none_seen limit) seen → AreTransactionStats limit events (ended seen)
 all_transactions limit events seen saw =
     let all : ended seen ≡ all_counted_in (all_of events) (none_seen limit) = all_seen events None 0 limit [] (replicate 65 0) seen saw in
     record {
@@ -100,6 +100,6 @@ all_transactions limit events seen saw =
           (first_are_largest limit (all_of events));
       sizes = λ class small.
           ap (λ (s : Seen). slice_index s.sizes class) all
-          ∙ counted_sizes class small (all_of events) (none_seen limit) 0 (all_small (transactions_of events) (all_of events) (all_are events)) refl (all_none 65 class)
+          ∙ counted_sizes class small (all_of events) (none_seen limit) 0 (all_small (transactions_in events) (all_of events) (all_are events)) refl (all_none 65 class)
           ∙ ap saturated (omega arith);
     }

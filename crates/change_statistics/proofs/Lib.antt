@@ -1,4 +1,4 @@
-mod Counts
+mod MoreCounted
 mod Transactions
 mod NamedTables
 pub mod HeldTables
@@ -7,5 +7,6 @@ mod CountedEvents
 pub mod HeldIntervals
 mod SortedTransactions
 mod SizeClasses
+mod CountedTables
 mod GrownTransactions
 pub mod HeldTransactions

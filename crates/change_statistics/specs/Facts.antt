@@ -1,5 +1,5 @@
 -- What statistics see of an event.
-use Rattle.std.specs.Prelude.{ℕ, Bool, List, Option}
+use Rattle.std.specs.Prelude.{ℕ, ◌-◌, Bool, List, Option, Some, None, nat_le, if◌then◌else◌}
 use Rattle.change_statistics.specs.declared.facts.ChangeKind.{ChangeKind}
 use Rattle.change_statistics.specs.declared.facts.Change.{Change}
 use Rattle.change_statistics.specs.declared.facts.Change.TheVariants as changes
@@ -18,11 +18,13 @@ pub data Rows : Type 0 where
   unknown : Rows
   rows : Name → ChangeKind → Option ℕ → Rows
 
--- What statistics see of an event: whether a transaction begins with it, the number of its bytes, its time, and what it says of changes
--- of rows.
+-- What statistics see of an event: whether a transaction begins with it, the text of the GTID of that one, which is empty if it has none;
+-- the number of its bytes, the position behind it in its log, as it states, its time, and what it says of changes of rows.
 pub record Fact : Type 0 where
   pub begins : Bool
+  pub gtid : List ℕ
   pub bytes : ℕ
+  pub end : ℕ
   pub time : ℕ
   pub rows : Rows
 
@@ -36,4 +38,8 @@ rows_of (changes.Rows change) = rows (name_in change) change.kind change.count
 
 -- The facts of an event, as contracts see them.
 abbrev pub fact_of : EventFacts → Fact
-fact_of event = record { begins = event.begins_transaction; bytes = event.bytes; time = event.time; rows = rows_of event.change }
+fact_of event = record { begins = event.begins_transaction; gtid = event.gtid.now; bytes = event.bytes; end = event.end_position; time = event.time; rows = rows_of event.change }
+
+-- The position where the event begins, by its bytes; None if it states that it ends before so many.
+abbrev pub begin_of : Fact → Option ℕ
+begin_of fact = if nat_le fact.bytes fact.end then Some (fact.end - fact.bytes) else None

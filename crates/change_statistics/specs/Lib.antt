@@ -9,6 +9,7 @@ pub mod EventCounting
 pub mod WholeEvents
 pub mod Intervals
 pub mod WholeIntervals
-pub mod PlacedFacts
+pub mod SeenTables
+pub mod TransactionTables
 pub mod Transactions
 pub mod WholeTransactions

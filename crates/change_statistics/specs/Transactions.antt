@@ -1,27 +1,40 @@
 -- Counting transactions, event by event.
-use Rattle.std.specs.Prelude.{◌≡◌, ℕ, ◌-◌, Bool, List, [], length, take, insert, position, slice_index, slice_set, replicate, Option, Some, None, unwrap_or, option_map, nat_lt, if◌then◌else◌}
+use Rattle.std.specs.Prelude.{◌≡◌, ℕ, ◌-◌, Bool, List, [], length, take, insert, position, slice_index, slice_set, replicate, Option, Some, None, unwrap_or, option_map, nat_lt, nat_le, if◌then◌else◌}
+use Rattle.std.specs.List.{list_any}
 use Rattle.std.specs.Int.{w64, leading_zeros}
 use Rattle.change_statistics.specs.Counting.{counted, AddsEach}
 use Rattle.change_statistics.specs.EventCounting.{no_event_counts, with_event}
-use Rattle.change_statistics.specs.PlacedFacts.{PlacedFact, begin_of}
+use Rattle.change_statistics.specs.Facts.{Fact, begin_of}
+use Rattle.change_statistics.specs.TransactionTables.{no_tables, with_tables}
 use Rattle.change_statistics.specs.declared.transaction.Transaction.{Transaction}
 use Rattle.change_statistics.specs.declared.transaction_stats.TransactionStats.{TransactionStats}
 
 -- ---- one transaction
 
 -- The transaction that begins with this event, so far.
-abbrev pub begun : PlacedFact → Transaction
-begun placed = record {
-  begin_position = begin_of placed;
-  end_position = placed.end;
-  counts = with_event no_event_counts placed.fact;
-  first_time = placed.fact.time;
-  last_time = placed.fact.time;
+abbrev pub begun : Fact → Transaction
+begun fact = record {
+  gtid = fact.gtid;
+  begin_position = begin_of fact;
+  end_position = fact.end;
+  counts = with_event no_event_counts fact;
+  first_time = fact.time;
+  last_time = fact.time;
+  tables = with_tables no_tables fact;
 }
 
 -- The transaction with one more event.
-abbrev pub extended : Transaction → PlacedFact → Transaction
-extended transaction placed = record transaction { end_position = placed.end; counts = with_event transaction.counts placed.fact; last_time = placed.fact.time }
+abbrev pub extended : Transaction → Fact → Transaction
+extended transaction fact = record transaction {
+  end_position = fact.end;
+  counts = with_event transaction.counts fact;
+  last_time = fact.time;
+  tables = with_tables transaction.tables fact;
+}
+
+-- The seconds from the time of its first event to that of its last one; None if that one is earlier.
+abbrev pub duration_of : Transaction → Option ℕ
+duration_of transaction = if nat_le transaction.first_time transaction.last_time then Some (transaction.last_time - transaction.first_time) else None
 
 -- ---- those that are kept
 
@@ -36,6 +49,10 @@ place_among transaction others = unwrap_or (position (λ (other : Transaction). 
 -- These with one more, and not more than the limit.
 abbrev pub kept_with : (limit : ℕ) → Transaction → List Transaction → List Transaction
 kept_with limit transaction kept = take limit (insert kept (place_among transaction kept) transaction)
+
+-- One of them has rows of more tables than there was room for.
+abbrev pub is_any_full : List Transaction → Bool
+is_any_full kept = list_any (λ (transaction : Transaction). transaction.tables.is_full) kept
 
 -- ---- their sizes
 
@@ -88,16 +105,18 @@ ended_as (Some transaction) seen = counted_one transaction seen
 abbrev pub ended : Seen → Seen
 ended seen = ended_as seen.current seen
 
+-- One more event is in the transaction that has begun, if there is one.
+abbrev pub with_current : Seen → Fact → Seen
+with_current seen fact = record seen { current = option_map (λ (transaction : Transaction). extended transaction fact) seen.current }
+
 -- What is counted behind one more event.
-abbrev pub added : Seen → PlacedFact → Seen
-added seen placed =
-    if placed.fact.begins then record (ended seen) { current = Some (begun placed) }
-    else record seen { current = option_map (λ (transaction : Transaction). extended transaction placed) seen.current }
+abbrev pub added : Seen → Fact → Seen
+added seen fact = if fact.begins then record (ended seen) { current = Some (begun fact) } else with_current seen fact
 
 -- One more event is seen.
-abbrev pub SeesEvent : Seen → PlacedFact → Seen → Type 0
-SeesEvent old event new = new ≡ added old event
+abbrev pub SeesEvent : Seen → Fact → Seen → Type 0
+SeesEvent old fact new = new ≡ added old fact
 
 -- Events one after another are seen.
-abbrev pub SeesAll : List PlacedFact → Seen → Seen → Type 0
+abbrev pub SeesAll : List Fact → Seen → Seen → Type 0
 SeesAll = AddsEach SeesEvent

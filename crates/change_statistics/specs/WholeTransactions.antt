@@ -1,47 +1,45 @@
 -- The statistics by transaction of whole lists of events.
-use Rattle.std.specs.Prelude.{◌≡◌, ℕ, ◌+◌, ◌-◌, ◌*◌, ◌<◌, ◌^◌, ◌&&◌, Bool, List, [], ◌∷◌, length, map, take, slice_get, slice_index, count_by, Some, option_map, nat_lt, nat_le, if◌then◌else◌}
+use Rattle.std.specs.Prelude.{◌≡◌, ◌≢◌, ℕ, ◌+◌, ◌*◌, ◌<◌, ◌^◌, ◌&&◌, Bool, List, [], ◌∷◌, length, take, slice_index, count_by, Some, false, option_map, nat_lt, nat_le, MatchOption}
+use Rattle.std.specs.List.{IsDistinct}
+use Rattle.std.specs.Map.{lookup, keys_of}
 use Rattle.std.specs.List.Sorted.{IsPermutation, IsSortedBy, IsStableBy}
-use Rattle.change_statistics.specs.Facts.{Fact}
+use Rattle.change_statistics.specs.Facts.{Name, Fact, begin_of}
 use Rattle.change_statistics.specs.Counting.{saturated}
-use Rattle.change_statistics.specs.PlacedFacts.{PlacedFact, begin_of}
+use Rattle.change_statistics.specs.Names.{name_eq}
 use Rattle.change_statistics.specs.Transactions.{is_smaller, Seen}
+use Rattle.change_statistics.specs.WholeCounts.{time, of_table, transactions_in, first_of, last_of}
 use Rattle.change_statistics.specs.WholeEvents.{AreEventCounts}
+use Rattle.change_statistics.specs.declared.event_counts.EventCounts.{EventCounts}
 use Rattle.change_statistics.specs.declared.transaction.Transaction.{Transaction}
 
 -- ---- the transactions
 
--- Those before the first event with which a transaction begins.
-abbrev pub until_next : List PlacedFact → List PlacedFact
-until_next [] = []
-until_next (event ∷ events) = if event.fact.begins then [] else event ∷ until_next events
+abbrev pub gtid_of : Fact → List ℕ
+gtid_of fact = fact.gtid
 
--- The transactions: each has the event with which it begins, and those behind it before the next one begins.
-abbrev pub transactions_of : List PlacedFact → List (List PlacedFact)
-transactions_of [] = []
-transactions_of (event ∷ events) = if event.fact.begins then (event ∷ until_next events) ∷ transactions_of events else transactions_of events
+abbrev pub end_of : Fact → ℕ
+end_of fact = fact.end
 
-abbrev pub fact_in : PlacedFact → Fact
-fact_in event = event.fact
+-- These are the tables of which the events have rows, each once, and what is counted of those of each.
+pub record AreTablesOf (facts : List Fact) (entries : List (Name × EventCounts)) : Type 0 where
+  pub tables : (name : Name) → MatchOption (lookup (name_eq name) entries) (of_table name facts ≡ []) (λ counts. (of_table name facts ≢ []) × AreEventCounts (of_table name facts) counts)
+  pub once : IsDistinct name_eq (keys_of entries)
 
-abbrev pub end_of : PlacedFact → ℕ
-end_of event = event.end
-
-abbrev pub time_of : PlacedFact → ℕ
-time_of event = event.fact.time
-
--- What is counted of these events, and where and when the first begins and the last ends.
-pub record IsTransactionOf (events : List PlacedFact) (transaction : Transaction) : Type 0 where
-  pub counts : AreEventCounts (map fact_in events) transaction.counts
-  pub begin_position : Some transaction.begin_position ≡ option_map begin_of (slice_get events 0)
-  pub end_position : Some transaction.end_position ≡ option_map end_of (slice_get events (length events - 1))
-  pub first_time : Some transaction.first_time ≡ option_map time_of (slice_get events 0)
-  pub last_time : Some transaction.last_time ≡ option_map time_of (slice_get events (length events - 1))
+-- What is counted of these events, the GTID of the first one, and where and when that begins and the last one ends.
+pub record IsTransactionOf (facts : List Fact) (transaction : Transaction) : Type 0 where
+  pub gtid : Some transaction.gtid ≡ option_map gtid_of (first_of facts)
+  pub counts : AreEventCounts facts transaction.counts
+  pub begin_position : Some transaction.begin_position ≡ option_map begin_of (first_of facts)
+  pub end_position : Some transaction.end_position ≡ option_map end_of (last_of facts)
+  pub first_time : Some transaction.first_time ≡ option_map time (first_of facts)
+  pub last_time : Some transaction.last_time ≡ option_map time (last_of facts)
+  pub tables : transaction.tables.is_full ≡ false → AreTablesOf facts transaction.tables.entries
 
 -- Each is one of these, in order.
-abbrev pub AreTransactionsOf : List (List PlacedFact) → List Transaction → Type 0
+abbrev pub AreTransactionsOf : List (List Fact) → List Transaction → Type 0
 AreTransactionsOf [] transactions = transactions ≡ []
-AreTransactionsOf (events ∷ others) transactions =
-    (transaction : Transaction) × (rest : List Transaction) × IsTransactionOf events transaction × AreTransactionsOf others rest × (transactions ≡ transaction ∷ rest)
+AreTransactionsOf (facts ∷ others) transactions =
+    (transaction : Transaction) × (rest : List Transaction) × IsTransactionOf facts transaction × AreTransactionsOf others rest × (transactions ≡ transaction ∷ rest)
 
 -- ---- the largest
 
@@ -67,9 +65,9 @@ is_of_class class transaction = nat_lt transaction.counts.bytes (2 ^ class) && n
 -- ---- the statistics
 
 -- The statistics are those of the transactions of the events.
-pub record AreTransactionStats (limit : ℕ) (events : List PlacedFact) (seen : Seen) : Type 0 where
+pub record AreTransactionStats (limit : ℕ) (facts : List Fact) (seen : Seen) : Type 0 where
   pub all : List Transaction
-  pub are : AreTransactionsOf (transactions_of events) all
+  pub are : AreTransactionsOf (transactions_in facts) all
   pub transactions : seen.transactions ≡ saturated (length all)
   pub largest : AreLargest limit all seen.kept
   pub sizes : (class : ℕ) → class < 65 → slice_index seen.sizes class ≡ saturated (count_by (is_of_class class) all)

@@ -1,6 +1,7 @@
 //! What statistics see of an event.
 ghost use Rattle.std.specs.Prelude.{◌≡◌};
 ghost use Rattle.change_statistics.specs.Counting.{rows_as};
+ghost use Rattle.change_statistics.specs.Facts.{begin_of, fact_of};
 
 /// How rows change a table.
 #[derive(Clone, Copy, Debug, PartialEq, Eq)]
@@ -42,8 +43,12 @@ pub enum Change<'a> {
 pub struct EventFacts<'a> {
     /// Whether a transaction begins with it.
     pub begins_transaction: bool,
+    /// The text of the GTID of the transaction that begins with it; empty if that has none, or if none begins.
+    pub gtid: &'a str,
     /// The number of its bytes.
     pub bytes: u64,
+    /// The position behind it in its log, as it states.
+    pub end_position: u64,
     /// Its timestamp, in seconds since 1970.
     pub time: u32,
     /// What it says of changes of rows.
@@ -60,5 +65,14 @@ impl TableChange<'_> {
         } else {
             0
         }
+    }
+}
+
+impl EventFacts<'_> {
+    /// The position where the event begins, by its bytes; None if it states that it ends before so many.
+    pub(crate) fn begin_position(&self) -> Option<u64>
+        ensures { result ≡ begin_of (fact_of self.now) }
+    {
+        self.end_position.checked_sub(self.bytes)
     }
 }

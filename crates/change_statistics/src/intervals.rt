@@ -1,8 +1,8 @@
 //! Statistics by time.
-ghost use Rattle.std.specs.Prelude.{◌≡◌, ◌⊎◌, false, OnOk, OnErr};
-ghost use Rattle.change_statistics.specs.Facts.{fact_of};
-ghost use Rattle.change_statistics.specs.Intervals.{counts_of, CountsNoInterval, AreSameIntervals, PutsInterval, AddsByTime};
+ghost use Rattle.std.specs.Prelude.{◌≡◌, false, OnOk, OnErr};
+ghost use Rattle.change_statistics.specs.Intervals.{counts_of, CountsNoInterval, AreSameIntervals, PutsInterval};
 
+use crate::counts::Counts;
 use crate::event_counts::EventCounts;
 use crate::facts::EventFacts;
 use std::alloc::{AllocError, Global};
@@ -37,28 +37,6 @@ impl IntervalStats {
         }
     }
 
-    /// Counts an event. If it is in one interval more than [`MAX_INTERVALS`], that is noted, and it isn't counted.
-    ///
-    /// # Errors
-    ///
-    /// [`AllocError`] if an allocation fails for an interval. Nothing is counted then.
-    pub fn add(&mut self, event: &EventFacts<'_>) -> Result<(), AllocError>
-        ensures ok { OnOk result (AddsByTime self.old (fact_of event.now) self.new) }
-        ensures err { OnErr result (AreSameIntervals self.old self.new) }
-    {
-        if self.is_full {
-            return Ok(());
-        }
-        let start = event.time - event.time % self.seconds.get();
-        let known = self.counts_of(start);
-        if known.is_none() && self.intervals.len() >= MAX_INTERVALS {
-            self.is_full = true;
-            return Ok(());
-        }
-        let counts = known.unwrap_or(EventCounts::none()).with_event(event);
-        self.put(start, counts)
-    }
-
     // The counts of the interval that begins then, if it has some.
     fn counts_of(&self, start: u32) -> Option<EventCounts>
         ensures { result ≡ counts_of self.now start }
@@ -73,5 +51,28 @@ impl IntervalStats {
     {
         self.intervals.insert(start, counts)?;
         Ok(())
+    }
+}
+
+/// If an event is in one interval more than [`MAX_INTERVALS`], that is noted, and it isn't counted.
+impl Counts for IntervalStats {
+    ghost use Rattle.change_statistics.specs.Intervals.{AddsByTime, AreSameIntervals};
+
+    ghost adds = { AddsByTime };
+
+    ghost keeps = { AreSameIntervals };
+
+    fn add(&mut self, event: &EventFacts<'_>) -> Result<(), AllocError> {
+        if self.is_full {
+            return Ok(());
+        }
+        let start = event.time - event.time % self.seconds.get();
+        let known = self.counts_of(start);
+        if known.is_none() && self.intervals.len() >= MAX_INTERVALS {
+            self.is_full = true;
+            return Ok(());
+        }
+        let counts = known.unwrap_or(EventCounts::none()).with_event(event);
+        self.put(start, counts)
     }
 }

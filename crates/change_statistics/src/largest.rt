@@ -1,6 +1,6 @@
 //! The largest transactions.
-ghost use Rattle.std.specs.Prelude.{◌≡◌, [], OnOk, OnErr, nat_lt, position};
-ghost use Rattle.change_statistics.specs.Transactions.{place_among, kept_with};
+ghost use Rattle.std.specs.Prelude.{◌≡◌, ◌<◌, [], OnOk, nat_lt, position, vec_len, vec_capacity};
+ghost use Rattle.change_statistics.specs.Transactions.{place_among, kept_with, is_any_full};
 ghost use Rattle.change_statistics.specs.declared.transaction.Transaction.{Transaction};
 
 use crate::transaction::Transaction;
@@ -28,22 +28,40 @@ impl LargestTransactions {
         }
     }
 
-    /// Keeps the transaction, if fewer than the limit have at least as many bytes.
+    /// Whether one of those that are kept has rows of more tables than can be counted.
+    pub fn is_full(&self) -> bool
+        ensures { result ≡ is_any_full self.now.kept.items }
+    {
+        self.kept
+            .iter()
+            .any(|transaction| transaction.tables.is_full())
+    }
+
+    /// Makes room for one more.
     ///
     /// # Errors
     ///
-    /// [`AllocError`] if an allocation fails. The same are kept then.
-    pub fn offer(&mut self, transaction: Transaction) -> Result<(), AllocError>
+    /// [`AllocError`] if an allocation fails. The same are kept in any case.
+    pub(crate) fn reserve(&mut self) -> Result<(), AllocError>
         ensures limit { self.new.limit ≡ self.old.limit }
-        ensures ok { OnOk result (self.new.kept.items ≡ kept_with self.old.limit transaction self.old.kept.items) }
-        ensures err { OnErr result (self.new.kept.items ≡ self.old.kept.items) }
+        ensures kept { self.new.kept.items ≡ self.old.kept.items }
+        ensures room { OnOk result (vec_len self.new.kept < vec_capacity self.new.kept) }
+    {
+        self.kept.reserve(1)?;
+        Ok(())
+    }
+
+    /// Keeps the transaction, if fewer than the limit have at least as many bytes. There is room for it.
+    pub(crate) fn offer(&mut self, transaction: Transaction)
+        requires { vec_len self.old.kept < vec_capacity self.old.kept }
+        ensures limit { self.new.limit ≡ self.old.limit }
+        ensures kept { self.new.kept.items ≡ kept_with self.old.limit transaction self.old.kept.items }
     {
         let place = self.place_of(&transaction);
-        if place < self.limit {
-            self.kept.insert(place, transaction)?;
+        if place < self.limit && self.kept.insert(place, transaction).is_err() {
+            unreachable!()
         }
         self.kept.truncate(self.limit);
-        Ok(())
     }
 
     // How many come before the transaction.

@@ -3,7 +3,6 @@ ghost use Rattle.std.specs.Prelude.{◌≡◌, ℕ, List, false};
 ghost use Rattle.change_statistics.specs.Facts.{Fact};
 ghost use Rattle.change_statistics.specs.Tables.{AreEmpty, AddsAll};
 ghost use Rattle.change_statistics.specs.WholeTables.{AreTableStats};
-ghost use Rattle.change_statistics.specs.PlacedFacts.{PlacedFact};
 ghost use Rattle.change_statistics.specs.Transactions.{Seen, none_seen, ended, SeesAll};
 ghost use Rattle.change_statistics.specs.WholeTransactions.{AreTransactionStats};
 ghost use Rattle.change_statistics.specs.Intervals.{seconds_of, CountsNoInterval, AddsAllByTime};
@@ -24,7 +23,8 @@ pub fn interval_counts_are_of_all_events()
 {}
 
 /// When the last transaction has ended, the statistics are those of the transactions of all events that were seen: how many there are, the
-/// largest, as many as are kept at most, and how many of them have which size.
+/// largest, as many as are kept at most, and how many of them have which size. Of each that is kept the counts are the sums and numbers over
+/// its events, and by table, where there was room for all its tables, over those that have rows of the table.
 pub fn transaction_counts_are_of_all_events()
-    ensures { (limit : ℕ) (events : List PlacedFact) (seen : Seen) → SeesAll events (none_seen limit) seen → AreTransactionStats limit events (ended seen) }
+    ensures { (limit : ℕ) (facts : List Fact) (seen : Seen) → SeesAll facts (none_seen limit) seen → AreTransactionStats limit facts (ended seen) }
 {}

@@ -1,12 +1,13 @@
 //! Statistics by table.
 ghost use Rattle.std.specs.Prelude.{◌≡◌, ◌⊎◌, false, nat_lt, OnOk, OnErr};
 ghost use Rattle.std.specs.Ordering.{is_lt};
-ghost use Rattle.change_statistics.specs.Facts.{fact_of, name_in};
-ghost use Rattle.change_statistics.specs.Tables.{max_tables, counts_named, table_count, AreEmpty, AreSame, AddsRows, HasNoRoom, Puts, Adds};
+ghost use Rattle.change_statistics.specs.Facts.{name_in};
+ghost use Rattle.change_statistics.specs.Tables.{counts_named, AreEmpty, AreSame, AddsRows, HasNoRoom, Puts};
 ghost use Rattle.change_statistics.specs.SortedTables.{AreSorted, AreInOrder, AreDistinct, KeepsOthers};
 ghost use Rattle.std.specs.List.Sorted.{IsPermutation};
 ghost use Rattle.change_statistics.specs.Names.{name_of};
 
+use crate::counts::Counts;
 use crate::facts::{Change, EventFacts, TableChange};
 use crate::table_counts::{TableCounts, UnknownRows, counted_if};
 use crate::table_name::TableName;
@@ -42,33 +43,6 @@ impl TableStats {
             transactions: 0,
             unknown: UnknownRows::none(),
             is_full: false,
-        }
-    }
-
-    /// Counts an event. If it has rows of one table more than [`MAX_TABLES`], that is noted, and it isn't counted.
-    ///
-    /// # Errors
-    ///
-    /// [`AllocError`] if an allocation fails for a table. Nothing is counted then.
-    pub fn add(&mut self, event: &EventFacts<'_>) -> Result<(), AllocError>
-        ensures ok { OnOk result (Adds self.old (fact_of event.now) self.new) }
-        ensures err { OnErr result (AreSame self.old self.new) }
-    {
-        if self.is_full {
-            return Ok(());
-        }
-        let transactions = counted_if(event.begins_transaction, self.transactions);
-        match &event.change {
-            Change::Rows(change) => self.add_rows(transactions, event.bytes, event.time, change),
-            Change::Unknown => {
-                self.unknown = self.unknown.with_event(event.bytes);
-                self.transactions = transactions;
-                Ok(())
-            }
-            Change::Nothing => {
-                self.transactions = transactions;
-                Ok(())
-            }
         }
     }
 
@@ -136,5 +110,33 @@ impl TableStats {
     {
         self.tables.insert(name, counts)?;
         Ok(())
+    }
+}
+
+/// If an event has rows of one table more than [`MAX_TABLES`], that is noted, and it isn't counted.
+impl Counts for TableStats {
+    ghost use Rattle.change_statistics.specs.Tables.{Adds, AreSame};
+
+    ghost adds = { Adds };
+
+    ghost keeps = { AreSame };
+
+    fn add(&mut self, event: &EventFacts<'_>) -> Result<(), AllocError> {
+        if self.is_full {
+            return Ok(());
+        }
+        let transactions = counted_if(event.begins_transaction, self.transactions);
+        match &event.change {
+            Change::Rows(change) => self.add_rows(transactions, event.bytes, event.time, change),
+            Change::Unknown => {
+                self.unknown = self.unknown.with_event(event.bytes);
+                self.transactions = transactions;
+                Ok(())
+            }
+            Change::Nothing => {
+                self.transactions = transactions;
+                Ok(())
+            }
+        }
     }
 }

@@ -2,6 +2,8 @@
 //! prints them.
 #![forbid(unsafe_code)]
 
+#[allow(unused_variables)]
+pub mod binlog_change_lines;
 #[doc(hidden)]
 pub mod binlog_cli;
 pub mod binlog_commands;
@@ -22,6 +24,7 @@ pub mod binlog_rotation;
 pub mod binlog_statistics;
 #[doc(hidden)]
 pub mod binlog_summaries;
+pub mod binlog_transaction_gtids;
 pub mod binlog_visits;
 /// Statistics of changes, from facts of events.
 pub mod change_statistics;

@@ -7,8 +7,8 @@ use Rattle.binlog.specs.Reading.{unless_followed, ReadsFile}
 use Rattle.binlog.specs.Verifying.{counting}
 use Rattle.binlog.proofs.verifying.verify_file.Goals as goal
 
-pub returns : goal.returns
-returns g c =
+pub returns-clause-verifies : goal.returns-clause-verifies
+returns-clause-verifies g c =
     let replaced : c.replace_visitor.new.self ≡ counting c.args.reported.now = rw c.new.ensures at c.replace_visitor.ensures in
     record {
       read = c.read_file-read.result;
@@ -17,5 +17,8 @@ returns g c =
       shown = c.shown_name-name.result.now;
       input = c.shown_name-name.ensures.input;
       file = c.shown_name-name.ensures.file;
-      ends = rw (c.with_cut-tally.ensures, c.is_cut.ensures, c.visitor.ensures) at c.write_line.ensures;
+      ends = rw (c.with_cut-tally.ensures, c.is_cut.ensures, c.visitor.ensures) at c.write_line.ensures.line;
     }
+
+pub returns-clause-err : goal.returns-clause-err
+returns-clause-err g c = c.write_line.ensures.err c.read_file-read.ensures.err

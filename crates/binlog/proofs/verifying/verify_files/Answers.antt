@@ -11,7 +11,7 @@ returns-in-Err g c =
     (taken_at (λ (behind : List (Bor (List ℕ))) (name : Bor (List ℕ)) old answer new. VerifiesFile c.args.reading.is_verified (unless_followed c.args.reading.is_followed (g.S.Inputs.bytes c.args.inputs.now name.now)) c.args.is_quiet name.now old answer new)
     c.args.files.now c.loop-file.file-index _ c.loop-file-test.true c.loop-file.status (verifying c.loop-file.reported (g.W.Write.contents c.loop-file.output)) c.verify_file.result
     (verifying c.verify_file.new.reported (g.W.Write.contents c.verify_file.new.output)) (unwritten c.loop-file.status) (verifying c.verify_file.new.reported (g.W.Write.contents c.verify_file.new.output))
-    c.verify_file.ensures (rw c.in-Err.is (refl, refl))))
+    c.verify_file.ensures.verifies (rw c.in-Err.is (refl, refl))))
 
 pub loop-file-preserved : goal.loop-file-preserved
 loop-file-preserved g c = λ result new others.
@@ -19,7 +19,7 @@ loop-file-preserved g c = λ result new others.
     (taken_at (λ (behind : List (Bor (List ℕ))) (name : Bor (List ℕ)) old answer new. VerifiesFile c.args.reading.is_verified (unless_followed c.args.reading.is_followed (g.S.Inputs.bytes c.args.inputs.now name.now)) c.args.is_quiet name.now old answer new)
     c.args.files.now c.loop-file.file-index _ c.loop-file-test.true c.loop-file.status (verifying c.loop-file.reported (g.W.Write.contents c.loop-file.output)) c.verify_file.result
     (verifying c.verify_file.new.reported (g.W.Write.contents c.verify_file.new.output)) result new
-    c.verify_file.ensures (rw c.in-Ok.is (rw c.worse-status.ensures at others)))
+    c.verify_file.ensures.verifies (rw c.in-Ok.is (rw c.worse-status.ensures at others)))
 
 pub returns : goal.returns
 returns g c =

@@ -1,5 +1,11 @@
-use Rattle.binlog_statistics.proofs.CountedItems.{taken_items_by_time}
+use Rattle.change_statistics.specs.Intervals.{seconds_of, AddsByTime, AddsAllByTime}
+use Rattle.change_statistics.specs.WholeIntervals.{AreIntervalStats}
+use Rattle.change_statistics.proofs.HeldIntervals.{all_counted_by_time}
+use Rattle.binlog_statistics.proofs.CountedItems.{counts_taken, taken_are}
 use Rattle.binlog_statistics.proofs.laws.filtered_interval_counts_are_of_taken_items.Goals as goal
 
 pub returns : goal.returns
-returns c = taken_items_by_time
+returns c = λ maps items old new empty visited room.
+    taken_are (λ facts stats. AddsAllByTime facts old.visitor.stats stats) (AreIntervalStats (seconds_of old.visitor.stats)) new.visitor.stats new.visitor.stats
+    (λ facts added. all_counted_by_time facts old.visitor.stats new.visitor.stats empty added room)
+    old.filter maps old.place.position old.state items (counts_taken AddsByTime maps 0 items old new visited)

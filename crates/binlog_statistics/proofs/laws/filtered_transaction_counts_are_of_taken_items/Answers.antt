@@ -1,5 +1,12 @@
-use Rattle.binlog_statistics.proofs.CountedItems.{taken_items_by_transaction}
+use Rattle.change_statistics.specs.Counting.{AddsEach}
+use Rattle.change_statistics.specs.Transactions.{seen_by, ended}
+use Rattle.change_statistics.specs.WholeTransactions.{AreTransactionStats}
+use Rattle.binlog_statistics.proofs.CountedItems.{counts_taken, taken_are}
+use Rattle.binlog_statistics.proofs.SeenTransactions.{Sees, all_seen}
 use Rattle.binlog_statistics.proofs.laws.filtered_transaction_counts_are_of_taken_items.Goals as goal
 
 pub returns : goal.returns
-returns c = taken_items_by_transaction
+returns c = λ limit maps items old new none visited.
+    taken_are (λ facts stats. AddsEach Sees facts old.visitor.stats stats) (AreTransactionStats limit) new.visitor.stats (ended (seen_by new.visitor.stats))
+    (λ facts added. all_seen limit facts old.visitor.stats new.visitor.stats none added)
+    old.filter maps old.place.position old.state items (counts_taken Sees maps 0 items old new visited)

@@ -5,4 +5,6 @@ pub returns : goal.returns
 returns g c =
     let first = c.in_ok-write_time.ensures in
     let last = c.in_ok-write_time-2.ensures in
-    whole_transaction c.writeln.result c.args.transaction.now first.text last.text _ _ _ _ _ _ first.is last.is c.in_ok-write_places.ensures c.in_ok-write_counts.ensures first.appended last.appended c.writeln.ensures.bytes
+    let named = rw c.as_str.ensures at c.in_ok-write_gtid.ensures in
+    let end = rw c.duration.ensures at c.write_duration.ensures in
+    whole_transaction c.write_duration.result c.args.transaction.now first.text last.text _ _ _ _ _ _ _ first.is last.is c.in_ok-write_places.ensures named c.in_ok-write_counts.ensures first.appended last.appended end

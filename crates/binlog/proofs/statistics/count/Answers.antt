@@ -1,0 +1,16 @@
+use Rattle.binlog.proofs.statistics.count.Goals as goal
+
+pub returns-clause-ok : goal.returns-clause-ok
+returns-clause-ok g c = record {
+  filter = c.in_ok-read.ensures.ok.0;
+  states = c.in_ok-read.ensures.ok.1;
+  read = c.in_ok-read.read;
+  counter = c.in_ok-read.counter;
+  shown = c.in_ok-read.ensures.ok.2;
+  output = c.in_ok-output.output;
+  begins = record { has = c.in_ok-output.ensures.bytes; fine = c.in_ok-output.ensures.fine };
+  outcome = c.write-written.result;
+  behind = c.write-written.new.output;
+  written = c.write-written.ensures;
+  ends = rw c.worse.ensures at c.finish.ensures;
+}

@@ -1,0 +1,113 @@
+//! The command that writes the rows of logs, a line for each.
+ghost use Rattle.std.specs.Prelude.{◌≡◌, ◌⊎◌, ◌^◌, IfErr, IfOk};
+ghost use Rattle.std.specs.Io.Buffered.{writer_capacity};
+ghost use Rattle.clap.specs.Matches.{found_of};
+ghost use Rattle.binlog_change_lines.specs.Written.{writer_of};
+ghost use Rattle.binlog_cli.specs.FilterWords.{NeverBegins};
+ghost use Rattle.binlog_cli.specs.declared.exit_status.Status.TheVariants.{Fine};
+ghost use Rattle.binlog.specs.Changes.{ChangesFile, ChangesFiles, WritesChanges};
+ghost use Rattle.binlog.specs.Columns.{AreColumnFiles, IsUnreadColumns};
+ghost use Rattle.binlog.specs.Reading.{unless_followed, ShowsFile};
+ghost use Rattle.binlog.specs.Requests.{lines_capacity};
+
+use crate::columns::{read_columns, report_contradictions};
+use crate::commands::CONTENT_LIMIT;
+use crate::files::read_file;
+use crate::inputs::Inputs;
+use crate::request::{Reading, Request};
+use binlog_change_lines::ChangeFilter;
+use binlog_cli::{Outcome, Output, Reported, Status, filter, out_of_memory, report_left_out};
+use binlog_file::{Error, Retrying};
+use binlog_filters::{Filter, Filtered};
+use binlog_json_lines::LineOptions;
+use binlog_visits::{Refusing, Visitor};
+use std::io::{BufWriter, Write};
+use std::time::Clock;
+
+/// `binlog json --compact`: writes the lines of the rows of the events that the filter takes, also of those inside compressed
+/// transactions. The files of columns are read before; behind the logs each table that contradicts them has a message.
+pub(crate) fn changes<'a, S: Inputs, R: Clock + Eprint + AllocGlobal, W: Write + Drop>(
+    rt: &'a R,
+    inputs: &S,
+    request: &Request<'_, 'a>,
+    writer: W,
+) -> Result<(Status, W), Status>
+    ensures ok { IfOk result (λ ended. WritesChanges ⟦<BufWriter<Retrying<W>> as Write>⟧.contents (found_of request.now.options.now) request.now.reading.is_verified request.now.reading.is_followed
+        (λ name. name.now) (λ name. S.bytes inputs.now name.now) request.now.files.now
+        (λ lines. (lines.filtered.visitor.limit ≡ 2 ^ 30) × ((writer_of lines).options.keeps_stored ≡ request.now.keeps_stored)
+        × AreColumnFiles (λ name. S.bytes inputs.now name.now) request.now.columns.now (writer_of lines).options.files.items
+        × (writer_capacity (writer_of lines).output.inner ≡ lines_capacity request.now.reading.is_followed))
+        (W.contents writer) ended.0 (W.contents ended.1)) }
+    ensures err { IfErr result (λ status. NeverBegins (found_of request.now.options.now) status ⊎ IsUnreadColumns request.now.columns.now status) }
+{
+    let files = read_columns(rt, inputs, request.columns)?;
+    let filter = filter(rt, request.options)?;
+    let output = Output::new(rt, request.reading.output_capacity(), writer)?;
+    let options = LineOptions {
+        keeps_stored: request.keeps_stored,
+        files,
+    };
+    let lines = ChangeFilter::new(rt.alloc(), filter, CONTENT_LIMIT, output, options);
+    let (outcome, lines) = write_files(rt, inputs, request.files, request.reading, lines);
+    report_left_out(rt, lines.left_out());
+    report_contradictions(rt, lines.contradictions());
+    Ok(lines.into_output().finish(rt, outcome))
+}
+
+// Writes the lines of files in order. Only the last one is followed. If the output fails, no further file is read, and the outcome says
+// so.
+fn write_files<'a, S: Inputs, R: Clock + Eprint + AllocGlobal, W: Write + Drop>(
+    rt: &'a R,
+    inputs: &S,
+    names: &[&'a str],
+    reading: Reading,
+    lines: ChangeFilter<W>,
+) -> (Outcome, ChangeFilter<W>)
+    ensures { ChangesFiles W.contents reading.is_verified reading.is_followed (λ name. name.now) (λ name. S.bytes inputs.now name.now) names.now Fine lines result.0 result.1 }
+{
+    let mut lines = lines;
+    let mut status = Status::Fine;
+    for (place, name) in names.iter().enumerate() {
+        let is_last = place + 1 == names.len();
+        let (read, behind) = write_file(rt, inputs, name, reading.of_file(is_last), lines);
+        lines = behind;
+        match read {
+            Ok(found) => status = status.worse(found),
+            Err(_) => return (Outcome::unwritten(status), lines),
+        }
+    }
+    (Outcome::written(status), lines)
+}
+
+// Writes the lines of a file. The only error is that the output failed.
+fn write_file<'a, S: Inputs, R: Clock + Eprint + AllocGlobal, W: Write + Drop>(
+    rt: &'a R,
+    inputs: &S,
+    name: &'a str,
+    reading: Reading,
+    lines: ChangeFilter<W>,
+) -> (Result<Status, Error>, ChangeFilter<W>)
+    ensures { ChangesFile W.contents reading.is_verified (unless_followed reading.is_followed (S.bytes inputs.now name.now)) name.now lines result.0 result.1 }
+{
+    let mut lines = lines;
+    match lines.begin(name) {
+        Ok(()) => show_file(rt, inputs, name, reading, lines),
+        Err(_) => (Ok(out_of_memory(rt)), lines),
+    }
+}
+
+// Shows a visitor all items of a file.
+fn show_file<'a, S: Inputs, R: Clock + Eprint + AllocGlobal, T: Visitor + Refusing + Drop>(
+    rt: &'a R,
+    inputs: &S,
+    name: &'a str,
+    reading: Reading,
+    visitor: T,
+) -> (Result<Status, Error>, T)
+    ensures { ShowsFile T.visits T.refuses T.refusals reading.is_verified (unless_followed reading.is_followed (S.bytes inputs.now name.now)) visitor result.0 result.1 }
+{
+    let all = Filtered::new(rt.alloc(), Filter::new(rt.alloc()), visitor);
+    let mut reported = Reported::new(rt, all);
+    let read = read_file(rt, inputs, name, reading, &mut reported);
+    (read, reported.into_visitor().visitor)
+}

@@ -1,0 +1,7 @@
+pub mod Parts
+pub mod Lines
+pub mod SameRows
+pub mod Events
+pub mod Shown
+pub mod Refused
+pub mod WholeLines

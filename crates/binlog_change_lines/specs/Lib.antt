@@ -1,0 +1,7 @@
+pub mod Heads
+pub mod RowLines
+pub mod RowsHeads
+pub mod Mapped
+pub mod EventTexts
+pub mod Written
+pub mod WholeLines
