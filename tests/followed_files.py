@@ -21,12 +21,14 @@ from concurrent.futures import ThreadPoolExecutor
 from itertools import chain
 from pathlib import Path
 
+import compact_model
 import encoded_events
 import encoded_logs
 import listing_model
 import json_model
 import programs
 import results
+import row_lines
 import samples
 from maria_daemon import PRINTER, LeftOut, Server, is_within, program_in
 
@@ -313,6 +315,18 @@ def filters(program, folder):
     run.end()
 
 
+def compact_rows(program, folder):
+    """A line of a row has the name of its file."""
+    rows, _ = row_lines.sample()
+    contents = {"log.000001": rows + rotate(b"log.000002"), "log.000002": rows + STOP, "log.000003": rows}
+    for name, content in contents.items():
+        (folder / name).write_bytes(content)
+    run = followed(program, folder, "--compact", "log.000001", command="json")
+    yield run.wrong_lines(*(compact_model.expected(content, name)[0] for name, content in contents.items()))
+    run.end()
+    yield None if not run.messages else f"messages {run.messages!r}"
+
+
 # ---- a mirror of a server's log
 
 ROTATIONS = 6
@@ -362,7 +376,7 @@ def mirrored(program, folder):
             mirror.wait()
 
 
-SCENES = [mirrored, late, byte_by_byte, rotations, checksums, prefixes, stops, stays, refused, damages, several, filters]
+SCENES = [mirrored, late, byte_by_byte, rotations, checksums, prefixes, stops, stays, refused, damages, several, filters, compact_rows]
 SCENES += [cut_at(cut) for cut in range(len(rotate(b"log.000002", b"abcd")))]
 
 

@@ -2,12 +2,13 @@
 use Rattle.std.proofs.Common.{◌≡◌, inr, ℕ, Bool, true, false, List, [], ◌∷◌, ◌++◌, Option, Result, Ok, Err, refl, sym, ap, subst, ◌∙◌}
 use Rattle.binlog_wire.specs.declared.error.Error.{Error}
 use Rattle.binlog_visits.specs.Visits.{VisitRelation, RefusalRelation}
+use Rattle.binlog_filters.specs.Taking.{HasNoCondition}
 use Rattle.binlog_filters.specs.declared.filtered.Filtered.{Filtered}
 use Rattle.binlog_cli.specs.Outputs.{written, unwritten}
 use Rattle.binlog_cli.specs.Reports.{ReportedView}
 use Rattle.binlog_cli.specs.declared.exit_status.Outcome.{Outcome}
 use Rattle.binlog_cli.specs.declared.exit_status.Status.{Status}
-use Rattle.binlog.specs.Reading.{unless_followed, is_last_followed, GoesOn, ReadsFile, ReadsFiles}
+use Rattle.binlog.specs.Reading.{unless_followed, is_last_followed, GoesOn, ReadsFile, ReadsFiles, ShowsFile}
 
 none_followed : {N : Type 0} (names : List N) → is_last_followed false names ≡ false
 none_followed [] = refl
@@ -17,13 +18,13 @@ some_more : {N : Type 0} (names : List N) (last : N) → is_last_followed true (
 some_more [] last = refl
 some_more (name ∷ names) last = refl
 
-is_neither : (read : Outcome) (status : Status) (is_written : Bool) → read ≡ unwritten status → read.is_written ≡ true → false ≡ true
-is_neither read status is_written is all = sym (ap (λ (o : Outcome). o.is_written) is) ∙ all
+is_neither : (read : Outcome) (status : Status) → read ≡ unwritten status → read.is_written ≡ true → false ≡ true
+is_neither read status is all = sym (ap (λ (o : Outcome). o.is_written) is) ∙ all
 
 goes_written : {V : Type 0} (A B : Status → V → Type 0) (status : Status) (answer : Result Status Error) (read result : Outcome) (middle mid new : V) → read.is_written ≡ true
     → ((worst : Status) (next : V) → A worst next → B worst next) → GoesOn A status answer read middle mid → GoesOn B status answer result middle new
 goes_written A B status (Ok found) read result middle mid new all step goes = step _ _ goes
-goes_written A B status (Err error) read result middle mid new all step goes = let no = is_neither read status true goes.0 all in absurd (cc)
+goes_written A B status (Err error) read result middle mid new all step goes = let no = is_neither read status goes.0 all in absurd (cc)
 
 goes_unwritten : {V : Type 0} (A B : Status → V → Type 0) (status : Status) (answer : Result Status Error) (read : Outcome) (middle mid : V)
     → ((worst : Status) (next : V) → A worst next → B worst next) → GoesOn A status answer read middle mid → GoesOn B status answer read middle mid
@@ -63,3 +64,17 @@ module _ {T N : Type 0} (visits : VisitRelation T) (refuses : RefusalRelation T)
     one_file name names old reads.0 reads.1 reads.2,
     goes_unwritten _ _ status reads.0 read reads.1 mid (λ worst next others. never_followed names worst next mid read others none) reads.3,
   )
+
+-- Of a visitor that is shown a file that is followed nothing is known.
+pub shows_followed : {T : Type 0} (visits : VisitRelation T) (refuses : RefusalRelation T) (refused : T → ℕ) (is_verified is_followed : Bool) (known : Option (List ℕ))
+    (old : T) (answer : Result Status Error) (new : T) (start behind : Filtered T) → is_followed ≡ true → HasNoCondition start.filter → start.visitor ≡ old → new ≡ behind.visitor
+    → ShowsFile visits refuses refused is_verified (unless_followed is_followed known) old answer new
+shows_followed visits refuses refused is_verified true known old answer new start behind follows all shown ends = record {
+  start = start;
+  all = all;
+  shown = shown;
+  behind = record { visitor = behind; has_errors = false; is_cut = false };
+  reads = inr tt;
+  ends = ends;
+}
+shows_followed visits refuses refused is_verified false known old answer new start behind follows all shown ends = absurd (cc)
