@@ -171,7 +171,9 @@ fn compact<'a>(alloc: Global) -> Arg<'a> {
     Arg::new(alloc, "compact")
         .long("compact")
         .action(ArgAction::SetTrue)
-        .help("Prints the rows of row events, a line for each; a row event whose rows can't be read keeps its own line")
+        .help(
+            "Prints the rows of row events, a line for each; a row event whose rows can't be read keeps its own line",
+        )
 }
 
 // The option to keep the stored bytes of rows.
