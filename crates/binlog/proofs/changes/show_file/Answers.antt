@@ -1,5 +1,5 @@
 use Rattle.std.proofs.Common.{ap, refl}
-use Rattle.binlog.proofs.Rotations.{shows_followed}
+use Rattle.binlog.proofs.FollowedFiles.{shows_followed}
 use Rattle.binlog.proofs.changes.show_file.Goals as goal
 
 pub returns-then-goes_on : goal.returns-then-goes_on
