@@ -1,4 +1,5 @@
 -- Files that are read in order, and one behind them that is followed.
+use Rattle.std.specs.Prelude.{not}
 use Rattle.std.proofs.Common.{◌≡◌, inr, ℕ, Bool, true, false, List, [], ◌∷◌, ◌++◌, Option, Result, Ok, Err, refl, sym, ap, subst, ◌∙◌}
 use Rattle.binlog_wire.specs.declared.error.Error.{Error}
 use Rattle.binlog_visits.specs.Visits.{VisitRelation, RefusalRelation}
@@ -18,10 +19,10 @@ some_more : {N : Type 0} (names : List N) (last : N) → is_last_followed true (
 some_more [] last = refl
 some_more (name ∷ names) last = refl
 
-is_neither : (read : Outcome) (status : Status) → read ≡ unwritten status → read.is_written ≡ true → false ≡ true
-is_neither read status is all = sym (ap (λ (o : Outcome). o.is_written) is) ∙ all
+is_neither : (read : Outcome) (status : Status) → read ≡ unwritten status → not read.is_written ≡ false → true ≡ false
+is_neither read status is all = ap (λ (o : Outcome). not o.is_written) (sym is) ∙ all
 
-goes_written : {V : Type 0} (A B : Status → V → Type 0) (status : Status) (answer : Result Status Error) (read result : Outcome) (middle mid new : V) → read.is_written ≡ true
+goes_written : {V : Type 0} (A B : Status → V → Type 0) (status : Status) (answer : Result Status Error) (read result : Outcome) (middle mid new : V) → not read.is_written ≡ false
     → ((worst : Status) (next : V) → A worst next → B worst next) → GoesOn A status answer read middle mid → GoesOn B status answer result middle new
 goes_written A B status (Ok found) read result middle mid new all step goes = step _ _ goes
 goes_written A B status (Err error) read result middle mid new all step goes = let no = is_neither read status goes.0 all in absurd (cc)
@@ -41,7 +42,7 @@ module _ {T N : Type 0} (visits : VisitRelation T) (refuses : RefusalRelation T)
 
   -- All was written of the files before the last one, of which nothing is known.
   pub then_followed : (before : List N) (status : Status) (old mid new : ReportedView (Filtered T)) (read result : Outcome) (answer : Result Status Error)
-      → ReadsFiles visits refuses refused is_verified false bytes before status old read mid → read.is_written ≡ true
+      → ReadsFiles visits refuses refused is_verified false bytes before status old read mid → not read.is_written ≡ false
       → GoesOn (λ worst next. (result ≡ written worst) × (new ≡ next)) read.status answer result new new
       → ReadsFiles visits refuses refused is_verified true bytes (before ++ last ∷ []) status old result new
   then_followed [] status old mid new read result answer reads all goes =
@@ -55,9 +56,9 @@ module _ {T N : Type 0} (visits : VisitRelation T) (refuses : RefusalRelation T)
 
   -- The output failed in a file before the last one.
   pub never_followed : (before : List N) (status : Status) (old mid : ReportedView (Filtered T)) (read : Outcome)
-      → ReadsFiles visits refuses refused is_verified false bytes before status old read mid → read.is_written ≡ false
+      → ReadsFiles visits refuses refused is_verified false bytes before status old read mid → not read.is_written ≡ true
       → ReadsFiles visits refuses refused is_verified true bytes (before ++ last ∷ []) status old read mid
-  never_followed [] status old mid read reads none = let no : true ≡ false = sym (ap (λ (o : Outcome). o.is_written) reads.0) ∙ none in absurd (cc)
+  never_followed [] status old mid read reads none = let no : false ≡ true = ap (λ (o : Outcome). not o.is_written) (sym reads.0) ∙ none in absurd (cc)
   never_followed (name ∷ names) status old mid read reads none = (
     reads.0,
     reads.1,
