@@ -330,7 +330,7 @@ def compact_rows(program, folder):
 # ---- a mirror of a server's log
 
 ROTATIONS = 6
-SECONDS_TO_MIRROR = 60
+SECONDS_TO_MIRROR, SECONDS_TO_SETTLE = 60, 3
 LOAD = b"insert into t (name) select repeat('x', 300) from three; update t set name = 'y' where id % 7 = 0;\n"
 
 
@@ -341,9 +341,16 @@ def mirror_of(server, folder):
     return subprocess.Popen(words, stdout=subprocess.DEVNULL, stderr=subprocess.DEVNULL)
 
 
+def sizes(logs):
+    return {log.name: log.stat().st_size for log in logs}
+
+
 def is_mirrored(server, folder):
-    """Whether the mirror has all bytes of the server's log."""
-    return all((folder / log.name).exists() and (folder / log.name).stat().st_size == log.stat().st_size for log in server.logs())
+    """Whether the mirror has all bytes of the server's log, and that has stopped growing: some time behind a rotation comes a
+    BINLOG_CHECKPOINT event."""
+    before = sizes(server.logs())
+    time.sleep(SECONDS_TO_SETTLE)
+    return before == sizes(server.logs()) == sizes(folder.iterdir())
 
 
 def mirrored(program, folder):
