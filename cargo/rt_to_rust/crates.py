@@ -41,6 +41,7 @@ LIBRARY = [
     "binlog_undo_writing",
 ]
 TOOLS = [
+    "binlog_rotation",
     "binlog_visits",
     "binlog_payload_visits",
     "binlog_payload_checks",

@@ -11,9 +11,9 @@ ghost use Rattle.binlog.specs.Reading.{ShowsTaken};
 ghost use Rattle.binlog.specs.Requests.{lines_capacity};
 
 use crate::columns::{read_columns, report_contradictions};
-use crate::files::read_files;
 use crate::inputs::Inputs;
 use crate::request::{Reading, Request};
+use crate::rotations::read_all_files;
 use binlog_cli::{CONTENT_LIMIT, Outcome, Output, Reported, Status, filter, report_left_out};
 use binlog_file::{Counted, Retrying};
 use binlog_filters::{Filter, Filtered};
@@ -135,9 +135,8 @@ pub(crate) fn read_taken<
 ) -> (Outcome, T)
     ensures { ShowsTaken T.visits T.refuses T.refusals filter reading.is_verified reading.is_followed (λ name. S.bytes inputs.now name.now) files.now visitor result.0 result.1 }
 {
-    let mut reported = Reported::new(rt, Filtered::new(rt.alloc(), filter, visitor));
-    let outcome = read_files(rt, inputs, files, reading, &mut reported);
-    let filtered = reported.into_visitor();
+    let reported = Reported::new(rt, Filtered::new(rt.alloc(), filter, visitor));
+    let (outcome, filtered) = read_all_files(rt, inputs, files, reading, reported);
     report_left_out(rt, filtered.state.left_out);
     (outcome, filtered.visitor)
 }

@@ -94,7 +94,7 @@ fn read_input<'a, R: Clock + Eprint + AllocGlobal, I: Read + Drop, T: Visitor + 
 }
 
 // Writes the message of the error that ended the visit of a file. A failed output keeps its own.
-fn report<'a, R: Eprint, T>(visitor: &Reported<'a, R, Filtered<T>>, error: &Error) {
+pub(crate) fn report<'a, R: Eprint, T>(visitor: &Reported<'a, R, Filtered<T>>, error: &Error) {
     match error {
         Error::Writer => {}
         Error::EndOfInput | Error::InvalidFileHeader => visitor.report_file(error),
@@ -103,7 +103,7 @@ fn report<'a, R: Eprint, T>(visitor: &Reported<'a, R, Filtered<T>>, error: &Erro
 }
 
 // How many bytes lie behind the last item of a file, by the result of its visit.
-fn tail_behind(visited: &Result<Option<usize>, Error>) -> usize
+pub(crate) fn tail_behind(visited: &Result<Option<usize>, Error>) -> usize
     ensures { result ≡ tail_behind visited.now }
 {
     match visited {
@@ -113,7 +113,10 @@ fn tail_behind(visited: &Result<Option<usize>, Error>) -> usize
 }
 
 // The status behind a file, by the result of its visit.
-fn status_behind(has_errors: bool, visited: Result<Option<usize>, Error>) -> Result<Status, Error>
+pub(crate) fn status_behind(
+    has_errors: bool,
+    visited: Result<Option<usize>, Error>,
+) -> Result<Status, Error>
     ensures status { result ≡ status_behind has_errors visited }
     ensures err { IfErr result (λ error. error ≡ Writer) }
 {

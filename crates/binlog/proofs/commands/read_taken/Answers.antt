@@ -7,7 +7,7 @@ returns g c = record {
   start = c.new.result;
   filtered = c.new.ensures.filter;
   shown = c.new.ensures.visitor;
-  behind = c.read_files-outcome.new.visitor;
-  reads = rw c.new-reported.ensures at c.read_files-outcome.ensures;
-  ends = ap (λ (filtered : Filtered g.row.T.Denot). filtered.visitor) c.into_visitor-filtered.ensures;
+  behind = c.read_all_files-filtered.ensures.0;
+  reads = rw c.new-reported.ensures at c.read_all_files-filtered.ensures.1;
+  ends = ap (λ (filtered : Filtered g.row.T.Denot). filtered.visitor) c.read_all_files-filtered.ensures.2;
 }
