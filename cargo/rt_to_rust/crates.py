@@ -39,6 +39,7 @@ LIBRARY = [
 TOOLS = [
     "binlog_visits",
     "binlog_payload_visits",
+    "binlog_payload_checks",
     "binlog_listing",
     "binlog_gtid_listing",
     "binlog_filters",

@@ -17,6 +17,7 @@ pub mod binlog_json_bodies;
 #[allow(unused_variables)]
 pub mod binlog_json_lines;
 pub mod binlog_listing;
+pub mod binlog_payload_checks;
 pub mod binlog_payload_visits;
 #[allow(unused_variables)]
 pub mod binlog_statistics;
