@@ -7,9 +7,11 @@
 """
 
 from ._bodies import Body, Diffs
-from ._errors import BinlogError, ColumnsWarning, InvalidColumns, InvalidLog, LogError, RowsError
+from ._errors import BinlogError, ColumnsWarning, InvalidColumns, InvalidLog, LogError, PayloadError, RowsError
 from ._library import library_version
 from ._log import Cursor, Damage, Event, Log, open
+from ._payloads import PayloadEvent
+from ._program import ProgramError
 from ._types import EventType, MariaEventType
 from ._whole import DamagedEvent, Stats, TypeStats, Verification, gtid_set, stats, verify
 
@@ -28,6 +30,9 @@ __all__ = [
     "Log",
     "LogError",
     "MariaEventType",
+    "PayloadError",
+    "PayloadEvent",
+    "ProgramError",
     "RowsError",
     "Stats",
     "TypeStats",
