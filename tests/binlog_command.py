@@ -522,7 +522,7 @@ def other_compressed(runner, every):
     yield runner.check(["json", "0.bin", "1.bin"], Result(2 * json_model.expected(log)[0], DAMAGED, twice), [log, log])
     yield runner.check(["verify", "-q", "--type", "GTID", "0.bin"], Result(b""), [log])
     yield runner.check(["verify", "-q", f"--include-gtids={SID}:2", "0.bin"], Result(b"", DAMAGED, named[1]), [log])
-    cut = log + log[4:50]
+    cut = log + log[4:20]
     messages = "".join(named) + cut_message("0.bin", cut)
     yield runner.check(["verify", "0.bin"], Result(tally(log, count + 1), DAMAGED, messages), [cut])
 
