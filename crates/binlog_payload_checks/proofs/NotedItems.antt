@@ -1,6 +1,6 @@
 -- What is noted of an item and its parts.
 use Rattle.std.specs.Prelude.{is_some}
-use Rattle.std.proofs.Common.{◌≡◌, inl, inr, ℕ, ◌+◌, Bool, true, false, List, [], ◌∷◌, Option, Some, None, Result, Ok, Err, OnOk, IfErr, refl, sym, ap, subst, ◌∙◌}
+use Rattle.std.proofs.Common.{◌≡◌, inl, inr, ℕ, ◌+◌, true, false, List, [], ◌∷◌, Option, Some, None, Result, Ok, Err, OnOk, IfErr, refl, sym, ap, ◌∙◌}
 use Rattle.std.specs.Option.{option_or}
 use Rattle.binlog_wire.specs.declared.error.Error.{Error}
 use Rattle.binlog_wire.specs.declared.error.Error.TheVariants.{Memory}
@@ -9,7 +9,7 @@ use Rattle.binlog_file.specs.TableMapsInForce.{TableMaps, no_table_maps}
 use Rattle.binlog_visits.specs.Visits.{VisitRelation, RefusalRelation}
 use Rattle.binlog_payload_visits.specs.Parts.{Part, AreParts, IsCompressed, maps_behind_part}
 use Rattle.binlog_payloads.specs.declared.error.PayloadError.{PayloadError}
-use Rattle.binlog_payload_visits.specs.PartVisits.{PartVisitRelation, PartRefusalRelation, VisitsParts, VisitsSpliced, StopsInside, RefusesSpliced}
+use Rattle.binlog_payload_visits.specs.PartVisits.{PartVisitRelation, VisitsParts, VisitsSpliced, StopsInside, RefusesSpliced}
 use Rattle.binlog_payload_checks.specs.Damaged.{damaged_behind, saturated}
 use Rattle.binlog_payload_checks.specs.Finding.{first_error, IsFirstError}
 use Rattle.binlog_payload_checks.specs.Noting.{IsNever, error_behind, count_behind, NotesItem, RefusesNoted, NotesPart, RefusesNotedPart}

@@ -1,4 +1,4 @@
-use Rattle.std.proofs.Common.{◌∙◌, ℕ, Ok, subst}
+use Rattle.std.proofs.Common.{ℕ, Ok, subst}
 use Rattle.std.proofs.lemmas.Result.{err_from_is_err_and}
 use Rattle.binlog_events.specs.EventRefs.{view_of}
 use Rattle.binlog_payload_checks.specs.Finding.{IsFirstError}
