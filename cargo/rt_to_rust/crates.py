@@ -51,6 +51,7 @@ TOOLS = [
     "binlog_json_bodies",
     "binlog_json_lines",
     "binlog_change_lines",
+    "binlog_payload_filters",
     "binlog_cli",
     "binlog_summaries",
 ]

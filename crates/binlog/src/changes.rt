@@ -19,8 +19,9 @@ use binlog_cli::{
     CONTENT_LIMIT, Outcome, Output, Reported, Status, filter, out_of_memory, report_left_out,
 };
 use binlog_file::{Error, Retrying};
-use binlog_filters::{Filter, Filtered};
+use binlog_filters::Filter;
 use binlog_json_lines::LineOptions;
+use binlog_payload_filters::PayloadFiltered;
 use binlog_visits::{Refusing, Visitor};
 use std::io::{BufWriter, Write};
 use std::time::Clock;
@@ -107,8 +108,9 @@ fn show_file<'a, S: Inputs, R: Clock + Eprint + AllocGlobal, T: Visitor + Refusi
 ) -> (Result<Status, Error>, T)
     ensures { ShowsFile T.visits T.refuses T.refusals reading.is_verified (unless_followed reading.is_followed (S.bytes inputs.now name.now)) visitor result.0 result.1 }
 {
-    let all = Filtered::new(rt.alloc(), Filter::new(rt.alloc()), visitor);
+    let every = Filter::new(rt.alloc());
+    let all = PayloadFiltered::new(rt.alloc(), CONTENT_LIMIT, every, visitor);
     let mut reported = Reported::new(rt, all);
     let read = read_file(rt, inputs, name, reading, &mut reported);
-    (read, reported.into_visitor().visitor)
+    (read, reported.into_visitor().filtered.visitor)
 }

@@ -13,7 +13,7 @@ use Rattle.binlog_filters.specs.declared.tables.TableFilter.{TableFilter}
 use Rattle.binlog_payload_visits.specs.Parts.{Part, maps_behind_part}
 use Rattle.binlog_payload_visits.specs.PartVisits.{PartVisitRelation, VisitsParts}
 use Rattle.binlog_payload_filters.specs.Filtering.{FiltersPayloads}
-use Rattle.binlog_payload_filters.specs.TakenParts as taken_parts
+use Rattle.binlog_payload_filters.specs.PartFiltering as taken_parts
 use Rattle.binlog_payload_filters.specs.Shown.{ShowsTaken, ShowsParts}
 use Rattle.binlog_payload_filters.specs.declared.filtered.PayloadFiltered.{PayloadFiltered}
 use Rattle.binlog_payload_filters.specs.declared.taken_parts.TakenParts.{TakenParts}

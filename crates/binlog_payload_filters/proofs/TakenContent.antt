@@ -6,6 +6,7 @@ use Rattle.binlog_wire.specs.declared.error.Error.TheVariants.{Memory}
 use Rattle.binlog_events.specs.Events.{EventView}
 use Rattle.binlog_file.specs.TableMapsInForce.{TableMaps, no_table_maps}
 use Rattle.binlog_filters.specs.declared.tables.TableFilter.{TableFilter}
+use Rattle.binlog_payloads.specs.declared.error.PayloadError.{PayloadError}
 use Rattle.binlog_payload_visits.specs.Parts.{Part, AreParts, IsCompressed, maps_behind_part}
 use Rattle.binlog_payload_visits.specs.PartVisits.{VisitsParts, VisitsSpliced, StopsInside, RefusesSpliced}
 use Rattle.binlog_payload_filters.specs.PartConcerns.{TakesPart}
@@ -72,3 +73,17 @@ pub memory_alone : (limit : ℕ) (old : Concerned) (maps : TableMaps) (index : �
     → RefusesSpliced StaysSame NotesFirst NeverOwn LacksMemory limit old maps index item error new → error ≡ Memory
 memory_alone limit old maps index item error new (inl own) = absurd own
 memory_alone limit old maps index item error new (inr inside) = stopped limit item index inside.mid error new inside.inside
+
+-- ---- one part
+
+pub first_stays : (was : Bool) (tables : TableFilter) (maps : TableMaps) (part : Part) → was ≡ true → TakesFirst was tables maps part was
+first_stays true tables maps part is = refl
+first_stays false tables maps part is = absurd cc
+
+pub first_takes : (was : Bool) (tables : TableFilter) (maps : TableMaps) (part : Part) (now : Bool) → was ≡ false → TakesPart tables maps part now → TakesFirst was tables maps part now
+first_takes true tables maps part now is takes = absurd cc
+first_takes false tables maps part now is takes = takes
+
+pub error_takes : (was : Bool) (tables : TableFilter) (maps : TableMaps) (e : PayloadError) → TakesFirst was tables maps (Err e) true
+error_takes true tables maps e = refl
+error_takes false tables maps e = refl

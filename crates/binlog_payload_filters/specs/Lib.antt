@@ -2,6 +2,6 @@ pub mod PartConcerns
 pub mod Payloads
 pub mod Taking
 pub mod Filtering
-pub mod TakenParts
+pub mod PartFiltering
 pub mod Shown
 pub mod Copies

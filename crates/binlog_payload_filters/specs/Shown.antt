@@ -14,7 +14,7 @@ use Rattle.binlog_payload_visits.specs.Parts.{Part, maps_behind_part}
 use Rattle.binlog_payload_visits.specs.PartVisits.{PartVisitRelation}
 use Rattle.binlog_payload_filters.specs.PartConcerns.{TakesPartIfAsked}
 use Rattle.binlog_payload_filters.specs.Taking.{Takes}
-use Rattle.binlog_payload_filters.specs.TakenParts.{VisitsPartIf}
+use Rattle.binlog_payload_filters.specs.PartFiltering.{VisitsPartIf}
 
 module _ {T : Type 0} where
   -- The visitor was shown those of the items that are taken, in order. The first item has this index and begins at `position`, `maps`

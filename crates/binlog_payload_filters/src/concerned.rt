@@ -88,9 +88,10 @@ impl<'f> PartVisitor for Concerned<'f> {
         event: &EventRef<'_>,
         maps: &PartTableMaps<'_>,
     ) -> Result<(), Error> {
-        if !self.is_taken {
-            self.is_taken = takes_event(self.alloc, self.tables, event, maps)?;
+        if self.is_taken {
+            return Ok(());
         }
+        self.is_taken = takes_event(self.alloc, self.tables, event, maps)?;
         Ok(())
     }
 

@@ -80,7 +80,7 @@ impl<T: Visitor> Visitor for TakenParts<T> {
 /// A visit of a part that is taken is one of the other visitor; another one leaves that as it was. It is refused with an error of the
 /// other visitor, or with [`Error::Memory`], where nothing changes.
 impl<T: PartVisitor> PartVisitor for TakenParts<T> {
-    ghost use Rattle.binlog_payload_filters.specs.TakenParts.{ShowsTaken, RefusesTaken};
+    ghost use Rattle.binlog_payload_filters.specs.PartFiltering.{ShowsTaken, RefusesTaken};
 
     ghost visits_part = { λ old maps index number part new. ShowsTaken T.visits_part old maps index number part new };
 
