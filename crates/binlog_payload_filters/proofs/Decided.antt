@@ -1,5 +1,5 @@
 -- What a filter decides of an event with a payload.
-use Rattle.std.specs.Prelude.{◌==◌, ◌&&◌, ◌||◌, not}
+use Rattle.std.specs.Prelude.{◌&&◌, ◌||◌, not}
 use Rattle.std.proofs.Common.{◌≡◌, inl, inr, ℕ, Bool, true, false, eqb, Option, Some, None, Result, Ok, Err, refl, sym, ap, subst, ◌∙◌, arith}
 use Rattle.std.proofs.lemmas.Bool.Decides.{nat_tests}
 use Rattle.binlog_wire.specs.declared.error.Error.{Error}
@@ -9,7 +9,6 @@ use Rattle.binlog_events.specs.Parts.{is_description}
 use Rattle.binlog_file.specs.TableMapsInForce.{TableMaps}
 use Rattle.binlog_file.specs.declared.log_data.LogEventData.{LogEventData}
 use Rattle.binlog_filters.specs.Concerns.{is_concerned, is_in_statement, is_unknown}
-use Rattle.binlog_filters.specs.Reading.{IsReadAs}
 use Rattle.binlog_filters.specs.Taking.{ConcernsTables, FollowsEvent, TakesEvent, counted_if, is_taken, meets_conditions, wants_read}
 use Rattle.binlog_filters.specs.declared.concern.Concern.{Concern}
 use Rattle.binlog_filters.specs.declared.concern.Concern.TheVariants.{Taken}
@@ -105,7 +104,8 @@ pub taken_inside : (filter : Filter) (tables : TableFilter) (limit : ℕ) (maps 
     → TakesBy filter.tables (is_payload event) filter limit maps start was event now taken
 taken_inside filter tables limit maps start was event now taken asked payload takes =
     let same = payload_same filter tables limit start was event now taken takes in
-    rw (asked, payload) same
+    subst (λ (t : Option TableFilter). TakesBy t (is_payload event) filter limit maps start was event now taken) (sym asked)
+    (subst (λ (b : Bool). TakesBy (Some tables) b filter limit maps start was event now taken) (sym payload) same)
 
 outside_by : (t : Option TableFilter) (b : Bool) (filter : Filter) (limit : ℕ) (maps : TableMaps) (start : Option ℕ) (was : FilterState) (event : EventView) (now : FilterState) (taken : Bool) → b ≡ false
     → TakesEvent filter maps start was event now taken → TakesBy t b filter limit maps start was event now taken

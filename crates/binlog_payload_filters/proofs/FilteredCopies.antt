@@ -1,21 +1,19 @@
 -- The copy of the events that a filter takes, by what is inside compressed transactions, is a log of these events.
-use Rattle.std.specs.Prelude.{nat_lt, ⊤}
-use Rattle.std.proofs.Common.{◌≡◌, ◌⊎◌, inl, inr, ℕ, ◌+◌, ◌-◌, ◌<◌, Bool, true, false, cond, ◌&&◌, ◌||◌, List, [], ◌∷◌, ◌++◌, length, Option, Some, None, Result, Ok, Err, refl, sym, ap, subst, ◌∙◌, unwrap_or, arith, length-take}
+use Rattle.std.specs.Prelude.{⊤}
+use Rattle.std.proofs.Common.{◌≡◌, inl, inr, ℕ, ◌+◌, Bool, true, false, cond, ◌&&◌, ◌||◌, List, [], ◌∷◌, ◌++◌, Option, Some, None, Result, Ok, Err, refl, sym, ap, subst, ◌∙◌, unwrap_or}
 use Rattle.std.specs.Io.KnownBytes.{Appends}
 use Rattle.std.proofs.KnownBytes.{Appends-nil, Appends-trans}
 use Rattle.binlog_wire.specs.declared.error.Error.{Error}
-use Rattle.binlog_wire.specs.declared.error.Error.TheVariants.{TooShortForChecksum, EventSizeTooSmall}
+use Rattle.binlog_wire.specs.declared.error.Error.TheVariants.{EventSizeTooSmall}
 use Rattle.binlog_consts.specs.declared.version.BinlogVersion.TheVariants.{Version4}
-use Rattle.binlog_event_format.specs.declared.footer.BinlogEventFooter.{BinlogEventFooter}
 use Rattle.binlog_event_format.specs.declared.format_description.FormatDescriptionEvent.{FormatDescriptionEvent}
-use Rattle.binlog_event_format.specs.FormatDescription.{format_description_at, default_description}
-use Rattle.binlog_event_format.specs.Footers.{footer_of}
+use Rattle.binlog_event_format.specs.FormatDescription.{default_description}
 use Rattle.binlog_events.specs.FileHeader.{file_header}
 use Rattle.binlog_events.specs.Frames.{is_undersized, stated_size}
-use Rattle.binlog_events.specs.Events.{EventView, event_of}
-use Rattle.binlog_events.specs.Parts.{is_description, body, data_of, suffix_len, has_checksum, footer_under, is_too_short}
-use Rattle.binlog_file.specs.Descriptions.{read_description, described, accepted, in_force}
-use Rattle.binlog_file.specs.Items.{unless_refused, checked_event, item_of}
+use Rattle.binlog_events.specs.Events.{EventView}
+use Rattle.binlog_events.specs.Parts.{is_description}
+use Rattle.binlog_file.specs.Descriptions.{accepted, in_force}
+use Rattle.binlog_file.specs.Items.{item_of}
 use Rattle.binlog_file.specs.State.{Looks}
 use Rattle.binlog_file.specs.Streams.{tail_items, AreHandled}
 use Rattle.binlog_file.specs.StreamItems.{AreItems, items_behind}

@@ -1,7 +1,6 @@
 -- A visit of an item that a filter takes, by what is inside compressed transactions.
-use Rattle.std.proofs.Common.{◌≡◌, inl, inr, ℕ, Bool, true, false, Option, Some, None, Result, Ok, Err, OnOk, IfErr, refl, sym, ap, subst, ◌∙◌}
+use Rattle.std.proofs.Common.{◌≡◌, inl, inr, ℕ, true, false, Option, Some, None, Result, Ok, Err, OnOk, IfErr, refl, sym, ap, ◌∙◌}
 use Rattle.binlog_wire.specs.declared.error.Error.{Error}
-use Rattle.binlog_wire.specs.declared.error.Error.TheVariants.{Memory}
 use Rattle.binlog_events.specs.Events.{EventView}
 use Rattle.binlog_file.specs.TableMapsInForce.{TableMaps}
 use Rattle.binlog_visits.specs.Visits.{VisitRelation, RefusalRelation}
@@ -11,10 +10,15 @@ use Rattle.binlog_filters.specs.declared.filter.Filter.{Filter}
 use Rattle.binlog_filters.specs.declared.filtered.Filtered.{Filtered}
 use Rattle.binlog_filters.specs.declared.tables.TableFilter.{TableFilter}
 use Rattle.binlog_payload_filters.specs.Payloads.{is_payload}
-use Rattle.binlog_payload_filters.specs.Taking.{Takes, TakesBy, TakesPayload}
+use Rattle.binlog_payload_filters.specs.Taking.{TakesPayload}
 use Rattle.binlog_payload_filters.specs.Filtering.{FiltersPayloads, GoesOn, RefusesTaken, ShowsPayload, RefusesPayload}
 use Rattle.binlog_payload_filters.specs.declared.filtered.PayloadFiltered.{PayloadFiltered}
 use Rattle.binlog_payload_filters.proofs.Decided.{taken_inside, taken_outside, taken_unasked}
+
+-- A filter that has its conditions of tables again.
+restored : (tables : TableFilter) (filter other : Filter) → filter.tables ≡ Some tables → other ≡ record filter { tables = None } → record other { tables = Some tables } ≡ filter
+restored tables filter other asked same =
+    ap (λ (f : Filter). record f { tables = Some tables }) same ∙ ap (λ (t : Option TableFilter). record filter { tables = t }) (sym asked)
 
 -- ---- an event with a payload
 
@@ -36,10 +40,6 @@ module _ {T : Type 0} where
   -- The same filter with these conditions of tables.
   abbrev pub with_tables : Option TableFilter → PayloadFiltered T → PayloadFiltered T
   with_tables tables old = record old { filtered = record old.filtered { filter = record old.filtered.filter { tables = tables } } }
-
-  restored : (tables : TableFilter) (filter other : Filter) → filter.tables ≡ Some tables → other ≡ record filter { tables = None } → record other { tables = Some tables } ≡ filter
-  restored tables filter other asked same =
-      ap (λ (f : Filter). record f { tables = Some tables }) same ∙ ap (λ (t : Option TableFilter). record filter { tables = t }) (sym asked)
 
   goes_back : (tables : TableFilter) (old : PayloadFiltered T) (item : Result EventView Error) (behind : PayloadFiltered T) → old.filtered.filter.tables ≡ Some tables → GoesOn (with_tables None old) item behind
       → GoesOn old item (with_tables (Some tables) behind)

@@ -1,14 +1,13 @@
 -- What a visitor was shown of items, and of parts, one after another.
-use Rattle.std.proofs.Common.{◌≡◌, ℕ, ◌+◌, Bool, List, [], ◌∷◌, Option, None, Result, Ok, Err, refl, sym, ap, subst, ◌∙◌}
+use Rattle.std.proofs.Common.{◌≡◌, ℕ, ◌+◌, List, [], ◌∷◌, Option, None, Result, Ok, Err, OnOk, IfErr, refl, ap, subst, ◌∙◌}
 use Rattle.binlog_wire.specs.declared.error.Error.{Error}
 use Rattle.binlog_events.specs.Events.{EventView}
 use Rattle.binlog_file.specs.TableMapsInForce.{TableMaps}
 use Rattle.binlog_visits.specs.TableMaps.{maps_behind}
 use Rattle.binlog_visits.specs.Visits.{VisitRelation, Visits}
 use Rattle.binlog_filters.specs.Filtering.{Filters}
-use Rattle.binlog_filters.specs.Places.{start_of, behind}
+use Rattle.binlog_filters.specs.Places.{start_of}
 use Rattle.binlog_filters.specs.declared.filter.Filter.{Filter}
-use Rattle.binlog_filters.specs.declared.filtered.Filtered.{Filtered}
 use Rattle.binlog_filters.specs.declared.tables.TableFilter.{TableFilter}
 use Rattle.binlog_payload_visits.specs.Parts.{Part, maps_behind_part}
 use Rattle.binlog_payload_visits.specs.PartVisits.{PartVisitRelation, VisitsParts}
@@ -18,6 +17,18 @@ use Rattle.binlog_payload_filters.specs.Shown.{ShowsTaken, ShowsParts}
 use Rattle.binlog_payload_filters.specs.declared.filtered.PayloadFiltered.{PayloadFiltered}
 use Rattle.binlog_payload_filters.specs.declared.taken_parts.TakenParts.{TakenParts}
 use Rattle.binlog_payload_filters.proofs.Decided.{unasked_taken}
+
+-- ---- a visit that leaves something as it is
+
+pub on_same : {A E B : Type 0} (result : Result A E) (does : Type 0) (b : B) → OnOk result does → OnOk result (does × (b ≡ b))
+on_same (Ok x) does b is = (is, refl)
+on_same (Err e) does b is = is
+
+pub refused_same : {A E B : Type 0} (result : Result A E) (refused : E → Type 0) (b : B) → IfErr result refused → IfErr result (λ e. refused e × (b ≡ b))
+refused_same (Ok x) refused b is = is
+refused_same (Err e) refused b is = (is, refl)
+
+-- ---- items
 
 module _ {T : Type 0} (visits : VisitRelation T) where
   pub all_shown : (maps : TableMaps) (index : ℕ) (items : List (Result EventView Error)) (old new : PayloadFiltered T) → Visits (FiltersPayloads visits) maps index items old new

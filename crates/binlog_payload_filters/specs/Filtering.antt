@@ -1,5 +1,5 @@
 -- A visitor that is shown what a filter takes, by what is inside compressed transactions.
-use Rattle.std.specs.Prelude.{◌≡◌, ◌⊎◌, ℕ, Bool, true, Option, Ok, Result}
+use Rattle.std.specs.Prelude.{◌≡◌, ◌⊎◌, ℕ, Bool, true, Ok, Result}
 use Rattle.binlog_wire.specs.declared.error.Error.{Error}
 use Rattle.binlog_wire.specs.declared.error.Error.TheVariants.{Memory}
 use Rattle.binlog_events.specs.Events.{EventView}
@@ -7,9 +7,6 @@ use Rattle.binlog_file.specs.TableMapsInForce.{TableMaps}
 use Rattle.binlog_visits.specs.Visits.{VisitRelation, RefusalRelation}
 use Rattle.binlog_filters.specs.Filtering.{VisitsIf}
 use Rattle.binlog_filters.specs.Places.{start_of, behind}
-use Rattle.binlog_filters.specs.declared.filter.Filter.{Filter}
-use Rattle.binlog_filters.specs.declared.filtered.Filtered.{Filtered}
-use Rattle.binlog_filters.specs.declared.state.FilterState.{FilterState}
 use Rattle.binlog_filters.specs.declared.tables.TableFilter.{TableFilter}
 use Rattle.binlog_payload_filters.specs.Taking.{Takes, TakesPayload}
 use Rattle.binlog_payload_filters.specs.declared.filtered.PayloadFiltered.{PayloadFiltered}

@@ -70,10 +70,10 @@ impl<T: Visitor> PayloadFiltered<T> {
         ensures reader { IfErr result IsNoReaderError }
     {
         let start = self.filtered.place.of_event(event);
-        let (state, meets) =
-            self.filtered
-                .filter
-                .decide(self.alloc, self.filtered.state, start, event, reader)?;
+        let (state, meets) = self
+            .filtered
+            .filter
+            .decide(self.alloc, self.filtered.state, start, event, reader)?;
         let is_taken = self.takes_if_met(meets, tables, event, reader)?;
         self.filtered.state = state;
         self.filtered.place = self.filtered.place.behind_event(event);

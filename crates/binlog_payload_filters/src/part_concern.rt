@@ -50,11 +50,7 @@ fn concern_of(
 }
 
 // The same for a row event with this table id; None if its data can't be read.
-fn rows_concern(
-    tables: &TableFilter,
-    table_id: Option<u64>,
-    maps: &PartTableMaps<'_>,
-) -> Concern
+fn rows_concern(tables: &TableFilter, table_id: Option<u64>, maps: &PartTableMaps<'_>) -> Concern
     ensures { result ≡ rows_concern tables.now (maps_of maps.now) table_id }
 {
     let Some(table_id) = table_id else {

@@ -1,4 +1,3 @@
-use Rattle.std.specs.Borrow.{Bor}
 use Rattle.std.proofs.Common.{ℕ, Ok, ap, subst}
 use Rattle.std.proofs.lemmas.Result.{err_from_is_err_and}
 use Rattle.binlog_events.specs.EventRefs.{view_of}

@@ -1,4 +1,4 @@
-use Rattle.std.proofs.Common.{◌≡◌, refl, true, false}
+use Rattle.std.proofs.Common.{refl, true, false}
 use Rattle.binlog_events.specs.EventRefs.{view_of}
 use Rattle.binlog_file.specs.State.{state_of}
 use Rattle.binlog_payload_filters.proofs.Decided.{takes_payload}
