@@ -400,8 +400,7 @@ def other_tables(runner, log, events):
     messages = left_out(count)
     counted = counts_of(log, indexes, names=json_model.NAMES | maria_json_model.NAMES)
     yield runner.check(["stats", *asked.words, "0.bin"], Result(counted, messages=messages), [log])
-    every = runner.run(["json", "0.bin"]).stdout.splitlines(keepends=True)
-    yield runner.check(["json", *asked.words, "0.bin"], Result(b"".join(every[index] for index in indexes), messages=messages))
+    yield runner.check(["json", *asked.words, "0.bin"], Result(json_lines(runner, events, asked, indexes), messages=messages))
     twice = Result(2 * lines(log, indexes), messages=left_out(2 * count))
     yield runner.check(["list", *asked.words, "0.bin", "0.bin"], twice)
     yield runner.check(["verify", "-q", *asked.words, "0.bin", "0.bin"], Result(b"", messages=left_out(2 * count)))
@@ -412,6 +411,43 @@ def other_tables(runner, log, events):
     written = table_filters.taken(events, asked, False, lambda index: events[index].type == 30)
     yield runner.check(["list", *asked.words, "--type", "WRITE_ROWS", "0.bin"], Result(lines(log, written[0]), messages=left_out(written[1])))
     yield from read_back(runner, *table_filters.log(4, True, 150, is_fixed=True), asked)
+
+
+def json_lines(runner, events, asked, indexes):
+    """The lines of JSON of these events, and of the events inside them that are taken, from those of all."""
+    found = []
+    for text in runner.run(["json", "0.bin"]).stdout.splitlines(keepends=True):
+        index, part = (json.loads(text).get(name) for name in ("index", "part"))
+        if index in indexes and (part is None or asked.takes_inside(events[index].inside[part])):
+            found.append(text)
+    return b"".join(found)
+
+
+def compressed_tables(runner):
+    """Compressed transactions and filters of tables: one that can't be read is taken, and what is inside of other tables isn't shown."""
+    every = list(payload_lines.refused())
+    log = compressed_log(*(body for body, _ in every))
+    indexes = [2 * index + 1 for index, (_, errors) in enumerate(every) if any(errors)]
+    words = ["--table", "no.table"]
+    yield runner.check(["list", *words, "0.bin"], Result(lines(log, indexes)), [log])
+    named = "".join(refused_payload("0.bin", log, 2 * index + 1, errors) for index, (_, errors) in enumerate(every))
+    yield runner.check(["verify", "-q", *words, "0.bin"], Result(b"", DAMAGED, named), [log])
+    # A copy has the GTIDs, too.
+    copied = sorted([*indexes, *range(0, 2 * len(every), 2)])
+    yield runner.check(["copy", *words, "-o", "-", "0.bin"], Result(copy_of(log, copied)), [log])
+    shown = [text for text in json_model.expected(log)[0].splitlines(keepends=True) if json.loads(text)["index"] in indexes]
+    shown = [text for text in shown if b'"part"' not in text or b'"error":"' in text]
+    yield runner.check(["json", *words, "0.bin"], Result(b"".join(shown), DAMAGED, named), [log])
+    # The other filters decide over the event outside.
+    yield runner.check(["list", *words, "--type", "GTID", "0.bin"], Result(b""), [log])
+    yield runner.check(["list", *words, "--stop-position", "4", "0.bin"], Result(b""), [log])
+    for seed in range(4, 12):
+        log, events = table_filters.log(seed, False, 150)
+        for asked in (table_filters.Asked(*names) for names in table_filters.ASKED):
+            indexes, count = table_filters.taken(events, asked, False)
+            runner.run(["list", "0.bin"], [log])
+            wanted = Result(json_lines(runner, events, asked, indexes), messages=left_out(count))
+            yield runner.check(["json", *asked.words, "0.bin"], wanted)
 
 
 def read_back(runner, log, events, asked):
@@ -957,7 +993,7 @@ def installs(runner):
 
 
 PARTS = (models, damaged, cut_logs, cut_ends, reported, several, filters, gtid_filters, names, gtids, maria_gtids, stored, compressed, stats)
-PARTS += (tables, no_tables, copies, maria, maria_transactions, maria_gtid_filters, no_sets, stored_rows, compact_rows, compact_places, words, ends, progress, followed, installs)
+PARTS += (tables, compressed_tables, no_tables, copies, maria, maria_transactions, maria_gtid_filters, no_sets, stored_rows, compact_rows, compact_places, words, ends, progress, followed, installs)
 
 
 def results_of(build, part):

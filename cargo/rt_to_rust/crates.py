@@ -57,6 +57,7 @@ TOOLS = [
     "binlog_json_lines",
     "binlog_undo_log",
     "binlog_change_lines",
+    "binlog_payload_filters",
     "binlog_cli",
     "binlog_undo_command",
     "binlog_summaries",

@@ -4,7 +4,7 @@ use Rattle.std.proofs.Common.{◌≡◌, inr, ℕ, Bool, true, false, List, [], 
 use Rattle.binlog_wire.specs.declared.error.Error.{Error}
 use Rattle.binlog_visits.specs.Visits.{VisitRelation, RefusalRelation}
 use Rattle.binlog_filters.specs.Taking.{HasNoCondition}
-use Rattle.binlog_filters.specs.declared.filtered.Filtered.{Filtered}
+use Rattle.binlog_payload_filters.specs.declared.filtered.PayloadFiltered.{PayloadFiltered}
 use Rattle.binlog_cli.specs.Outputs.{written, unwritten}
 use Rattle.binlog_cli.specs.Reports.{ReportedView}
 use Rattle.binlog_cli.specs.declared.exit_status.Outcome.{Outcome}
@@ -34,14 +34,14 @@ goes_unwritten A B status (Err error) read middle mid step goes = goes
 
 module _ {T N : Type 0} (visits : VisitRelation T) (refuses : RefusalRelation T) (refused : T → ℕ) (is_verified : Bool) (bytes : N → Option (List ℕ)) (last : N) where
   -- One file more is behind a file that isn't the last one.
-  one_file : (name : N) (names : List N) (old : ReportedView (Filtered T)) (answer : Result Status Error) (mid : ReportedView (Filtered T))
+  one_file : (name : N) (names : List N) (old : ReportedView (PayloadFiltered T)) (answer : Result Status Error) (mid : ReportedView (PayloadFiltered T))
       → ReadsFile visits refuses refused is_verified (unless_followed (is_last_followed false names) (bytes name)) old answer mid
       → ReadsFile visits refuses refused is_verified (unless_followed (is_last_followed true (names ++ last ∷ [])) (bytes name)) old answer mid
   one_file name names old answer mid one =
       subst (λ (b : Bool). ReadsFile visits refuses refused is_verified (unless_followed b (bytes name)) old answer mid) (none_followed names ∙ sym (some_more names last)) one
 
   -- All was written of the files before the last one, of which nothing is known.
-  pub then_followed : (before : List N) (status : Status) (old mid new : ReportedView (Filtered T)) (read result : Outcome) (answer : Result Status Error)
+  pub then_followed : (before : List N) (status : Status) (old mid new : ReportedView (PayloadFiltered T)) (read result : Outcome) (answer : Result Status Error)
       → ReadsFiles visits refuses refused is_verified false bytes before status old read mid → not read.is_written ≡ false
       → GoesOn (λ worst next. (result ≡ written worst) × (new ≡ next)) read.status answer result new new
       → ReadsFiles visits refuses refused is_verified true bytes (before ++ last ∷ []) status old result new
@@ -55,7 +55,7 @@ module _ {T N : Type 0} (visits : VisitRelation T) (refuses : RefusalRelation T)
   )
 
   -- The output failed in a file before the last one.
-  pub never_followed : (before : List N) (status : Status) (old mid : ReportedView (Filtered T)) (read : Outcome)
+  pub never_followed : (before : List N) (status : Status) (old mid : ReportedView (PayloadFiltered T)) (read : Outcome)
       → ReadsFiles visits refuses refused is_verified false bytes before status old read mid → not read.is_written ≡ true
       → ReadsFiles visits refuses refused is_verified true bytes (before ++ last ∷ []) status old read mid
   never_followed [] status old mid read reads none = let no : false ≡ true = ap (λ (o : Outcome). not o.is_written) (sym reads.0) ∙ none in absurd (cc)
@@ -68,7 +68,7 @@ module _ {T N : Type 0} (visits : VisitRelation T) (refuses : RefusalRelation T)
 
 -- Of a visitor that is shown a file that is followed nothing is known.
 pub shows_followed : {T : Type 0} (visits : VisitRelation T) (refuses : RefusalRelation T) (refused : T → ℕ) (is_verified is_followed : Bool) (known : Option (List ℕ))
-    (old : T) (answer : Result Status Error) (new : T) (start behind : Filtered T) → is_followed ≡ true → HasNoCondition start.filter → start.visitor ≡ old → new ≡ behind.visitor
+    (old : T) (answer : Result Status Error) (new : T) (start behind : PayloadFiltered T) → is_followed ≡ true → HasNoCondition start.filtered.filter → start.filtered.visitor ≡ old → new ≡ behind.filtered.visitor
     → ShowsFile visits refuses refused is_verified (unless_followed is_followed known) old answer new
 shows_followed visits refuses refused is_verified true known old answer new start behind follows all shown ends = record {
   start = start;

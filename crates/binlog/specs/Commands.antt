@@ -4,7 +4,7 @@ use Rattle.std.specs.declared.io.Error.{Error as IoError}
 use Rattle.binlog_visits.specs.Visits.{VisitRelation, RefusalRelation}
 use Rattle.binlog_ends.specs.Views.{CountedView}
 use Rattle.binlog_filters.specs.declared.filter.Filter.{Filter}
-use Rattle.binlog_filters.specs.declared.filtered.Filtered.{Filtered}
+use Rattle.binlog_payload_filters.specs.declared.filtered.PayloadFiltered.{PayloadFiltered}
 use Rattle.binlog_gtid_listing.specs.LogItems.{log_gtids}
 use Rattle.binlog_commands.specs.Collecting.{collected, Collects, RefusesCollected}
 use Rattle.binlog_commands.specs.declared.gtids.GtidCollector.{GtidCollector}
@@ -105,12 +105,12 @@ module _ {B N : Type 0} (contents : B → Option (List ℕ)) (options : Found) (
 
   -- The files are verified with what the filter takes of them, and the line of each is written.
   pub record WritesTallies (is_quiet : Bool) (name_of : N → List ℕ) (old : Option (List ℕ)) (status : Status) (new : Option (List ℕ)) : Type 0 where
-    pub start : ReportedView (Filtered (Checked Tally))
-    pub states : StatesFilter options start.visitor.filter
+    pub start : ReportedView (PayloadFiltered (Checked Tally))
+    pub states : StatesFilter options start.visitor.filtered.filter
     pub output : Output B
     pub begins : Begins contents old output
     pub outcome : Outcome
-    pub behind : ReportedView (Filtered (Checked Tally))
+    pub behind : ReportedView (PayloadFiltered (Checked Tally))
     pub listed : Output B
     pub verifies : VerifiesFiles is_verified is_followed is_quiet name_of bytes names Fine (verifying start (bytes_of contents output)) outcome (verifying behind (bytes_of contents listed))
     pub ends : Ends contents listed outcome status new

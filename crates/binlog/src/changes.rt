@@ -20,8 +20,9 @@ use binlog_cli::{
     CONTENT_LIMIT, Outcome, Output, Reported, Status, filter, out_of_memory, report_left_out,
 };
 use binlog_file::{Error, Retrying};
-use binlog_filters::{Filter, Filtered};
+use binlog_filters::Filter;
 use binlog_json_lines::LineOptions;
+use binlog_payload_filters::PayloadFiltered;
 use binlog_visits::{Refusing, Visitor};
 use std::alloc::AllocError;
 use std::io::{BufWriter, Write};
@@ -122,12 +123,13 @@ fn show_file<
     requires { B.IsAlwaysCallable begin }
     ensures { ShowsFile T.visits T.refuses T.refusals reading.is_verified (unless_followed reading.is_followed (S.bytes inputs.now name.now)) visitor result.0 result.1 }
 {
-    let all = Filtered::new(rt.alloc(), Filter::new(rt.alloc()), visitor);
+    let every = Filter::new(rt.alloc());
+    let all = PayloadFiltered::new(rt.alloc(), CONTENT_LIMIT, every, visitor);
     if goes_on(name, reading) {
         let (read, all) = follow(rt, inputs, name, all, begin);
-        return (read, all.visitor);
+        return (read, all.filtered.visitor);
     }
     let mut reported = Reported::new(rt, all);
     let read = read_file(rt, inputs, name, reading, &mut reported);
-    (read, reported.into_visitor().visitor)
+    (read, reported.into_visitor().filtered.visitor)
 }

@@ -17,8 +17,8 @@ use binlog_cli::{
 };
 use binlog_commands::Tally;
 use binlog_file::{Error, Retrying};
-use binlog_filters::Filtered;
 use binlog_payload_checks::Checked;
+use binlog_payload_filters::PayloadFiltered;
 use std::alloc::Global;
 use std::io::{BufWriter, Write};
 use std::time::Clock;
@@ -37,7 +37,8 @@ pub(crate) fn verify<'a, S: Inputs, R: Clock + Eprint + AllocGlobal, W: Write + 
     let filter = filter(rt, request.options)?;
     let mut output = Output::new(rt, BUFFER_SIZE, writer)?;
     let counts = no_counts(rt.alloc());
-    let mut reported = Reported::new(rt, Filtered::new(rt.alloc(), filter, counts));
+    let filtered = PayloadFiltered::new(rt.alloc(), CONTENT_LIMIT, filter, counts);
+    let mut reported = Reported::new(rt, filtered);
     let (files, reading) = (request.files, request.reading);
     let outcome = verify_files(
         rt,
@@ -48,7 +49,7 @@ pub(crate) fn verify<'a, S: Inputs, R: Clock + Eprint + AllocGlobal, W: Write + 
         &mut reported,
         &mut output,
     );
-    report_left_out(rt, reported.visitor().state.left_out);
+    report_left_out(rt, reported.visitor().filtered.state.left_out);
     Ok(output.finish(rt, outcome))
 }
 
@@ -59,7 +60,7 @@ fn verify_files<'a, S: Inputs, R: Clock + Eprint + AllocGlobal, W: Write>(
     files: &[&'a str],
     reading: Reading,
     is_quiet: bool,
-    reported: &mut Reported<'a, R, Filtered<Checked<Tally>>>,
+    reported: &mut Reported<'a, R, PayloadFiltered<Checked<Tally>>>,
     output: &mut W,
 ) -> Outcome
     ensures { VerifiesFiles reading.is_verified reading.is_followed is_quiet (λ name. name.now) (λ name. S.bytes inputs.now name.now) files.now Fine
@@ -82,7 +83,7 @@ fn verify_file<'a, S: Inputs, R: Clock + Eprint + AllocGlobal, W: Write>(
     file: &'a str,
     reading: Reading,
     is_quiet: bool,
-    reported: &mut Reported<'a, R, Filtered<Checked<Tally>>>,
+    reported: &mut Reported<'a, R, PayloadFiltered<Checked<Tally>>>,
     output: &mut W,
 ) -> Result<Status, Error>
     ensures verifies { VerifiesFile reading.is_verified (unless_followed reading.is_followed (S.bytes inputs.now file.now)) is_quiet file.now
@@ -92,7 +93,7 @@ fn verify_file<'a, S: Inputs, R: Clock + Eprint + AllocGlobal, W: Write>(
     reported.replace_visitor(no_counts(rt.alloc()));
     let read = read_file(rt, inputs, file, reading, reported);
     let name = shown_name(file);
-    let tally = tally_of(&reported.visitor().visitor, reported.is_cut());
+    let tally = tally_of(&reported.visitor().filtered.visitor, reported.is_cut());
     write_line(name, &tally, is_quiet, read, output)
 }
 

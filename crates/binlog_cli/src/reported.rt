@@ -1,11 +1,12 @@
 //! A visitor that writes messages.
 ghost use Rattle.std.specs.Prelude.{◌≡◌, ◌≢◌, codes, false};
-ghost use Rattle.binlog_cli.specs.Reports.{begun_file, ended_file};
+ghost use Rattle.binlog_cli.specs.Reports.{begun_file, ended_file, with_visitor};
 
 use crate::progress::Progress;
 use binlog_file::{Error, EventData, EventRef, EventStreamReader, GtidTracker};
-use binlog_filters::{Filtered, Place};
+use binlog_filters::Place;
 use binlog_payload_checks::first_part_error;
+use binlog_payload_filters::PayloadFiltered;
 use binlog_visits::{Refusing, Visitor};
 use std::alloc::Global;
 use std::fmt;
@@ -78,9 +79,9 @@ impl<'a, E, T> Reported<'a, E, T> {
     }
 }
 
-impl<'a, E: Eprint, T> Reported<'a, E, Filtered<T>> {
+impl<'a, E: Eprint, T> Reported<'a, E, PayloadFiltered<T>> {
     /// Messages go to the standard error of `rt`.
-    pub fn new(rt: &'a E, visitor: Filtered<T>) -> Self
+    pub fn new(rt: &'a E, visitor: PayloadFiltered<T>) -> Self
         ensures { result ≡ record { visitor = visitor; has_errors = false; is_cut = false } }
     {
         Reported {
@@ -99,9 +100,9 @@ impl<'a, E: Eprint, T> Reported<'a, E, Filtered<T>> {
     pub fn replace_visitor(&mut self, visitor: T)
     where
         T: Drop,
-        ensures { self.new ≡ record self.old { visitor = record self.old.visitor { visitor = visitor } } }
+        ensures { self.new ≡ record self.old { visitor = with_visitor self.old.visitor visitor } }
     {
-        self.visitor.visitor = visitor;
+        self.visitor.filtered.visitor = visitor;
     }
 
     /// Begins with this file, and shows this progress in it.

@@ -1,5 +1,5 @@
 use Rattle.std.proofs.Common.{subst}
-use Rattle.binlog_filters.specs.declared.filtered.Filtered.{Filtered}
+use Rattle.binlog_payload_filters.specs.declared.filtered.PayloadFiltered.{PayloadFiltered}
 use Rattle.binlog_payload_checks.specs.declared.checked.Checked.{Checked}
 use Rattle.binlog_commands.specs.declared.tally.Tally.{Tally}
 use Rattle.binlog_cli.specs.Reports.{ReportedView}
@@ -12,7 +12,7 @@ returns-clause-verifies g c = record {
   start = c.no_counts.result;
   none = c.no_counts.ensures;
   read = c.read_file-read.result;
-  reads = subst (λ (v : ReportedView (Filtered (Checked Tally))). ReadsFile CountsChecked CountsNot (λ counts. counts.damaged) c.args.reading.is_verified
+  reads = subst (λ (v : ReportedView (PayloadFiltered (Checked Tally))). ReadsFile CountsChecked CountsNot (λ counts. counts.damaged) c.args.reading.is_verified
       (unless_followed c.args.reading.is_followed (g.S.Inputs.bytes c.args.inputs.now c.args.file.now)) v c.read_file-read.result c.read_file-read.new.visitor) c.replace_visitor.ensures c.read_file-read.ensures.reads;
   shown = c.shown_name-name.result.now;
   input = c.shown_name-name.ensures.input;
