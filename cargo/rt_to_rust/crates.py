@@ -35,11 +35,16 @@ LIBRARY = [
     "binary_json_writing",
     "binary_json_lines",
     "binlog_json_values",
+    "binlog_undo",
+    "binlog_transactions",
+    "binlog_undo_index",
+    "binlog_undo_writing",
 ]
 TOOLS = [
     "binlog_rotation",
     "binlog_visits",
     "binlog_payload_visits",
+    "binlog_payload_checks",
     "binlog_listing",
     "binlog_gtid_listing",
     "binlog_filters",
@@ -50,8 +55,10 @@ TOOLS = [
     "binlog_event_types",
     "binlog_json_bodies",
     "binlog_json_lines",
+    "binlog_undo_log",
     "binlog_change_lines",
     "binlog_cli",
+    "binlog_undo_command",
     "binlog_summaries",
 ]
 

@@ -49,7 +49,7 @@ def lossy_texts(source):
 
 
 # What a function returns where a buffer is refused, which Rust's isn't.
-REFUSED_BUFFER = (["Err", "(", "Error", "::", "Memory", ")"], ["false"])
+REFUSED_BUFFER = (["Err", "(", "Error", "::", "Memory", ")"], ["Err", "(", "out_of_memory", "(", "rt", ")", ")"], ["false"])
 
 
 def buffers(source):
@@ -62,7 +62,7 @@ def buffers(source):
         behind = source.partner[call + 3] + 1
         end = source.partner[behind + 1] if source.is_at(behind, "else", "{", "return") else behind
         if source.texts(behind + 3, end - 1) not in REFUSED_BUFFER:
-            raise source.refusal(index, "a buffer whose refusal isn't `Error::Memory`")
+            raise source.refusal(index, "a buffer whose refusal isn't known")
         yield source.span(index + 1, index + 2)
         yield source.span(close, close)
         yield source.span(behind, end)

@@ -30,6 +30,8 @@ STAND_INS = {
     "std::env": "TOOLS::host::env",
     "std::env::Env": "TOOLS::host::Env",
     "std::fs": "TOOLS::host::fs",
+    "std::fs::File": "TOOLS::host::fs::File",
+    "std::fs::OpenFile": "TOOLS::host::OpenFile",
     "std::rt::Files": "TOOLS::host::Files",
     "std::thread": "TOOLS::host::thread",
     "std::time::Clock": "TOOLS::host::Clock",

@@ -135,4 +135,8 @@ def named_type(source, name, place):
     function = function_at(source, place)
     if function is None:
         return None
-    return local_type(source, function, name, place) or parameter_type(source, function, name)
+    stated = local_type(source, function, name, place)
+    if stated and len(stated) == 1:
+        # A local that is made of a parameter has its type.
+        return parameter_type(source, function, stated[0]) or stated
+    return stated or parameter_type(source, function, name)

@@ -11,4 +11,4 @@ lines_capacity is_followed = if is_followed then 0 else 65536
 
 -- No command has this name.
 abbrev pub IsNoCommand : List ℕ → Type 0
-IsNoCommand name = (name ≢ codes "list") × (name ≢ codes "json") × (name ≢ codes "gtids") × (name ≢ codes "verify") × (name ≢ codes "stats") × (name ≢ codes "copy")
+IsNoCommand name = (name ≢ codes "list") × (name ≢ codes "json") × (name ≢ codes "gtids") × (name ≢ codes "verify") × (name ≢ codes "stats") × (name ≢ codes "copy") × (name ≢ codes "undo")

@@ -11,13 +11,14 @@ ghost use Rattle.binlog.specs.Reading.{unless_followed, ShowsFile};
 ghost use Rattle.binlog.specs.Requests.{lines_capacity};
 
 use crate::columns::{read_columns, report_contradictions};
-use crate::commands::CONTENT_LIMIT;
 use crate::files::read_file;
 use crate::inputs::Inputs;
 use crate::request::{Reading, Request};
 use crate::rotations::{follow, goes_on};
 use binlog_change_lines::ChangeFilter;
-use binlog_cli::{Outcome, Output, Reported, Status, filter, out_of_memory, report_left_out};
+use binlog_cli::{
+    CONTENT_LIMIT, Outcome, Output, Reported, Status, filter, out_of_memory, report_left_out,
+};
 use binlog_file::{Error, Retrying};
 use binlog_filters::{Filter, Filtered};
 use binlog_json_lines::LineOptions;

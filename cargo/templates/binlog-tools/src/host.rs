@@ -4,7 +4,7 @@ use binlog::Error;
 use std::fmt;
 use std::fs::File;
 use std::io;
-use std::io::{Read, Stderr, StdinLock, Stdout, Write};
+use std::io::{Read, Seek, Stderr, StdinLock, Stdout, Write};
 use std::time::Duration;
 
 /// Writes to standard error.
@@ -33,16 +33,40 @@ pub trait Input {
     fn reader(&self) -> Self::Reader;
 }
 
+/// What a file can do besides.
+pub trait OpenFile {
+    /// Waits until all of it is on its device.
+    fn sync_all(&self) -> io::Result<()>;
+}
+
+impl OpenFile for File {
+    fn sync_all(&self) -> io::Result<()> {
+        File::sync_all(self)
+    }
+}
+
 /// Has files.
 pub trait Files {
     /// An open file.
-    type File: Read + Write;
+    type File: Read + Write + Seek + OpenFile;
 
     /// Opens the file of a name for reading.
     fn open(&self, name: &str) -> io::Result<Self::File>;
 
     /// Makes the file of a name, empty, and opens it for writing.
     fn create(&self, name: &str) -> io::Result<Self::File>;
+
+    /// The same, but refuses a name that a file has.
+    fn create_new(&self, name: &str) -> io::Result<Self::File>;
+
+    /// Whether a file has a name.
+    fn exists(&self, name: &str) -> io::Result<bool>;
+
+    /// Gives the file of a name another one, in place of a file that has it.
+    fn rename(&self, from: &str, to: &str) -> io::Result<()>;
+
+    /// Removes the file of a name.
+    fn remove_file(&self, name: &str) -> io::Result<()>;
 
     /// What is known of the file of a name without opening it.
     fn metadata(&self, name: &str) -> io::Result<std::fs::Metadata>;
@@ -130,6 +154,22 @@ impl Files for Host {
         File::create(name)
     }
 
+    fn create_new(&self, name: &str) -> io::Result<File> {
+        File::create_new(name)
+    }
+
+    fn exists(&self, name: &str) -> io::Result<bool> {
+        std::fs::exists(name)
+    }
+
+    fn rename(&self, from: &str, to: &str) -> io::Result<()> {
+        std::fs::rename(from, to)
+    }
+
+    fn remove_file(&self, name: &str) -> io::Result<()> {
+        std::fs::remove_file(name)
+    }
+
     fn metadata(&self, name: &str) -> io::Result<std::fs::Metadata> {
         std::fs::metadata(name)
     }
@@ -186,6 +226,22 @@ pub mod fs {
     use std::fs::Metadata;
     use std::io;
 
+    /// A file that is made.
+    #[derive(Debug)]
+    pub enum File {}
+
+    impl File {
+        /// Makes a file, and refuses a name that one has.
+        pub fn create_new<R: Files>(rt: &R, name: &str) -> io::Result<R::File> {
+            rt.create_new(name)
+        }
+    }
+
+    /// Whether a file has a name.
+    pub fn exists<R: Files>(rt: &R, name: &str) -> io::Result<bool> {
+        rt.exists(name)
+    }
+
     /// Opens a file for reading.
     pub fn open<R: Files>(rt: &R, name: &str) -> io::Result<R::File> {
         rt.open(name)
@@ -194,6 +250,16 @@ pub mod fs {
     /// Makes a file, empty, and opens it for writing.
     pub fn create<R: Files>(rt: &R, name: &str) -> io::Result<R::File> {
         rt.create(name)
+    }
+
+    /// Gives a file another name.
+    pub fn rename<R: Files>(rt: &R, from: &str, to: &str) -> io::Result<()> {
+        rt.rename(from, to)
+    }
+
+    /// Removes a file.
+    pub fn remove_file<R: Files>(rt: &R, name: &str) -> io::Result<()> {
+        rt.remove_file(name)
     }
 
     /// What is known of a file without opening it.

@@ -17,6 +17,7 @@ pub mod binlog_json_bodies;
 #[allow(unused_variables)]
 pub mod binlog_json_lines;
 pub mod binlog_listing;
+pub mod binlog_payload_checks;
 pub mod binlog_payload_visits;
 /// Which file of a log follows one, by the bytes of that one.
 pub mod binlog_rotation;
@@ -25,6 +26,9 @@ pub mod binlog_statistics;
 #[doc(hidden)]
 pub mod binlog_summaries;
 pub mod binlog_transaction_gtids;
+#[doc(hidden)]
+pub mod binlog_undo_command;
+pub mod binlog_undo_log;
 pub mod binlog_visits;
 /// Statistics of changes, from facts of events.
 pub mod change_statistics;

@@ -53,8 +53,6 @@ mod binlog_file;
 mod binlog_gtid_sets;
 mod binlog_gtid_text;
 mod binlog_gtids;
-// What reads columns as they are stored is for undoing rows, which the package doesn't do yet.
-#[allow(dead_code)]
 mod binlog_images;
 mod binlog_maria_gtids;
 mod binlog_mariadb;
@@ -71,6 +69,12 @@ mod binlog_json_values;
 mod binlog_row_writing;
 mod binlog_rows;
 mod binlog_statements;
+mod binlog_transactions;
+// Of some functions a contract alone reads a parameter.
+#[allow(unused_variables)]
+mod binlog_undo;
+mod binlog_undo_index;
+mod binlog_undo_writing;
 mod binlog_values;
 mod binlog_wire;
 mod bitflags;
@@ -130,6 +134,16 @@ pub mod payloads {
     pub use crate::binlog_payloads::{PayloadError, TransactionPayloadCompressionType};
     pub use crate::binlog_payloads::{TransactionPayloadEvent, TransactionPayloadReader};
     pub use crate::zstd_decode::ZstdError;
+}
+
+/// What undoes the changes of rows: the events that undo others, the transactions of a log, and the events that are written.
+pub mod undo {
+    #[doc(hidden)]
+    pub use crate::binlog_events::{Frame, event_ref_of_bytes};
+    pub use crate::binlog_transactions::{GtidMark, Mark, Refusal, Role, RowsMark, StatementKind, Unsupported};
+    pub use crate::binlog_undo::{ForeignKeyChecks, InverseEvent, UndoError, undo_event};
+    pub use crate::binlog_undo_index::{ChangePlace, Reason, Refused, SeenEvent, Skips, TransactionPlace, UndoIndex};
+    pub use crate::binlog_undo_writing::{EventsWriter, Heading, UndoneChange, WriteError};
 }
 
 /// Events: their headers and footers, and the bodies of each type.

@@ -1,0 +1,4 @@
+mod Words
+mod Counts
+mod Scans
+mod LogsWritten

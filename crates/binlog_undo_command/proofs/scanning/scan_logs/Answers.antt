@@ -1,0 +1,24 @@
+use Rattle.clap.specs.Matches.{found_of}
+use Rattle.binlog_undo_command.proofs.Scans.{undone_next, refused_next, refused_here, not_fine, which_damaged}
+use Rattle.binlog_undo_command.proofs.scanning.scan_logs.Goals.{in-Ok+else-is_err, in-Err}
+use Rattle.binlog_undo_command.proofs.scanning.scan_logs.Goals as goal
+use Rattle.std.proofs.Common.{inl, inr}
+
+pub loop-name-preserved : goal.loop-name-preserved
+loop-name-preserved g c =
+    let bytes = g.L.Logs.bytes c.args.logs.now in
+    let found = found_of c.args.options.now in
+    elim c.match-scan_log.branch [
+      | in-Ok+else-is_err w ↦ rw (w.scanned-is, w.worst-is) (record {
+        undone = λ fine. undone_next bytes found c.args.names.now c.loop-name.name-index _ c.loop-name.scanned.items w.push.new.self.items w.in-Ok.scan c.loop-name-test.true (c.loop-name.invariant.undone fine)
+            w.in-Ok.ensures.ok (rw (w.is_err.ensures.negation, w.if-is_err.false) at w.push.ensures.items);
+        refused = λ damaged. refused_next bytes found c.args.names.now c.loop-name.name-index c.loop-name-test.true (c.loop-name.invariant.refused damaged);
+      })
+      | in-Err w ↦ rw (w.scanned-is, w.worst-is) (record {
+        undone = λ fine. elim (not_fine c.loop-name.worst w.in-Err.status w.in-Err.ensures.err (rw w.worse-worst.ensures at fine)) [ ];
+        refused = λ damaged. elim (which_damaged c.loop-name.worst w.in-Err.status (rw w.worse-worst.ensures at damaged)) [
+          | inl is ↦ refused_next bytes found c.args.names.now c.loop-name.name-index c.loop-name-test.true (c.loop-name.invariant.refused is)
+          | inr is ↦ refused_here bytes found c.args.names.now c.loop-name.name-index _ c.loop-name-test.true (w.in-Err.ensures.refused is)
+        ];
+      })
+    ]

@@ -1,0 +1,5 @@
+pub mod Reasons
+pub mod Options
+pub mod Scanned
+pub mod Written
+pub mod Undoing

@@ -1,0 +1,43 @@
+-- What `binlog undo` makes of its logs.
+use Rattle.std.specs.Prelude.{ℕ, ◌-◌, ◌^◌, min, List, ◌++◌, length, sum_by, Option, codes, decimal}
+use Rattle.std.specs.Io.KnownBytes.{Appends}
+use Rattle.clap.specs.declared.parser.matches.Found.{Found}
+use Rattle.binlog_cli.specs.TableWords.{texts_given}
+use Rattle.binlog_undo_command.specs.Scanned.{AreUndone}
+use Rattle.binlog_undo_command.specs.Written.{WritesLog}
+use Rattle.binlog_undo_command.specs.declared.scanning.ScannedLog.{ScannedLog}
+use Rattle.binlog_undo_index.specs.Parts.{parts_of}
+
+-- How many transactions of logs are undone, and how many row events.
+abbrev pub transactions_in : List ScannedLog → ℕ
+transactions_in logs = sum_by (λ (log : ScannedLog). length (parts_of log.scan.index).transactions) logs
+
+abbrev pub changes_in : List ScannedLog → ℕ
+changes_in logs = sum_by (λ (log : ScannedLog). length (parts_of log.scan.index).changes) logs
+
+-- The line of these counts.
+abbrev pub counts_line : List ScannedLog → List ℕ
+counts_line logs =
+    codes "transactions " ++ decimal (min (transactions_in logs) (2 ^ 64 - 1)) ++ codes ", row events " ++ decimal (min (changes_in logs) (2 ^ 64 - 1)) ++ codes "\n"
+
+-- Nothing is refused in the logs that the words name, and their counts are written. `bytes` are those of the log of a name.
+pub record CountsLogs (bytes : List ℕ → Option (List ℕ)) (found : Found) (old new : Option (List ℕ)) : Type 0 where
+  pub logs : List ScannedLog
+  pub undone : AreUndone bytes found (texts_given found (codes "FILE")) logs
+  pub counts : Appends old new (counts_line logs)
+
+-- A file has the log that undoes these logs. `has` says which bytes it has.
+pub record PutsLog {F B : Type 0} (has_frames : List ℕ → F → Type 0) (is_at : F → ℕ → List ℕ → Type 0) (contents : B → Option (List ℕ)) (has : Option (List ℕ) → Type 0)
+    (logs : List ScannedLog) : Type 0 where
+  pub begun : Option (List ℕ)
+  pub written : Option (List ℕ)
+  pub writes : WritesLog has_frames is_at contents logs begun written
+  pub is : has written
+
+-- Nothing is refused in the logs that the words name, their counts are written, and a file has the log that undoes them.
+pub record Undoes {F B : Type 0} (bytes : List ℕ → Option (List ℕ)) (has_frames : List ℕ → F → Type 0) (is_at : F → ℕ → List ℕ → Type 0) (contents : B → Option (List ℕ))
+    (has : Option (List ℕ) → Type 0) (found : Found) (old new : Option (List ℕ)) : Type 0 where
+  pub logs : List ScannedLog
+  pub undone : AreUndone bytes found (texts_given found (codes "FILE")) logs
+  pub counts : Appends old new (counts_line logs)
+  pub puts : PutsLog has_frames is_at contents has logs

@@ -1,0 +1,20 @@
+//! The command `binlog undo`: its words, and the log that undoes several files, which is there whole or not at all.
+#![tactic(auto)]
+
+mod arguments;
+mod logs;
+mod new_file;
+mod options;
+mod reasons;
+mod running;
+mod scanning;
+mod undoing;
+mod writing;
+
+pub use arguments::undo_command;
+pub use logs::{HostLogs, Logs};
+pub use new_file::{HostFile, NewFile};
+pub use reasons::reason_name;
+pub use running::run_undo;
+pub use scanning::ScannedLog;
+pub use undoing::{count_undo, undo};

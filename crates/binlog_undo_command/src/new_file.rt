@@ -1,0 +1,102 @@
+//! A file that is there whole or not at all.
+ghost use Rattle.std.specs.Prelude.{◌≡◌, ℕ, Bool, true, false, List, Option, OnErr, OnOk, ⊤};
+
+use std::fs::{File, OpenFile};
+use std::io::Write;
+use std::rt::Files;
+use std::{fs, io};
+
+/// A file that is written under another name, and gets its own when it is whole.
+pub trait NewFile {
+    /// What is written before the file is there.
+    type Draft: Write + Drop;
+
+    /// Whether the file is there.
+    ghost is_there: { Self → Bool };
+
+    /// The file has these bytes, where they are known.
+    ghost has: { Self → Option (List ℕ) → Type 0 };
+
+    /// The name of the file, for messages.
+    fn name(&self) -> &str;
+
+    /// The name under which it is written, for messages.
+    fn draft_name(&self) -> &str;
+
+    /// Begins to write. The file isn't there yet.
+    ///
+    /// # Errors
+    ///
+    /// Those of making a file, and `AlreadyExists` if there is one of the other name. Nothing has changed then.
+    fn begin(&mut self) -> io::Result<Self::Draft>
+        ensures { is_there self.new ≡ is_there self.old };
+
+    /// Gives the file its name. It has the bytes of the draft then.
+    ///
+    /// # Errors
+    ///
+    /// Those of writing a file and of renaming it. The file isn't there then.
+    fn finish(&mut self, draft: Self::Draft) -> io::Result<()>
+        ensures there { OnOk result (is_there self.new ≡ true) }
+        ensures bytes { OnOk result (has self.new (Self.Draft.contents draft)) }
+        ensures failed { OnErr result (is_there self.new ≡ is_there self.old) };
+
+    /// Removes what was written. The file isn't there.
+    fn discard(&mut self)
+        ensures { is_there self.new ≡ is_there self.old };
+}
+
+/// A file of the machine. What it has isn't known.
+#[derive(Drop)]
+pub struct HostFile<'a, R> {
+    rt: &'a R,
+    name: &'a str,
+    draft: &'a str,
+    is_there: bool,
+}
+
+impl<'a, R: Files> HostFile<'a, R> {
+    /// The file of this name, and the name under which it is written.
+    pub fn new(rt: &'a R, name: &'a str, draft: &'a str) -> Self
+        ensures { result.is_there ≡ false }
+    {
+        HostFile {
+            rt,
+            name,
+            draft,
+            is_there: false,
+        }
+    }
+}
+
+impl<'a, R: Files> NewFile for HostFile<'a, R> {
+    type Draft = R::File;
+
+    ghost is_there = { λ file. file.is_there };
+
+    ghost has = { λ file bytes. ⊤ };
+
+    fn name(&self) -> &str {
+        self.name
+    }
+
+    fn draft_name(&self) -> &str {
+        self.draft
+    }
+
+    fn begin(&mut self) -> io::Result<R::File> {
+        File::create_new(self.rt, self.draft)
+    }
+
+    fn finish(&mut self, draft: R::File) -> io::Result<()> {
+        draft.sync_all()?;
+        drop(draft);
+        fs::rename(self.rt, self.draft, self.name)?;
+        self.is_there = true;
+        Ok(())
+    }
+
+    fn discard(&mut self) {
+        let _ = fs::remove_file(self.rt, self.draft);
+    }
+}

@@ -1,0 +1,86 @@
+//! What the options of `binlog undo` ask for.
+ghost use Rattle.std.specs.Prelude.{◌≡◌, codes, map, IfErr, IfOk, IsNone, IsOk, IsSome};
+ghost use Rattle.clap.specs.Matches.{found_of, one_text};
+ghost use Rattle.binlog_cli.specs.TableWords.{texts_given};
+ghost use Rattle.binlog_cli.specs.declared.exit_status.Status.TheVariants.{Usage};
+ghost use Rattle.binlog_undo_command.specs.Options.{StatesChecks, StatesChoice, StatesScan, RefusesOptions};
+ghost use Rattle.binlog_undo_command.specs.Reasons.{AreSkipNames, StatesSkips};
+
+use crate::reasons::{is_skip_name, skips_of};
+use binlog_cli::{Status, filter};
+use binlog_undo::ForeignKeyChecks;
+use binlog_undo_index::Skips;
+use binlog_undo_log::{Choice, UndoScan};
+use clap::ArgMatches;
+
+/// A pass in front of the first item of a file, for what the options ask for.
+///
+/// # Errors
+///
+/// The status of a run that can't begin, after its message: [`Status::Usage`] if an option can't be read, [`Status::Failed`] if
+/// there is no memory.
+pub(crate) fn new_scan<R: Eprint + AllocGlobal>(
+    rt: &R,
+    options: &ArgMatches<'_>,
+) -> Result<UndoScan, Status>
+    ensures ok { IfOk result (StatesScan (found_of options.now)) }
+    ensures err { IfErr result (RefusesOptions (found_of options.now)) }
+{
+    let choice = choice(rt, options)?;
+    let skips = skips(rt, options)?;
+    Ok(UndoScan::new(rt.alloc(), choice, checks(options), skips))
+}
+
+// Which transactions and tables are undone.
+fn choice<R: Eprint + AllocGlobal>(rt: &R, options: &ArgMatches<'_>) -> Result<Choice, Status>
+    ensures ok { IfOk result (StatesChoice (found_of options.now)) }
+    ensures err { IfErr result (RefusesOptions (found_of options.now)) }
+{
+    let mut transactions = filter(rt, options)?;
+    let tables = transactions.tables.take();
+    Ok(Choice {
+        transactions,
+        tables,
+        excluded: None,
+    })
+}
+
+// Which refused transactions are left as they are. A word that is no reason's name has a message.
+fn skips<R: Eprint>(rt: &R, options: &ArgMatches<'_>) -> Result<Skips, Status>
+    ensures ok { IfOk result (StatesSkips (texts_given (found_of options.now) (codes "skip"))) }
+    ensures known { IsOk result → AreSkipNames (texts_given (found_of options.now) (codes "skip")) }
+    ensures err { IfErr result (λ status. (status ≡ Usage) × ¬ (AreSkipNames (texts_given (found_of options.now) (codes "skip")))) }
+{
+    let words = options.get_strs("skip").unwrap_or(&[]);
+    match unknown_in(words) {
+        None => Ok(skips_of(words)),
+        Some(word) => {
+            let _ = eprintln!(rt; "binlog: --skip: {word:?} is no reason that can be skipped");
+            Err(Status::Usage)
+        }
+    }
+}
+
+// The first word that is no reason's name.
+fn unknown_in<'a>(words: &[&'a str]) -> Option<&'a str>
+    ensures none { IsNone result → AreSkipNames (map (λ word. word.now) words.now) }
+    ensures some { IsSome result → ¬ (AreSkipNames (map (λ word. word.now) words.now)) }
+{
+    for word in words {
+        if !is_skip_name(word) {
+            return Some(word);
+        }
+    }
+    None
+}
+
+// How foreign keys are checked while the log is applied.
+fn checks(options: &ArgMatches<'_>) -> ForeignKeyChecks
+    ensures { StatesChecks (one_text (found_of options.now) (codes "no-foreign-key-checks")) result }
+{
+    if options.get_flag("no-foreign-key-checks") {
+        ForeignKeyChecks::Off
+    } else {
+        ForeignKeyChecks::AsLogged
+    }
+}

@@ -1,0 +1,125 @@
+//! The second pass over several logs.
+ghost use Rattle.std.specs.Prelude.{◌≡◌, IfErr, IfOk, OnOk};
+ghost use Rattle.std.specs.Io.KnownBytes.{Keeps};
+ghost use Rattle.binlog_cli.specs.declared.exit_status.Status.TheVariants.{Failed};
+ghost use Rattle.binlog_undo_command.specs.Written.{WritesOne, WritesLogs, WritesWhole, WritesLog};
+
+use crate::logs::Logs;
+use crate::scanning::ScannedLog;
+use binlog_cli::{BUFFER_SIZE, Status, out_of_memory};
+use binlog_file::{BinlogFileHeader, Counted, Retrying, WriteCounted};
+use binlog_undo_log::{Frames, UndoLogError, UndoOutput, write_file};
+use std::io::{BufWriter, Write};
+
+/// Writes the log that undoes these logs, and gives back the writer, which has all of it. `output` is the name of what is written, for
+/// messages.
+///
+/// # Errors
+///
+/// [`Status::Failed`], after its message, if a log can't be read or was changed, if the writer fails, or if there is no memory.
+pub(crate) fn write_log<L: Logs, R: Eprint + AllocGlobal, W: Write + Drop>(
+    rt: &R,
+    logs: &L,
+    scanned: &[ScannedLog<'_>],
+    output: &str,
+    writer: W,
+) -> Result<W, Status>
+    ensures ok { IfOk result (λ written. WritesLog (L.has_frames logs.now) L.Sought.is_at ⟦<Counted<BufWriter<Retrying<W>>> as WriteCounted>⟧.contents scanned.now (W.contents writer) (W.contents written)) }
+    ensures err { IfErr result (λ status. status ≡ Failed) }
+{
+    let writer = Retrying::new(writer);
+    let Ok(buffer) = BufWriter::with_capacity(rt.alloc(), BUFFER_SIZE, writer) else {
+        return Err(out_of_memory(rt));
+    };
+    let mut log = UndoOutput {
+        writer: Counted::new(buffer),
+        place: BinlogFileHeader::LEN as u64,
+        has_checksums: false,
+        description: None,
+    };
+    match write_whole(rt, logs, scanned, &mut log) {
+        Ok(()) => close(rt, output, log.writer.into_inner()),
+        Err(UndoLogError::Writer) => {
+            if close(rt, output, log.writer.into_inner()).is_ok() {
+                let _ = eprintln!(rt; "binlog: {output}: {}", UndoLogError::Writer);
+            }
+            Err(Status::Failed)
+        }
+        Err(_) => Err(Status::Failed),
+    }
+}
+
+// Flushes a buffer, and gives back its writer, which has all of its bytes. A failure has its message.
+fn close<R: Eprint, W: Write + Drop>(
+    rt: &R,
+    output: &str,
+    buffer: BufWriter<Retrying<W>>,
+) -> Result<W, Status>
+    ensures ok { IfOk result (λ writer. Keeps (⟦<BufWriter<Retrying<W>> as Write>⟧.contents buffer) (W.contents writer)) }
+    ensures err { IfErr result (λ status. status ≡ Failed) }
+{
+    match buffer.into_inner() {
+        Ok(writer) => Ok(writer.into_inner()),
+        Err(failure) => {
+            let _ = eprintln!(rt; "binlog: {output}: {}", failure.error());
+            Err(Status::Failed)
+        }
+    }
+}
+
+// Writes the file header, and what undoes the logs. A failure of the writer alone has no message yet.
+fn write_whole<L: Logs, R: Eprint + AllocGlobal, W: WriteCounted>(
+    rt: &R,
+    logs: &L,
+    scanned: &[ScannedLog<'_>],
+    output: &mut UndoOutput<W>,
+) -> Result<(), UndoLogError>
+    ensures { OnOk result (WritesWhole (L.has_frames logs.now) L.Sought.is_at W.contents scanned.now output.old output.new) }
+{
+    match output.writer.write_whole(&BinlogFileHeader::VALUE) {
+        Ok(()) => write_logs(rt, logs, scanned, output),
+        Err(_) => Err(UndoLogError::Writer),
+    }
+}
+
+// Writes what undoes the logs, the last one first.
+fn write_logs<L: Logs, R: Eprint + AllocGlobal, W: WriteCounted>(
+    rt: &R,
+    logs: &L,
+    scanned: &[ScannedLog<'_>],
+    output: &mut UndoOutput<W>,
+) -> Result<(), UndoLogError>
+    ensures { OnOk result (WritesLogs (L.has_frames logs.now) L.Sought.is_at W.contents scanned.now output.old output.new) }
+{
+    let mut left = scanned.len();
+    'logs: while left > 0 {
+        left -= 1;
+        write_one(rt, logs, &scanned[left], output)?;
+    }
+    Ok(())
+}
+
+// Writes what undoes a log.
+fn write_one<L: Logs, R: Eprint + AllocGlobal, W: WriteCounted>(
+    rt: &R,
+    logs: &L,
+    log: &ScannedLog<'_>,
+    output: &mut UndoOutput<W>,
+) -> Result<(), UndoLogError>
+    ensures { OnOk result (WritesOne (L.has_frames logs.now) L.Sought.is_at W.contents log.now output.old output.new) }
+{
+    let mut frames = match logs.seek(log.name) {
+        Ok(frames) => frames,
+        Err(error) => {
+            let _ = eprintln!(rt; "binlog: {}: {error}", log.name);
+            return Err(UndoLogError::Reader);
+        }
+    };
+    let written = write_file(rt.alloc(), &mut frames, &log.scan, output);
+    if let Err(error) = &written
+        && *error != UndoLogError::Writer
+    {
+        let _ = eprintln!(rt; "binlog: {}: {error}", log.name);
+    }
+    written
+}

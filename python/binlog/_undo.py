@@ -1,0 +1,134 @@
+"""Logs that undo the changes of rows of others, which the program `binlog` writes."""
+
+import os
+import subprocess
+from collections.abc import Iterable, Sequence
+from dataclasses import dataclass
+from datetime import datetime, timezone
+from typing import Optional, Union
+
+from ._program import ProgramError, program as program_at
+from ._statistics import Path, _argument
+
+# The exit status with which something is refused.
+_REFUSED = 2
+
+Time = Union[str, datetime]
+
+
+@dataclass(frozen=True)
+class Refusal:
+    """A transaction, or a log, that can't be undone.
+
+    file: the log's path.
+    index: the index of the event, from 0.
+    position: where the event begins in its log, in bytes.
+    reason: its name, as docs/UNDO.md has it: "Statement" for instance.
+    text: what it says.
+    skipped: whether it is one of those that are left as they are.
+    """
+
+    file: str
+    index: int
+    position: int
+    reason: str
+    text: str
+    skipped: bool = False
+
+
+@dataclass(frozen=True)
+class Undone:
+    """What is undone: how many transactions and row events; and what is left as it is."""
+
+    transactions: int
+    row_events: int
+    skipped: tuple[Refusal, ...] = ()
+
+
+class UndoRefused(Exception):
+    """Something can't be undone, so nothing was written. `refusals` has each, in the order of the logs, the skipped ones too."""
+
+    refusals: tuple[Refusal, ...]
+
+    def __init__(self, refusals: Sequence[Refusal]) -> None:
+        self.refusals = tuple(refusals)
+        named = [f"{one.file}: event {one.index} at byte {one.position}: {one.reason}" for one in self.refusals if not one.skipped]
+        super().__init__("; ".join(named))
+
+    def __reduce__(self) -> tuple:
+        return type(self), (self.refusals,)
+
+
+def undo(
+    files: Union[Path, Iterable[Path]],
+    out: Optional[Path] = None,
+    *,
+    tables: Iterable[str] = (),
+    skip: Iterable[str] = (),
+    start: Optional[Time] = None,
+    stop: Optional[Time] = None,
+    server_id: Optional[int] = None,
+    include_gtids: Optional[str] = None,
+    exclude_gtids: Optional[str] = None,
+    foreign_key_checks: bool = True,
+    program: Optional[Path] = None,
+) -> Undone:
+    """Writes a log that undoes the changes of rows of logs; without `out` it only counts them.
+
+    files: the logs, in order, or one of them.
+    out: the log that is written. It may not be there before, and is there whole or not at all.
+    tables: rows of these tables alone, each as "shop.orders"; * stands for any bytes, ? for one.
+    skip: the names of reasons: transactions that are refused for one of them are left as they are.
+    start, stop: transactions that ended at this time or later, and before it: a datetime, or a text in UTC.
+    server_id, include_gtids, exclude_gtids: transactions that this server created, and with one of these GTIDs, or with none of them.
+    foreign_key_checks: whether the server checks foreign keys while the log is applied.
+    program: the program `binlog`; if not given, the one that the variable BINLOG_PROGRAM names, or the one that the system finds.
+
+    Raises UndoRefused where something can't be undone, FileExistsError if there is a file `out`, and ProgramError where the program isn't
+    found, or fails. Nothing is written then.
+    """
+    paths = [files] if isinstance(files, (str, os.PathLike)) else list(files)
+    words = [word for table in tables for word in ("--table", table)] + [word for reason in skip for word in ("--skip", reason)]
+    stated = {"--start-datetime": _text(start), "--stop-datetime": _text(stop), "--server-id": server_id, "--include-gtids": include_gtids, "--exclude-gtids": exclude_gtids}
+    words += [str(word) for option, value in stated.items() if value is not None for word in (option, value)]
+    words += [] if foreign_key_checks else ["--no-foreign-key-checks"]
+    if out is not None and os.path.exists(out):
+        raise FileExistsError(f"{os.fspath(out)}: there is a file of this name")
+    words += ["--dry-run"] if out is None else ["--output", _argument(out)]
+    return _asked(program, words, [_argument(path) for path in paths])
+
+
+def _text(time: Optional[Time]) -> Optional[str]:
+    """A time as the program takes it. A datetime without a zone is in UTC."""
+    if not isinstance(time, datetime):
+        return time
+    return (time.astimezone(timezone.utc) if time.tzinfo else time).strftime("%Y-%m-%dT%H:%M:%S")
+
+
+def _asked(stated: Optional[Path], words: list[str], paths: list[str]) -> Undone:
+    command = program_at(stated)
+    try:
+        ran = subprocess.run([command, "undo", *words, *paths], stdin=subprocess.DEVNULL, capture_output=True)
+    except OSError as error:
+        raise ProgramError(f"{command}: {error.strerror}") from error
+    lines = os.fsdecode(ran.stderr).splitlines()
+    refusals = [refusal for line in lines for refusal in _refusals(line, paths)]
+    if ran.returncode == _REFUSED and refusals:
+        raise UndoRefused(refusals)
+    if ran.returncode != 0:
+        raise ProgramError("\n".join(lines) or f"{command}: status {ran.returncode}")
+    # "transactions 5, row events 8"
+    transactions, row_events = (int(part.split()[-1]) for part in ran.stdout.decode().split(","))
+    return Undone(transactions, row_events, tuple(refusals))
+
+
+def _refusals(line: str, paths: Sequence[str]) -> list[Refusal]:
+    """The refusal that a line is, if it is one."""
+    for start, skipped in (("binlog: ", False), ("binlog: skipped: ", True)):
+        for path in paths:
+            before = f"{start}{path}: event "
+            if line.startswith(before):
+                index, _, rest = line[len(before) :].partition(" at byte ")
+                position, reason, text = rest.split(": ", 2)
+                return [Refusal(path, int(index), int(position), reason, text, skipped)]
+    return []

@@ -1,0 +1,94 @@
+"""Tests of logs that undo others, over a program that answers what is written here."""
+
+import os
+import pickle
+import sys
+import tempfile
+import unittest
+from datetime import datetime, timedelta, timezone
+from pathlib import Path
+
+import binlog
+
+# A program that writes its words to a file, prints what is written in others, and ends with the status there.
+PROGRAM = """\
+#!{python}
+import sys
+from pathlib import Path
+folder = Path(__file__).parent
+(folder / "words").write_text("\\0".join(sys.argv[1:]))
+sys.stdout.write((folder / "stdout").read_text())
+sys.stderr.write((folder / "stderr").read_text())
+sys.exit(int((folder / "status").read_text()))
+"""
+
+
+class Undoing(unittest.TestCase):
+    def setUp(self):
+        folder = tempfile.TemporaryDirectory()
+        self.addCleanup(folder.cleanup)
+        self.folder = Path(folder.name)
+        self.program = self.folder / "program"
+        self.program.write_text(PROGRAM.format(python=sys.executable))
+        self.program.chmod(0o755)
+        self.answer("transactions 0, row events 0\n")
+
+    def answer(self, stdout="", stderr="", status=0):
+        for name, text in (("stdout", stdout), ("stderr", stderr), ("status", str(status))):
+            (self.folder / name).write_text(text)
+
+    def undo(self, files, *words, **options):
+        return binlog.undo(files, *words, program=self.program, **options)
+
+    def words(self):
+        return (self.folder / "words").read_text().split("\0")
+
+    def test_words(self):
+        self.undo(["1.bin", Path("2.bin")], "out.bin", tables=["s.t", "s.u"], skip=["Statement"], start="2024-01-01T00:00:00", server_id=7)
+        options = ["--table", "s.t", "--table", "s.u", "--skip", "Statement", "--start-datetime", "2024-01-01T00:00:00", "--server-id", "7"]
+        self.assertEqual(self.words(), ["undo", *options, "--output", "out.bin", "1.bin", "2.bin"])
+        here = timezone(timedelta(hours=2))
+        self.undo("-1.bin", stop=datetime(2024, 1, 1, 12, tzinfo=here), include_gtids="0-1-2", exclude_gtids="0-1-3", foreign_key_checks=False)
+        options = ["--stop-datetime", "2024-01-01T10:00:00", "--include-gtids", "0-1-2", "--exclude-gtids", "0-1-3", "--no-foreign-key-checks"]
+        self.assertEqual(self.words(), ["undo", *options, "--dry-run", "./-1.bin"])
+
+    def test_counts(self):
+        skipped = "binlog: skipped: a: event 1.bin: event 12 at byte 3456: Statement: a statement can't be undone\n"
+        self.answer("transactions 5, row events 8\n", skipped)
+        refusal = binlog.Refusal("a: event 1.bin", 12, 3456, "Statement", "a statement can't be undone", True)
+        self.assertEqual(self.undo(["a: event 1.bin"]), binlog.Undone(5, 8, (refusal,)))
+
+    def test_refusals(self):
+        lines = [
+            "binlog: 1.bin: event 12 at byte 3456: Image: the images of the rows lack columns",
+            "binlog: skipped: 2.bin: event 0 at byte 4: Xa: a part of an XA transaction",
+        ]
+        self.answer("", "\n".join(lines) + "\n", 2)
+        with self.assertRaises(binlog.UndoRefused) as raised:
+            self.undo(["1.bin", "2.bin"], self.folder / "out")
+        found = [(one.file, one.index, one.position, one.reason, one.skipped) for one in raised.exception.refusals]
+        self.assertEqual(found, [("1.bin", 12, 3456, "Image", False), ("2.bin", 0, 4, "Xa", True)])
+        self.assertEqual(str(raised.exception), "1.bin: event 12 at byte 3456: Image")
+        self.assertEqual(pickle.loads(pickle.dumps(raised.exception)).refusals, raised.exception.refusals)
+
+    def test_failures(self):
+        self.answer("", "binlog: 1.bin: No such file or directory\n", 1)
+        with self.assertRaisesRegex(binlog.ProgramError, "No such file"):
+            self.undo("1.bin")
+        (self.folder / "out").touch()
+        with self.assertRaises(FileExistsError):
+            self.undo("1.bin", self.folder / "out")
+        with self.assertRaises(binlog.ProgramError):
+            binlog.undo("1.bin", program=self.folder / "none")
+
+    @unittest.skipUnless(os.environ.get("BINLOG_PROGRAM"), "no program is named")
+    def test_the_program(self):
+        log = Path(__file__).parents[2] / "tests/samples/checksummed.binlog"
+        out = self.folder / "undo.bin"
+        counted = binlog.undo(log, skip=["Statement", "Unfinished"])
+        self.assertEqual(binlog.undo(log, out, skip=["Statement", "Unfinished"]), counted)
+        self.assertTrue(out.exists())
+
+
+if __name__ == "__main__":
+    unittest.main()

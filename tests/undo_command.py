@@ -1,0 +1,380 @@
+#!/usr/bin/env python3
+"""Compares the logs that `binlog undo` writes with a model, and what it refuses.
+
+Usage: undo_command.py [--count N] FLAG
+
+FLAG is one of `programs.py`. N random logs (300 if not given) of one to three files have transactions of all kinds: with GTIDs or
+without, ended by an XID, a COMMIT or the last row event, with statements and events that can't be undone, cut off, or with rows that
+are damaged or have partial images. Some tables are chosen. The model, written from `docs/UNDO.md`, makes the bytes of the
+log that undoes them, or the refusals. Then wrong words and outputs that fail are tried: nothing is written. The last line is
+`N passed, M failed`; the exit status is 1 if something failed.
+"""
+
+import argparse
+import random
+import subprocess
+import sys
+import tempfile
+from pathlib import Path
+
+import encoded_events as encode
+import event_data_model
+import programs
+import results
+import row_events
+import row_model
+import row_values
+import transactions
+import undone_rows
+from samples import FILE_HEADER, HEADER, POST_HEADER_LENGTHS, crc32
+
+CHECKSUM = 4
+BEGIN_BODY = bytes(14) + b"BEGIN"
+# A server version, and the algorithm of its logs; None where it states none.
+SERVERS = [("8.0.36", 1), ("8.0.36", 0), ("10.11.6-MariaDB", 1), ("10.11.6-MariaDB", 0), ("5.5.62", None)]
+ROWS_TYPES = [kind[0] for kind in encode.ROWS_KINDS]
+
+# ---- logs
+
+
+def framed(kind, body, place, header, has_checksum):
+    """An event that begins at this place. The header has a time, a server and flags."""
+    timestamp, server, flags = header
+    size = HEADER.size + len(body) + (CHECKSUM if has_checksum else 0)
+    place_behind = (place + size) % 2**32
+    front = HEADER.pack(timestamp, kind, server, size, place_behind, flags) + body
+    # The flag of a log that is in use isn't in the checksum.
+    checked = HEADER.pack(timestamp, kind, server, size, place_behind, flags & ~1) + body
+    return front + (crc32(checked) if has_checksum else b"")
+
+
+def log_of(events, algorithm, version):
+    """A file of a description and these events, each with its type, its body and its header."""
+    content = FILE_HEADER
+    event = encode.format_description(server_version=version, lengths=POST_HEADER_LENGTHS, algorithm=algorithm)
+    stated = b"" if algorithm is None else bytes([algorithm])
+    events = [(15, event.body + stated, (1_000_000_000, 7, 0)), *events]
+    for kind, body, header in events:
+        has_checksum = algorithm is not None if kind == 15 else algorithm == 1
+        content += framed(kind, body, len(content), header, has_checksum)
+    return content
+
+
+def query(text):
+    return bytes(8) + b"\0" + bytes(4) + b"\0" + text.encode()
+
+
+# ---- the model
+
+# The tables of a statement, which differ by their names: `row_values` names each `t`.
+TABLES = ["d.t", "d.u", "d.v"]
+
+
+def named(map_body, table):
+    """A table map with the name of this table in place of `d.t`."""
+    assert map_body[8:14] == b"\x01d\0\x01t\0"
+    return map_body[:8] + b"\x01d\0\x01" + table[2:].encode() + map_body[13:]
+
+
+def table_of(map_body):
+    return "d." + map_body[12:13].decode()
+
+
+class Damaged(Exception):
+    """A body that can't be read."""
+
+
+class Model:
+    """What is undone of files, or refused. `chosen` are the tables that are asked for, if there are some."""
+
+    def __init__(self, chosen=()):
+        self.refused, self.kept, self.chosen = [], [], chosen
+
+    def wants(self, map_body):
+        """Whether the table of a table map is one that is undone."""
+        return not self.chosen or table_of(map_body) in self.chosen
+
+    def take(self, name, content):
+        reading, place, index = transactions.Reading(), len(FILE_HEADER), 0
+        kept, changes, maps, first, found = [], [], {}, None, []
+        description = self.description_of(content)
+        while place < len(content):
+            header = HEADER.unpack_from(content, place)
+            end = place + header[3]
+            body = content[place + HEADER.size : end - (CHECKSUM if description[1] == 1 and header[1] != 15 else 0)]
+            try:
+                word, change, refusal = self.word_of(header[1], body, maps, description)
+            except Damaged:
+                self.refused.append((name, index, place, "Damaged"))
+                return
+            change = change and (*change, header)
+            told = len(reading.told)
+            reading.take(word)
+            turn, _, why = reading.told[told].partition(":")
+            if turn.endswith("!"):
+                self.refused.append((name, *(found or [(*first, "Unfinished")])[0]))
+                changes, maps, found = [], {}, []
+            turn = turn.rstrip("!")
+            if turn in ("First", "Alone"):
+                first, changes, maps, found = (index, place), [], {}, []
+            found += [(index, place, reason) for reason in (why, refusal) if reason]
+            if turn == "Outside":
+                self.refused += [(name, *one) for one in found]
+                found = []
+            if header[1] == 19:
+                maps[int.from_bytes(body[:6], "little")] = (header, body)
+            if change:
+                changes.append(change)
+            if turn in ("Last", "Alone"):
+                if found:
+                    self.refused.append((name, *found[0]))
+                elif changes:
+                    xid = int.from_bytes(body, "little") if header[1] == 16 else 0
+                    kept.append((header, xid, changes))
+                changes, maps, found = [], {}, []
+            place, index = end, index + 1
+        if reading.way is not None:
+            self.refused.append((name, *(found or [(*first, "Unfinished")])[0]))
+        self.kept.append((description, kept))
+
+    def description_of(self, content):
+        header = HEADER.unpack_from(content, len(FILE_HEADER))
+        body = content[len(FILE_HEADER) + HEADER.size :][: header[3] - HEADER.size]
+        lengths = len(POST_HEADER_LENGTHS)
+        algorithm = body[57 + lengths] if len(body) > 57 + lengths else None
+        version = body[2:52].rstrip(b"\0").decode()
+        return header, algorithm, body[: 57 + lengths], version
+
+    def word_of(self, kind, body, maps, description):
+        """The word of an event, what undoes it, and its refusal."""
+        if kind in ROWS_TYPES:
+            return self.rows_of(kind, body, maps, description)
+        if kind == 2:
+            kind_of_text = transactions.kind_of(body[14:].decode())
+            words = {
+                "Begin": "BEGIN", "Commit": "COMMIT", "Rollback": "ROLLBACK", "RollbackToSavepoint": "ROLLBACK-TO",
+                "Harmless": "SAVEPOINT", "XaStart": "XA-START", "XaEnd": "XA-COMMIT", "Xa": "XA-END", "Other": "STATEMENT",
+            }
+            return words[kind_of_text], None, None
+        words = {4: "border", 15: "border", 3: "border", 16: "xid", 19: "map", 33: "gtid", 34: "gtid", 38: "xa-prepare", 26: "incident", 29: "nothing"}
+        return words[kind], None, None
+
+    def rows_of(self, kind, body, maps, description):
+        flags = int.from_bytes(body[6:8], "little")
+        word = lambda undone: ("last-" if flags & 1 else "") + ("rows" if undone else "other-rows")
+        try:
+            event = event_data_model.fields(kind, body, POST_HEADER_LENGTHS)
+        except event_data_model.Fault:
+            raise Damaged
+        if not event["rows_data"].bytes:
+            return word(False), None, None
+        table_id = int.from_bytes(body[:6], "little")
+        is_maria = "MariaDB" in description[3]
+        tables = undone_rows.Tables(is_maria, [])
+        if table_id not in maps:
+            return word(False), None, "NoTableMap"
+        map_header, map_body = maps[table_id]
+        if not self.wants(map_body):
+            return word(False), None, None
+        tables.take(map_body)
+        if is_maria and set(tables.maps[table_id]["columns_type"].bytes) & {7, 11, 12}:
+            found = [member for member in tables.wanted(kind, body) if member == ("error", "Columns")]
+            return word(False), None, "Rows" if found else "OldTemporal"
+        wanted = tables.wanted(kind, body)
+        members = dict(wanted)
+        if "error" in members:
+            names = {"Image": "Image", "PartialJson": "PartialJson"}
+            return word(False), None, names.get(members["error"], "Rows")
+        return word(True), (map_header, map_body, members["event"]), None
+
+    def transactions(self):
+        return sum(len(kept) for _, kept in self.kept)
+
+    def changes(self):
+        return sum(len(changes) for _, kept in self.kept for _, _, changes in kept)
+
+    def written(self):
+        out, written = FILE_HEADER, None
+        for description, kept in reversed(self.kept):
+            if not kept:
+                continue
+            header, algorithm, body, _ = description
+            stated = b"" if algorithm is None else bytes([algorithm])
+            body = body[:52] + bytes(4) + body[56:] + stated
+            if written != (body, algorithm):
+                out += framed(15, body, len(out), (header[0], header[2], 0), algorithm is not None)
+                written = body, algorithm
+            for last, xid, changes in reversed(kept):
+                head = lambda flags: (last[0], last[2], last[5] & 0x8000 | flags)
+                out += framed(2, BEGIN_BODY, len(out), head(8), algorithm == 1)
+                for map_header, map_body, (kind, inverse), rows_header in reversed(changes):
+                    for kind, body, source in ((19, map_body, map_header), (kind, bytes.fromhex(inverse), rows_header)):
+                        out += framed(kind, body, len(out), (source[0], source[2], source[5] & ~0x61), algorithm == 1)
+                out += framed(16, xid.to_bytes(8, "little"), len(out), head(0), algorithm == 1)
+        return out
+
+
+# ---- random logs
+
+
+def random_header(chance):
+    return chance.randrange(1_000_000_000, 1_000_000_400), chance.choice((1, 7)), chance.choice((0, 0, 8, 0x8000, 0x21))
+
+
+def statement_rows(chance, kinds, is_sound):
+    """A table map and row events, the last one of which ends a statement."""
+    chosen, table = row_values.random_table(chance, kinds)
+    count = chance.randint(1, 3)
+    events = [(table[0], named(table[1], chance.choice(TABLES)))]
+    for left in range(count, 0, -1):
+        kind, body = rows_of(chance, chosen, table, is_sound)
+        flags = chance.choice((0, 2)) | (left == 1)
+        body = body[:6] + flags.to_bytes(2, "little") + body[8:]
+        events.append((kind, body if is_sound or chance.random() < 0.7 else row_values.damage(chance, body)))
+    return events
+
+
+def rows_of(chance, chosen, table, is_sound):
+    table_id = int.from_bytes(table[1][:6], "little")
+    if not is_sound:
+        return undone_rows.random_event(chance, chosen, table_id)
+    kind = chance.choice([kind for kind in encode.ROWS_KINDS if kind[0] != 39])
+    before = after = [True] * len(chosen)
+    images = [present for present, is_there in ((before, kind[2]), (after, kind[3])) if is_there]
+    content = b"".join(row_values.random_row(chance, kind, chosen, images) for _ in range(chance.randint(0, 4)))
+    stated = (None, b"") if kind[0] in encode.OLDER_ROWS else (2, b"")
+    event = encode.rows(kind, row_values.SPELLING, table_id=table_id, flags=0, extra=stated, before=before, after=after, content=content)
+    return kind[0], event.body
+
+
+def random_transaction(chance, kinds, is_sound):
+    events = [(chance.choice((33, 34)), bytes([1]) + bytes(chance.randrange(256) for _ in range(16)) + bytes([chance.randrange(1, 200)]) + bytes(7))] if chance.random() < 0.5 else []
+    way = chance.choice(("xid", "xid", "COMMIT", "rows"))
+    if way != "rows":
+        events.append((2, query("BEGIN")))
+    for _ in range(1 if way == "rows" else chance.randint(0, 3)):
+        events += statement_rows(chance, kinds, is_sound)
+        if chance.random() < 0.2:
+            events.append((29, b"\x08a comment"[:9]))
+        if way != "rows" and chance.random() < 0.1:
+            events.append((2, query("SAVEPOINT a")))
+    if not is_sound and chance.random() < 0.4:
+        text = chance.choice(("CREATE TABLE t (a INT)", "ROLLBACK TO a", "XA START 'a'", "ROLLBACK"))
+        events.insert(chance.randint(0, len(events)), (2, query(text)))
+    if not is_sound and chance.random() < 0.2:
+        del events[chance.randrange(len(events))]
+    if way == "xid" and (is_sound or chance.random() < 0.9):
+        events.append((16, chance.randrange(2**40).to_bytes(8, "little")))
+    elif way == "COMMIT":
+        events.append((2, query("COMMIT")))
+    return events
+
+
+def random_file(chance, kinds, is_sound):
+    events = [event for _ in range(chance.randint(0, 6)) for event in random_transaction(chance, kinds, is_sound)]
+    version, algorithm = chance.choice(SERVERS)
+    if chance.random() < 0.5:
+        events.append((4, (4).to_bytes(8, "little") + b"next"))
+    return log_of([(kind, body, random_header(chance)) for kind, body in events], algorithm, version)
+
+
+# ---- runs
+
+PHRASES = {
+    "Damaged": "a damaged event",
+    "Unfinished": "the transaction isn't finished",
+    "Statement": "a statement can't be undone",
+    "Xa": "a part of an XA transaction",
+    "Rollback": "changes were rolled back",
+    "NoTableMap": "the rows have no table map in their transaction",
+    "Rows": "the rows can't be read",
+    "OldTemporal": "a column of a date or time whose form isn't in the log",
+    "Image": "the images of the rows lack columns",
+    "PartialJson": "partial updates of documents",
+}
+
+
+def random_options(chance):
+    """Options that choose tables, and these tables."""
+    way, some = chance.random(), chance.sample(TABLES, chance.randint(1, 2))
+    if way < 0.2:
+        return [word for table in some for word in ("--table", table)], some
+    return [], ()
+
+
+def failure(words, seed, folder):
+    """What is wrong with the undo of one set of logs, if something is."""
+    chance, kinds = random.Random(seed), list(row_events.kinds())
+    is_sound = chance.random() < 0.5
+    options, chosen = random_options(chance)
+    files, model = [], Model(chosen)
+    for number in range(chance.randint(1, 3)):
+        name = folder / f"{seed}-{number}.bin"
+        content = random_file(chance, kinds, is_sound)
+        name.write_bytes(content)
+        files.append(str(name))
+        model.take(str(name), content)
+    out = folder / f"{seed}.out"
+    run = subprocess.run([*words, "undo", *options, "-o", str(out), *files], capture_output=True, text=True)
+    messages = [f"binlog: {name}: event {index} at byte {place}: {reason}: {PHRASES[reason]}" for name, index, place, reason in model.refused]
+    if run.stderr.splitlines() != messages:
+        return f"seed {seed}: {run.stderr!r}, not {messages}"
+    if messages:
+        return None if run.returncode == 2 and not out.exists() else f"seed {seed}: status {run.returncode}, and {out.exists()}"
+    counted = f"transactions {model.transactions()}, row events {model.changes()}\n"
+    if run.returncode != 0 or run.stdout != counted:
+        return f"seed {seed}: status {run.returncode}, {run.stdout!r}, not {counted!r}"
+    if Path(f"{out}.part").exists():
+        return f"seed {seed}: what was written is left behind"
+    wanted = model.written()
+    return None if out.read_bytes() == wanted else f"seed {seed}: {out.read_bytes().hex()}, not {wanted.hex()}"
+
+
+def refusal(words, folder, options, status, message):
+    """What is wrong with a run that has to be refused, if something is. A sound log is undone."""
+    chance, kinds = random.Random(1), list(row_events.kinds())
+    log = folder / "sound.bin"
+    log.write_bytes(random_file(chance, kinds, True))
+    (folder / "taken.part").touch()
+    before = sorted(folder.iterdir())
+    run = subprocess.run([*words, "undo", *options(log)], capture_output=True, text=True)
+    if run.returncode != status or message not in run.stderr or sorted(folder.iterdir()) != before:
+        return f"{options(log)}: status {run.returncode}: {run.stderr!r}"
+    return None
+
+
+# Words that are refused, by the log: the status, and a part of the message.
+REFUSALS = [
+    (lambda log: [str(log)], 64, "-o OUT or --dry-run"),
+    (lambda log: ["-o", "-", str(log)], 64, "OUT has to be a file"),
+    (lambda log: ["-o", str(log), str(log)], 3, "there is a file of this name"),
+    (lambda log: ["-o", str(log.parent), str(log)], 3, "there is a file of this name"),
+    (lambda log: ["-o", str(log.parent / "taken"), str(log)], 3, "taken.part: File exists"),
+    (lambda log: ["--skip", "Nothing", "--dry-run", str(log)], 64, "no reason that can be skipped"),
+    (lambda log: ["--skip", "Damaged", "--dry-run", str(log)], 64, "no reason that can be skipped"),
+    (lambda log: ["--table", "t", "--dry-run", str(log)], 64, "--table"),
+    (lambda log: ["-o", str(log.parent / "none/out"), str(log)], 3, "none/out.part"),
+    (lambda log: ["-o", str(log.parent / "out"), str(log.parent / "none.bin")], 1, "none.bin"),
+    (lambda log: ["--dry-run", str(log), "-"], 1, "-: "),
+]
+
+
+def main():
+    parser = argparse.ArgumentParser(description="Compares what undoes logs with a model.")
+    programs.add_flags(parser)
+    parser.add_argument("--count", type=int, default=300)
+    arguments = programs.parsed(parser, "binlog")
+    words = arguments.build.command("binlog")
+    passed, failures = 0, []
+    with tempfile.TemporaryDirectory() as folder:
+        for seed in range(arguments.count):
+            wrong = failure(words, seed, Path(folder))
+            passed, failures = (passed, [*failures, wrong]) if wrong else (passed + 1, failures)
+        for refused in REFUSALS:
+            wrong = refusal(words, Path(folder), *refused)
+            passed, failures = (passed, [*failures, wrong]) if wrong else (passed + 1, failures)
+    return results.report_counts(passed, failures)
+
+
+if __name__ == "__main__":
+    sys.exit(main())

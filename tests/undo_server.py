@@ -1,0 +1,144 @@
+#!/usr/bin/env python3
+"""Undoes what a MariaDB server did: its tables have to be those of a checkpoint again.
+
+Usage: undo_server.py [--count N] FLAG
+
+FLAG is one of `programs.py`. A server makes tables, with keys and without, of integers, texts, decimals, times, blobs and bits, and
+fills them. At a checkpoint its tables are selected, and its log is closed. N random loads (3 if not given) of inserts, updates,
+deletes and transactions of several statements follow, over several files. `binlog undo` undoes them, `mariadb-binlog` and `mariadb`
+apply that, and the tables are selected again. Then what undid them is undone. Where there is no server (`maria_daemon.py` says where it
+comes from) nothing is done. The last line is `N passed, M failed`; the exit status is 1 if something failed.
+"""
+
+import argparse
+import random
+import subprocess
+import sys
+import tempfile
+from pathlib import Path
+
+import programs
+import results
+from maria_daemon import PRINTER, LeftOut, Server, program_in
+
+OPTIONS = [
+    ["--binlog-checksum=CRC32"],
+    ["--binlog-checksum=NONE", "--binlog-row-metadata=FULL"],
+    ["--binlog-checksum=CRC32", "--binlog-row-metadata=MINIMAL"],
+]
+TABLES = {
+    "keyed": "(id INT PRIMARY KEY, name VARCHAR(40), price DECIMAL(10,2), at DATETIME(3), content BLOB, flags BIT(5)) ENGINE=InnoDB",
+    "keyless": "(a BIGINT, b TEXT, c DOUBLE, d ENUM('x','y','z')) ENGINE=InnoDB",
+    "other": "(id INT AUTO_INCREMENT PRIMARY KEY, t TIMESTAMP(6) NOT NULL DEFAULT '2020-01-01', j LONGTEXT, s SET('p','q')) ENGINE=Aria",
+}
+
+
+def text(chance):
+    letters = "abc'\\\\ é\x01"
+    return "NULL" if chance.random() < 0.1 else "X'" + "".join(chance.choice(letters) for _ in range(chance.randrange(12))).encode().hex() + "'"
+
+
+def row(chance, table, key):
+    if table == "keyed":
+        return f"({key}, {text(chance)}, {chance.randrange(-9999, 9999) / 100}, '2024-01-{chance.randint(1, 28):02d} 01:02:03.456', {text(chance)}, {chance.randrange(32)})"
+    if table == "keyless":
+        return f"({chance.randrange(8)}, {text(chance)}, {chance.random()}, '{chance.choice('xyz')}')"
+    return f"({key}, '2023-02-{chance.randint(1, 28):02d} 11:12:13.5', {text(chance)}, '{chance.choice(('p', 'q', 'p,q', ''))}')"
+
+
+def change(chance, keys):
+    """A random statement on a random table."""
+    table, way = chance.choice(list(TABLES)), chance.random()
+    if way < 0.45:
+        keys[table] += 3
+        rows = ", ".join(row(chance, table, keys[table] - place) for place in range(chance.randint(1, 3)))
+        return f"INSERT INTO {table} VALUES {rows};"
+    where = {"keyed": f"id % 7 = {chance.randrange(7)}", "keyless": f"a = {chance.randrange(8)}", "other": f"id % 5 = {chance.randrange(5)}"}[table]
+    if way < 0.8:
+        column, value = {"keyed": ("name", text(chance)), "keyless": ("b", text(chance)), "other": ("s", "'p'")}[table]
+        return f"UPDATE {table} SET {column} = {value} WHERE {where};"
+    return f"DELETE FROM {table} WHERE {where};"
+
+
+def load(chance, keys, count):
+    statements = []
+    for _ in range(count):
+        if chance.random() < 0.3:
+            inner = " ".join(change(chance, keys) for _ in range(chance.randint(1, 4)))
+            statements.append(f"START TRANSACTION; {inner} {chance.choice(('COMMIT', 'COMMIT', 'ROLLBACK'))};")
+        else:
+            statements.append(change(chance, keys))
+        if chance.random() < 0.03:
+            statements.append("FLUSH BINARY LOGS;")
+    # What is rolled back stays in a table that can't roll back, and then isn't undone: the load has none of these.
+    return "USE s;\n" + "\n".join(statements) + "\nFLUSH BINARY LOGS;\n"
+
+
+def tables_of(server):
+    """The sorted rows of all tables."""
+    found = {}
+    for table in TABLES:
+        columns = "*" if table != "keyed" else "id, HEX(name), price, at, HEX(content), HEX(flags)"
+        found[table] = sorted(server.run(f"SELECT {columns} FROM s.{table};".encode()).splitlines())
+    return found
+
+
+def applied(server, log):
+    printed = subprocess.run([PRINTER, "--no-defaults", str(log)], stdout=subprocess.PIPE, check=True)
+    server.run(printed.stdout)
+
+
+def undone(words, logs, out):
+    run = subprocess.run([*words, "undo", "-o", str(out), *map(str, logs)], capture_output=True, text=True)
+    return None if run.returncode == 0 else f"status {run.returncode}: {run.stderr[-300:]}"
+
+
+def behind(server, count):
+    """The logs that were closed behind the first ones."""
+    return server.logs()[count:-1]
+
+
+def failure(words, program, folder, seed):
+    chance, keys = random.Random(seed), dict.fromkeys(TABLES, 100)
+    # A statement that fails in the middle, or is rolled back, would stay in tables that can't roll back.
+    made = "CREATE DATABASE s; USE s;" + "".join(f"CREATE TABLE {name} {form};" for name, form in TABLES.items())
+    options = [*OPTIONS[seed % len(OPTIONS)], "--binlog-format=ROW"]
+    with Server(program, folder / f"server-{seed}", options) as server:
+        server.run((made + load(chance, keys, 30).replace("ROLLBACK", "COMMIT")).encode())
+        checkpoint, count = tables_of(server), len(server.logs()) - 1
+        server.run(load(chance, keys, 60).replace("ROLLBACK", "COMMIT").encode())
+        end, logs = tables_of(server), behind(server, count)
+        wrong = undone(words, logs, folder / f"{seed}.out")
+        if wrong:
+            return f"seed {seed}: {wrong}"
+        applied(server, folder / f"{seed}.out")
+        if tables_of(server) != checkpoint:
+            return f"seed {seed}: the tables aren't those of the checkpoint"
+        wrong = undone(words, [folder / f"{seed}.out"], folder / f"{seed}.back")
+        if wrong:
+            return f"seed {seed}, again: {wrong}"
+        applied(server, folder / f"{seed}.back")
+        return None if tables_of(server) == end else f"seed {seed}: the tables aren't those of the end"
+
+
+def main():
+    parser = argparse.ArgumentParser(description="Undoes what a MariaDB server did.")
+    programs.add_flags(parser)
+    parser.add_argument("--count", type=int, default=3)
+    arguments = programs.parsed(parser, "binlog")
+    words = arguments.build.command("binlog")
+    passed, failures = 0, []
+    with tempfile.TemporaryDirectory() as name:
+        folder = Path(name)
+        try:
+            program = program_in(folder / "package")
+            for seed in range(arguments.count):
+                wrong = failure(words, program, folder, seed)
+                passed, failures = (passed, [*failures, wrong]) if wrong else (passed + 1, failures)
+        except LeftOut as why:
+            print(f"left out: {why}")
+    return results.report_counts(passed, failures)
+
+
+if __name__ == "__main__":
+    sys.exit(main())
