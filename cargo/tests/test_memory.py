@@ -160,7 +160,7 @@ class Buffers(Case):
 
     def test_a_buffer_whose_refusal_is_another_is_refused(self):
         text = "fn f() -> bool {\n    let Ok(input) = BufReader::with_capacity(alloc, 1, A) else {\n        return g();\n    };\n    true\n}"
-        self.assertEqual(refusal(text, TEST), "sample.rt:2: a buffer whose refusal isn't `Error::Memory`")
+        self.assertEqual(refusal(text, TEST), "sample.rt:2: a buffer whose refusal isn't known")
 
     def test_a_matched_buffer_is_there(self):
         text = "fn f(alloc: Global) {\n    match BufWriter::with_capacity(alloc, 1, A) {\n        Ok(b) => g(b),\n        Err(_) => {}\n    }\n}"
