@@ -20,7 +20,6 @@ pub mod binlog_listing;
 pub mod binlog_payload_checks;
 pub mod binlog_payload_filters;
 pub mod binlog_payload_visits;
-/// Which file of a log follows one, by the bytes of that one.
 pub mod binlog_rotation;
 #[allow(unused_variables)]
 pub mod binlog_statistics;
