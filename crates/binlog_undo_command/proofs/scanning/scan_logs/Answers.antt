@@ -1,8 +1,8 @@
+use Rattle.std.proofs.Common.{inl, inr}
 use Rattle.clap.specs.Matches.{found_of}
 use Rattle.binlog_undo_command.proofs.Scans.{undone_next, refused_next, refused_here, not_fine, which_damaged}
-use Rattle.binlog_undo_command.proofs.scanning.scan_logs.Goals.{in-Ok+else-is_err, in-Err}
 use Rattle.binlog_undo_command.proofs.scanning.scan_logs.Goals as goal
-use Rattle.std.proofs.Common.{inl, inr}
+use Rattle.binlog_undo_command.proofs.scanning.scan_logs.Goals.{in-Ok+else-is_err, in-Err}
 
 pub loop-name-preserved : goal.loop-name-preserved
 loop-name-preserved g c =
