@@ -34,6 +34,7 @@ import json_model
 import listing_model
 import maria_events
 import maria_json_model
+import payload_lines
 import payload_model
 import programs
 import results
@@ -399,8 +400,7 @@ def other_tables(runner, log, events):
     messages = left_out(count)
     counted = counts_of(log, indexes, names=json_model.NAMES | maria_json_model.NAMES)
     yield runner.check(["stats", *asked.words, "0.bin"], Result(counted, messages=messages), [log])
-    every = runner.run(["json", "0.bin"]).stdout.splitlines(keepends=True)
-    yield runner.check(["json", *asked.words, "0.bin"], Result(b"".join(every[index] for index in indexes), messages=messages))
+    yield runner.check(["json", *asked.words, "0.bin"], Result(json_lines(runner, events, asked, indexes), messages=messages))
     twice = Result(2 * lines(log, indexes), messages=left_out(2 * count))
     yield runner.check(["list", *asked.words, "0.bin", "0.bin"], twice)
     yield runner.check(["verify", "-q", *asked.words, "0.bin", "0.bin"], Result(b"", messages=left_out(2 * count)))
@@ -411,6 +411,43 @@ def other_tables(runner, log, events):
     written = table_filters.taken(events, asked, False, lambda index: events[index].type == 30)
     yield runner.check(["list", *asked.words, "--type", "WRITE_ROWS", "0.bin"], Result(lines(log, written[0]), messages=left_out(written[1])))
     yield from read_back(runner, *table_filters.log(4, True, 150, is_fixed=True), asked)
+
+
+def json_lines(runner, events, asked, indexes):
+    """The lines of JSON of these events, and of the events inside them that are taken, from those of all."""
+    found = []
+    for text in runner.run(["json", "0.bin"]).stdout.splitlines(keepends=True):
+        index, part = (json.loads(text).get(name) for name in ("index", "part"))
+        if index in indexes and (part is None or asked.takes_inside(events[index].inside[part])):
+            found.append(text)
+    return b"".join(found)
+
+
+def compressed_tables(runner):
+    """Compressed transactions and filters of tables: one that can't be read is taken, and what is inside of other tables isn't shown."""
+    every = list(payload_lines.refused())
+    log = compressed_log(*(body for body, _ in every))
+    indexes = [2 * index + 1 for index, (_, errors) in enumerate(every) if any(errors)]
+    words = ["--table", "no.table"]
+    yield runner.check(["list", *words, "0.bin"], Result(lines(log, indexes)), [log])
+    named = "".join(refused_payload("0.bin", log, 2 * index + 1, errors) for index, (_, errors) in enumerate(every))
+    yield runner.check(["verify", "-q", *words, "0.bin"], Result(b"", DAMAGED, named), [log])
+    # A copy has the GTIDs, too.
+    copied = sorted([*indexes, *range(0, 2 * len(every), 2)])
+    yield runner.check(["copy", *words, "-o", "-", "0.bin"], Result(copy_of(log, copied)), [log])
+    shown = [text for text in json_model.expected(log)[0].splitlines(keepends=True) if json.loads(text)["index"] in indexes]
+    shown = [text for text in shown if b'"part"' not in text or b'"error":"' in text]
+    yield runner.check(["json", *words, "0.bin"], Result(b"".join(shown), DAMAGED, named), [log])
+    # The other filters decide over the event outside.
+    yield runner.check(["list", *words, "--type", "GTID", "0.bin"], Result(b""), [log])
+    yield runner.check(["list", *words, "--stop-position", "4", "0.bin"], Result(b""), [log])
+    for seed in range(4, 12):
+        log, events = table_filters.log(seed, False, 150)
+        for asked in (table_filters.Asked(*names) for names in table_filters.ASKED):
+            indexes, count = table_filters.taken(events, asked, False)
+            runner.run(["list", "0.bin"], [log])
+            wanted = Result(json_lines(runner, events, asked, indexes), messages=left_out(count))
+            yield runner.check(["json", *asked.words, "0.bin"], wanted)
 
 
 def read_back(runner, log, events, asked):
@@ -477,6 +514,68 @@ def stored(runner):
         wanted = (SAMPLES / f"{command}.txt").read_bytes()
         _, status = listing_model.of_command(model.expected)(log)
         yield runner.check([command, "0.bin"], Result(wanted, status, MESSAGES), [log])
+
+
+def compressed_log(*bodies):
+    """A log of a transaction for each of these data of payload events: its GTID, from 1 on, and the event."""
+    pairs = ((samples.gtid(number), samples.frame(json_model.PAYLOAD, body)) for number, body in enumerate(bodies, 1))
+    return MAGIC + b"".join(chain.from_iterable(pairs))
+
+
+def refused_payload(place, log, index, errors):
+    """The message of an event with a payload, where `errors` has the names of the errors of its parts, None for those that are right."""
+    part = next((part for part, error in enumerate(errors) if error), None)
+    at = [*frame_starts(log)][index]
+    return "" if part is None else re.escape(f"binlog: {place}: event {index} at byte {at}: part {part}: ") + "[^\n]+\n"
+
+
+def compressed(runner):
+    """An event whose compressed transaction can't be read is damaged for `verify` and `json`, and for no other command."""
+    every = list(payload_lines.refused())
+    for body, errors in every:
+        log = compressed_log(body, body)
+        messages = refused_payload("0.bin", log, 1, errors) + refused_payload("0.bin", log, 3, errors)
+        status, count = (DAMAGED, 2) if messages else (FINE, 0)
+        yield runner.check(["verify", "0.bin"], Result(tally(log, count), status, messages), [log])
+        yield runner.check(["verify", "-q", "0.bin"], Result(b"", status, messages), [log])
+        yield runner.check(["json", "0.bin"], Result(json_model.expected(log)[0], status, messages), [log])
+        yield runner.check(["list", "0.bin"], Result(lines(log, range(4))), [log])
+        yield runner.check(["gtids", "0.bin"], Result(f"{SID.replace('-', '')} 1-2 gaps -\n".encode()), [log])
+        yield runner.check(["stats", "0.bin"], Result(counts_of(log, transactions=2)), [log])
+        yield runner.check(["copy", "-o", "-", "0.bin"], Result(log), [log])
+    yield from other_compressed(runner, every)
+
+
+def other_compressed(runner, every):
+    """Several damaged transactions among others, in several files, behind a filter, cut, and with a right checksum or a wrong one."""
+    log = compressed_log(*(body for body, _ in every))
+    named = [refused_payload("0.bin", log, 2 * index + 1, errors) for index, (_, errors) in enumerate(every)]
+    count = sum(map(bool, named))
+    yield runner.check(["verify", "0.bin"], Result(tally(log, count), DAMAGED, "".join(named)), [log])
+    twice = "".join(named) + "".join(named).replace(re.escape("0.bin"), re.escape("1.bin"))
+    lines_of_both = tally(log, count) + tally(log, count).replace(b"0.bin", b"1.bin")
+    yield runner.check(["verify", "0.bin", "1.bin"], Result(lines_of_both, DAMAGED, twice), [log, log])
+    yield runner.check(["json", "0.bin", "1.bin"], Result(2 * json_model.expected(log)[0], DAMAGED, twice), [log, log])
+    yield runner.check(["verify", "-q", "--type", "GTID", "0.bin"], Result(b""), [log])
+    yield runner.check(["verify", "-q", f"--include-gtids={SID}:2", "0.bin"], Result(b"", DAMAGED, named[1]), [log])
+    cut = log + log[4:20]
+    messages = "".join(named) + cut_message("0.bin", cut)
+    yield runner.check(["verify", "0.bin"], Result(tally(log, count + 1), DAMAGED, messages), [cut])
+
+    # The checksum of the second event is wrong: its payload isn't looked at.
+    body = payload_model.written(255, 1, b"x")
+    checked = payload_lines.log_of([(json_model.PAYLOAD, body), (json_model.PAYLOAD, body)], has_checksums=True)
+    start = list(frame_starts(checked))
+    wrong = with_byte(checked, len(checked) - 1, checked[-1] ^ 1)
+    messages = refused_payload("0.bin", wrong, 1, ["InnerTruncated"]) + message("0.bin", 2, start[2], mismatch(frames(wrong)[2]))
+    size = len(frames(wrong)[0]) + len(frames(wrong)[1])
+    line = f"0.bin: 2 events, {size} bytes, 2 checksums right, 2 events damaged\n".encode()
+    yield runner.check(["verify", "0.bin"], Result(line, DAMAGED, messages), [wrong])
+
+    # GTIDs inside aren't looked at.
+    inside = samples.gtid(7)
+    log = compressed_log(payload_model.written(255, len(inside), inside))
+    yield runner.check(["gtids", "0.bin"], Result(f"{SID.replace('-', '')} 1 gaps -\n".encode()), [log])
 
 
 def time_of(frame):
@@ -893,8 +992,8 @@ def installs(runner):
     yield from laid_out(runner, runner.folder / "unpacked/usr")
 
 
-PARTS = (models, damaged, cut_logs, cut_ends, reported, several, filters, gtid_filters, names, gtids, maria_gtids, stored, stats)
-PARTS += (tables, no_tables, copies, maria, maria_transactions, maria_gtid_filters, no_sets, stored_rows, compact_rows, compact_places, words, ends, progress, followed, installs)
+PARTS = (models, damaged, cut_logs, cut_ends, reported, several, filters, gtid_filters, names, gtids, maria_gtids, stored, compressed, stats)
+PARTS += (tables, compressed_tables, no_tables, copies, maria, maria_transactions, maria_gtid_filters, no_sets, stored_rows, compact_rows, compact_places, words, ends, progress, followed, installs)
 
 
 def results_of(build, part):

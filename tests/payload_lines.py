@@ -194,7 +194,8 @@ def refusals(binlog):
         found = [line.get("error") for line in lines if "part" in line]
         places = [(line["index"], line["part"]) for line in lines if "part" in line]
         is_right = found == wanted and places == [(2, number) for number in range(len(wanted))] and [lines[2]["index"], lines[-1]["index"]] == [2, 3]
-        yield None if is_right and status == 0 else f"refusal {index}: {found} at {places}, not {wanted}; status {status}"
+        is_right &= status == (listing_model.STATUS_ERRORS if any(wanted) else listing_model.STATUS_FINE)
+        yield None if is_right else f"refusal {index}: {found} at {places}, not {wanted}; status {status}"
         yield agrees(f"refusal {index}", binlog, content)
 
 

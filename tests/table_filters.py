@@ -9,6 +9,7 @@ from collections import namedtuple
 
 import encoded_events as encode
 import maria_events
+import payload_lines
 import row_events
 from row_values import SPELLING, framed, start
 
@@ -25,9 +26,9 @@ TABLES = [
 INT = 3
 
 # An event as its type and body. `kind` says what it is: a map or rows of a table, with its names; a statement, with its default
-# database; `beside` a statement, a `comment`, an `unknown` change, of the `frame` of a transaction or the log, or `unread`. `is_last` is
-# that of the last row event of a statement.
-Made = namedtuple("Made", "type body kind names is_last", defaults=[(), False])
+# database; `beside` a statement, a `comment`, an `unknown` change, of the `frame` of a transaction or the log, or `unread`; or a `payload`,
+# with the events inside. `is_last` is that of the last row event of a statement.
+Made = namedtuple("Made", "type body kind names is_last inside", defaults=[(), False, ()])
 
 
 def made(kind, event, *names, is_last=False):
@@ -94,27 +95,48 @@ def beside(chance):
 
 
 def other(chance, is_maria):
-    unknown = [encode.kept(number, b"content") for number in (6, 8, 10, 12, 20, 21, 22, 40)]
+    unknown = [encode.kept(number, b"content") for number in (6, 8, 10, 12, 20, 21, 22)]
     comment = maria_events.annotate_rows("update orders") if is_maria else encode.rows_query(text="update orders")
     cut = chance.choice([encode.ROWS_KINDS[3], encode.ROWS_KINDS[5]])
     unread = encode.Event(cut[0], cut[1], b"\1\0\0", None)
     return chance.choice([made("unknown", chance.choice(unknown)), made("comment", comment), made("unread", unread)])
 
 
+def payload(chance):
+    """A compressed transaction of random events, with table maps of its own."""
+    state = State(chance, False, False)
+    events = [state.inside() for _ in range(chance.randrange(7))]
+    kind, body = payload_lines.with_payload(chance, [(event.type, event.body) for event in events], chance.choice(["none", "raw"]))
+    return Made(kind, body, "payload", inside=tuple(events))
+
+
 class State:
-    """The table maps in force, while a log is made."""
+    """The table maps in force, while a log or a compressed transaction is made."""
 
     def __init__(self, chance, is_maria, is_fixed):
         self.chance, self.is_maria, self.is_fixed, self.maps = chance, is_maria, is_fixed, {}
 
     def event(self):
         chance = self.chance
-        sort = chance.choices(["map", "rows", "statement", "frame", "beside", "other", "rotate"], [4, 9, 2, 2, 1, 1, 0.2])[0]
-        number = chance.randrange(1, 6)
+        sort = chance.choices(["map", "rows", "statement", "frame", "beside", "other", "rotate", "payload"], [4, 9, 2, 2, 1, 1, 0.2, 2])[0]
+        if sort == "payload" and self.is_maria:
+            sort = "other"
+        return payload(chance) if sort == "payload" else self.of_sort(sort)
+
+    def inside(self):
+        """An event inside a compressed transaction. Servers put no statements there."""
+        sort = self.chance.choices(["map", "rows", "frame", "other", "statement", "rotate"], [4, 6, 1, 0.2, 0.1, 0.1])[0]
+        # Most rows have a table map.
+        return self.of_sort("map" if sort == "rows" and not self.maps and self.chance.random() < 0.95 else sort)
+
+    def of_sort(self, sort):
+        chance, number = self.chance, self.chance.randrange(1, 6)
         if sort == "map":
             self.maps[number] = TABLES[number] if self.is_fixed else chance.choice(TABLES)
             return table_map(number, self.maps[number])
         if sort == "rows":
+            known = [*self.maps] if self.maps and chance.random() < 0.7 else [number]
+            number = chance.choice(known)
             return rows(chance, number, self.maps.get(number, ()), self.is_maria, chance.random() < 0.4)
         if sort == "rotate":
             position = chance.choice([0, 4])
@@ -162,8 +184,14 @@ class Asked:
             return self.has_table(*event.names)
         if event.kind == "statement":
             return None if self.tables else self.has_database(*event.names)
+        if event.kind == "payload":
+            return any(self.takes_inside(inner) for inner in event.inside)
         known = {"frame": is_for_copy, "beside": not self.tables, "comment": False, "unread": True}
         return known.get(event.kind)
+
+    def takes_inside(self, event):
+        """Whether an event inside a compressed transaction is taken: also one of which it isn't known which tables it changes."""
+        return self.takes(event, False) is not False
 
 
 def taken(events, asked, is_for_copy, is_met=lambda index: True):

@@ -41,8 +41,10 @@ LIBRARY = [
     "binlog_undo_writing",
 ]
 TOOLS = [
+    "binlog_rotation",
     "binlog_visits",
     "binlog_payload_visits",
+    "binlog_payload_checks",
     "binlog_listing",
     "binlog_gtid_listing",
     "binlog_filters",
@@ -55,6 +57,7 @@ TOOLS = [
     "binlog_json_lines",
     "binlog_undo_log",
     "binlog_change_lines",
+    "binlog_payload_filters",
     "binlog_cli",
     "binlog_undo_command",
     "binlog_summaries",

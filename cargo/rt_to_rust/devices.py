@@ -187,9 +187,10 @@ def tried_again(source):
 
 
 def cloned(source):
-    """`Err(*error)`: an error with a device's isn't `Copy`."""
-    for index in source.places("Err", "(", "*", "error", ")"):
-        yield source.span(index + 2, index + 3, "Clone::clone(error)")
+    """`Err(*error)` and `error: *error`: an error with a device's isn't `Copy`."""
+    for before in (("Err", "("), ("error", ":")):
+        for index in source.places(*before, "*", "error"):
+            yield source.span(index + 2, index + 3, "Clone::clone(error)")
 
 
 def with_devices(source, is_test, used):

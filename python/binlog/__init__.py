@@ -7,10 +7,11 @@
 """
 
 from ._bodies import Body, Diffs
-from ._errors import BinlogError, ColumnsWarning, InvalidColumns, InvalidLog, LogError, RowsError
+from ._errors import BinlogError, ColumnsWarning, InvalidColumns, InvalidLog, LogError, PayloadError, RowsError
 from ._library import library_version
 from ._log import Cursor, Damage, Event, Log, open
-from ._statistics import ProgramError
+from ._payloads import PayloadEvent
+from ._program import ProgramError
 from ._types import EventType, MariaEventType
 from ._undo import Refusal, Undone, UndoRefused, undo
 from ._whole import DamagedEvent, Stats, TypeStats, Verification, gtid_set, stats, verify
@@ -30,6 +31,8 @@ __all__ = [
     "Log",
     "LogError",
     "MariaEventType",
+    "PayloadError",
+    "PayloadEvent",
     "ProgramError",
     "Refusal",
     "RowsError",

@@ -65,7 +65,15 @@ class DeclaredTables:
     def text(self, names: Iterable[TableName]) -> bytes:
         """The text of a file of these tables alone; empty where none is declared. It is short, since it is read for each event."""
         found = {name: self._lines.get((_spelled(name[0]), _spelled(name[1])), []) for name in names}
-        lines = [line for of_table in found.values() for line in of_table]
+        return self._text_of(found.values())
+
+    @property
+    def whole_text(self) -> bytes:
+        """The text of a file of all tables."""
+        return self._text_of(self._lines.values())
+
+    def _text_of(self, tables: Iterable[list[bytes]]) -> bytes:
+        lines = [line for of_table in tables for line in of_table]
         return b"".join(line + b"\n" for line in [self._head, *lines]) if lines else b""
 
 

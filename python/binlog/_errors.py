@@ -94,3 +94,29 @@ class RowsError(Exception):
     def __str__(self) -> str:
         where = "".join(f", {name} {of}" for name, of in self.details.items())
         return f"{self.name}{where}, in the event at {self.position}"
+
+
+class PayloadError(Exception):
+    """A compressed transaction can't be read, or an event inside can't.
+
+    name: what is wrong, as docs/JSON.md has it: "Zstd" for instance.
+    position: where the event that has the payload begins.
+    part: the number of the event inside, from 0; all of the payload is meant where nothing inside can be read.
+    details: what else is known, by its name: `zstd` for instance.
+    """
+
+    name: str
+    position: int
+    part: int
+    details: dict[str, Any]
+
+    def __init__(self, found: dict[str, Any], position: int) -> None:
+        self.name = found["error"]
+        self.position = position
+        self.part = found["part"]
+        self.details = {name: of for name, of in found.items() if name not in ("index", "part", "error")}
+        super().__init__(found, position)
+
+    def __str__(self) -> str:
+        more = "".join(f", {name} {of}" for name, of in self.details.items())
+        return f"{self.name}{more}, part {self.part} of the event at {self.position}"

@@ -9,10 +9,12 @@ import warnings
 from collections.abc import Iterator
 from typing import Any, NamedTuple, Optional, Union
 
-from ._bodies import Body, row_of, value_of
+from ._bodies import value_of
 from ._columns import Columns, DeclaredTables, TableName, declared
-from ._errors import ColumnsWarning, InvalidLog, LogError, RowsError
+from ._content import Content
+from ._errors import ColumnsWarning, InvalidLog, LogError
 from ._library import ITEM, LIBRARY, CursorStruct
+from ._payloads import PayloadEvent, payload_events
 from ._types import EventType
 
 # How many items a call has room for.
@@ -98,6 +100,11 @@ class _TableColumns:
         self._names: dict[tuple[int, bytes], TableName] = {}
         self._texts: dict[tuple[TableName, ...], bytes] = {}
         self._warned: set[TableName] = set()
+
+    @property
+    def whole_text(self) -> bytes:
+        """The text of a file of all declared tables."""
+        return self._declared.whole_text
 
     def text(self, table_maps: tuple[tuple, ...]) -> bytes:
         """The text of a file of the tables of these table maps; empty where none is declared."""
@@ -210,7 +217,7 @@ class _Item:
         return self._fields[11] if self._fields[12] else None
 
 
-class Event(_Item):
+class Event(_Item, Content):
     """An event of a log: its header, its data and its checksum."""
 
     __slots__ = ("_maps", "_members")
@@ -241,40 +248,20 @@ class Event(_Item):
             self._members = json.loads(self.line())
         return self._members.get(name)
 
-    @property
-    def body(self) -> Optional[Body]:
-        """What the data says, by the names of docs/JSON.md; None for a type that isn't known.
+    def payload_events(self, program: Optional[Union[str, "os.PathLike[str]"]] = None) -> Iterator[PayloadEvent]:
+        """The events inside a compressed transaction, in order; none where this is no event with a payload. Their rows are those of the
+        table maps inside, and of the log's files of columns.
 
-        Raises LogError where the data isn't a body of the event's type.
+        program: the program `binlog`, which reads them; if not given, the one that the variable BINLOG_PROGRAM names, or the one that
+            the system finds.
+
+        Raises PayloadError in the place of an event inside that is damaged, or of all where the payload can't be read, and ProgramError
+        where the program can't be run.
         """
-        found = value_of(self._member("data"))
-        if found is not None and found.keys() == {"error"}:
-            raise LogError(found["error"], self._fields[0])
-        return found
-
-    @property
-    def table(self) -> Union[str, bytes, None]:
-        """The name of the table whose rows these are, its schema and a dot in front; bytes if it isn't UTF-8; None if this is no row event, or no table
-        map is in force for it."""
-        return value_of(self._member("table"))
-
-    @property
-    def rows(self) -> Optional[list[dict[str, dict[str, Any]]]]:
-        """The rows of a row event: for each a dict of its images, `before` and `after`, in which columns are found by their
-        names, or by `@1`, `@2` and so on where neither the table map nor a file of columns has names. None if this is no row event, no table map is in
-        force for it, or its rows aren't decoded.
-
-        A value is None, an int, a float, a str or bytes, and that of a JSON column what `json.loads` makes of the document, as
-        docs/ROW_VALUES.md has it.
-
-        Raises RowsError where a row, or the table map, isn't right.
-        """
-        found = self._member("rows")
-        if found is None:
-            return None
-        if found and "error" in found[-1]:
-            raise RowsError(found[-1], self._fields[0])
-        return [row_of(row) for row in found]
+        if self.event_type != EventType.TRANSACTION_PAYLOAD_EVENT:
+            return iter(())
+        columns = self._log._columns
+        return payload_events(program, self._log._alone(self), self.position, columns.whole_text if columns else b"")
 
     def __repr__(self) -> str:
         return f"<Event type {self.event_type} at {self.position}, {self.event_size} bytes>"
@@ -365,6 +352,12 @@ class Log:
             if error.value:
                 raise LogError(error.value, fields[0])
         return ctypes.string_at(text, size)
+
+    def _alone(self, event: Event) -> bytes:
+        """A log of an event alone, behind the description under which it stands."""
+        place = event.cursor.description
+        size = int.from_bytes(self._bytes[place + 9 : place + 13], "little") if place else 0
+        return bytes(self._bytes[:4]) + bytes(self._bytes[place : place + size]) + event.raw
 
     def _plain_line(self, fields: tuple) -> bytes:
         """The line of JSON of an item that isn't a row event."""

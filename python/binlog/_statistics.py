@@ -5,18 +5,15 @@ The members of the lines are named here and nowhere else.
 
 import json
 import os
-import shutil
 import subprocess
 from collections.abc import Callable, Iterable, Sequence
 from dataclasses import dataclass, field, fields, replace
 from typing import Any, Optional, TypeVar, Union
 
+from ._program import ProgramError, program
 from ._whole import _merged
 
 Path = Union[str, "os.PathLike[str]"]
-
-VARIABLE = "BINLOG_PROGRAM"
-PROGRAM = "binlog"
 
 # The exit statuses with which what is printed is whole: all is well, a file that is no log, damage.
 _WHOLE = (0, 1, 2)
@@ -33,18 +30,6 @@ _HOUR = 3600
 _STACKED = 6
 
 Row = TypeVar("Row")
-
-
-class ProgramError(Exception):
-    """The program `binlog` isn't found, or doesn't do what it is asked for. The text is what it said."""
-
-
-def program(stated: Optional[Path] = None) -> str:
-    """The program that is stated, or the one that the variable BINLOG_PROGRAM names, or the one that the system finds."""
-    path = stated or os.environ.get(VARIABLE) or shutil.which(PROGRAM)
-    if not path:
-        raise ProgramError(f"there is no program {PROGRAM}: {VARIABLE} or --program PATH names it")
-    return os.fspath(path)
 
 
 def _argument(path: Path) -> str:

@@ -7,8 +7,8 @@ from dataclasses import dataclass
 from datetime import datetime, timezone
 from typing import Optional, Union
 
-from . import _statistics
-from ._statistics import Path, ProgramError, _argument
+from ._program import ProgramError, program as program_at
+from ._statistics import Path, _argument
 
 # The exit status with which something is refused.
 _REFUSED = 2
@@ -106,7 +106,7 @@ def _text(time: Optional[Time]) -> Optional[str]:
 
 
 def _asked(stated: Optional[Path], words: list[str], paths: list[str]) -> Undone:
-    command = _statistics.program(stated)
+    command = program_at(stated)
     try:
         ran = subprocess.run([command, "undo", *words, *paths], stdin=subprocess.DEVNULL, capture_output=True)
     except OSError as error:

@@ -15,8 +15,9 @@ from datetime import datetime, timezone
 from pathlib import Path
 from typing import Optional, Union
 
-from . import _charts, _statistics
-from ._statistics import Changes, ProgramError, Report, Transaction
+from . import _charts, _program, _statistics
+from ._program import ProgramError
+from ._statistics import Changes, Report, Transaction
 
 __all__ = ["ProgramError", "Report", "page", "read", "write", "write_pictures"]
 
@@ -246,7 +247,7 @@ def _arguments(words: Optional[Sequence[str]]) -> argparse.Namespace:
     parser.add_argument("-o", "--output", metavar="OUT", required=True, help="the page, in HTML")
     parser.add_argument("--png", metavar="DIR", help="also a picture of each chart, in this folder")
     parser.add_argument("--interval", metavar="LENGTH", type=_seconds, help="as 60s, 5m or 1h; if not given, as fits")
-    parser.add_argument("--program", metavar="PATH", help=f"the program binlog; if not given, {_statistics.VARIABLE} names it, or it is found")
+    parser.add_argument("--program", metavar="PATH", help=f"the program binlog; if not given, {_program.VARIABLE} names it, or it is found")
     return parser.parse_args(words)
 
 

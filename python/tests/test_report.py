@@ -16,7 +16,7 @@ REPOSITORY = Path(__file__).resolve().parents[2]
 sys.path.insert(0, str(REPOSITORY / "tests"))
 
 import binlog
-from binlog import _statistics
+from binlog import _program, _statistics
 from page_cells import Cells
 
 HAS_MATPLOTLIB = importlib.util.find_spec("matplotlib") is not None
@@ -197,20 +197,20 @@ class Answers(WithProgram):
 
     def test_the_program(self):
         with mock.patch.dict(os.environ, {"BINLOG_PROGRAM": "named", "PATH": str(self.folder)}):
-            self.assertEqual(_statistics.program("stated"), "stated")
-            self.assertEqual(_statistics.program(), "named")
+            self.assertEqual(_program.program("stated"), "stated")
+            self.assertEqual(_program.program(), "named")
             del os.environ["BINLOG_PROGRAM"]
-            with self.assertRaises(_statistics.ProgramError):
-                _statistics.program()
+            with self.assertRaises(_program.ProgramError):
+                _program.program()
             (self.folder / "binlog").symlink_to(self.program)
-            self.assertEqual(_statistics.program(), str(self.folder / "binlog"))
+            self.assertEqual(_program.program(), str(self.folder / "binlog"))
 
     def test_refusals(self):
         said = "binlog: the logs have more than 65536 tables\n"
         self.answer(ANSWERS, **{"stats --by table --json a b": {"said": said, "status": 3}})
-        with self.assertRaisesRegex(_statistics.ProgramError, said.strip()):
+        with self.assertRaisesRegex(_program.ProgramError, said.strip()):
             self.report()
-        with self.assertRaises(_statistics.ProgramError):
+        with self.assertRaises(_program.ProgramError):
             _statistics.report([self.files], self.folder / "none")
 
 

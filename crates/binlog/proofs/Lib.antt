@@ -1,3 +1,4 @@
 pub mod Reading
 pub mod ColumnFiles
 pub mod WrittenRows
+pub mod FollowedFiles

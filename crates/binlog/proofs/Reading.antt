@@ -6,8 +6,8 @@ use Rattle.std.proofs.lemmas.Bool.Decides.{nat_tests}
 use Rattle.std.proofs.lemmas.List.{drop_all}
 use Rattle.binlog_wire.specs.declared.error.Error.{Error}
 use Rattle.binlog_visits.specs.Visits.{VisitRelation, RefusalRelation}
-use Rattle.binlog_filters.specs.Filtering.{Filters, RefusesTaken}
-use Rattle.binlog_filters.specs.declared.filtered.Filtered.{Filtered}
+use Rattle.binlog_payload_filters.specs.Filtering.{FiltersPayloads, RefusesTaken}
+use Rattle.binlog_payload_filters.specs.declared.filtered.PayloadFiltered.{PayloadFiltered}
 use Rattle.binlog_cli.specs.Outputs.{written}
 use Rattle.binlog_cli.specs.declared.exit_status.Outcome.{Outcome}
 use Rattle.binlog_cli.specs.declared.exit_status.Status.{Status}
@@ -18,7 +18,7 @@ and_true : (b : Bool) → (b && true) ≡ b
 and_true true = refl
 and_true false = refl
 
-and_false : (b : Bool) → (b && false) ≡ false
+pub and_false : (b : Bool) → (b && false) ≡ false
 and_false true = refl
 and_false false = refl
 
@@ -66,9 +66,9 @@ module _ {V N : Type 0} (step : (behind : List N) (name : N) (old : V) (answer :
 
 -- What is shown of an input whose bytes may be known.
 pub reads_input : {T : Type 0} (visits : VisitRelation T) (refuses : RefusalRelation T) (refused : T → ℕ)
-    (is_verified : Bool) (known : Option (List ℕ)) (old mid new : ReportedView (Filtered T)) (visited : Result (Option ℕ) Error) (answer : Result Status Error)
-    → IfSome known (λ bytes. length bytes < 2 ^ 64 → VisitsInput (Reports (Filters visits) (λ filtered. refused filtered.visitor))
-    (λ (before : ReportedView (Filtered T)) maps index item error after. RefusesTaken refuses before.visitor maps index item error after.visitor) is_verified bytes old visited mid)
+    (is_verified : Bool) (known : Option (List ℕ)) (old mid new : ReportedView (PayloadFiltered T)) (visited : Result (Option ℕ) Error) (answer : Result Status Error)
+    → IfSome known (λ bytes. length bytes < 2 ^ 64 → VisitsInput (Reports (FiltersPayloads visits) (λ filtered. refused filtered.filtered.visitor))
+    (λ (before : ReportedView (PayloadFiltered T)) maps index item error after. RefusesTaken refuses before.visitor maps index item error after.visitor) is_verified bytes old visited mid)
     → new ≡ ended_file (tail_behind visited) mid → answer ≡ status_behind new.has_errors visited
     → IfSome known (λ bytes. length bytes < 2 ^ 64 → ReadsInput visits refuses refused is_verified bytes old answer new)
 reads_input visits refuses refused is_verified None old mid new visited answer shown ends status = tt

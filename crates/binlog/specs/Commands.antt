@@ -4,11 +4,12 @@ use Rattle.std.specs.declared.io.Error.{Error as IoError}
 use Rattle.binlog_visits.specs.Visits.{VisitRelation, RefusalRelation}
 use Rattle.binlog_ends.specs.Views.{CountedView}
 use Rattle.binlog_filters.specs.declared.filter.Filter.{Filter}
-use Rattle.binlog_filters.specs.declared.filtered.Filtered.{Filtered}
+use Rattle.binlog_payload_filters.specs.declared.filtered.PayloadFiltered.{PayloadFiltered}
 use Rattle.binlog_gtid_listing.specs.LogItems.{log_gtids}
 use Rattle.binlog_commands.specs.Collecting.{collected, Collects, RefusesCollected}
 use Rattle.binlog_commands.specs.declared.gtids.GtidCollector.{GtidCollector}
 use Rattle.binlog_commands.specs.declared.tally.Tally.{Tally}
+use Rattle.binlog_payload_checks.specs.declared.checked.Checked.{Checked}
 use Rattle.clap.specs.declared.parser.matches.Found.{Found}
 use Rattle.binlog_cli.specs.FilterWords.{StatesFilter}
 use Rattle.binlog_cli.specs.Reports.{ReportedView}
@@ -43,9 +44,9 @@ module _ {B : Type 0} (contents : B → Option (List ℕ)) where
 
 -- The options state the filter. The files have these names and bytes; `old` and `new` are the bytes of the output's writer.
 module _ {B N : Type 0} (contents : B → Option (List ℕ)) (options : Found) (is_verified is_followed : Bool) (bytes : N → Option (List ℕ)) (names : List N) where
-  -- A visitor with an output is shown what the filter takes of the files, and its output is finished. `IsMade` says what else holds of
-  -- the visitor as it is made.
-  pub record WritesShown {T : Type 0} (visits : VisitRelation T) (refuses : RefusalRelation T) (output_of : T → Output B) (IsMade : T → Type 0)
+  -- A visitor with an output is shown what the filter takes of the files, and its output is finished. `refused` is the number of events
+  -- that it has counted as errors, and `IsMade` says what else holds of the visitor as it is made.
+  pub record WritesShown {T : Type 0} (visits : VisitRelation T) (refuses : RefusalRelation T) (refused : T → ℕ) (output_of : T → Output B) (IsMade : T → Type 0)
       (old : Option (List ℕ)) (status : Status) (new : Option (List ℕ)) : Type 0 where
     pub filter : Filter
     pub states : StatesFilter options filter
@@ -54,7 +55,7 @@ module _ {B N : Type 0} (contents : B → Option (List ℕ)) (options : Found) (
     pub made : IsMade start
     pub outcome : Outcome
     pub behind : T
-    pub shown : ShowsTaken visits refuses (λ visitor. 0) filter is_verified is_followed bytes names start outcome behind
+    pub shown : ShowsTaken visits refuses refused filter is_verified is_followed bytes names start outcome behind
     pub ends : Ends contents (output_of behind) outcome status new
 
   -- ---- `copy`
@@ -104,12 +105,12 @@ module _ {B N : Type 0} (contents : B → Option (List ℕ)) (options : Found) (
 
   -- The files are verified with what the filter takes of them, and the line of each is written.
   pub record WritesTallies (is_quiet : Bool) (name_of : N → List ℕ) (old : Option (List ℕ)) (status : Status) (new : Option (List ℕ)) : Type 0 where
-    pub start : ReportedView (Filtered Tally)
-    pub states : StatesFilter options start.visitor.filter
+    pub start : ReportedView (PayloadFiltered (Checked Tally))
+    pub states : StatesFilter options start.visitor.filtered.filter
     pub output : Output B
     pub begins : Begins contents old output
     pub outcome : Outcome
-    pub behind : ReportedView (Filtered Tally)
+    pub behind : ReportedView (PayloadFiltered (Checked Tally))
     pub listed : Output B
     pub verifies : VerifiesFiles is_verified is_followed is_quiet name_of bytes names Fine (verifying start (bytes_of contents output)) outcome (verifying behind (bytes_of contents listed))
     pub ends : Ends contents listed outcome status new

@@ -4,10 +4,10 @@ use Rattle.binlog_wire.specs.declared.error.Error.{Error}
 use Rattle.binlog_wire.specs.declared.error.Error.TheVariants.{EndOfInput, InvalidFileHeader, Writer}
 use Rattle.crc32_ieee.specs.Checksums.{IsCrc32}
 use Rattle.binlog_visits.specs.Visits.{VisitRelation, RefusalRelation, VisitsLog, VisitsVerifiedLog}
-use Rattle.binlog_filters.specs.Filtering.{Filters, RefusesTaken}
+use Rattle.binlog_payload_filters.specs.Filtering.{FiltersPayloads, RefusesTaken}
 use Rattle.binlog_filters.specs.Taking.{HasNoCondition}
 use Rattle.binlog_filters.specs.declared.filter.Filter.{Filter}
-use Rattle.binlog_filters.specs.declared.filtered.Filtered.{Filtered}
+use Rattle.binlog_payload_filters.specs.declared.filtered.PayloadFiltered.{PayloadFiltered}
 use Rattle.binlog_cli.specs.Statuses.{worse}
 use Rattle.binlog_cli.specs.Outputs.{written, unwritten}
 use Rattle.binlog_cli.specs.declared.exit_status.Outcome.{Outcome}
@@ -61,39 +61,40 @@ module _ {V N : Type 0} (step : (behind : List N) (name : N) (old : V) (answer :
 -- and `refused` how many events it has counted as errors.
 module _ {T : Type 0} (visits : VisitRelation T) (refuses : RefusalRelation T) (refused : T → ℕ) where
   -- It is shown what the filter takes of a file of these bytes, and whether the file ends within an event.
-  pub record ReadsInput (is_verified : Bool) (bytes : List ℕ) (old : ReportedView (Filtered T)) (answer : Result Status Error) (new : ReportedView (Filtered T)) : Type 0 where
+  pub record ReadsInput (is_verified : Bool) (bytes : List ℕ) (old : ReportedView (PayloadFiltered T)) (answer : Result Status Error) (new : ReportedView (PayloadFiltered T)) : Type 0 where
     pub visited : Result (Option ℕ) Error
-    pub behind : ReportedView (Filtered T)
-    pub does : VisitsInput (Reports (Filters visits) (λ filtered. refused filtered.visitor))
-        (λ (before : ReportedView (Filtered T)) maps index item error after. RefusesTaken refuses before.visitor maps index item error after.visitor) is_verified bytes old visited behind
+    pub behind : ReportedView (PayloadFiltered T)
+    pub does : VisitsInput (Reports (FiltersPayloads visits) (λ filtered. refused filtered.filtered.visitor))
+        (λ (before : ReportedView (PayloadFiltered T)) maps index item error after. RefusesTaken refuses before.visitor maps index item error after.visitor) is_verified bytes old visited behind
     pub ends : new ≡ ended_file (tail_behind visited) behind
     pub status : answer ≡ status_behind new.has_errors visited
 
   -- A file can't be opened, or it is shown what the filter takes of it, if its bytes are known.
-  abbrev pub ReadsFile : (is_verified : Bool) (known : Option (List ℕ)) (old : ReportedView (Filtered T)) (answer : Result Status Error) (new : ReportedView (Filtered T)) → Type 0
+  abbrev pub ReadsFile : (is_verified : Bool) (known : Option (List ℕ)) (old : ReportedView (PayloadFiltered T)) (answer : Result Status Error) (new : ReportedView (PayloadFiltered T)) → Type 0
   ReadsFile is_verified known old answer new =
       ((answer ≡ Ok NotOpened) × (new ≡ begun_file old))
       ⊎ IfSome known (λ bytes. length bytes < 2 ^ 64 → ReadsInput is_verified bytes (begun_file old) answer new)
 
   -- Files with these names are read in order. `bytes` are those of a file with a name, and only the last one is followed.
-  abbrev pub ReadsFiles : {N : Type 0} (is_verified is_followed : Bool) (bytes : N → Option (List ℕ)) (names : List N) (status : Status) (old : ReportedView (Filtered T)) (result : Outcome) (new : ReportedView (Filtered T)) → Type 0
+  abbrev pub ReadsFiles : {N : Type 0} (is_verified is_followed : Bool) (bytes : N → Option (List ℕ)) (names : List N) (status : Status) (old : ReportedView (PayloadFiltered T)) (result : Outcome) (new : ReportedView (PayloadFiltered T)) → Type 0
   ReadsFiles is_verified is_followed bytes =
       InOrder (λ behind name old answer new. ReadsFile is_verified (unless_followed (is_last_followed is_followed behind) (bytes name)) old answer new)
 
-  -- The visitor is shown what the filter takes of files with these names, in order.
+  -- The visitor is shown what the filter takes of files with these names, in order. Of compressed transactions contents of at most 1 GiB are read.
   pub record ShowsTaken {N : Type 0} (filter : Filter) (is_verified is_followed : Bool) (bytes : N → Option (List ℕ)) (names : List N) (old : T) (outcome : Outcome) (new : T) : Type 0 where
-    pub start : Filtered T
-    pub filtered : start.filter ≡ filter
-    pub shown : start.visitor ≡ old
-    pub behind : ReportedView (Filtered T)
+    pub start : PayloadFiltered T
+    pub filtered : start.filtered.filter ≡ filter
+    pub limit : start.limit ≡ 2 ^ 30
+    pub shown : start.filtered.visitor ≡ old
+    pub behind : ReportedView (PayloadFiltered T)
     pub reads : ReadsFiles is_verified is_followed bytes names Fine (record { visitor = start; has_errors = false; is_cut = false }) outcome behind
-    pub ends : new ≡ behind.visitor.visitor
+    pub ends : new ≡ behind.visitor.filtered.visitor
 
   -- The visitor is shown all items of a file.
   pub record ShowsFile (is_verified : Bool) (known : Option (List ℕ)) (old : T) (answer : Result Status Error) (new : T) : Type 0 where
-    pub start : Filtered T
-    pub all : HasNoCondition start.filter
-    pub shown : start.visitor ≡ old
-    pub behind : ReportedView (Filtered T)
+    pub start : PayloadFiltered T
+    pub all : HasNoCondition start.filtered.filter
+    pub shown : start.filtered.visitor ≡ old
+    pub behind : ReportedView (PayloadFiltered T)
     pub reads : ReadsFile is_verified known (record { visitor = start; has_errors = false; is_cut = false }) answer behind
-    pub ends : new ≡ behind.visitor.visitor
+    pub ends : new ≡ behind.visitor.filtered.visitor

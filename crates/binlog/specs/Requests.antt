@@ -1,4 +1,8 @@
 -- What the words of the command line ask for.
+use Rattle.clap.specs.declared.parser.matches.Found.{Found}
+use Rattle.binlog_cli.specs.FilterWords.{StatesFilter}
+use Rattle.binlog_filters.specs.declared.filter.Filter.{Filter}
+use Rattle.binlog_filters.specs.declared.tables.TableFilter.{TableFilter}
 use Rattle.std.specs.Prelude.{◌≡◌, ◌≢◌, ℕ, Bool, true, false, List, Option, Some, None, codes, if◌then◌else◌}
 
 -- A flag that has this text, if it is there, is set or not.
@@ -12,3 +16,7 @@ lines_capacity is_followed = if is_followed then 0 else 65536
 -- No command has this name.
 abbrev pub IsNoCommand : List ℕ → Type 0
 IsNoCommand name = (name ≢ codes "list") × (name ≢ codes "json") × (name ≢ codes "gtids") × (name ≢ codes "verify") × (name ≢ codes "stats") × (name ≢ codes "copy") × (name ≢ codes "undo")
+
+-- These are the conditions of tables of the filter that the options state.
+abbrev pub StatesTablesOf : (options : Found) → Option TableFilter → Type 0
+StatesTablesOf options tables = (filter : Filter) × StatesFilter options filter × (tables ≡ filter.tables)

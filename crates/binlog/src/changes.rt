@@ -11,16 +11,20 @@ ghost use Rattle.binlog.specs.Reading.{unless_followed, ShowsFile};
 ghost use Rattle.binlog.specs.Requests.{lines_capacity};
 
 use crate::columns::{read_columns, report_contradictions};
-use crate::commands::CONTENT_LIMIT;
 use crate::files::read_file;
 use crate::inputs::Inputs;
 use crate::request::{Reading, Request};
+use crate::rotations::{follow, goes_on};
 use binlog_change_lines::ChangeFilter;
-use binlog_cli::{Outcome, Output, Reported, Status, filter, out_of_memory, report_left_out};
+use binlog_cli::{
+    CONTENT_LIMIT, Outcome, Output, Reported, Status, filter, out_of_memory, report_left_out,
+};
 use binlog_file::{Error, Retrying};
-use binlog_filters::{Filter, Filtered};
+use binlog_filters::Filter;
 use binlog_json_lines::LineOptions;
+use binlog_payload_filters::PayloadFiltered;
 use binlog_visits::{Refusing, Visitor};
+use std::alloc::AllocError;
 use std::io::{BufWriter, Write};
 use std::time::Clock;
 
@@ -91,23 +95,41 @@ fn write_file<'a, S: Inputs, R: Clock + Eprint + AllocGlobal, W: Write + Drop>(
 {
     let mut lines = lines;
     match lines.begin(name) {
-        Ok(()) => show_file(rt, inputs, name, reading, lines),
+        Ok(()) => {
+            let begin = |lines: &mut ChangeFilter<W>, name: &str| -> Result<(), AllocError> {
+                lines.begin(name)
+            };
+            show_file(rt, inputs, name, reading, lines, begin)
+        }
         Err(_) => (Ok(out_of_memory(rt)), lines),
     }
 }
 
-// Shows a visitor all items of a file.
-fn show_file<'a, S: Inputs, R: Clock + Eprint + AllocGlobal, T: Visitor + Refusing + Drop>(
+// Shows a visitor all items of a file. If it is followed, the visitor is told the name of each file behind it by `begin`.
+fn show_file<
+    'a,
+    S: Inputs,
+    R: Clock + Eprint + AllocGlobal,
+    T: Visitor + Refusing + Drop,
+    B: Fn(&mut T, &str) -> Result<(), AllocError> + Drop,
+>(
     rt: &'a R,
     inputs: &S,
     name: &'a str,
     reading: Reading,
     visitor: T,
+    begin: B,
 ) -> (Result<Status, Error>, T)
+    requires { B.IsAlwaysCallable begin }
     ensures { ShowsFile T.visits T.refuses T.refusals reading.is_verified (unless_followed reading.is_followed (S.bytes inputs.now name.now)) visitor result.0 result.1 }
 {
-    let all = Filtered::new(rt.alloc(), Filter::new(rt.alloc()), visitor);
+    let every = Filter::new(rt.alloc());
+    let all = PayloadFiltered::new(rt.alloc(), CONTENT_LIMIT, every, visitor);
+    if goes_on(name, reading) {
+        let (read, all) = follow(rt, inputs, name, all, begin);
+        return (read, all.filtered.visitor);
+    }
     let mut reported = Reported::new(rt, all);
     let read = read_file(rt, inputs, name, reading, &mut reported);
-    (read, reported.into_visitor().visitor)
+    (read, reported.into_visitor().filtered.visitor)
 }

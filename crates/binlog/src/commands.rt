@@ -8,25 +8,24 @@ ghost use Rattle.binlog_cli.specs.FilterWords.{NeverBegins, StatesFilter};
 ghost use Rattle.binlog.specs.Columns.{AreColumnFiles, IsUnreadColumns};
 ghost use Rattle.binlog.specs.Commands.{outcome_of_text, WritesShown};
 ghost use Rattle.binlog.specs.Reading.{ShowsTaken};
-ghost use Rattle.binlog.specs.Requests.{lines_capacity};
+ghost use Rattle.binlog.specs.Requests.{StatesTablesOf, lines_capacity};
 
 use crate::columns::{read_columns, report_contradictions};
-use crate::files::read_files;
 use crate::inputs::Inputs;
 use crate::request::{Reading, Request};
-use binlog_cli::{Outcome, Output, Reported, Status, filter, report_left_out};
+use crate::rotations::read_all_files;
+use binlog_cli::{CONTENT_LIMIT, Outcome, Output, Reported, Status, filter, report_left_out};
 use binlog_file::{Counted, Retrying};
-use binlog_filters::{Filter, Filtered};
+use binlog_filters::Filter;
 use binlog_json_lines::{JsonWriter, LineOptions};
 use binlog_listing::TextLines;
+use binlog_payload_checks::Noted;
+use binlog_payload_filters::{PayloadFiltered, TakenParts};
 use binlog_payload_visits::Spliced;
 use binlog_visits::{ItemLines, LineWriter, Refusing, Visitor};
 use std::io;
 use std::io::{BufWriter, Write};
 use std::time::Clock;
-
-/// The most bytes that the events of a compressed transaction may have: 1 GiB.
-pub(crate) const CONTENT_LIMIT: usize = 1_073_741_824;
 
 /// `binlog list`: writes the line of the listing of each item that the filter takes.
 pub(crate) fn list<'a, S: Inputs, R: Clock + Eprint + AllocGlobal, W: Write + Drop>(
@@ -37,7 +36,7 @@ pub(crate) fn list<'a, S: Inputs, R: Clock + Eprint + AllocGlobal, W: Write + Dr
 ) -> Result<(Status, W), Status>
     ensures ok { IfOk result (λ ended. WritesShown ⟦<BufWriter<Retrying<W>> as Write>⟧.contents (found_of request.now.options.now) request.now.reading.is_verified request.now.reading.is_followed
         (λ name. S.bytes inputs.now name.now) request.now.files.now
-        ⟦<LineWriter<TextLines, Counted<Output<BufWriter<Retrying<W>>>>> as Visitor>⟧.visits ⟦<LineWriter<TextLines, Counted<Output<BufWriter<Retrying<W>>>>> as Visitor>⟧.refuses (λ lines. lines.output.inner)
+        ⟦<LineWriter<TextLines, Counted<Output<BufWriter<Retrying<W>>>>> as Visitor>⟧.visits ⟦<LineWriter<TextLines, Counted<Output<BufWriter<Retrying<W>>>>> as Visitor>⟧.refuses (λ lines. 0) (λ lines. lines.output.inner)
         (λ lines. writer_capacity lines.output.inner.inner ≡ lines_capacity request.now.reading.is_followed)
         (W.contents writer) ended.0 (W.contents ended.1)) }
     ensures err { IfErr result (λ status. NeverBegins (found_of request.now.options.now) status) }
@@ -46,8 +45,8 @@ pub(crate) fn list<'a, S: Inputs, R: Clock + Eprint + AllocGlobal, W: Write + Dr
 }
 
 /// `binlog json`: writes the line of JSON of each item that the filter takes, with the stored bytes of all rows if they are asked
-/// for, and behind that of an event with a payload those of the events in it. The files of columns are read before; behind the logs
-/// each table that contradicts them has a message.
+/// for, and behind that of an event with a payload those of the events in it, of the tables that the filter asks for. An event whose
+/// payload can't be read is damaged. The files of columns are read before; behind the logs each table that contradicts them has a message.
 pub(crate) fn json<'a, S: Inputs, R: Clock + Eprint + AllocGlobal, W: Write + Drop>(
     rt: &'a R,
     inputs: &S,
@@ -56,10 +55,12 @@ pub(crate) fn json<'a, S: Inputs, R: Clock + Eprint + AllocGlobal, W: Write + Dr
 ) -> Result<(Status, W), Status>
     ensures ok { IfOk result (λ ended. WritesShown ⟦<BufWriter<Retrying<W>> as Write>⟧.contents (found_of request.now.options.now) request.now.reading.is_verified request.now.reading.is_followed
         (λ name. S.bytes inputs.now name.now) request.now.files.now
-        ⟦<Spliced<JsonWriter<Output<BufWriter<Retrying<W>>>>> as Visitor>⟧.visits ⟦<Spliced<JsonWriter<Output<BufWriter<Retrying<W>>>>> as Visitor>⟧.refuses (λ spliced. spliced.visitor.output)
-        (λ spliced. (spliced.limit ≡ 2 ^ 30) × (spliced.visitor.options.keeps_stored ≡ request.now.keeps_stored)
-        × AreColumnFiles (λ name. S.bytes inputs.now name.now) request.now.columns.now spliced.visitor.options.files.items
-        × (writer_capacity spliced.visitor.output.inner ≡ lines_capacity request.now.reading.is_followed))
+        ⟦<Spliced<Noted<TakenParts<JsonWriter<Output<BufWriter<Retrying<W>>>>>>> as Visitor>⟧.visits ⟦<Spliced<Noted<TakenParts<JsonWriter<Output<BufWriter<Retrying<W>>>>>>> as Visitor>⟧.refuses
+        (λ spliced. spliced.visitor.damaged) (λ spliced. spliced.visitor.visitor.visitor.output)
+        (λ spliced. (spliced.limit ≡ 2 ^ 30) × (spliced.visitor.damaged ≡ 0) × StatesTablesOf (found_of request.now.options.now) spliced.visitor.visitor.tables
+        × (spliced.visitor.visitor.visitor.options.keeps_stored ≡ request.now.keeps_stored)
+        × AreColumnFiles (λ name. S.bytes inputs.now name.now) request.now.columns.now spliced.visitor.visitor.visitor.options.files.items
+        × (writer_capacity spliced.visitor.visitor.visitor.output.inner ≡ lines_capacity request.now.reading.is_followed))
         (W.contents writer) ended.0 (W.contents ended.1)) }
     ensures err { IfErr result (λ status. NeverBegins (found_of request.now.options.now) status ⊎ IsUnreadColumns request.now.columns.now status) }
 {
@@ -70,10 +71,14 @@ pub(crate) fn json<'a, S: Inputs, R: Clock + Eprint + AllocGlobal, W: Write + Dr
         files,
     };
     let lines = JsonWriter::new(rt.alloc(), output, options);
-    let spliced = Spliced::new(rt.alloc(), CONTENT_LIMIT, lines);
+    let asked = filter(rt, request.options)?;
+    let taken = TakenParts::new(rt.alloc(), asked.tables, lines);
+    let noted = Noted::new(taken);
+    let spliced = Spliced::new(rt.alloc(), CONTENT_LIMIT, noted);
     let (outcome, spliced) = read_all(rt, inputs, request, spliced)?;
-    report_contradictions(rt, spliced.visitor.contradictions());
-    Ok(spliced.visitor.into_output().finish(rt, outcome))
+    let lines = spliced.visitor.visitor.visitor;
+    report_contradictions(rt, lines.contradictions());
+    Ok(lines.into_output().finish(rt, outcome))
 }
 
 // Writes the line of each item that the filter takes.
@@ -92,7 +97,7 @@ fn write_lines<
 ) -> Result<(Status, W), Status>
     ensures ok { IfOk result (λ ended. WritesShown ⟦<BufWriter<Retrying<W>> as Write>⟧.contents (found_of request.now.options.now) request.now.reading.is_verified request.now.reading.is_followed
         (λ name. S.bytes inputs.now name.now) request.now.files.now
-        ⟦<LineWriter<L, Counted<Output<BufWriter<Retrying<W>>>>> as Visitor>⟧.visits ⟦<LineWriter<L, Counted<Output<BufWriter<Retrying<W>>>>> as Visitor>⟧.refuses (λ lines. lines.output.inner)
+        ⟦<LineWriter<L, Counted<Output<BufWriter<Retrying<W>>>>> as Visitor>⟧.visits ⟦<LineWriter<L, Counted<Output<BufWriter<Retrying<W>>>>> as Visitor>⟧.refuses (λ lines. 0) (λ lines. lines.output.inner)
         (λ lines. writer_capacity lines.output.inner.inner ≡ lines_capacity request.now.reading.is_followed)
         (W.contents writer) ended.0 (W.contents ended.1)) }
     ensures err { IfErr result (λ status. NeverBegins (found_of request.now.options.now) status) }
@@ -134,11 +139,11 @@ pub(crate) fn read_taken<
 ) -> (Outcome, T)
     ensures { ShowsTaken T.visits T.refuses T.refusals filter reading.is_verified reading.is_followed (λ name. S.bytes inputs.now name.now) files.now visitor result.0 result.1 }
 {
-    let mut reported = Reported::new(rt, Filtered::new(rt.alloc(), filter, visitor));
-    let outcome = read_files(rt, inputs, files, reading, &mut reported);
-    let filtered = reported.into_visitor();
-    report_left_out(rt, filtered.state.left_out);
-    (outcome, filtered.visitor)
+    let filtered = PayloadFiltered::new(rt.alloc(), CONTENT_LIMIT, filter, visitor);
+    let reported = Reported::new(rt, filtered);
+    let (outcome, behind) = read_all_files(rt, inputs, files, reading, reported);
+    report_left_out(rt, behind.filtered.state.left_out);
+    (outcome, behind.filtered.visitor)
 }
 
 /// The outcome of writing a text.

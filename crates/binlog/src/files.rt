@@ -12,7 +12,7 @@ use crate::inputs::Inputs;
 use crate::request::Reading;
 use binlog_cli::{Outcome, Progress, Reported, Status, shown_name};
 use binlog_file::{Counted, Error, ReadCounted, Retrying};
-use binlog_filters::Filtered;
+use binlog_payload_filters::PayloadFiltered;
 use binlog_visits::{Refusing, Visitor, visit_counted, visit_verified_counted};
 use crc32_ieee::Crc32;
 use std::alloc::Global;
@@ -26,7 +26,7 @@ pub(crate) fn read_files<'a, S: Inputs, R: Clock + Eprint + AllocGlobal, T: Visi
     inputs: &S,
     names: &[&'a str],
     reading: Reading,
-    visitor: &mut Reported<'a, R, Filtered<T>>,
+    visitor: &mut Reported<'a, R, PayloadFiltered<T>>,
 ) -> Outcome
     ensures { ReadsFiles T.visits T.refuses T.refusals reading.is_verified reading.is_followed (λ name. S.bytes inputs.now name.now) names.now Fine visitor.old result visitor.new }
 {
@@ -47,7 +47,7 @@ pub(crate) fn read_file<'a, S: Inputs, R: Clock + Eprint + AllocGlobal, T: Visit
     inputs: &S,
     name: &'a str,
     reading: Reading,
-    visitor: &mut Reported<'a, R, Filtered<T>>,
+    visitor: &mut Reported<'a, R, PayloadFiltered<T>>,
 ) -> Result<Status, Error>
     ensures reads { ReadsFile T.visits T.refuses T.refusals reading.is_verified (unless_followed reading.is_followed (S.bytes inputs.now name.now)) visitor.old result visitor.new }
     ensures err { IfErr result (λ error. error ≡ Writer) }
@@ -78,7 +78,7 @@ fn read_input<'a, R: Clock + Eprint + AllocGlobal, I: Read + Drop, T: Visitor + 
     rt: &R,
     input: I,
     reading: Reading,
-    visitor: &mut Reported<'a, R, Filtered<T>>,
+    visitor: &mut Reported<'a, R, PayloadFiltered<T>>,
 ) -> Result<Status, Error>
     ensures reads { IfSome (unless_followed reading.is_followed (I.remaining input)) (λ bytes. length bytes < 2 ^ 64 →
         ReadsInput T.visits T.refuses T.refusals reading.is_verified bytes visitor.old result visitor.new) }
@@ -94,7 +94,10 @@ fn read_input<'a, R: Clock + Eprint + AllocGlobal, I: Read + Drop, T: Visitor + 
 }
 
 // Writes the message of the error that ended the visit of a file. A failed output keeps its own.
-fn report<'a, R: Eprint, T>(visitor: &Reported<'a, R, Filtered<T>>, error: &Error) {
+pub(crate) fn report<'a, R: Eprint, T>(
+    visitor: &Reported<'a, R, PayloadFiltered<T>>,
+    error: &Error,
+) {
     match error {
         Error::Writer => {}
         Error::EndOfInput | Error::InvalidFileHeader => visitor.report_file(error),
@@ -103,7 +106,7 @@ fn report<'a, R: Eprint, T>(visitor: &Reported<'a, R, Filtered<T>>, error: &Erro
 }
 
 // How many bytes lie behind the last item of a file, by the result of its visit.
-fn tail_behind(visited: &Result<Option<usize>, Error>) -> usize
+pub(crate) fn tail_behind(visited: &Result<Option<usize>, Error>) -> usize
     ensures { result ≡ tail_behind visited.now }
 {
     match visited {
@@ -113,7 +116,10 @@ fn tail_behind(visited: &Result<Option<usize>, Error>) -> usize
 }
 
 // The status behind a file, by the result of its visit.
-fn status_behind(has_errors: bool, visited: Result<Option<usize>, Error>) -> Result<Status, Error>
+pub(crate) fn status_behind(
+    has_errors: bool,
+    visited: Result<Option<usize>, Error>,
+) -> Result<Status, Error>
     ensures status { result ≡ status_behind has_errors visited }
     ensures err { IfErr result (λ error. error ≡ Writer) }
 {

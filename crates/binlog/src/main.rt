@@ -17,6 +17,7 @@ mod gtids;
 mod inputs;
 mod interval_statistics;
 mod request;
+mod rotations;
 mod statistics;
 mod table_statistics;
 mod transaction_statistics;

@@ -6,18 +6,20 @@ ghost use Rattle.binlog_cli.specs.FilterWords.{NeverBegins};
 ghost use Rattle.binlog_cli.specs.declared.exit_status.Status.TheVariants.{Fine};
 ghost use Rattle.binlog.specs.Commands.{WritesTallies};
 ghost use Rattle.binlog.specs.Reading.{unless_followed};
-ghost use Rattle.binlog.specs.Verifying.{verifying, has_line, WritesLine, VerifiesFile, VerifiesFiles};
+ghost use Rattle.binlog.specs.Verifying.{verifying, has_line, tally_of, HasNothing, WritesLine, VerifiesFile, VerifiesFiles};
 
 use crate::files::read_file;
 use crate::inputs::Inputs;
 use crate::request::{Reading, Request};
 use binlog_cli::{
-    BUFFER_SIZE, Outcome, Output, Reported, Status, filter, report_left_out, shown_name,
-    write_tally,
+    BUFFER_SIZE, CONTENT_LIMIT, Outcome, Output, Reported, Status, filter, report_left_out,
+    shown_name, write_tally,
 };
 use binlog_commands::Tally;
 use binlog_file::{Error, Retrying};
-use binlog_filters::Filtered;
+use binlog_payload_checks::Checked;
+use binlog_payload_filters::PayloadFiltered;
+use std::alloc::Global;
 use std::io::{BufWriter, Write};
 use std::time::Clock;
 
@@ -34,7 +36,9 @@ pub(crate) fn verify<'a, S: Inputs, R: Clock + Eprint + AllocGlobal, W: Write + 
 {
     let filter = filter(rt, request.options)?;
     let mut output = Output::new(rt, BUFFER_SIZE, writer)?;
-    let mut reported = Reported::new(rt, Filtered::new(rt.alloc(), filter, Tally::new()));
+    let counts = no_counts(rt.alloc());
+    let filtered = PayloadFiltered::new(rt.alloc(), CONTENT_LIMIT, filter, counts);
+    let mut reported = Reported::new(rt, filtered);
     let (files, reading) = (request.files, request.reading);
     let outcome = verify_files(
         rt,
@@ -45,7 +49,7 @@ pub(crate) fn verify<'a, S: Inputs, R: Clock + Eprint + AllocGlobal, W: Write + 
         &mut reported,
         &mut output,
     );
-    report_left_out(rt, reported.visitor().state.left_out);
+    report_left_out(rt, reported.visitor().filtered.state.left_out);
     Ok(output.finish(rt, outcome))
 }
 
@@ -56,7 +60,7 @@ fn verify_files<'a, S: Inputs, R: Clock + Eprint + AllocGlobal, W: Write>(
     files: &[&'a str],
     reading: Reading,
     is_quiet: bool,
-    reported: &mut Reported<'a, R, Filtered<Tally>>,
+    reported: &mut Reported<'a, R, PayloadFiltered<Checked<Tally>>>,
     output: &mut W,
 ) -> Outcome
     ensures { VerifiesFiles reading.is_verified reading.is_followed is_quiet (λ name. name.now) (λ name. S.bytes inputs.now name.now) files.now Fine
@@ -79,18 +83,36 @@ fn verify_file<'a, S: Inputs, R: Clock + Eprint + AllocGlobal, W: Write>(
     file: &'a str,
     reading: Reading,
     is_quiet: bool,
-    reported: &mut Reported<'a, R, Filtered<Tally>>,
+    reported: &mut Reported<'a, R, PayloadFiltered<Checked<Tally>>>,
     output: &mut W,
 ) -> Result<Status, Error>
     ensures verifies { VerifiesFile reading.is_verified (unless_followed reading.is_followed (S.bytes inputs.now file.now)) is_quiet file.now
         (verifying reported.old (W.contents output.old)) result (verifying reported.new (W.contents output.new)) }
     ensures err { IfErr result (λ error. error ≡ Writer) }
 {
-    reported.replace_visitor(Tally::new());
+    reported.replace_visitor(no_counts(rt.alloc()));
     let read = read_file(rt, inputs, file, reading, reported);
     let name = shown_name(file);
-    let tally = reported.visitor().visitor.with_cut(reported.is_cut());
+    let tally = tally_of(&reported.visitor().filtered.visitor, reported.is_cut());
     write_line(name, &tally, is_quiet, read, output)
+}
+
+// The counts before a file: nothing is counted. The contents of compressed transactions are checked.
+fn no_counts(alloc: Global) -> Checked<Tally>
+    ensures { HasNothing result }
+{
+    Checked::new(alloc, CONTENT_LIMIT, Tally::new())
+}
+
+// The counts of a file, where an event whose compressed transaction can't be read is damaged, too, and an event that its end cuts.
+fn tally_of(counts: &Checked<Tally>, is_cut: bool) -> Tally
+    ensures { result ≡ tally_of is_cut counts.now }
+{
+    let tally = counts.visitor.with_cut(is_cut);
+    Tally {
+        errors: tally.errors.saturating_add(counts.damaged),
+        ..tally
+    }
 }
 
 // Writes the line of a file that was read with this result, if it has one.

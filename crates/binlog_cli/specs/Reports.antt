@@ -5,7 +5,7 @@ use Rattle.binlog_events.specs.Events.{EventView}
 use Rattle.binlog_file.specs.TableMapsInForce.{TableMaps}
 use Rattle.binlog_visits.specs.Visits.{VisitRelation}
 use Rattle.binlog_filters.specs.Filtering.{begun}
-use Rattle.binlog_filters.specs.declared.filtered.Filtered.{Filtered}
+use Rattle.binlog_payload_filters.specs.declared.filtered.PayloadFiltered.{PayloadFiltered}
 
 -- What contracts see of it: the visitor, whether the file has an error, and whether it ends within an event.
 pub record ReportedView (T : Type 0) : Type 0 where
@@ -14,8 +14,12 @@ pub record ReportedView (T : Type 0) : Type 0 where
   pub is_cut : Bool
 
 -- The same at the start of a file.
-abbrev pub begun_file : {T : Type 0} → ReportedView (Filtered T) → ReportedView (Filtered T)
-begun_file old = record { visitor = begun old.visitor; has_errors = false; is_cut = false }
+abbrev pub begun_file : {T : Type 0} → ReportedView (PayloadFiltered T) → ReportedView (PayloadFiltered T)
+begun_file old = record { visitor = record old.visitor { filtered = begun old.visitor.filtered }; has_errors = false; is_cut = false }
+
+-- The same filter with another visitor.
+abbrev pub with_visitor : {T : Type 0} → PayloadFiltered T → T → PayloadFiltered T
+with_visitor old visitor = record old { filtered = record old.filtered { visitor = visitor } }
 
 -- The same at the end of a file, behind whose last item so many bytes lie: any make an error of the file.
 abbrev pub ended_file : {T : Type 0} → (tail_len : ℕ) → ReportedView T → ReportedView T

@@ -56,11 +56,17 @@ fn json<'a>(alloc: Global) -> Result<Command<'a>, AllocError> {
              binlog json --compact --table shop.orders mysql-bin.000007\n  \
              binlog json --follow --type QUERY mysql-bin.000008 | jq -r .data.query",
         )
-        .arg(follow(alloc))?
+        .arg(follow(alloc))?;
+    let command = with_row_options(alloc, command)?;
+    with_filters(alloc, with_files(alloc, command)?)
+}
+
+// The command with the options for the rows in its lines.
+fn with_row_options<'a>(alloc: Global, command: Command<'a>) -> Result<Command<'a>, AllocError> {
+    command
         .arg(compact(alloc))?
         .arg(stored(alloc))?
-        .arg(columns(alloc))?;
-    with_filters(alloc, with_files(alloc, command)?)
+        .arg(columns(alloc))
 }
 
 fn gtids<'a>(alloc: Global) -> Result<Command<'a>, AllocError> {

@@ -19,5 +19,5 @@ pub use exit_status::{Outcome, Status, out_of_memory};
 pub use filters::filter;
 pub use output::{BUFFER_SIZE, Output};
 pub use progress::Progress;
-pub use reported::{Reported, report_left_out, shown_name};
+pub use reported::{CONTENT_LIMIT, Reported, report_left_out, shown_name};
 pub use summaries::{datetime_of, write_stats, write_tally};

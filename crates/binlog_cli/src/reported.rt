@@ -1,13 +1,19 @@
 //! A visitor that writes messages.
 ghost use Rattle.std.specs.Prelude.{◌≡◌, ◌≢◌, codes, false};
-ghost use Rattle.binlog_cli.specs.Reports.{begun_file, ended_file};
+ghost use Rattle.binlog_cli.specs.Reports.{begun_file, ended_file, with_visitor};
 
 use crate::progress::Progress;
 use binlog_file::{Error, EventData, EventRef, EventStreamReader, GtidTracker};
-use binlog_filters::{Filtered, Place};
+use binlog_filters::Place;
+use binlog_payload_checks::first_part_error;
+use binlog_payload_filters::PayloadFiltered;
 use binlog_visits::{Refusing, Visitor};
 use std::alloc::Global;
+use std::fmt;
 use std::marker::Model;
+
+/// The most bytes that the events inside a compressed transaction may have: 1 GiB. One with more can't be read.
+pub const CONTENT_LIMIT: usize = 1_073_741_824;
 
 /// The name of a file in messages: that of standard input for `-`.
 pub fn shown_name(name: &str) -> &str
@@ -73,9 +79,9 @@ impl<'a, E, T> Reported<'a, E, T> {
     }
 }
 
-impl<'a, E: Eprint, T> Reported<'a, E, Filtered<T>> {
+impl<'a, E: Eprint, T> Reported<'a, E, PayloadFiltered<T>> {
     /// Messages go to the standard error of `rt`.
-    pub fn new(rt: &'a E, visitor: Filtered<T>) -> Self
+    pub fn new(rt: &'a E, visitor: PayloadFiltered<T>) -> Self
         ensures { result ≡ record { visitor = visitor; has_errors = false; is_cut = false } }
     {
         Reported {
@@ -94,9 +100,9 @@ impl<'a, E: Eprint, T> Reported<'a, E, Filtered<T>> {
     pub fn replace_visitor(&mut self, visitor: T)
     where
         T: Drop,
-        ensures { self.new ≡ record self.old { visitor = record self.old.visitor { visitor = visitor } } }
+        ensures { self.new ≡ record self.old { visitor = with_visitor self.old.visitor visitor } }
     {
-        self.visitor.visitor = visitor;
+        self.visitor.filtered.visitor = visitor;
     }
 
     /// Begins with this file, and shows this progress in it.
@@ -138,7 +144,7 @@ impl<'a, E: Eprint, T> Reported<'a, E, Filtered<T>> {
 }
 
 // Writes a message. There is nowhere to say that it can't be written.
-fn report<E: Eprint>(rt: &E, file: &str, index: u64, place: Place, error: &Error) {
+fn report<E: Eprint, D: fmt::Display>(rt: &E, file: &str, index: u64, place: Place, error: &D) {
     let _ = match place.position {
         Some(position) => {
             eprintln!(rt; "binlog: {file}: event {index} at byte {position}: {error}")
@@ -171,7 +177,8 @@ pub fn report_left_out<E: Eprint>(rt: &E, left_out: u64) {
     );
 }
 
-// Writes the message of an event whose GTIDs can't be read or added. Why they can't doesn't depend on the set.
+// Writes the message of an event that the other visitor counts as an error: why its GTIDs can't be read or added, which doesn't
+// depend on the set, or what in its compressed transaction can't be read.
 #[inline(never)]
 fn report_refused<E: Eprint + AllocGlobal>(
     rt: &E,
@@ -179,9 +186,16 @@ fn report_refused<E: Eprint + AllocGlobal>(
     index: u64,
     place: Place,
     event: &EventRef<'_>,
+    reader: &EventStreamReader,
 ) {
     if let Err(error) = add_alone(rt.alloc(), event) {
         report(rt, file, index, place, &error);
+        return;
+    }
+    match first_part_error(rt.alloc(), CONTENT_LIMIT, event, reader) {
+        Ok(Some(error)) => report(rt, file, index, place, &error),
+        Ok(None) => {}
+        Err(error) => report(rt, file, index, place, &error),
     }
 }
 
@@ -226,7 +240,7 @@ impl<'a, E: Eprint + AllocGlobal, T: Visitor + Refusing> Visitor for Reported<'a
         self.progress.note(self.rt, self.place.position, self.index);
         if self.visitor.refused() != refused {
             self.progress.wipe(self.rt);
-            report_refused(self.rt, self.file, index, place, event);
+            report_refused(self.rt, self.file, index, place, event, reader);
             self.has_errors = true;
         }
         answer

@@ -17,7 +17,11 @@ pub mod binlog_json_bodies;
 #[allow(unused_variables)]
 pub mod binlog_json_lines;
 pub mod binlog_listing;
+pub mod binlog_payload_checks;
+pub mod binlog_payload_filters;
 pub mod binlog_payload_visits;
+/// Which file of a log follows one, by the bytes of that one.
+pub mod binlog_rotation;
 #[allow(unused_variables)]
 pub mod binlog_statistics;
 #[doc(hidden)]

@@ -8,14 +8,16 @@ returns-clause-ok g c = record {
   states = c.in_ok-outcome.ensures.ok.1;
   start = c.new-spliced.result;
   begins = record {
-    has = rw (c.new-spliced.ensures.visitor, c.new-lines.ensures.output) c.in_ok-output.ensures.bytes;
-    fine = rw (c.new-spliced.ensures.visitor, c.new-lines.ensures.output) c.in_ok-output.ensures.fine;
+    has = rw (c.new-spliced.ensures.visitor, c.new-noted.ensures, c.new-taken.ensures.visitor, c.new-lines.ensures.output) c.in_ok-output.ensures.bytes;
+    fine = rw (c.new-spliced.ensures.visitor, c.new-noted.ensures, c.new-taken.ensures.visitor, c.new-lines.ensures.output) c.in_ok-output.ensures.fine;
   };
   made = (
     c.new-spliced.ensures.limit,
-    rw (c.new-spliced.ensures.visitor, c.new-lines.ensures.options) refl,
-    rw (c.new-spliced.ensures.visitor, c.new-lines.ensures.options) c.in_ok-files.ensures.ok,
-    rw (c.new-spliced.ensures.visitor, c.new-lines.ensures.output) (c.in_ok-output.ensures.capacity ∙ c.output_capacity.ensures),
+    rw (c.new-spliced.ensures.visitor, c.new-noted.ensures) refl,
+    (c.in_ok-asked.asked, c.in_ok-asked.ensures.ok, rw (c.new-spliced.ensures.visitor, c.new-noted.ensures) c.new-taken.ensures.tables),
+    rw (c.new-spliced.ensures.visitor, c.new-noted.ensures, c.new-taken.ensures.visitor, c.new-lines.ensures.options) refl,
+    rw (c.new-spliced.ensures.visitor, c.new-noted.ensures, c.new-taken.ensures.visitor, c.new-lines.ensures.options) c.in_ok-files.ensures.ok,
+    rw (c.new-spliced.ensures.visitor, c.new-noted.ensures, c.new-taken.ensures.visitor, c.new-lines.ensures.output) (c.in_ok-output.ensures.capacity ∙ c.output_capacity.ensures),
   );
   outcome = c.in_ok-outcome.outcome;
   behind = c.in_ok-outcome.spliced;

@@ -1,13 +1,14 @@
 use Rattle.std.proofs.Common.{ap}
-use Rattle.binlog_filters.specs.declared.filtered.Filtered.{Filtered}
+use Rattle.binlog_payload_filters.specs.declared.filtered.PayloadFiltered.{PayloadFiltered}
 use Rattle.binlog.proofs.commands.read_taken.Goals as goal
 
 pub returns : goal.returns
 returns g c = record {
-  start = c.new.result;
-  filtered = c.new.ensures.filter;
-  shown = c.new.ensures.visitor;
-  behind = c.read_files-outcome.new.visitor;
-  reads = rw c.new-reported.ensures at c.read_files-outcome.ensures;
-  ends = ap (λ (filtered : Filtered g.row.T.Denot). filtered.visitor) c.into_visitor-filtered.ensures;
+  start = c.new-filtered.result;
+  filtered = c.new-filtered.ensures.filter;
+  limit = c.new-filtered.ensures.limit;
+  shown = c.new-filtered.ensures.visitor;
+  behind = c.read_all_files-behind.ensures.0;
+  reads = rw c.new-reported.ensures at c.read_all_files-behind.ensures.1;
+  ends = ap (λ (filtered : PayloadFiltered g.row.T.Denot). filtered.filtered.visitor) c.read_all_files-behind.ensures.2;
 }

@@ -1,0 +1,2 @@
+pub mod NotedItems
+pub mod Counted

@@ -1,0 +1,409 @@
+#!/usr/bin/env python3
+"""Follows logs from file to file: `binlog list --follow` and `binlog json --follow` go on to the next file at a ROTATE and a STOP.
+
+Usage: followed_files.py FLAG
+
+FLAG is one of `programs.py`: it says which `binlog` is run. Files are written by hand, as a server or a mirror writes them, and the
+lines that come are those of the models, file by file. Where a MariaDB server is there, `mariadb-binlog` mirrors its log while it is
+under load and rotates, and the mirror's files are followed; else a line says so. The last line is `N passed, M failed`; the exit
+status is 1 if something failed.
+"""
+
+import argparse
+import queue
+import re
+import subprocess
+import sys
+import tempfile
+import threading
+import time
+from concurrent.futures import ThreadPoolExecutor
+from itertools import chain
+from pathlib import Path
+
+import compact_model
+import encoded_events
+import encoded_logs
+import listing_model
+import json_model
+import programs
+import results
+import row_lines
+import samples
+from maria_daemon import PRINTER, LeftOut, Server, is_within, program_in
+
+PROCESSES_AT_A_TIME = 12
+# How long a line may take, and how long nothing may come where nothing is wanted, in seconds.
+PATIENCE, QUIET = 30, 0.7
+MODELS = {"list": listing_model, "json": json_model}
+
+ARTIFICIAL = 0x20
+STOP = samples.frame(3, b"")
+XID = samples.frame(16, (7).to_bytes(8, "little"))
+
+
+def rotate(name, behind=b"", **header):
+    """A ROTATE event that names the next file, with these bytes behind the name."""
+    return samples.frame(samples.ROTATE, (4).to_bytes(8, "little") + name + behind, **header)
+
+
+def description(algorithm):
+    """A format description that states this checksum algorithm."""
+    event = encoded_logs.described("", encoded_logs.POST_HEADER_LENGTHS, algorithm=algorithm).event
+    return encoded_logs.frame(event, encoded_logs.HEADERS[0], None)[0]
+
+
+PLAIN, CHECKSUMMED = description(0), description(1)
+
+
+def log(*events):
+    return encoded_logs.FILE_HEADER + b"".join(events)
+
+
+class Followed:
+    """A run of a command that follows a file; its lines come through a queue."""
+
+    def __init__(self, program, folder, *words):
+        ends = {"stdout": subprocess.PIPE, "stderr": subprocess.PIPE}
+        self.running = subprocess.Popen([program, *words], cwd=folder, **ends)
+        self.lines = queue.Queue()
+        self.messages = b""
+        self.readers = [threading.Thread(target=reader, daemon=True) for reader in (self.read_lines, self.read_messages)]
+        for reader in self.readers:
+            reader.start()
+
+    def read_lines(self):
+        for line in self.running.stdout:
+            self.lines.put(line)
+
+    def read_messages(self):
+        for line in self.running.stderr:
+            self.messages += line
+
+    def next_lines(self, count):
+        """As many lines, or as many as come in time."""
+        shown = b""
+        for _ in range(count):
+            try:
+                shown += self.lines.get(timeout=PATIENCE)
+            except queue.Empty:
+                break
+        return shown
+
+    def wrong_lines(self, *wanted):
+        """None if these lines come next, and then none, else what is wrong."""
+        text = b"".join(wanted)
+        shown = self.next_lines(text.count(b"\n"))
+        if shown != text:
+            return f"the lines are {shown[-300:]!r}, not {text[-300:]!r}; messages {self.messages!r}"
+        return self.wrong_quiet()
+
+    def wrong_quiet(self):
+        """None if no line comes and the command waits."""
+        try:
+            return f"one line more: {self.lines.get(timeout=QUIET)!r}"
+        except queue.Empty:
+            return None if self.running.poll() is None else f"ended with {self.running.returncode}: {self.messages!r}"
+
+    def message(self, pattern, seconds):
+        """None if the messages are these within so many seconds."""
+        end = time.monotonic() + seconds
+        while time.monotonic() < end and re.fullmatch(pattern, self.messages) is None:
+            time.sleep(0.05)
+        return None if re.fullmatch(pattern, self.messages) else f"the messages are {self.messages!r}, not {pattern!r}"
+
+    def end(self):
+        self.running.kill()
+        self.running.wait()
+        for reader in self.readers:
+            reader.join()
+
+    def ended(self, status, pattern):
+        """None if the command ends by itself with this status and message."""
+        try:
+            found = self.running.wait(PATIENCE)
+        except subprocess.TimeoutExpired:
+            self.end()
+            return "it doesn't end"
+        for reader in self.readers:
+            reader.join()
+        if found != status or re.fullmatch(pattern, self.messages) is None:
+            return f"status {found}, messages {self.messages!r}"
+        return None
+
+
+def lines_of(content, command="list"):
+    return MODELS[command].expected(content)[0]
+
+
+def followed(program, folder, *words, command="list"):
+    return Followed(program, folder, command, "--follow", *words)
+
+
+# ---- scenes: each is given the program and a folder, and yields what is wrong, or None
+
+
+def going_on(first, second, program, folder, *, path="log.000001", next_path="log.000002", command="list"):
+    """A file, and the next one behind it."""
+    (folder / path).write_bytes(first)
+    (folder / next_path).write_bytes(second)
+    run = followed(program, folder, path, command=command)
+    yield run.wrong_lines(lines_of(first, command), lines_of(second, command))
+    with open(folder / next_path, "ab") as grown:
+        grown.write(XID)
+    yield run.wrong_lines(lines_of(second + XID, command)[len(lines_of(second, command)) :])
+    run.end()
+    yield None if not run.messages else f"messages {run.messages!r}"
+
+
+def rotations(program, folder):
+    for command in MODELS:
+        first = log(PLAIN, XID, rotate(b"log.000002"))
+        yield from going_on(first, log(PLAIN, XID), program, folder, command=command)
+
+
+def checksums(program, folder):
+    """The four bytes of a checksum aren't of the name, by the description of the file; the algorithm may change."""
+    first = log(CHECKSUMMED, XID, rotate(b"log.000002", b"\1\2\3\4"))
+    yield from going_on(first, log(PLAIN, XID), program, folder)
+    yield from going_on(log(PLAIN, CHECKSUMMED, PLAIN, rotate(b"log.000002")), log(CHECKSUMMED), program, folder)
+
+
+def prefixes(program, folder):
+    """A mirror's prefix stays, and so does the folder; behind another name it is the name in the folder."""
+    (folder / "sub").mkdir()
+    first = log(PLAIN, rotate(b"log.000002"))
+    for path, next_path in (
+        ("m-log.000001", "m-log.000002"),
+        ("sub/log.000001", "sub/log.000002"),
+        ("sub/m-log.000001", "sub/m-log.000002"),
+        ("sub/other.000001", "sub/log.000002"),
+        ("copy", "log.000002"),
+    ):
+        yield from going_on(first, log(PLAIN, XID), program, folder, path=path, next_path=next_path)
+
+
+def stops(program, folder):
+    """Behind a STOP the next number comes, with as many digits or more."""
+    for path, next_path in (("log.000001", "log.000002"), ("log.0099", "log.0100"), ("log.999", "log.1000"), ("9", "10")):
+        yield from going_on(log(PLAIN, XID, STOP), log(PLAIN), program, folder, path=path, next_path=next_path)
+
+
+def stays(program, folder):
+    """An artificial ROTATE, and one with something behind it, end nothing."""
+    names = b"log.000002"
+    for events in (
+        (rotate(names, timestamp=0),),
+        (rotate(names, flags=ARTIFICIAL),),
+        (rotate(names), XID),
+        (STOP, XID),
+        (rotate(names), rotate(names)[:20]),
+    ):
+        (folder / "log.000001").write_bytes(log(PLAIN, *events))
+        (folder / "log.000002").write_bytes(log(PLAIN, XID))
+        run = followed(program, folder, "log.000001")
+        yield run.wrong_lines(lines_of(log(PLAIN, *events)))
+        run.end()
+        yield None if not run.messages else f"messages {run.messages!r}"
+
+
+def byte_by_byte(program, folder):
+    """Two files that come byte by byte, the second one late."""
+    first, second = log(CHECKSUMMED, XID, rotate(b"log.000002", b"abcd")), log(PLAIN, XID, STOP)
+    third = log(PLAIN)
+    (folder / "log.000001").touch()
+    run = followed(program, folder, "log.000001")
+    for name, content in (("log.000001", first), ("log.000002", second), ("log.000003", third)):
+        with open(folder / name, "ab", buffering=0) as file:
+            for place in range(len(content)):
+                file.write(content[place : place + 1])
+                time.sleep(0.002)
+        yield run.wrong_lines(lines_of(content))
+    run.end()
+    yield None if not run.messages else f"messages {run.messages!r}"
+
+
+def cut_at(cut):
+    """A ROTATE of which so many bytes are there at first, and the next file already."""
+
+    def scene(program, folder):
+        whole = rotate(b"log.000002", b"abcd")
+        front = log(CHECKSUMMED, XID)
+        first, second = front + whole, log(PLAIN, XID)
+        (folder / "log.000001").write_bytes(front + whole[:cut])
+        (folder / "log.000002").write_bytes(second)
+        run = followed(program, folder, "log.000001")
+        yield run.wrong_lines(lines_of(front))
+        with open(folder / "log.000001", "ab") as file:
+            file.write(whole[cut:])
+        yield run.wrong_lines(lines_of(first)[len(lines_of(front)) :], lines_of(second))
+        run.end()
+        yield None if not run.messages else f"messages {run.messages!r}"
+
+    return scene
+
+
+def late(program, folder):
+    """A next file that isn't there, or has no file header yet, is waited for, with one message after ten seconds."""
+    first, second = log(PLAIN, rotate(b"log.000002")), log(PLAIN, XID)
+    (folder / "log.000001").write_bytes(first)
+    run = followed(program, folder, "log.000001")
+    yield run.wrong_lines(lines_of(first))
+    yield None if not run.messages else f"messages {run.messages!r}"
+    message = rb"binlog: log\.000002: .*isn't there yet\n"
+    yield run.message(message, 20)
+    (folder / "log.000002").write_bytes(second[:3])
+    yield run.wrong_quiet()
+    (folder / "log.000002").write_bytes(second[:30])
+    yield run.wrong_quiet()
+    (folder / "log.000002").write_bytes(second)
+    yield run.wrong_lines(lines_of(second))
+    yield run.message(message, 0)
+    run.end()
+
+
+def refused(program, folder):
+    """A name that is none of a file in the folder is refused."""
+    for name in (b"", b".", b"..", b"../log.000002", b"/tmp/log.000002", b"sub/log", b"log\0", b"log\xff.000002"):
+        first = log(PLAIN, rotate(name))
+        (folder / "log.000001").write_bytes(first)
+        run = followed(program, folder, "log.000001")
+        yield run.ended(1, rb"binlog: log\.000001: the name of the next file [^\n]*\n")
+        lines = lines_of(first)
+        yield None if run.next_lines(lines.count(b"\n")) == lines else f"other lines before {name!r}"
+    short = log(PLAIN, samples.frame(samples.ROTATE, b"1234"))
+    (folder / "log.000001").write_bytes(short)
+    messages = rb"binlog: log\.000001: event 1 at byte \d+: [^\n]*\nbinlog: log\.000001: the name of the next file is empty\n"
+    yield followed(program, folder, "log.000001").ended(2, messages)
+    (folder / "log.bin").write_bytes(log(PLAIN, STOP))
+    yield followed(program, folder, "log.bin").ended(1, rb"binlog: log\.bin: the name of this file doesn't end with a number\n")
+
+
+def damages(program, folder):
+    """A message has the name and the index of the file that is read; an event without a size ends all, and the status is kept."""
+    damaged = samples.frame(16, b"")[:9] + (5).to_bytes(4, "little") + bytes(6)
+    (folder / "log.000001").write_bytes(log(PLAIN, XID, XID, rotate(b"log.000002")))
+    (folder / "log.000002").write_bytes(log(PLAIN, damaged))
+    run = followed(program, folder, "log.000001")
+    place = len(log(PLAIN))
+    yield run.ended(2, rb"binlog: log\.000002: event 1 at byte %d: an event states the size 5[^\n]*\n" % place)
+
+
+def several(program, folder):
+    """Only the last file is followed; the ROTATE of one before it leads nowhere."""
+    first, second, third = log(PLAIN, rotate(b"x.000002")), log(PLAIN, rotate(b"log.000002")), log(PLAIN, XID)
+    (folder / "x.000001").write_bytes(first)
+    (folder / "log.000001").write_bytes(second)
+    (folder / "log.000002").write_bytes(third)
+    run = followed(program, folder, "x.000001", "log.000001")
+    yield run.wrong_lines(lines_of(first), lines_of(second), lines_of(third))
+    run.end()
+    run = followed(program, folder, "missing", "log.000001")
+    yield run.wrong_lines(lines_of(second), lines_of(third))
+    run.end()
+    yield followed(program, folder, "x.000001", "missing").ended(1, rb"binlog: missing: [^\n]*\n")
+
+
+def filters(program, folder):
+    """Filters go on, also a transaction that began in the file before; positions are those of each file."""
+    first, second = log(PLAIN, XID, rotate(b"log.000002")), log(PLAIN, XID)
+    (folder / "log.000001").write_bytes(first)
+    (folder / "log.000002").write_bytes(second)
+    run = followed(program, folder, "--type", "xid", "log.000001")
+    wanted = [line for line in chain(*(lines_of(content).splitlines(True) for content in (first, second))) if b" 16 " in line]
+    yield run.wrong_lines(*wanted)
+    run.end()
+
+
+def compact_rows(program, folder):
+    """A line of a row has the name of its file."""
+    rows, _ = row_lines.sample()
+    contents = {"log.000001": rows + rotate(b"log.000002"), "log.000002": rows + STOP, "log.000003": rows}
+    for name, content in contents.items():
+        (folder / name).write_bytes(content)
+    run = followed(program, folder, "--compact", "log.000001", command="json")
+    yield run.wrong_lines(*(compact_model.expected(content, name)[0] for name, content in contents.items()))
+    run.end()
+    yield None if not run.messages else f"messages {run.messages!r}"
+
+
+# ---- a mirror of a server's log
+
+ROTATIONS = 6
+SECONDS_TO_MIRROR, SECONDS_TO_SETTLE = 60, 3
+LOAD = b"insert into t (name) select repeat('x', 300) from three; update t set name = 'y' where id % 7 = 0;\n"
+
+
+def mirror_of(server, folder):
+    folder.mkdir()
+    words = [PRINTER, "--no-defaults", "--read-from-remote-server", "--raw", "--stop-never", "--stop-never-slave-server-id=4711"]
+    words += [f"--socket={server.socket}", "--user=root", f"--result-file={folder}/", server.logs()[0].name]
+    return subprocess.Popen(words, stdout=subprocess.DEVNULL, stderr=subprocess.DEVNULL)
+
+
+def sizes(logs):
+    return {log.name: log.stat().st_size for log in logs}
+
+
+def is_mirrored(server, folder):
+    """Whether the mirror has all bytes of the server's log, and that has stopped growing: some time behind a rotation comes a
+    BINLOG_CHECKPOINT event."""
+    before = sizes(server.logs())
+    time.sleep(SECONDS_TO_SETTLE)
+    return before == sizes(server.logs()) == sizes(folder.iterdir())
+
+
+def mirrored(program, folder):
+    """The lines of a mirror's files, in order, while the server rotates under load."""
+    daemon = program_in(folder / "unpacked")
+    with Server(daemon, folder / "server", ["--server-id=7", "--binlog-format=ROW", "--binlog-checksum=CRC32"]) as server:
+        server.run(b"create database shop; create table shop.t (id int auto_increment primary key, name text);")
+        server.run(b"create view shop.three as select 1 union all select 2 union all select 3;")
+        mirror = mirror_of(server, folder / "mirror")
+        try:
+            begun = is_within(SECONDS_TO_MIRROR, (folder / "mirror" / server.logs()[0].name).exists)
+            yield None if begun else "no mirror"
+            runs = {command: followed(program, folder / "mirror", server.logs()[0].name, command=command) for command in MODELS}
+            sessions = [server.start(b"use shop;\n" + LOAD * 20) for _ in range(3)]
+            for number in range(ROTATIONS):
+                algorithm = b"NONE" if number % 2 else b"CRC32"
+                server.run(b"flush binary logs; set global binlog_checksum = %s;" % algorithm)
+                time.sleep(0.3)
+            for session in sessions:
+                server.finish(session)
+            yield None if is_within(SECONDS_TO_MIRROR, lambda: is_mirrored(server, folder / "mirror")) else "the mirror lacks bytes"
+            contents = [(folder / "mirror" / log.name).read_bytes() for log in server.logs()]
+            yield None if len(contents) > ROTATIONS else f"only {len(contents)} files"
+            for command, run in runs.items():
+                yield run.wrong_lines(*(lines_of(content, command) for content in contents))
+                run.end()
+                yield None if not run.messages else f"{command}: messages {run.messages!r}"
+        finally:
+            mirror.kill()
+            mirror.wait()
+
+
+SCENES = [mirrored, late, byte_by_byte, rotations, checksums, prefixes, stops, stays, refused, damages, several, filters, compact_rows]
+SCENES += [cut_at(cut) for cut in range(len(rotate(b"log.000002", b"abcd")))]
+
+
+def results_of(program, scene):
+    with tempfile.TemporaryDirectory() as folder:
+        try:
+            return [wrong and f"{scene.__name__}: {wrong}" for wrong in scene(program, Path(folder))]
+        except LeftOut as reason:
+            print(f"{reason}: no mirror is followed")
+            return []
+
+
+def main():
+    parser = argparse.ArgumentParser(description="Follows logs from file to file.")
+    programs.add_flags(parser)
+    build = programs.parsed(parser, "binlog").build
+    (program,) = build.command("binlog")
+    with ThreadPoolExecutor(PROCESSES_AT_A_TIME) as pool:
+        return results.report(chain.from_iterable(pool.map(lambda scene: results_of(program, scene), SCENES)))
+
+
+if __name__ == "__main__":
+    sys.exit(main())
