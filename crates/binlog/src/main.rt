@@ -24,13 +24,12 @@ mod transaction_statistics;
 mod type_statistics;
 mod verifying;
 
-use binlog_cli::{Status, command, out_of_memory};
-use binlog_undo_command::{run_undo, undo_command};
+use binlog_cli::{Status, out_of_memory};
+use binlog_undo_command::{command, run_undo};
+use clap::ArgMatches;
 use clap::error::ErrorKind;
-use clap::{ArgMatches, Command};
 use inputs::HostInputs;
 use request::{Request, Terminals};
-use std::alloc::{AllocError, Global};
 use std::env::Env;
 use std::io::IsTerminal;
 use std::process::ExitCode;
@@ -70,7 +69,7 @@ fn run_words<'a, R: Files + Clock + Input + Print + Eprint + AllocGlobal>(
     words: &'a [String],
     terminals: Terminals,
 ) -> Status {
-    let Ok(command) = whole_command(rt.alloc()) else {
+    let Ok(command) = command(rt.alloc()) else {
         return out_of_memory(rt);
     };
     match command.try_get_matches_from(words) {
@@ -80,11 +79,6 @@ fn run_words<'a, R: Files + Clock + Input + Print + Eprint + AllocGlobal>(
         },
         Err(error) => refused(rt, &error),
     }
-}
-
-// The command of the program, with all of its commands.
-fn whole_command<'a>(alloc: Global) -> Result<Command<'a>, AllocError> {
-    command(alloc)?.subcommand(undo_command(alloc)?)
 }
 
 // Prints the help, the version, or what is wrong with the words.

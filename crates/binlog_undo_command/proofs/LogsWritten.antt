@@ -1,8 +1,6 @@
 -- What undoes logs is written from the last one to the first.
-use Rattle.std.proofs.Common.{◌≡◌, ℕ, suc, zero, ◌<◌, false, arith, List, [], ◌∷◌, length, drop, get_or, Option, None, Result, IfOk, refl, sym, subst}
-use Rattle.std.proofs.lemmas.Result.{IfOk-weaker}
-use Rattle.std.specs.Io.KnownBytes.{Keeps}
-use Rattle.binlog_undo_command.specs.Written.{WritesOne, WritesLogs, WritesWhole, WritesLog}
+use Rattle.std.proofs.Common.{◌≡◌, ℕ, suc, zero, ◌<◌, arith, List, [], ◌∷◌, length, drop, get_or, Option, refl, sym, subst}
+use Rattle.binlog_undo_command.specs.Written.{WritesOne, WritesLogs}
 use Rattle.binlog_undo_command.specs.declared.scanning.ScannedLog.{ScannedLog}
 use Rattle.binlog_undo_log.specs.declared.output.UndoOutput.{UndoOutput}
 
@@ -23,11 +21,3 @@ module _ {F W : Type 0} (has_frames : List ℕ → F → Type 0) (is_at : F → 
   written_next logs n i none log old mid new next within is behind one =
       subst (λ (left : List ScannedLog). WritesLogs has_frames is_at contents left old new) (sym (drop_at logs i none within))
       (mid, subst (λ (k : ℕ). WritesLogs has_frames is_at contents (drop k logs) old mid) (sym next) behind, subst (λ (found : ScannedLog). WritesOne has_frames is_at contents found mid new) is one)
-
-  -- The log is written once its buffer is closed.
-  pub log_written : {T E : Type 0} (bytes : T → Option (List ℕ)) (logs : List ScannedLog) (old : Option (List ℕ)) (start : W) (end : UndoOutput W) → contents start ≡ old
-      → WritesWhole has_frames is_at contents logs (record { writer = start; place = 4; has_checksums = false; description = None }) end
-      → (closed : Result T E) → IfOk closed (λ writer. Keeps (contents end.writer) (bytes writer)) → IfOk closed (λ writer. WritesLog has_frames is_at contents logs old (bytes writer))
-  log_written bytes logs old start end begins whole closed keeps =
-      IfOk-weaker closed (λ writer. Keeps (contents end.writer) (bytes writer)) (λ writer. WritesLog has_frames is_at contents logs old (bytes writer))
-      (λ writer ends. record { start = start; begins = begins; end = end; whole = whole; ends = ends }) keeps

@@ -10,60 +10,38 @@ use Rattle.binlog_undo_command.specs.declared.scanning.ScannedLog.{ScannedLog}
 use Rattle.binlog_undo_log.specs.Files.{ScansWhole}
 use Rattle.binlog_undo_log.specs.declared.scan.UndoScan.{UndoScan}
 
+-- The worse one of two statuses is one of them.
+which : (a b : Status) → (worse a b ≡ a) ⊎ (worse a b ≡ b)
+which Fine b = inr refl
+which NotOpened Fine = inl refl
+which NotOpened NotOpened = inr refl
+which NotOpened Damaged = inr refl
+which NotOpened Failed = inr refl
+which NotOpened Usage = inr refl
+which Damaged Fine = inl refl
+which Damaged NotOpened = inl refl
+which Damaged Damaged = inr refl
+which Damaged Failed = inr refl
+which Damaged Usage = inr refl
+which Failed Fine = inl refl
+which Failed NotOpened = inl refl
+which Failed Damaged = inl refl
+which Failed Failed = inl refl
+which Failed Usage = inr refl
+which Usage b = inl refl
+
+pub which_is : (a b status : Status) → worse a b ≡ status → (a ≡ status) ⊎ (b ≡ status)
+which_is a b status is = elim (which a b) [
+  | inl first ↦ inl (sym first ∙ is)
+  | inr second ↦ inr (sym second ∙ is)
+]
+
 -- Behind a log that isn't fine the worst status isn't.
 pub not_fine : (a b : Status) → b ≢ Fine → worse a b ≡ Fine → ⊥
-not_fine Fine Fine isnt is = isnt refl
-not_fine Fine NotOpened isnt is = cc
-not_fine Fine Damaged isnt is = cc
-not_fine Fine Failed isnt is = cc
-not_fine Fine Usage isnt is = cc
-not_fine NotOpened Fine isnt is = isnt refl
-not_fine NotOpened NotOpened isnt is = cc
-not_fine NotOpened Damaged isnt is = cc
-not_fine NotOpened Failed isnt is = cc
-not_fine NotOpened Usage isnt is = cc
-not_fine Damaged Fine isnt is = isnt refl
-not_fine Damaged NotOpened isnt is = cc
-not_fine Damaged Damaged isnt is = cc
-not_fine Damaged Failed isnt is = cc
-not_fine Damaged Usage isnt is = cc
-not_fine Failed Fine isnt is = isnt refl
-not_fine Failed NotOpened isnt is = cc
-not_fine Failed Damaged isnt is = cc
-not_fine Failed Failed isnt is = cc
-not_fine Failed Usage isnt is = cc
-not_fine Usage Fine isnt is = isnt refl
-not_fine Usage NotOpened isnt is = cc
-not_fine Usage Damaged isnt is = cc
-not_fine Usage Failed isnt is = cc
-not_fine Usage Usage isnt is = cc
-
-pub which_damaged : (a b : Status) → worse a b ≡ Damaged → (a ≡ Damaged) ⊎ (b ≡ Damaged)
-which_damaged Fine Fine is = absurd cc
-which_damaged Fine NotOpened is = absurd cc
-which_damaged Fine Damaged is = inr refl
-which_damaged Fine Failed is = absurd cc
-which_damaged Fine Usage is = absurd cc
-which_damaged NotOpened Fine is = absurd cc
-which_damaged NotOpened NotOpened is = absurd cc
-which_damaged NotOpened Damaged is = inr refl
-which_damaged NotOpened Failed is = absurd cc
-which_damaged NotOpened Usage is = absurd cc
-which_damaged Damaged Fine is = inl refl
-which_damaged Damaged NotOpened is = inl refl
-which_damaged Damaged Damaged is = inl refl
-which_damaged Damaged Failed is = absurd cc
-which_damaged Damaged Usage is = absurd cc
-which_damaged Failed Fine is = absurd cc
-which_damaged Failed NotOpened is = absurd cc
-which_damaged Failed Damaged is = absurd cc
-which_damaged Failed Failed is = absurd cc
-which_damaged Failed Usage is = absurd cc
-which_damaged Usage Fine is = absurd cc
-which_damaged Usage NotOpened is = absurd cc
-which_damaged Usage Damaged is = absurd cc
-which_damaged Usage Failed is = absurd cc
-which_damaged Usage Usage is = absurd cc
+not_fine a b isnt is = elim (which_is a b Fine is) [
+  | inl first ↦ isnt (subst (λ (status : Status). worse status b ≡ Fine) first is)
+  | inr second ↦ isnt second
+]
 
 -- The bytes that are left of a log that was opened are all of it.
 pub known_scans : (known remaining : Option (List ℕ)) (start scan : UndoScan) → IfSome known (λ bytes. remaining ≡ Some bytes)

@@ -1,9 +1,14 @@
-//! The words of `binlog undo`.
-use clap::{Arg, ArgAction, ArgMatches, Command, value_parser};
+//! The words of the command line, with those of `binlog undo`.
+use clap::{Arg, ArgAction, Command, value_parser};
 use std::alloc::{AllocError, Global};
 
-/// The command and its options.
-pub fn undo_command<'a>(alloc: Global) -> Result<Command<'a>, AllocError> {
+/// The program and all of its commands.
+pub fn command<'a>(alloc: Global) -> Result<Command<'a>, AllocError> {
+    binlog_cli::command(alloc)?.subcommand(undo(alloc)?)
+}
+
+// The command and its options.
+fn undo<'a>(alloc: Global) -> Result<Command<'a>, AllocError> {
     let files = Arg::new(alloc, "FILE")
         .action(ArgAction::Append)
         .num_args(1..)

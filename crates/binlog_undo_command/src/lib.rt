@@ -11,7 +11,7 @@ mod scanning;
 mod undoing;
 mod writing;
 
-pub use arguments::undo_command;
+pub use arguments::command;
 pub use logs::{HostLogs, Logs};
 pub use new_file::{HostFile, NewFile};
 pub use reasons::reason_name;

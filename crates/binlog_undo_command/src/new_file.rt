@@ -11,6 +11,12 @@ pub trait NewFile {
     /// What is written before the file is there.
     type Draft: Write + Drop;
 
+    /// The name of the file.
+    ghost named: { Self → List ℕ };
+
+    /// The name under which it is written.
+    ghost drafted: { Self → List ℕ };
+
     /// Whether the file is there.
     ghost is_there: { Self → Bool };
 
@@ -18,10 +24,12 @@ pub trait NewFile {
     ghost has: { Self → Option (List ℕ) → Type 0 };
 
     /// The name of the file, for messages.
-    fn name(&self) -> &str;
+    fn name(&self) -> &str
+        ensures { result.now ≡ named self.now };
 
     /// The name under which it is written, for messages.
-    fn draft_name(&self) -> &str;
+    fn draft_name(&self) -> &str
+        ensures { result.now ≡ drafted self.now };
 
     /// Begins to write. The file isn't there yet.
     ///
@@ -58,7 +66,9 @@ pub struct HostFile<'a, R> {
 impl<'a, R: Files> HostFile<'a, R> {
     /// The file of this name, and the name under which it is written.
     pub fn new(rt: &'a R, name: &'a str, draft: &'a str) -> Self
-        ensures { result.is_there ≡ false }
+        ensures named { result.name.now ≡ name.now }
+        ensures drafted { result.draft.now ≡ draft.now }
+        ensures there { result.is_there ≡ false }
     {
         HostFile {
             rt,
@@ -71,6 +81,10 @@ impl<'a, R: Files> HostFile<'a, R> {
 
 impl<'a, R: Files> NewFile for HostFile<'a, R> {
     type Draft = R::File;
+
+    ghost named = { λ file. file.name.now };
+
+    ghost drafted = { λ file. file.draft.now };
 
     ghost is_there = { λ file. file.is_there };
 

@@ -1,8 +1,8 @@
 //! The command, on the files of the machine.
-ghost use Rattle.std.specs.Prelude.{◌≡◌, option_map, IfErr, IfOk};
+ghost use Rattle.std.specs.Prelude.{◌≡◌, ◌⊎◌, option_map, IfErr, IfOk};
 ghost use Rattle.clap.specs.Matches.{found_of};
 ghost use Rattle.binlog_cli.specs.declared.exit_status.Status.TheVariants.{Failed, Usage};
-ghost use Rattle.binlog_undo_command.specs.Options.{IsNotDry, NamesNoOutput, StatesOutput};
+ghost use Rattle.binlog_undo_command.specs.Options.{IsNotDry, NamesNoOutput, RefusesOptions, StatesOutput};
 
 use crate::logs::HostLogs;
 use crate::new_file::HostFile;
@@ -21,6 +21,7 @@ pub fn run_undo<'a, R: Files + Eprint + AllocGlobal, W: Write + Drop>(
     mut output: W,
 ) -> Status
     ensures unnamed { IsNotDry (found_of options.now) → NamesNoOutput (found_of options.now) → result ≡ Usage }
+    ensures usage { result ≡ Usage → NamesNoOutput (found_of options.now) ⊎ RefusesOptions (found_of options.now) Usage }
 {
     let logs = HostLogs::new(rt);
     match output_of(rt, options) {
@@ -56,7 +57,9 @@ fn undo_into<'a, R: Files + Eprint + AllocGlobal, W: Write>(
     options: &ArgMatches<'a>,
     name: &str,
     output: &mut W,
-) -> Status {
+) -> Status
+    ensures { result ≡ Usage → RefusesOptions (found_of options.now) Usage }
+{
     if let Err(status) = is_free(rt, name) {
         return status;
     }

@@ -1,9 +1,10 @@
 //! The first pass over several logs.
-ghost use Rattle.std.specs.Prelude.{◌≡◌, ◌≢◌, ◌<◌, ◌^◌, false, true, length, map, IfErr, IfOk, IfSome, OnOk};
+ghost use Rattle.std.specs.Prelude.{◌≡◌, ◌≢◌, ◌⊎◌, ◌<◌, ◌^◌, false, true, length, map, IfErr, IfOk, IfSome, OnOk};
 ghost use Rattle.clap.specs.Matches.{found_of};
-ghost use Rattle.binlog_cli.specs.declared.exit_status.Status.TheVariants.{Fine, Damaged};
+ghost use Rattle.binlog_cli.specs.declared.exit_status.Status.TheVariants.{Fine, NotOpened, Damaged, Failed, Usage};
 ghost use Rattle.binlog_undo_index.specs.Parts.{parts_of};
 ghost use Rattle.binlog_undo_log.specs.Files.{AreSkipped, ScansWhole};
+ghost use Rattle.binlog_undo_command.specs.Options.{RefusesOptions};
 ghost use Rattle.binlog_undo_command.specs.Scanned.{IsUndone, AreUndone, IsRefused, HasRefused};
 
 use crate::logs::Logs;
@@ -40,6 +41,7 @@ pub(crate) fn scan_logs<'a, L: Logs, R: Eprint + AllocGlobal>(
     ensures ok { IfOk result (λ scanned. AreUndone (L.bytes logs.now) (found_of options.now) (map (λ name. name.now) names.now) scanned.items) }
     ensures err { IfErr result (λ status. status ≢ Fine) }
     ensures refused { IfErr result (λ status. status ≡ Damaged → HasRefused (L.bytes logs.now) (found_of options.now) (map (λ name. name.now) names.now)) }
+    ensures usage { IfErr result (λ status. status ≡ Usage → RefusesOptions (found_of options.now) Usage) }
 {
     let mut scanned = Vec::new(rt.alloc());
     let mut worst = Status::Fine;
@@ -70,6 +72,7 @@ fn scan_log<L: Logs, R: Eprint + AllocGlobal>(
     ensures ok { IfOk result (IsUndone (found_of options.now) (L.bytes logs.now name.now)) }
     ensures err { IfErr result (λ status. status ≢ Fine) }
     ensures refused { IfErr result (λ status. status ≡ Damaged → IsRefused (found_of options.now) (L.bytes logs.now name.now)) }
+    ensures usage { IfErr result (λ status. status ≡ Usage → RefusesOptions (found_of options.now) Usage) }
 {
     let mut scan = new_scan(rt, options)?;
     match logs.open(name) {
@@ -93,7 +96,7 @@ fn scan_open<R: Eprint + AllocGlobal, I: Read + Drop>(
     scan: &mut UndoScan,
 ) -> Result<(), Status>
     ensures ok { OnOk result (IfSome (I.remaining input) (λ bytes. length bytes < 2 ^ 64 → ScansWhole bytes scan.old scan.new)) }
-    ensures err { IfErr result (λ status. (status ≢ Fine) × (status ≢ Damaged)) }
+    ensures err { IfErr result (λ status. (status ≡ NotOpened) ⊎ (status ≡ Failed)) }
 {
     let mut input = Counted::new(Retrying::new(input));
     match scan_file(rt.alloc(), &mut input, scan) {

@@ -3,7 +3,8 @@ ghost use Rattle.std.specs.Prelude.{◌≡◌, ◌≢◌, true, min, ◌^◌, �
 ghost use Rattle.std.specs.Io.KnownBytes.{Appends};
 ghost use Rattle.clap.specs.Matches.{found_of};
 ghost use Rattle.binlog_cli.specs.TableWords.{texts_given};
-ghost use Rattle.binlog_cli.specs.declared.exit_status.Status.TheVariants.{Fine, Damaged, Failed};
+ghost use Rattle.binlog_cli.specs.declared.exit_status.Status.TheVariants.{Fine, Damaged, Failed, Usage};
+ghost use Rattle.binlog_undo_command.specs.Options.{RefusesOptions};
 ghost use Rattle.binlog_undo_command.specs.Scanned.{AreUndone, HasRefused};
 ghost use Rattle.binlog_undo_command.specs.Undoing.{transactions_in, changes_in, counts_line, CountsLogs, PutsLog, Undoes};
 
@@ -31,6 +32,7 @@ pub fn undo<'a, L: Logs, T: NewFile, R: Eprint + AllocGlobal, W: Write>(
     ensures there { result ≡ Fine → T.is_there file.new ≡ true }
     ensures other { result ≢ Fine → T.is_there file.new ≡ T.is_there file.old }
     ensures refused { result ≡ Damaged → HasRefused (L.bytes logs.now) (found_of options.now) (texts_given (found_of options.now) (codes "FILE")) }
+    ensures usage { result ≡ Usage → RefusesOptions (found_of options.now) Usage }
 {
     match count_logs(rt, logs, options, writer) {
         Ok(scanned) => put_log(rt, logs, scanned.as_slice(), file),
@@ -47,6 +49,7 @@ pub fn count_undo<'a, L: Logs, R: Eprint + AllocGlobal, W: Write>(
 ) -> Status
     ensures fine { result ≡ Fine → CountsLogs (L.bytes logs.now) (found_of options.now) (W.contents writer.old) (W.contents writer.new) }
     ensures refused { result ≡ Damaged → HasRefused (L.bytes logs.now) (found_of options.now) (texts_given (found_of options.now) (codes "FILE")) }
+    ensures usage { result ≡ Usage → RefusesOptions (found_of options.now) Usage }
 {
     match count_logs(rt, logs, options, writer) {
         Ok(_) => Status::Fine,
@@ -65,6 +68,7 @@ fn count_logs<'a, L: Logs, R: Eprint + AllocGlobal, W: Write>(
     ensures counts { IfOk result (λ scanned. Appends (W.contents writer.old) (W.contents writer.new) (counts_line scanned.items)) }
     ensures err { IfErr result (λ status. status ≢ Fine) }
     ensures refused { IfErr result (λ status. status ≡ Damaged → HasRefused (L.bytes logs.now) (found_of options.now) (texts_given (found_of options.now) (codes "FILE"))) }
+    ensures usage { IfErr result (λ status. status ≡ Usage → RefusesOptions (found_of options.now) Usage) }
 {
     let names = options.get_strs("FILE").unwrap_or(&[]);
     let scanned = scan_logs(rt, logs, options, names)?;

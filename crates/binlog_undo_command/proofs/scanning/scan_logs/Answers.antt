@@ -1,8 +1,9 @@
-use Rattle.clap.specs.Matches.{found_of}
-use Rattle.binlog_undo_command.proofs.Scans.{undone_next, refused_next, refused_here, not_fine, which_damaged}
-use Rattle.binlog_undo_command.proofs.scanning.scan_logs.Goals.{in-Ok+else-is_err, in-Err}
-use Rattle.binlog_undo_command.proofs.scanning.scan_logs.Goals as goal
 use Rattle.std.proofs.Common.{inl, inr}
+use Rattle.clap.specs.Matches.{found_of}
+use Rattle.binlog_cli.specs.declared.exit_status.Status.TheVariants.{Damaged, Usage}
+use Rattle.binlog_undo_command.proofs.Scans.{undone_next, refused_next, refused_here, not_fine, which_is}
+use Rattle.binlog_undo_command.proofs.scanning.scan_logs.Goals as goal
+use Rattle.binlog_undo_command.proofs.scanning.scan_logs.Goals.{in-Ok+else-is_err, in-Err}
 
 pub loop-name-preserved : goal.loop-name-preserved
 loop-name-preserved g c =
@@ -13,12 +14,20 @@ loop-name-preserved g c =
         undone = λ fine. undone_next bytes found c.args.names.now c.loop-name.name-index _ c.loop-name.scanned.items w.push.new.self.items w.in-Ok.scan c.loop-name-test.true (c.loop-name.invariant.undone fine)
             w.in-Ok.ensures.ok (rw (w.is_err.ensures.negation, w.if-is_err.false) at w.push.ensures.items);
         refused = λ damaged. refused_next bytes found c.args.names.now c.loop-name.name-index c.loop-name-test.true (c.loop-name.invariant.refused damaged);
+        usage = c.loop-name.invariant.usage;
       })
       | in-Err w ↦ rw (w.scanned-is, w.worst-is) (record {
         undone = λ fine. elim (not_fine c.loop-name.worst w.in-Err.status w.in-Err.ensures.err (rw w.worse-worst.ensures at fine)) [ ];
-        refused = λ damaged. elim (which_damaged c.loop-name.worst w.in-Err.status (rw w.worse-worst.ensures at damaged)) [
+        refused = λ damaged. elim (which_is c.loop-name.worst w.in-Err.status Damaged (rw w.worse-worst.ensures at damaged)) [
           | inl is ↦ refused_next bytes found c.args.names.now c.loop-name.name-index c.loop-name-test.true (c.loop-name.invariant.refused is)
           | inr is ↦ refused_here bytes found c.args.names.now c.loop-name.name-index _ c.loop-name-test.true (w.in-Err.ensures.refused is)
         ];
+        usage = λ usage. elim (which_is c.loop-name.worst w.in-Err.status Usage (rw w.worse-worst.ensures at usage)) [
+          | inl is ↦ c.loop-name.invariant.usage is
+          | inr is ↦ w.in-Err.ensures.usage is
+        ];
       })
     ]
+
+pub returns-in-Err-Usage-clause-usage : goal.returns-in-Err-Usage-clause-usage
+returns-in-Err-Usage-clause-usage g c = λ usage. c.in-Err-Usage.ensures.usage c.in-Err-Usage.field-0-is

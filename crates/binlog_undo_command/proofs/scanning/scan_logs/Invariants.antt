@@ -1,6 +1,7 @@
 use Rattle.std.proofs.Common.{◌≡◌, map, take}
 use Rattle.clap.specs.Matches.{found_of}
-use Rattle.binlog_cli.specs.declared.exit_status.Status.TheVariants.{Fine, Damaged}
+use Rattle.binlog_cli.specs.declared.exit_status.Status.TheVariants.{Fine, Damaged, Usage}
+use Rattle.binlog_undo_command.specs.Options.{RefusesOptions}
 use Rattle.binlog_undo_command.specs.Scanned.{AreUndone, HasRefused}
 use Rattle.binlog_undo_command.proofs.scanning.scan_logs.Given as goal
 
@@ -9,4 +10,5 @@ abbrev pub invariant-loop-name : goal.invariant-loop-name
 invariant-loop-name g l = record {
   undone : l.worst ≡ Fine → AreUndone (g.L.Logs.bytes l.logs) (found_of l.options) (map (λ name. name.now) (take l.name-index l.names)) l.scanned.items;
   refused : l.worst ≡ Damaged → HasRefused (g.L.Logs.bytes l.logs) (found_of l.options) (map (λ name. name.now) (take l.name-index l.names));
+  usage : l.worst ≡ Usage → RefusesOptions (found_of l.options) Usage;
 }

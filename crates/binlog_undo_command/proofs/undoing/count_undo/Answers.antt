@@ -1,0 +1,9 @@
+use Rattle.std.proofs.Common.{sym, ◌∙◌}
+use Rattle.binlog_undo_command.proofs.undoing.count_undo.Goals as goal
+use Rattle.binlog_undo_command.proofs.undoing.count_undo.Goals.{in-Ok, in-Err}
+
+pub returns-clause-usage : goal.returns-clause-usage
+returns-clause-usage g c = λ usage. elim c.match-count_logs.branch [
+  | in-Ok w ↦ absurd cc
+  | in-Err w ↦ w.in-Err.ensures.usage (sym w.result-is ∙ usage)
+]
