@@ -438,6 +438,8 @@ def compressed_tables(runner):
     shown = [text for text in json_model.expected(log)[0].splitlines(keepends=True) if json.loads(text)["index"] in indexes]
     shown = [text for text in shown if b'"part"' not in text or b'"error":"' in text]
     yield runner.check(["json", *words, "0.bin"], Result(b"".join(shown), DAMAGED, named), [log])
+    shown = [text for text in shown if b'"part"' in text]
+    yield runner.check(["json", "--compact", *words, "0.bin"], Result(b"".join(shown), DAMAGED, named), [log])
     # The other filters decide over the event outside.
     yield runner.check(["list", *words, "--type", "GTID", "0.bin"], Result(b""), [log])
     yield runner.check(["list", *words, "--stop-position", "4", "0.bin"], Result(b""), [log])
@@ -448,6 +450,9 @@ def compressed_tables(runner):
             runner.run(["list", "0.bin"], [log])
             wanted = Result(json_lines(runner, events, asked, indexes), messages=left_out(count))
             yield runner.check(["json", *asked.words, "0.bin"], wanted)
+            is_taken = lambda index, part: index in indexes and (part is None or asked.takes_inside(events[index].inside[part]))
+            rows, status = compact_model.expected(log, "0.bin", is_taken=is_taken)
+            yield runner.check(["json", "--compact", *asked.words, "0.bin"], Result(rows, status, left_out(count)))
 
 
 def read_back(runner, log, events, asked):
@@ -539,6 +544,7 @@ def compressed(runner):
         yield runner.check(["verify", "0.bin"], Result(tally(log, count), status, messages), [log])
         yield runner.check(["verify", "-q", "0.bin"], Result(b"", status, messages), [log])
         yield runner.check(["json", "0.bin"], Result(json_model.expected(log)[0], status, messages), [log])
+        yield runner.check(["json", "--compact", "0.bin"], Result(compact_model.expected(log, "0.bin")[0], status, messages), [log])
         yield runner.check(["list", "0.bin"], Result(lines(log, range(4))), [log])
         yield runner.check(["gtids", "0.bin"], Result(f"{SID.replace('-', '')} 1-2 gaps -\n".encode()), [log])
         yield runner.check(["stats", "0.bin"], Result(counts_of(log, transactions=2)), [log])
