@@ -122,8 +122,8 @@ impl<C: Counts> PartVisitor for Counter<C> {
     ) -> Result<(), Error> {
         let found = find_part_rows(self.alloc, event, maps)?;
         let table_map = inside_map(&found, maps);
-        let facts = part_facts_of(found, self.end_position, event, table_map);
-        match self.stats.add(&facts) {
+        let part = part_facts_of(found, self.end_position, event, table_map);
+        match self.stats.add(&part) {
             Ok(()) => Ok(()),
             Err(_) => Err(Error::Memory),
         }
