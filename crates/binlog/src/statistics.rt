@@ -107,7 +107,8 @@ fn count<'a, S: Inputs, R: Clock + Eprint + AllocGlobal, T: Statistics + Drop, W
     let mut output = Output::new(rt, BUFFER_SIZE, writer)?;
     let asked = filter(rt, request.options)?;
     let taken = TakenParts::new(rt.alloc(), asked.tables, counter);
-    let spliced = Spliced::new(rt.alloc(), CONTENT_LIMIT, Noted::new(taken));
+    let noted = Noted::new(taken);
+    let spliced = Spliced::new(rt.alloc(), CONTENT_LIMIT, noted);
     let (read, spliced) = read_all(rt, inputs, request, spliced)?;
     let counter = spliced.visitor.visitor.visitor;
     let written = counter.write(rt, options, &mut output);

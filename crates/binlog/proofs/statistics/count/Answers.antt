@@ -7,9 +7,9 @@ returns-clause-ok g c = record {
   states = c.in_ok-read.ensures.ok.1;
   start = c.new-spliced.result;
   from = record {
-    counts = rw (c.new-spliced.ensures.visitor, c.new-2.ensures) c.new-taken.ensures.visitor;
-    tables = (c.in_ok-asked.asked, c.in_ok-asked.ensures.ok, rw (c.new-spliced.ensures.visitor, c.new-2.ensures) c.new-taken.ensures.tables);
-    undamaged = rw (c.new-spliced.ensures.visitor, c.new-2.ensures) refl;
+    counts = rw (c.new-spliced.ensures.visitor, c.new-noted.ensures) c.new-taken.ensures.visitor;
+    tables = (c.in_ok-asked.asked, c.in_ok-asked.ensures.ok, rw (c.new-spliced.ensures.visitor, c.new-noted.ensures) c.new-taken.ensures.tables);
+    undamaged = rw (c.new-spliced.ensures.visitor, c.new-noted.ensures) refl;
     limit = c.new-spliced.ensures.limit;
   };
   read = c.in_ok-read.read;
