@@ -1,5 +1,5 @@
 -- The counts by type of whole lists of items and of their parts.
-use Rattle.std.proofs.Common.{◌≡◌, ℕ, ◌+◌, List, [], ◌∷◌, ◌++◌, map, Result, Ok, Err, refl, sym, ap, subst, ◌∙◌}
+use Rattle.std.proofs.Common.{◌≡◌, ℕ, ◌+◌, List, [], ◌∷◌, ◌++◌, map, Result, Ok, Err, OnOk, refl, sym, ap, subst, ◌∙◌}
 use Rattle.std.proofs.lemmas.List.{map-append}
 use Rattle.binlog_wire.specs.declared.error.Error.{Error}
 use Rattle.binlog_events.specs.Events.{EventView}
@@ -21,6 +21,11 @@ use Rattle.binlog_statistics.specs.declared.spliced_stats.SplicedStats.{SplicedS
 
 abbrev Item : Type 0
 Item = Result EventView Error
+
+-- What holds anyway holds, too.
+pub on_both : {T E P Q : Type 0} (result : Result T E) → Q → OnOk result P → OnOk result (P × Q)
+on_both (Ok x) same fact = (fact, same)
+on_both (Err e) same fact = tt
 
 abbrev Outside : VisitRelation SplicedStats
 Outside old maps index item new = CountsOutside old index item new
