@@ -16,17 +16,14 @@ use Rattle.binlog_json_lines.specs.Lines.{IsLine, map_of_event}
 use Rattle.binlog_json_lines.specs.Options.{RowOptions, options_of}
 use Rattle.binlog_json_lines.specs.PartLines.{map_of_part, part_error_object}
 use Rattle.binlog_payload_visits.specs.Parts.{Part}
-use Rattle.binlog_payload_visits.specs.PartVisits.{PartVisitRelation, PartRefusalRelation, VisitsSpliced, RefusesSpliced}
-use Rattle.binlog_payload_visits.specs.declared.spliced.Spliced.{Spliced}
-use Rattle.binlog_payload_checks.specs.Noting.{NotesItem, NotesPart, RefusesNoted, RefusesNotedPart}
-use Rattle.binlog_payload_checks.specs.declared.noted.Noted.{Noted}
+use Rattle.binlog_payload_visits.specs.PartVisits.{PartVisitRelation, PartRefusalRelation}
 use Rattle.binlog_payload_filters.specs.Filtering.{FiltersPayloads, RefusesTaken}
-use Rattle.binlog_payload_filters.specs.PartFiltering as parts
 use Rattle.binlog_payload_filters.specs.declared.filtered.PayloadFiltered.{PayloadFiltered}
 use Rattle.binlog_payload_filters.specs.declared.taken_parts.TakenParts.{TakenParts}
 use Rattle.binlog_change_lines.specs.EventTexts.{IsEventText, IsPartText}
 use Rattle.binlog_transaction_gtids.specs.Gtids.{FollowsGtid}
 use Rattle.binlog_change_lines.specs.Heads.{Place}
+use Rattle.binlog_change_lines.specs.InsideVisits.{Inside, VisitsInside, RefusesInside}
 use Rattle.binlog_change_lines.specs.declared.change_filter.ChangeFilter.{ChangeFilter}
 use Rattle.binlog_change_lines.specs.declared.change_writer.ChangeWriter.{ChangeWriter}
 
@@ -75,9 +72,9 @@ pub record BeginsFile {W : Type 0} (name : List ℕ) (old new : ChangeWriter W) 
   pub gtid : string_bytes new.gtid ≡ []
   pub kept : KeepsWritten old new
 
--- What shows a writer the items, and of their parts those that are taken, and counts the items of which a part is an error.
+-- The writer, which is shown the items, and of their parts those that are taken.
 abbrev pub Lines : Type 0 → Type 0
-Lines W = Spliced (Noted (TakenParts (ChangeWriter W)))
+Lines W = Inside (ChangeWriter W)
 
 -- The same with another writer.
 abbrev pub with_writer : {W : Type 0} → Lines W → ChangeWriter W → Lines W
@@ -146,23 +143,12 @@ module _ {W : Type 0} (contents : W → Option (List ℕ)) where
       WritesNoText (λ contradiction text. IsPartTextIn (options_of old.options) (place_at (Some number) old) maps index number part contradiction text) (contents old.output) error (contents new.output)
       × Keeps old new
 
-  -- What is written of an item, whatever tables are asked for.
-  abbrev pub WritesOutside : VisitRelation (TakenParts (ChangeWriter W))
-  WritesOutside old maps index item new = WritesItem old.visitor maps index item new.visitor × (new.tables ≡ old.tables)
-
-  abbrev pub RefusesOutside : RefusalRelation (TakenParts (ChangeWriter W))
-  RefusesOutside old maps index item error new = RefusesItem old.visitor maps index item error new.visitor × (new.tables ≡ old.tables)
-
   -- The texts of the item and of those of its parts are written that are of the tables, and the item is counted if a part is an error.
   abbrev pub WritesAll : VisitRelation (Lines W)
-  WritesAll old maps index item new =
-      VisitsSpliced (NotesItem WritesOutside) (NotesPart (parts.ShowsTaken WritesPart)) old.limit old.visitor maps index item new.visitor × (new.limit ≡ old.limit)
+  WritesAll = VisitsInside WritesItem WritesPart
 
   abbrev pub RefusesAll : RefusalRelation (Lines W)
-  RefusesAll old maps index item error new =
-      RefusesSpliced (NotesItem WritesOutside) (NotesPart (parts.ShowsTaken WritesPart)) (RefusesNoted RefusesOutside) (RefusesNotedPart (parts.RefusesTaken RefusesPart))
-      old.limit old.visitor maps index item error new.visitor
-      × (new.limit ≡ old.limit)
+  RefusesAll = RefusesInside WritesItem WritesPart RefusesItem RefusesPart
 
   -- The writer is told where the item stands: where an event begins, by `position`, and the GTID of its transaction. Behind an error the
   -- GTID isn't known, since the damaged event may have been that of a GTID.
