@@ -10,7 +10,7 @@ use Rattle.binlog_cli.specs.declared.output.Output.{Output}
 use Rattle.binlog_cli.specs.declared.exit_status.Outcome.{Outcome}
 use Rattle.binlog_cli.specs.declared.exit_status.Status.{Status}
 use Rattle.binlog.specs.Commands.{bytes_of, Begins, Ends}
-use Rattle.binlog.specs.InsideVisits.{Inside, visitor_of, VisitsInside, RefusesInside}
+use Rattle.binlog_change_lines.specs.InsideVisits.{Inside, visitor_of, VisitsInside, RefusesInside}
 use Rattle.binlog.specs.Reading.{ShowsTaken}
 use Rattle.binlog.specs.Requests.{StatesTablesOf}
 

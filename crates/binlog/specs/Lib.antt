@@ -7,7 +7,6 @@ pub mod Changes
 pub mod Columns
 pub mod Requests
 pub mod WrittenRows
-pub mod InsideVisits
 pub mod CountedFiles
 pub mod TypeStatistics
 pub mod TableStatistics
