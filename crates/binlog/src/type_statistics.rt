@@ -52,7 +52,7 @@ fn write_types<R: Eprint + AllocGlobal, W: Write>(
 fn write_lines<W: Write>(alloc: Global, stats: &SplicedStats, output: &mut W) -> Result<(), Error>
     ensures { OnOk result (Appends (W.contents output.old) (W.contents output.new) (types_json stats.now.outside ++ inner_json stats.now.inside)) }
 {
-    write_types_json(alloc, &stats.outside, output)?;
+    write_types_json(alloc, &stats.outside, &mut *output)?;
     write_inner_types_json(alloc, &stats.inside, output)
 }
 
@@ -60,6 +60,6 @@ fn write_lines<W: Write>(alloc: Global, stats: &SplicedStats, output: &mut W) ->
 fn write_text<W: Write>(stats: &SplicedStats, output: &mut W) -> io::Result<()>
     ensures { OnOk result (Writes (λ text. IsTypesText stats.now text) (W.contents output.old) (W.contents output.new)) }
 {
-    write_stats(&stats.outside, output)?;
+    write_stats(&stats.outside, &mut *output)?;
     write_inner_types(&stats.inside, output)
 }
