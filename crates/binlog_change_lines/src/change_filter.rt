@@ -93,7 +93,8 @@ impl<W> ChangeFilter<W> {
     pub fn into_output(self) -> W
         ensures { result ≡ (writer_of self).output }
     {
-        let spliced = self.filtered.filtered.visitor;
+        let filtered = self.filtered;
+        let spliced = filtered.filtered.visitor;
         let writer = spliced.visitor.visitor.visitor;
         writer.output
     }
