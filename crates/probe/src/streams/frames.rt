@@ -9,6 +9,7 @@ use zstd_decode::{ZstdError, decompress};
 const NUMBER: usize = 8;
 
 // A question: the most bytes of content, and the frames.
+#[derive(Clone, Copy, Drop)]
 struct Question<'a> {
     limit: usize,
     frames: &'a [u8],
