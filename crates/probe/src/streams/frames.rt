@@ -22,7 +22,7 @@ fn number(bytes: &[u8]) -> Option<(usize, &[u8])> {
 }
 
 // The question at the front of the bytes, and the bytes behind it.
-fn question(bytes: &[u8]) -> Option<(Question<'_>, &[u8])> {
+fn next_question(bytes: &[u8]) -> Option<(Question<'_>, &[u8])> {
     let (limit, rest) = number(bytes)?;
     let (size, rest) = number(rest)?;
     let (frames, rest) = rest.split_at_checked(size)?;
@@ -57,7 +57,7 @@ pub(crate) fn run(rt: &(impl Input + Print + AllocGlobal)) -> io::Result<()> {
     let mut rest = questions.as_slice();
     // Each question has at least one byte.
     for _ in 0..questions.len() {
-        let Some((asked, behind)) = question(rest) else {
+        let Some((asked, behind)) = next_question(rest) else {
             break;
         };
         write_answer(rt.alloc(), &asked, &mut output)?;
