@@ -1,6 +1,9 @@
 //! Documents of binary JSON that are built: their bytes, worked by hand after MySQL's `json_binary.h`.
 
 use binlog::jsonb::{ArrayBuilder, Document, JsonWriteError, ObjectBuilder, OpaqueValue, OwnedDocument, Value};
+use binlog::raw::{BitView, ParseBuf};
+use binlog::row_writing::{NewValue, RowsBuilder};
+use binlog::values::{self, Column, TableColumns};
 
 /// The column types of opaque values.
 const TIMESTAMP: u8 = 7;
@@ -81,4 +84,19 @@ fn opaque_values_are_parts_of_documents() {
         other => panic!("{other:?}"),
     });
     assert_eq!(types.collect::<Vec<_>>(), [DATE, DECIMAL]);
+}
+
+// A row of an INT and a JSON column: the bits of its NULLs, the number, and the document behind its length.
+#[test]
+fn documents_are_written_into_rows() {
+    let columns = TableColumns::new(b"\x03\xf5", b"\x04").unwrap();
+    let number = document(DECIMAL, NUMBER);
+    let mut rows = RowsBuilder::insert(columns, BitView::new(&[3], 2).unwrap()).unwrap();
+    rows.push_row(None, Some(&[NewValue::Signed(1), NewValue::Json(number.as_bytes())])).unwrap();
+    let stored = [&b"\x08\0\0\0"[..], number.as_bytes()].concat();
+    assert_eq!(rows.rows_data(), [&b"\xfc\x01\0\0\0"[..], &stored].concat());
+    let column = Column::read(245, &mut ParseBuf(b"\x04")).unwrap();
+    let value = values::Value::read(&column, &mut ParseBuf(&stored)).unwrap();
+    let read = value.document().unwrap().unwrap();
+    assert!(matches!(read.value(), Value::Opaque(value) if value.data() == NUMBER));
 }
