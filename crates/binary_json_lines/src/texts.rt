@@ -50,9 +50,9 @@ fn members_have_text(object: &Object<'_>) -> bool
     true
 }
 
-/// Whether a value of a document has a text: all strings and keys in it are UTF-8, and all its floating-point numbers are finite.
+// Whether a value has a text.
 #[cycle(texts)]
-pub fn value_has_text(value: &Value<'_>) -> bool
+fn value_has_text(value: &Value<'_>) -> bool
     ensures has { OnTrue result (HasText (json value.now)) }
     ensures hasnt { OnFalse result (¬ (HasText (json value.now))) }
 {
@@ -65,7 +65,8 @@ pub fn value_has_text(value: &Value<'_>) -> bool
     }
 }
 
-/// Whether a document has a text, as [`value_has_text`] says of its value. Servers write no others.
+/// Whether a document has a text: all its strings and keys are UTF-8, and all its floating-point numbers are finite. Servers
+/// write no others.
 pub fn has_text(document: &Document<'_>) -> bool
     ensures has { OnTrue result (HasText (document_json document.now)) }
     ensures hasnt { OnFalse result (¬ (HasText (document_json document.now))) }
