@@ -5,9 +5,9 @@ Usage: make_document_logs.py FOLDER
 
 Each log has transactions of a table with a number and a document of some 1,000 bytes of binary JSON: an order with a customer, lines,
 coordinates and a history, whose documents have nested objects and arrays, integers, floating-point numbers, decimal numbers, dates
-and times, and texts, a few of which need an escape or aren't ASCII. In each transaction rows are inserted and updated. There is a large file (100 MB), a small
-one (5 MB) for counts of instructions, and `start_documents.binlog`, with the first transaction alone. The contents are the same in every
-run.
+and times, and texts, a few of which need an escape or aren't ASCII. In each transaction rows are inserted and updated. There is a large file (100 MB), a
+small one (5 MB) for counts of instructions, and `start_rows_documents.binlog`, with the first transaction alone. The contents are the
+same in every run.
 """
 
 import random
@@ -164,11 +164,11 @@ def events_and_documents():
 def make(folder):
     every, _ = events_and_documents()
     begin, first = mysql_start(), every[:EVENTS]
-    for name, target in (("documents", LARGE), ("documents_small", SMALL)):
+    for name, target in (("rows_documents", LARGE), ("rows_documents_small", SMALL)):
         path = folder / f"{name}.binlog"
         if not path.exists():
             write_repeated(path, begin, every, target)
-    write_repeated(folder / "start_documents.binlog", begin, first, len(begin) + sum(map(len, first)))
+    write_repeated(folder / "start_rows_documents.binlog", begin, first, len(begin) + sum(map(len, first)))
 
 
 def main(arguments):

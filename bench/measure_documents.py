@@ -73,7 +73,7 @@ def main(arguments):
     folder.mkdir(parents=True, exist_ok=True)
     make_document_logs.make(folder)
     baseline = build_baseline("json_baseline")
-    path, small, start = (folder / f"{name}.binlog" for name in ("documents", "documents_small", "start_documents"))
+    path, small, start = (folder / f"{name}.binlog" for name in ("rows_documents", "rows_documents_small", "start_rows_documents"))
     _, contents = make_document_logs.events_and_documents()
     texts = [model.text(model.read(content)) for content in contents]
     compared_lines(printer, baseline, small)
