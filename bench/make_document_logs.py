@@ -4,10 +4,10 @@
 Usage: make_document_logs.py FOLDER
 
 Each log has transactions of a table with a number and a document of some 1,000 bytes of binary JSON: an order with a customer, lines,
-coordinates and a history, whose documents have nested objects and arrays, integers, floating-point numbers, decimal numbers, dates
-and times, and texts, a few of which need an escape or aren't ASCII. In each transaction rows are inserted and updated. There is a large file (100 MB), a
-small one (5 MB) for counts of instructions, and `start_rows_documents.binlog`, with the first transaction alone. The contents are the
-same in every run.
+coordinates and readings. The documents have nested objects and arrays, integers, floating-point numbers, decimal numbers, dates and
+times, and texts, a few of which need an escape or aren't ASCII. In each transaction rows are inserted and updated. There is a large
+file (100 MB), a small one (5 MB) for counts of instructions, and `start_rows_documents.binlog`, with the first transaction alone. The
+contents are the same in every run.
 """
 
 import random
