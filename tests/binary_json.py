@@ -126,6 +126,8 @@ def words_of(value):
         yield f"d:{value.bits}"
     elif isinstance(value, bytes):
         yield f"s:{value.hex() or '-'}"
+    elif isinstance(value, Opaque):
+        yield f"o:{value.column}:{value.content.hex() or '-'}"
     elif isinstance(value, Members):
         yield "{"
         for key, member in value.pairs:
@@ -144,14 +146,14 @@ def building(words):
 
 
 def is_built(value):
-    """Whether the program builds such values: integers of the least width, and no opaque values."""
+    """Whether the program builds such values: integers of the least width."""
     if isinstance(value, Members):
         return all(is_built(member) for _, member in value.pairs)
     if isinstance(value, list):
         return all(map(is_built, value))
     if isinstance(value, Integer):
         return value == (model.signed if value.kind in model.SIGNED else model.unsigned)(value.number)
-    return not isinstance(value, Opaque)
+    return True
 
 
 def refused_members(pairs):

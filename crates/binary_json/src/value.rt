@@ -1,11 +1,11 @@
 //! Views of values.
-ghost use Rattle.std.specs.Prelude.{◌≡◌, from_bits, true, option_map};
+ghost use Rattle.std.specs.Prelude.{◌≡◌, false, from_bits, true, option_map, IfSome, IsNone};
 ghost use Rattle.std.specs.Float.{binary64};
 ghost use Rattle.binary_json.specs.Opaques.{is_opaque, decimal_of, packed_of};
 
 use crate::containers::{Array, Object};
 use crate::decimal::{Decimal, decimal_in};
-use crate::opaque::is_temporal;
+use crate::opaque::{is_opaque, is_temporal};
 use crate::scalar::text;
 use byteorder::{ByteOrder, LittleEndian};
 use std::num::f64_from_bits_with_nan;
@@ -72,6 +72,23 @@ impl Double {
 }
 
 impl<'a> OpaqueValue<'a> {
+    /// An opaque value of this column type, as the binary log numbers them, and of these bytes; None exactly if the bytes can't be of the
+    /// type. Those of a DECIMAL (246) are a precision of 1 to 81, a scale of at most 38 and at most the precision, and the packed digits;
+    /// those of a TIMESTAMP (7), a DATE (10), a TIME (11) or a DATETIME (12) are the packed number, eight bytes, the least significant first;
+    /// those of any other type are any bytes. Source: MySQL's documentation of its source code, `json_binary.h`, `decimal.h` and `my_time.h`.
+    pub fn new(value_type: u8, bytes: &'a [u8]) -> Option<OpaqueValue<'a>>
+        ensures some { IfSome result (λ value. (value.column ≡ value_type) × (value.bytes.now ≡ bytes.now) × (is_opaque value_type bytes.now ≡ true)) }
+        ensures none { IsNone result → is_opaque value_type bytes.now ≡ false }
+    {
+        if !is_opaque(value_type, bytes) {
+            return None;
+        }
+        Some(OpaqueValue {
+            column: value_type,
+            bytes,
+        })
+    }
+
     /// The column type, as the binary log numbers them: 246 is DECIMAL, 10 DATE, 11 TIME, 12 DATETIME, 7 TIMESTAMP.
     pub fn value_type(&self) -> u8
         ensures { result ≡ self.now.column }

@@ -12,8 +12,8 @@
 //!   `refused` and why, as Rust's `{:?}` writes it: `refused Change(NoMember)`.
 //! - `built WORD,WORD..` is answered with the bytes of the document that is built of the words, or with `refused` and why: `refused
 //!   KeyOrder`. The words are `null`, `true`, `false`, a signed integer as `i:-5`, an unsigned one as `u:5`, the bits of a
-//!   floating-point number as `d:0`, a string as `s:BYTES`, an array as `[`, its elements and `]`, and an object as `{`, a key as
-//!   `k:BYTES` in front of each value, and `}`.
+//!   floating-point number as `d:0`, a string as `s:BYTES`, an opaque value with its column type as `o:246:BYTES`, an array as `[`, its
+//!   elements and `]`, and an object as `{`, a key as `k:BYTES` in front of each value, and `}`.
 //! - `file BYTES` is answered with the columns of the file, or with `refused`, why, and the line and the column where:
 //!   `refused Position 2 5`. A column is its six fields with commas between, which are hexadecimal digits but the position; columns
 //!   have a `;` between, and no columns are `none`.

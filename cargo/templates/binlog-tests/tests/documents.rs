@@ -1,7 +1,7 @@
 //! Documents of JSON columns as `serde_json` has them, with the feature of this name.
 #![cfg(feature = "serde_json")]
 
-use binlog::jsonb::{Document, DocumentError};
+use binlog::jsonb::{Document, DocumentError, JsonWriteError, OwnedDocument};
 use binlog::raw::ParseBuf;
 use binlog::values::{Column, Value};
 use serde_json::json;
@@ -59,8 +59,45 @@ fn what_has_no_text_is_no_value() {
 fn a_column_of_documents() {
     let column = Column::read(245, &mut ParseBuf(b"\x04")).unwrap();
     let read = Value::read(&column, &mut ParseBuf(b"\x02\0\0\0\x04\x01")).unwrap();
-    let Value::Json(bytes) = read else {
-        panic!("{read:?}");
-    };
-    assert_eq!(value(bytes).unwrap(), json!(true));
+    let document = read.document().unwrap().unwrap();
+    assert_eq!(serde_json::Value::try_from(&document).unwrap(), json!(true));
+}
+
+/// The bytes of the document of a value.
+fn built(value: &serde_json::Value) -> Vec<u8> {
+    OwnedDocument::try_from(value).unwrap().into_bytes()
+}
+
+#[test]
+fn values_are_documents() {
+    assert_eq!(built(&json!(null)), b"\x04\0");
+    assert_eq!(built(&json!("a\u{e9}")), b"\x0c\x03a\xc3\xa9");
+    assert_eq!(built(&json!(-0.5)), b"\x0b\0\0\0\0\0\0\xe0\xbf");
+    assert_eq!(built(&json!([true])), b"\x02\x01\0\x07\0\x04\x01\0");
+    // Shorter keys come first.
+    let both = b"\0\x02\0\x15\0\x12\0\x01\0\x13\0\x02\0\x04\0\0\x04\x01\0baa";
+    assert_eq!(built(&json!({"aa": true, "b": null})), both);
+}
+
+// Signed ones below 2^32, and unsigned ones from there on.
+#[test]
+fn integers_have_the_types_of_servers() {
+    for (number, bytes) in [
+        (json!(-2), &b"\x05\xfe\xff"[..]),
+        (json!(65_535), b"\x07\xff\xff\0\0"),
+        (json!(u32::MAX), b"\x09\xff\xff\xff\xff\0\0\0\0"),
+        (json!(1u64 << 32), b"\x0a\0\0\0\0\x01\0\0\0"),
+        (json!(i64::MIN), b"\x09\0\0\0\0\0\0\0\x80"),
+    ] {
+        assert_eq!(built(&number), bytes, "{number}");
+    }
+}
+
+#[test]
+fn values_that_are_no_documents() {
+    let nested = (0..101).fold(json!(null), |value, _| json!([value]));
+    assert_eq!(OwnedDocument::try_from(&nested).unwrap_err(), JsonWriteError::TooDeep);
+    assert!(OwnedDocument::try_from(&nested[0]).is_ok());
+    let key = "k".repeat(65_536);
+    assert_eq!(OwnedDocument::try_from(&json!({key: null})).unwrap_err(), JsonWriteError::KeyTooLong);
 }

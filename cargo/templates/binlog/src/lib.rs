@@ -96,6 +96,7 @@ mod fast_float;
 mod gtids;
 mod inflate;
 mod json;
+mod json_columns;
 mod json_line;
 #[doc(hidden)]
 pub mod memory;
@@ -254,10 +255,10 @@ pub mod columns {
 
 /// The documents of JSON columns: MySQL's binary JSON.
 ///
-/// [`Document::read`](jsonb::Document::read) checks the bytes of [`Value::Json`](values::Value::Json), and
+/// [`Value::document`](values::Value::document) checks the bytes of [`Value::Json`](values::Value::Json), and
 /// [`Document::value`](jsonb::Document::value) is what they say. [`ArrayBuilder`](jsonb::ArrayBuilder) and
 /// [`ObjectBuilder`](jsonb::ObjectBuilder) make documents as a server writes them. With the feature `serde_json` a document is
-/// converted to a `serde_json::Value`.
+/// converted to a `serde_json::Value`, and such a value to an [`OwnedDocument`](jsonb::OwnedDocument).
 pub mod jsonb {
     pub use crate::binary_json::{Array, Decimal, Document, Double, Elements, JsonError, Members};
     pub use crate::binary_json::{Object, OpaqueValue, Refusal, Value};
@@ -267,7 +268,8 @@ pub mod jsonb {
     pub use crate::documents::DocumentError;
 }
 
-/// The diffs of partial updates of JSON columns. [`apply`](jsondiff::apply) gives the document after them.
+/// The diffs of partial updates of JSON columns, those of [`ColumnValue::diffs`](values::ColumnValue::diffs).
+/// [`apply`](jsondiff::apply) gives the document after them.
 pub mod jsondiff {
     pub use crate::binary_json::{JsonDiff, JsonDiffError, JsonDiffOperation, JsonDiffs};
     pub use crate::binary_json_writing::{JsonApplyError, JsonChangeError, apply};

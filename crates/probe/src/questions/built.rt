@@ -1,5 +1,6 @@
 //! Answers to questions of documents of binary JSON that are built.
 use crate::questions::bytes::bytes_of;
+use binary_json::OpaqueValue;
 use binary_json_writing::{ArrayBuilder, JsonWriteError, ObjectBuilder, OwnedDocument};
 use std::alloc::{AllocError, Global};
 
@@ -91,6 +92,17 @@ impl Building {
         }
     }
 
+    // An opaque value, by its column type and the digits of its bytes.
+    fn opaque(&self, column: &str, digits: &str) -> Result<OwnedDocument, Fault> {
+        match (column.parse::<u8>(), bytes_of(self.alloc, digits)) {
+            (Ok(column), Some(bytes)) => match OpaqueValue::new(column, &bytes) {
+                Some(value) => Ok(OwnedDocument::opaque(self.alloc, &value)?),
+                None => Err(Fault::Unknown),
+            },
+            _ => Err(Fault::Unknown),
+        }
+    }
+
     // A scalar, by a letter and what is behind it.
     fn scalar(&self, letter: &str, rest: &str) -> Result<OwnedDocument, Fault> {
         match letter {
@@ -105,6 +117,10 @@ impl Building {
             },
             "s" => match bytes_of(self.alloc, rest) {
                 Some(text) => Ok(OwnedDocument::string(self.alloc, &text)?),
+                None => Err(Fault::Unknown),
+            },
+            "o" => match rest.split_once(':') {
+                Some((column, digits)) => self.opaque(column, digits),
                 None => Err(Fault::Unknown),
             },
             _ => Err(Fault::Unknown),

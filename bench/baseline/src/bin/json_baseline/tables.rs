@@ -158,6 +158,7 @@ fn decoder(number: u8, metadata: &mut &[u8], is_unsigned: bool, states: &[&[u8]]
         }
         17 => take(metadata).filter(|digits| *digits == [0]).map(|_| Decoder::Timestamp2)?,
         18 => take(metadata).filter(|digits| *digits == [6]).map(|_| Decoder::DateTime2)?,
+        245 => take(metadata).filter(|width| *width == [4]).map(|_| Decoder::Json)?,
         246 => {
             let [precision, scale] = take(metadata)?;
             Decoder::Decimal(Decimal::new(precision, scale)?)

@@ -1,6 +1,7 @@
 //! Values of columns, each written where it stays.
 
 use crate::digits::{eight_digits, four_digits, pair, six_digits, write_number, write_signed};
+use crate::documents::write_document;
 use crate::line::{is_plain, part, write_string};
 use crate::tables::Piece;
 
@@ -15,6 +16,8 @@ pub enum Decoder {
     ShortText(u8),
     /// Behind a length of two bytes.
     Text,
+    /// Behind a length of four bytes.
+    Json,
     Decimal(Decimal),
     /// Seconds.
     Timestamp2,
@@ -47,6 +50,12 @@ pub fn write_value(decoder: &Decoder, rest: &mut &[u8], out: &mut [u8], at: usiz
         Decoder::Text => {
             let length = u16::from_le_bytes(take(rest)?);
             text(length.into(), rest, out, at)
+        }
+        Decoder::Json => {
+            let length = u32::from_le_bytes(take(rest)?);
+            let (document, left) = rest.split_at_checked(length as usize)?;
+            *rest = left;
+            write_document(document, out, at)
         }
         Decoder::Decimal(decimal) => decimal.write(rest, out, at),
         Decoder::Timestamp2 => Some(timestamp(u32::from_be_bytes(take(rest)?), out, at)),
@@ -130,7 +139,7 @@ fn halves(block: &[u8; 16]) -> (u64, u64) {
 
 /// A text, which is checked while it is copied, 16 bytes at a time.
 #[inline(always)]
-fn text(length: usize, rest: &mut &[u8], out: &mut [u8], at: usize) -> Option<usize> {
+pub fn text(length: usize, rest: &mut &[u8], out: &mut [u8], at: usize) -> Option<usize> {
     let all = *rest;
     let (text, left) = all.split_at_checked(length)?;
     *rest = left;
@@ -272,7 +281,7 @@ impl Decimal {
 
 /// A date with a year of at most four digits, and a time: the text without the quotation mark behind it.
 #[inline(always)]
-fn write_moment(place: &mut [u8; 40], [year, month, day]: [u32; 3], [hour, minute, second]: [u32; 3]) {
+pub fn write_moment(place: &mut [u8; 40], [year, month, day]: [u32; 3], [hour, minute, second]: [u32; 3]) {
     place[0] = b'"';
     place[1..3].copy_from_slice(&pair(year / 100));
     place[3..5].copy_from_slice(&pair(year % 100));
