@@ -6,8 +6,9 @@ Usage: binary_json.py FLAG [--count N] [--seed N]
 FLAG is one of `programs.py`: its program answers questions, which `crates/probe/src/questions.rt` lists. The cases are those of
 tests/cases/documents.txt. The model is `binary_json_model.py`: random documents as a server writes them, N damaged ones (100,000
 if it isn't stated), documents whose offsets name the same bytes again and again, 99 to 101 arrays within one another, offsets into
-headers, the greatest counts, and lengths of up to six bytes; and lists of diffs that are applied, by `json_diff_model.py`. All of them have to be answered within a minute. The last line is
-`N passed, M failed`; the exit status is 1 if something failed.
+headers, the greatest counts, and lengths of up to six bytes; and lists of diffs that are applied, by `json_diff_model.py`. The
+questions of each kind, and each 100,000 of damaged documents, have to be answered within a minute. The last line is `N passed, M
+failed`; the exit status is 1 if something failed.
 """
 
 import argparse
@@ -26,6 +27,7 @@ from binary_json_model import Double, Integer, Members, NoText, Opaque, Refused
 
 CASES = cases.CASES / "documents.txt"
 SECONDS = 60
+DAMAGED_OF_A_PART = 100_000
 
 KEYS = [b"", b"a", b"b", b"ab", b"key", "\u00e9".encode(), b"a\tb", b"k" * 300]
 STRINGS = [b"", b"x", b'"\\/\b\f\n\r\t\x00\x1f\x7f', "\u20ac\U0001f600".encode(), b"s" * 127, b"s" * 128, b"s" * 20000, b"\xff", b"\xed\xa0\x80"]
@@ -453,8 +455,9 @@ def all_failures(words, count, seed):
     contents = [*documents, *crafted()]
     yield from compared("rewritten", words, ((f"rewritten {content.hex() or '-'}", rewritten(content)) for content in contents))
     short = [content for content in documents if len(content) < 600]
-    contents = (damaged(rng, rng.choice(short)) for _ in range(count))
-    yield from compared("damaged", words, ((question(content), answer(content)) for content in contents))
+    for first in range(0, count, DAMAGED_OF_A_PART):
+        contents = [damaged(rng, rng.choice(short)) for _ in range(min(DAMAGED_OF_A_PART, count - first))]
+        yield from compared("damaged", words, ((question(content), answer(content)) for content in contents))
 
 
 def answer_of(value):

@@ -5,12 +5,14 @@ Usage: debian_data.py FLAG
 
 FLAG is one of `programs.py`. Each log is listed, printed as lines of JSON, and its GTIDs are listed, as the models do. The tables
 are MySQL 5.7's, with columns of type JSON: each of their documents is read as the text that MySQL gave for it, which stands beside
-it, and is written again as the bytes that MySQL wrote. Where the package isn't installed it is unpacked in a folder, if apt-get
-can download it within `SECONDS_TO_DOWNLOAD`; nothing is installed. The last line is `N passed, M failed`; the exit status is 1 if
-something failed.
+it, and is written again as the bytes that MySQL wrote. These documents and random ones have the text that a MariaDB server gives by
+its plugin for them (`maria_documents.py`), where one can run. Where the package isn't installed it is unpacked in a folder, if
+apt-get can download it within `SECONDS_TO_DOWNLOAD`; nothing is installed. The last line is `N passed, M failed`; the exit status
+is 1 if something failed.
 """
 
 import argparse
+import random
 import subprocess
 import sys
 import tempfile
@@ -18,14 +20,19 @@ from pathlib import Path
 
 import damaged_copies
 import listing_model
+import maria_documents
 import mysql_documents
 import programs
 import results
+from maria_daemon import LeftOut
 
 PACKAGE = "mariadb-test-data"
 INSTALLED = Path("/usr/share/mysql/mysql-test")
 SECONDS_TO_DOWNLOAD = 60
 SECONDS_TO_READ = 60
+
+TABLES = "std_data/mysql_json/mysql_json_test*.MYD"
+RANDOM_DOCUMENTS = 5_000
 
 PURPOSES = ["list", "list a slice", "json", "gtids"]
 
@@ -99,27 +106,57 @@ def documents(record):
         place += 4 + length
 
 
+def rows_of(path):
+    return [tuple(documents(record)) for record in records(path.read_bytes())]
+
+
+def answers(command, asked):
+    """The answers to questions; that there are others, for each, if they aren't as many."""
+    finished = subprocess.run(command, input="".join(f"{line}\n" for line in asked).encode(), capture_output=True, timeout=SECONDS_TO_READ)
+    found = finished.stdout.decode().splitlines()
+    return found if len(found) == len(asked) else [f"one of {len(found)} answers to {len(asked)}"] * len(asked)
+
+
+def text_failure(name, answer, text, strict=True):
+    """None if the answer is the document of the server's text, else what is wrong."""
+    try:
+        is_same = mysql_documents.is_same(mysql_documents.of_text(answer), mysql_documents.of_text(text, strict))
+    except ValueError:
+        is_same = False
+    return None if is_same else f"{name} is {answer[:200]}, and not {text[:200]}"
+
+
 def table_results(command, path):
     """What is wrong with the answers for the documents of a table."""
-    rows = [tuple(documents(record)) for record in records(path.read_bytes())]
-    asked = "".join(f"document {found.hex()}\nrewritten {found.hex()}\n" for _, found in rows)
-    finished = subprocess.run(command, input=asked.encode(), capture_output=True, timeout=SECONDS_TO_READ)
-    answers = finished.stdout.decode().splitlines()
-    if len(answers) != 2 * len(rows):
-        yield f"{path.name}: {len(answers)} answers, and not {2 * len(rows)}"
-        return
-    for index, (text, found) in enumerate(rows):
-        shown, written = answers[2 * index : 2 * index + 2]
-        is_same = mysql_documents.is_same(mysql_documents.of_text(shown), mysql_documents.of_text(text.decode()))
-        yield None if is_same else f"{path.name}: document {index} is {shown[:200]}, and not {text[:200]}"
-        yield None if written == found.hex() else f"{path.name}: document {index} is written as other bytes"
+    rows = rows_of(path)
+    found = answers(command, [f"{word} {document.hex()}" for _, document in rows for word in ("document", "rewritten")])
+    for index, (text, document) in enumerate(rows):
+        shown, written = found[2 * index : 2 * index + 2]
+        yield text_failure(f"{path.name}: document {index}", shown, text.decode())
+        yield None if written == document.hex() else f"{path.name}: document {index} is written as other bytes"
 
 
-def all_results(build, data):
+def plugin_results(command, data, folder):
+    """The same for the documents of all tables, and for random ones, beside the texts of MariaDB's plugin, which escapes no control
+    character."""
+    tables = sorted(data.glob(TABLES))
+    asked = [document for path in tables for _, document in rows_of(path)]
+    asked += maria_documents.random_documents(random.Random(59), RANDOM_DOCUMENTS)
+    texts = maria_documents.shown(asked, tables[0].with_suffix(".frm"), folder)
+    found = answers(command, [f"document {document.hex()}" for document in asked])
+    for document, answer, text in zip(asked, found, texts, strict=True):
+        yield text_failure(f"{document.hex()[:200]}, by the plugin,", answer, text, strict=False)
+
+
+def all_results(build, data, folder):
     yield from log_results(build, data)
     for command in build.commands("documents"):
-        for path in sorted(data.glob("std_data/mysql_json/mysql_json_test*.MYD")):
+        for path in sorted(data.glob(TABLES)):
             yield from table_results(command, path)
+        try:
+            yield from plugin_results(command, data, folder)
+        except LeftOut as reason:
+            print(f"{reason}: no documents are compared with those of MariaDB's plugin")
 
 
 def main():
@@ -130,7 +167,7 @@ def main():
         data = data_in(Path(folder))
         if data is None:
             return results.left_out(f"there is no {PACKAGE}, and it can't be downloaded")
-        return results.report(all_results(arguments.build, data))
+        return results.report(all_results(arguments.build, data, Path(folder)))
 
 
 if __name__ == "__main__":

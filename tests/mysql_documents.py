@@ -11,9 +11,9 @@ from decimal import Decimal
 STEP = re.compile(r'\.(?:"((?:[^"\\]|\\.)*)"|([^.\[]+))|\[(\d+)\]')
 
 
-def of_text(text):
-    """The document of the server's text."""
-    return json.loads(text, parse_int=Decimal, parse_float=Decimal)
+def of_text(text, strict=True):
+    """The document of the server's text; if it isn't strict, the text may have control characters."""
+    return json.loads(text, strict=strict, parse_int=Decimal, parse_float=Decimal)
 
 
 class Number(float):

@@ -51,6 +51,7 @@ LOGS = {
     "MariaDB's GTIDs": samples.maria_gtids(),
     "long events": samples.plain() + 3 * LONG_EVENT,
     "MariaDB's events": (programs.REPOSITORY / "tests/samples/maria.binlog").read_bytes(),
+    "documents": row_lines.documents_sample(),
 }
 
 

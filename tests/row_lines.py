@@ -33,6 +33,8 @@ ROTATE, TABLE_MAP, PARTIAL_UPDATE = 4, 19, 39
 ROW_TYPES = {kind[0] for kind in encode.ROWS_KINDS}
 WRITE, UPDATE, DELETE = WHOLE[3], WHOLE[4], WHOLE[5]
 INT, TEXT = 3, 15
+# More bytes than a buffer has before it grows.
+LONG = 5_000
 
 
 # ---- what is wanted of a log
@@ -57,6 +59,36 @@ def sample():
     events = [FIRST, written(1, 7, b"a"), OTHER, written(2, 8, b"b"), written(2, 9, b"c" * 11), written(3, 1, b"")]
     content = content_of(VERSIONS[0], events)
     return content, json_model.expected(content)[0]
+
+
+def documents_sample():
+    """A log with documents of each kind of value, some of them without a text, and with partial updates, of which some have no
+    document after them."""
+    number = lambda value: value.to_bytes(4, "little")
+    document, diffs = row_values.document_cell, row_values.diffs_cell
+    row = lambda first, second: b"\0" + number(7) + document(first) + document(second)
+    values = [value for value, _ in row_events.DOCUMENTS]
+    inserted = [row(values, values[-1]), b"\2" + number(8) + document(b"\xff"), row(None, [row_events.WITHOUT_TEXT, b"a"])]
+    updated = row([b"s" * LONG], [None]) + row([[b"s" * LONG], None], [b"a" * 300])
+    lists = [([b"s" * LONG, [None]], [("insert", b"$[last]", [b"t" * LONG]), ("remove", b"$[0]", [])])]
+    lists += [(value, found) for value, found, *_ in row_values.changed_documents() if len(document(value) + diffs(found)) < 100]
+    changed = [
+        row(first, second) + b"\1\3\0" + number(9) + diffs(diffs_of_first) + diffs(diffs_of_second)
+        for (first, diffs_of_first), (second, diffs_of_second) in zip(lists[::2], lists[1::2])
+    ]
+    # Without the documents before: a list and a document, and bytes that are no list.
+    without = [b"\0" + number(7) + b"\1\1\0" + number(9) + diffs(found) + document(value) for value, found in lists]
+    without.append(b"\0" + number(7) + b"\1\3\2" + number(9) + row_events.counted(b"\3", 4))
+    table = named_map(1, "shop", "orders", [b"id", b"doc", b"other"], bytes([INT, row_values.JSON, row_values.JSON]), b"\4\4")
+    every, first = [True] * 3, [True, False, False]
+    events = [
+        table,
+        row_event(WRITE, 1, every, every, b"".join(inserted)),
+        row_event(UPDATE, 1, every, every, updated),
+        row_event(row_values.PARTIAL, 1, every, every, b"".join(changed)),
+        row_event(row_values.PARTIAL, 1, first, every, b"".join(without)),
+    ]
+    return content_of(VERSIONS[0], events)
 
 
 # ---- runs
