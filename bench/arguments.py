@@ -3,10 +3,10 @@
 import sys
 
 
-def arguments(usage):
-    """The arguments, where none is a flag. A flag ends the script: `--help` prints how it is used, any other one is refused."""
+def arguments(usage, known=()):
+    """The arguments. A flag that isn't known ends the script: `--help` prints how it is used, any other one is refused."""
     given = sys.argv[1:]
-    flags = [word for word in given if word.startswith("-")]
+    flags = [word for word in given if word.startswith("-") and word not in known]
     if "--help" in flags or "-h" in flags:
         print(usage.strip())
         sys.exit(0)

@@ -25,6 +25,8 @@ import time
 from collections import defaultdict
 from pathlib import Path
 
+from arguments import arguments
+
 CRATES = Path(__file__).resolve().parent.parent / "crates"
 
 # The modules that rattle makes of a function, below its path.
@@ -102,11 +104,10 @@ def files_of(crate, is_checked):
     return written_files(max(folders, key=lambda folder: folder.stat().st_mtime)) if folders else []
 
 
-def main():
-    given = sys.argv[1:]
-    is_checked = given[:1] == ["--check"]
-    given = given[is_checked:]
-    if len(given) not in (1, 2) or given[0].startswith("-"):
+def main(given):
+    is_checked = "--check" in given
+    given = [word for word in given if word != "--check"]
+    if len(given) not in (1, 2):
         print(__doc__, file=sys.stderr)
         return 64
     crate, count = given[0], int(given[1]) if len(given) == 2 else 40
@@ -122,4 +123,4 @@ def main():
 
 
 if __name__ == "__main__":
-    sys.exit(main())
+    sys.exit(main(arguments(__doc__, ["--check"])))

@@ -1,7 +1,20 @@
 #!/bin/sh
 # Measures the programs against the baselines; see README.md.
-# Usage: run.sh [LISTING [BENCH [SLICE_LISTING]]]
 set -eu
+
+usage="usage: run.sh [LISTING [BENCH [SLICE_LISTING]]]"
+for word; do
+    case $word in
+    -h | --help)
+        echo "$usage"
+        exit 0
+        ;;
+    -*)
+        echo "no such flag: $word; $usage" >&2
+        exit 64
+        ;;
+    esac
+done
 
 here=$(cd "$(dirname "$0")" && pwd)
 lister=${1:-$here/../crates/binlog_list/out/binlog_list}
