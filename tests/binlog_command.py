@@ -29,6 +29,7 @@ from pathlib import Path
 import compact_model
 import encoded_events
 import encoded_logs
+import grouped_events
 import gtid_model
 import json_model
 import listing_model
@@ -41,6 +42,7 @@ import results
 import row_lines
 import row_values
 import samples
+import statistics_model
 import table_filters
 from damaged_copies import EVENT, MAGIC, PROCESSES_AT_A_TIME, SIZE_OFFSET, frame_starts, with_byte
 from programs import REPOSITORY
@@ -438,6 +440,8 @@ def compressed_tables(runner):
     shown = [text for text in json_model.expected(log)[0].splitlines(keepends=True) if json.loads(text)["index"] in indexes]
     shown = [text for text in shown if b'"part"' not in text or b'"error":"' in text]
     yield runner.check(["json", *words, "0.bin"], Result(b"".join(shown), DAMAGED, named), [log])
+    shown = [text for text in shown if b'"part"' in text]
+    yield runner.check(["json", "--compact", *words, "0.bin"], Result(b"".join(shown), DAMAGED, named), [log])
     # The other filters decide over the event outside.
     yield runner.check(["list", *words, "--type", "GTID", "0.bin"], Result(b""), [log])
     yield runner.check(["list", *words, "--stop-position", "4", "0.bin"], Result(b""), [log])
@@ -448,6 +452,9 @@ def compressed_tables(runner):
             runner.run(["list", "0.bin"], [log])
             wanted = Result(json_lines(runner, events, asked, indexes), messages=left_out(count))
             yield runner.check(["json", *asked.words, "0.bin"], wanted)
+            is_taken = lambda index, part: index in indexes and (part is None or asked.takes_inside(events[index].inside[part]))
+            rows, status = compact_model.expected(log, "0.bin", is_taken=is_taken)
+            yield runner.check(["json", "--compact", *asked.words, "0.bin"], Result(rows, status, left_out(count)))
 
 
 def read_back(runner, log, events, asked):
@@ -530,7 +537,7 @@ def refused_payload(place, log, index, errors):
 
 
 def compressed(runner):
-    """An event whose compressed transaction can't be read is damaged for `verify` and `json`, and for no other command."""
+    """An event whose compressed transaction can't be read is damaged for `verify`, `json` and `stats`, and for no other command."""
     every = list(payload_lines.refused())
     for body, errors in every:
         log = compressed_log(body, body)
@@ -539,9 +546,10 @@ def compressed(runner):
         yield runner.check(["verify", "0.bin"], Result(tally(log, count), status, messages), [log])
         yield runner.check(["verify", "-q", "0.bin"], Result(b"", status, messages), [log])
         yield runner.check(["json", "0.bin"], Result(json_model.expected(log)[0], status, messages), [log])
+        yield runner.check(["json", "--compact", "0.bin"], Result(compact_model.expected(log, "0.bin")[0], status, messages), [log])
         yield runner.check(["list", "0.bin"], Result(lines(log, range(4))), [log])
         yield runner.check(["gtids", "0.bin"], Result(f"{SID.replace('-', '')} 1-2 gaps -\n".encode()), [log])
-        yield runner.check(["stats", "0.bin"], Result(counts_of(log, transactions=2)), [log])
+        yield runner.check(["stats", "0.bin"], Result(counts_of(log, transactions=2), status, messages), [log])
         yield runner.check(["copy", "-o", "-", "0.bin"], Result(log), [log])
     yield from other_compressed(runner, every)
 
@@ -600,7 +608,9 @@ def counts_of(log, indexes=None, transactions=0, names=json_model.NAMES):
         sizes = [len(frame) for frame, kind in zip(taken, kinds) if kind == number]
         row = f"{len(sizes)} events {sum(sizes)} bytes {sum(sizes) * 100 // size}%"
         wanted += [f"type {names.get(number, number)} {row}"]
-    return "".join(line + "\n" for line in wanted).encode()
+    counts = statistics_model.Counts(takes=lambda index, part: index in indexes).add_log(log)
+    inside = grouped_events.inside_text([event for event in counts.events if event.is_inside], counts.damaged_inside)
+    return "".join(line + "\n" for line in wanted).encode() + inside
 
 
 def stats(runner):
@@ -608,7 +618,7 @@ def stats(runner):
     yield runner.check(["stats", "0.bin"], Result(counts_of(SAMPLE)), [SAMPLE])
     finished = runner.run(["stats", "0.bin", "0.bin"], [transactions(1, 2)])
     yield None if b"\ntransactions 4\n" in finished.stdout else f"stats: {finished.stdout!r}"
-    log = MAGIC + b"".join(samples.frame(number, bytes(8), 0) for number in range(256) if number not in (15, 19))
+    log = MAGIC + b"".join(samples.frame(number, bytes(8), 0) for number in range(256) if number not in (15, 19, json_model.PAYLOAD))
     # 33, 34 and 42 begin MySQL's transactions, and 162 MariaDB's.
     names_of_both = json_model.NAMES | maria_json_model.NAMES
     yield runner.check(["stats", "0.bin"], Result(counts_of(log, transactions=4, names=names_of_both)), [log])

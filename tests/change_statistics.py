@@ -7,7 +7,8 @@ FLAG is one of `programs.py`: it says which `binlog` is run. The text and the li
 `statistics_model.py`: over logs of both servers whose table ids are given to one table after another, over N damaged row events of
 every type of column (4,000 if not given), over damaged copies, over several files, with filters, and with `--top`. A log of 65,536
 tables is counted, and one of 65,537 has a message and the status 3; so has a transaction of as many tables. MariaDB's compressed row
-events are made by Python's zlib, some damaged before they are compressed, some behind. The last line is `N passed, M failed`; the exit
+events are made by Python's zlib, some damaged before they are compressed, some behind. Compressed transactions of MySQL's are those of
+`payload_lines.py`, many of them damaged. The last line is `N passed, M failed`; the exit
 status is 1 if something failed.
 """
 
@@ -23,6 +24,7 @@ import event_data_model
 import grouped_events
 import maria_events
 import maria_json_model
+import payload_lines
 import programs
 import results
 import row_events
@@ -84,7 +86,7 @@ class Runner:
         for log in logs:
             counts.add_log(log)
         for grouping in ((), ("--by", "type")):
-            finished, wanted = self.run(logs, [*words, *grouping, "--json"]), grouped_events.types_json(counts.events, counts.damaged)
+            finished, wanted = self.run(logs, [*words, *grouping, "--json"]), grouped_events.types_json(counts.events, counts.damaged, counts.damaged_inside)
             is_right = finished.returncode in (FINE, DAMAGED) and finished.stdout == wanted
             yield None if is_right else f"{name} {words}: status {finished.returncode}, {finished.stdout}, not {wanted} {finished.stderr[-200:]}"
 
@@ -287,6 +289,34 @@ def compressed_events(runner):
         yield from runner.check(f"{len(content)} bytes of rows", [log_of(True, [one_row_map(1, b"d", b"t"), event])], statuses=(FINE,))
 
 
+def compressed_transactions(runner, count):
+    """Events inside compressed transactions, many of them damaged, and those of the tables that filters take."""
+    chance = random.Random(64)
+    for number in range(count):
+        log = payload_lines.random_log(chance)
+        name = f"compressed transactions, log {number}"
+        yield from runner.check(name, [log])
+        yield from runner.check_types(name, [log])
+        yield from runner.check_intervals(name, [log], 60, "1m")
+        yield from runner.check_transactions(name, [log])
+    events = [gtid(1, False), payload_lines.with_payload(chance, [one_row_map(1, b"d", b"t"), inserted(1, 7, 8), payload_lines.XID], "none")]
+    finished = runner.run([log_of(False, events)], ["--by", "transaction", "--json"])
+    of_all = f'"events":5,"bytes":{sum(len(framed(*event)) for event in events)},"inserted":2'
+    of_table = f'"events":1,"bytes":{len(framed(*inserted(1, 7, 8)))},"inserted":2'
+    is_right = of_all.encode() in finished.stdout and of_table.encode() in finished.stdout
+    yield None if is_right else f"a compressed transaction: {finished}, not {of_all}, {of_table}"
+    for seed in range(4, 8):
+        log, made = table_filters.log(seed, False, 150)
+        for asked in (table_filters.Asked(*names) for names in table_filters.ASKED):
+            indexes, _ = table_filters.taken(made, asked, False)
+            takes = lambda index, part: index in indexes and (part is None or asked.takes_inside(made[index].inside[part]))
+            counts = Counts(takes=takes).add_log(log)
+            yield from runner.compare(f"tables, log {seed}", [log], [*asked.words, "--by", "table"], counts.text(), counts.json())
+            finished = runner.run([log], [*asked.words, "--json"])
+            is_right = finished.stdout == grouped_events.types_json(counts.events, counts.damaged, counts.damaged_inside)
+            yield None if is_right else f"tables by type, log {seed} {asked.words}: {finished.stdout[:300]}"
+
+
 def damaged_copies(runner):
     chance, log = random.Random(7), transactions(3, False, 60)
     for _ in range(DAMAGED_COPIES):
@@ -353,6 +383,7 @@ def main():
         runner = Runner(arguments.build.command("binlog"), folder)
         found = [result for part in (random_logs, several_files, by_type, by_time, by_transaction, compressed_events, damaged_copies, names, caps, transaction_caps, interval_caps, usage) for result in part(runner)]
         found += damaged_events(runner, arguments.count)
+        found += compressed_transactions(runner, arguments.count // 20)
     return results.report(found)
 
 

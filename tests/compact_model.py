@@ -88,28 +88,30 @@ def event_lines(place, whole, frame, found, in_force, tables):
     return [whole] if is_whole(frame, data, found, in_force) else []
 
 
-def payload_lines(place, index, frame, in_force, keeps_stored, declared):
-    """The lines of the events in an event with a payload."""
+def payload_lines(place, index, frame, in_force, keeps_stored, declared, is_taken):
+    """The lines of the events in an event with a payload, and whether one is an error."""
     data, _ = listing_model.cut(frame, in_force.algorithm)
     whole = lambda number, item, members="": json_model.line(index, {"part": number} | item, members)
     try:
         content = bytes(payload_model.content_of(*payload_model.event_of(data), json_model.MOST_CONTENT))
     except payload_model.Refusal as refusal:
-        return [whole(0, json_model.refusal_object(str(refusal)))]
+        return [whole(0, json_model.refusal_object(str(refusal)))], True
     frames, refusal = payload_model.inner_frames(content)
-    inside, tables, lines = in_force._replace(algorithm=listing_model.OFF), Rows(declared), []
+    inside, tables, lines, has_errors = in_force._replace(algorithm=listing_model.OFF), Rows(declared), [], refusal is not None
     for number, inner in enumerate(frames):
         found, members = json_model.frame_object(inner, inside, tables, keeps_stored)
         if "error" in found:
             lines.append(whole(number, {"error": "Event", "number": found["error"]}))
-        else:
+            has_errors = True
+        elif is_taken(index, number):
             at = {"file": place["file"], "pos": place["pos"], "part": number, "gtid": place["gtid"]}
             lines += event_lines(at, whole(number, found, members), inner, found, inside, tables)
-    return lines + ([whole(len(frames), json_model.refusal_object(refusal))] if refusal else [])
+    return lines + ([whole(len(frames), json_model.refusal_object(refusal))] if refusal else []), has_errors
 
 
-def expected(content, file, keeps_stored=False, declared=None):
-    """The standard output and the exit status for a file of this name and content."""
+def expected(content, file, keeps_stored=False, declared=None, is_taken=lambda index, part: True):
+    """The standard output and the exit status for a file of this name and content. `is_taken` says whether a filter takes an event, and
+    with the number of an event inside whether it takes that; of an event that isn't taken, nothing inside is."""
     if content[:4] != listing_model.FILE_HEADER:
         return b"", listing_model.STATUS_NOT_A_BINLOG
     frames, tail = listing_model.split(content[4:])
@@ -128,9 +130,11 @@ def expected(content, file, keeps_stored=False, declared=None):
         if listing_model.type_number(frame) in (*GTIDS, ANONYMOUS, MARIA_GTID):
             gtid = gtid_text(frame, data, in_force)
         place = {"file": file, "pos": position, "gtid": gtid or None}
-        lines += event_lines(place, whole, frame, found, in_force, tables)
-        if listing_model.type_number(frame) == json_model.PAYLOAD:
-            lines += payload_lines(place, index, frame, in_force, keeps_stored, declared)
+        if is_taken(index, None):
+            lines += event_lines(place, whole, frame, found, in_force, tables)
+            if listing_model.type_number(frame) == json_model.PAYLOAD:
+                inside, is_damaged = payload_lines(place, index, frame, in_force, keeps_stored, declared, is_taken)
+                lines, has_errors = lines + inside, has_errors or is_damaged
         position = None if position is None else position + len(frame)
     if listing_model.is_undersized(tail):
         lines.append(json_model.line(len(frames), {"error": 3}))

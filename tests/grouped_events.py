@@ -21,14 +21,17 @@ TYPE_NAMES = json_model.NAMES | maria_json_model.NAMES
 @dataclass
 class Event:
     """What is counted of an event: its index in its log, its type, whether a transaction begins with it, its rows by how they change a
-    table, where it ends, and the GTID of the transaction that begins with it."""
+    table, where it ends, and the GTID of the transaction that begins with it. One inside a compressed transaction takes no bytes of the
+    log, and ends with the event that has the transaction."""
 
     index: int
     kind: int
     begins: bool
     time: int
     bytes: int
+    size: int
     end: int
+    is_inside: bool = False
     change: str = ""
     rows: int = 0
     is_unread: bool = False
@@ -37,9 +40,9 @@ class Event:
     gtid: str = ""
 
 
-def counts_of(events):
+def counts_of(events, bytes_of=lambda event: event.bytes):
     rows = {change: sum(event.rows for event in events if event.change == change) for change in CHANGES}
-    sizes = {"events": len(events), "bytes": sum(event.bytes for event in events), "transactions": sum(event.begins for event in events)}
+    sizes = {"events": len(events), "bytes": sum(map(bytes_of, events)), "transactions": sum(event.begins for event in events)}
     return sizes | rows | {"unread_events": sum(event.is_unread for event in events)}
 
 
@@ -104,18 +107,42 @@ def type_of(kind):
     return {"type": kind, "name": TYPE_NAMES.get(kind)}
 
 
-def types_json(events, damaged):
-    """The lines of all types, and of each. The largest event is the first one of its size."""
+def types_json(every, damaged, damaged_inside):
+    """The lines of all types, and of each, and the same of the events inside. The largest event is the first one of its size."""
+    events, inside = ([event for event in every if event.is_inside == is_inside] for is_inside in (False, True))
     first, last = (events[0].time, events[-1].time) if events else (None, None)
     largest = max(events, key=lambda event: event.bytes, default=None)
     head = {"events": len(events), "bytes": sum(event.bytes for event in events), "damaged": damaged, "transactions": sum(event.begins for event in events)}
     head |= {"first_time": first, "last_time": last}
     head["largest"] = largest and {"index": largest.index, "bytes": largest.bytes} | type_of(largest.kind)
-    by_kind = {}
+    lines = [type_of(kind) | {"events": len(found), "bytes": sum(event.bytes for event in found)} for kind, found in by_kind(events)]
+    return "".join(map(line, [head, *lines])).encode() + inside_json(inside, damaged_inside)
+
+
+def by_kind(events):
+    """The events of each type, in ascending order."""
+    found = {}
     for event in events:
-        by_kind.setdefault(event.kind, []).append(event)
-    lines = [type_of(kind) | {"events": len(found), "bytes": sum(event.bytes for event in found)} for kind, found in sorted(by_kind.items())]
+        found.setdefault(event.kind, []).append(event)
+    return sorted(found.items())
+
+
+def inside_json(events, damaged):
+    """The lines of the events inside compressed transactions, and of the errors in the places of these."""
+    if not events and not damaged:
+        return b""
+    head = {"inside_events": len(events), "inside_bytes": sum(event.size for event in events), "inside_damaged": damaged}
+    lines = [type_of(kind) | {"inside_events": len(found), "inside_bytes": sum(event.size for event in found)} for kind, found in by_kind(events)]
     return "".join(map(line, [head, *lines])).encode()
+
+
+def inside_text(events, damaged):
+    if not events and not damaged:
+        return b""
+    lines = [f"inside {len(events)} events {sum(event.size for event in events)} bytes {damaged} damaged"]
+    for kind, found in by_kind(events):
+        lines.append(f"inside {TYPE_NAMES.get(kind, kind)} {len(found)} events {sum(event.size for event in found)} bytes")
+    return "".join(text + "\n" for text in lines).encode()
 
 
 def intervals_text(events, seconds):
@@ -167,12 +194,16 @@ def transactions_text(events, top=None):
         times = f"first {time_text(places['first_time'])} last {time_text(places['last_time'])} {number_text(places['duration'])} seconds"
         lines.append(f"{place}{named} {words_of(counts_of(members), COUNTS)} {times}")
         for name, found in tables_of(members).items():
-            lines.append(f"  table {'.'.join(map(text_of, name))} {words_of(counts_of(found), COUNTS)}")
+            lines.append(f"  table {'.'.join(map(text_of, name))} {words_of(counts_of(found, own_size), COUNTS)}")
     return "".join(text + "\n" for text in lines).encode()
 
 
-def printed(events):
-    counts = counts_of(events)
+def own_size(event):
+    return event.size
+
+
+def printed(events, bytes_of=lambda event: event.bytes):
+    counts = counts_of(events, bytes_of)
     return {name: counts[name] for name in COUNTS}
 
 
@@ -180,6 +211,6 @@ def transactions_json(events, top=None):
     groups = transactions(events)
     lines = [{"transactions": len(groups), "sizes": sizes_of(groups)}]
     for members in largest(groups, top):
-        tables = [{"database": name_value(name[0]), "table": name_value(name[1])} | printed(found) for name, found in tables_of(members).items()]
+        tables = [{"database": name_value(name[0]), "table": name_value(name[1])} | printed(found, own_size) for name, found in tables_of(members).items()]
         lines.append(places_of(members) | printed(members) | {"tables": tables})
     return "".join(map(line, lines)).encode()

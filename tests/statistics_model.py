@@ -10,6 +10,7 @@ import event_data_model
 import json_model
 import listing_model
 import maria_json_model
+import payload_model
 from compact_model import gtid_text
 from grouped_events import Event, name_value, text_of, time_text
 
@@ -20,16 +21,28 @@ INSERTED, UPDATED, DELETED = "inserted", "updated", "deleted"
 PLAIN = {23: INSERTED, 24: UPDATED, 25: DELETED, 30: INSERTED, 31: UPDATED, 32: DELETED, 39: UPDATED}
 COMPRESSED = {166: INSERTED, 167: UPDATED, 168: DELETED, 169: INSERTED, 170: UPDATED, 171: DELETED}
 # Events that may have rows, and whose bodies are kept as bytes.
-KEPT = (20, 21, 22, 40)
+KEPT = (20, 21, 22)
+
+
+def parts_of(data, in_force):
+    """The events inside the compressed transaction that an event with these data has, None for an error in the place of one or of all."""
+    try:
+        content = bytes(payload_model.content_of(*payload_model.event_of(data), json_model.MOST_CONTENT))
+    except payload_model.Refusal:
+        return [None]
+    frames, refusal = payload_model.inner_frames(content)
+    is_right = lambda frame: listing_model.body_fault(frame, listing_model.cut(frame, listing_model.OFF)[0], in_force) is None
+    return [frame if is_right(frame) else None for frame in frames] + [None] * (refusal is not None)
 
 
 class Counts:
-    """What is counted over logs one after another."""
+    """What is counted over logs one after another. `is_taken` says which types are taken; `takes` which events, by their indexes, and which
+    of the events inside these, by their numbers."""
 
-    def __init__(self, is_taken=lambda kind: True):
-        self.is_taken, self.transactions, self.unknown, self.tables, self.touched = is_taken, 0, [0, 0], {}, {}
+    def __init__(self, is_taken=lambda kind: True, takes=lambda index, part: True):
+        self.is_taken, self.takes, self.transactions, self.unknown, self.tables, self.touched = is_taken, takes, 0, [0, 0], {}, {}
         # What is counted of each event that is taken, and how many errors are in the places of events.
-        self.events, self.damaged = [], 0
+        self.events, self.damaged, self.damaged_inside = [], 0, 0
 
     def add_log(self, content):
         self.maps = {}
@@ -46,13 +59,34 @@ class Counts:
     def add_event(self, index, frame, data, in_force):
         kind = listing_model.type_number(frame)
         self.follow(kind, data, in_force)
-        if not self.is_taken(kind):
+        if not self.is_taken(kind) or not self.takes(index, None):
             return
         time, end = (int.from_bytes(frame[place : place + 4], "little") for place in (0, 13))
-        self.events.append(Event(index, kind, kind in BEGINS, time, len(frame), end))
+        self.events.append(Event(index, kind, kind in BEGINS, time, len(frame), len(frame), end))
         if kind in BEGINS:
             self.events[-1].gtid = gtid_text(frame, data, in_force)
             self.transactions += 1
+        self.add_changed(kind, frame, data, in_force)
+        if kind == json_model.PAYLOAD:
+            outside, self.maps = self.maps, {}
+            for number, part in enumerate(parts_of(data, in_force)):
+                self.add_part(index, number, part, end, in_force)
+            self.maps = outside
+
+    def add_part(self, index, number, frame, end, in_force):
+        """An event inside a compressed transaction, which ends there with the event that has it; None is an error."""
+        if frame is None:
+            self.damaged_inside += 1
+            return
+        kind, (data, _) = listing_model.type_number(frame), listing_model.cut(frame, listing_model.OFF)
+        self.follow(kind, data, in_force)
+        if not self.takes(index, number):
+            return
+        time = int.from_bytes(frame[:4], "little")
+        self.events.append(Event(index, kind, False, time, 0, len(frame), end, is_inside=True))
+        self.add_changed(kind, frame, data, in_force)
+
+    def add_changed(self, kind, frame, data, in_force):
         is_maria = json_model.is_maria(in_force.server_version)
         if kind in PLAIN or (kind in COMPRESSED and is_maria):
             self.add_rows(kind, frame, data, in_force, is_maria)

@@ -2,7 +2,7 @@
 use Rattle.std.specs.Prelude.{◌≡◌, ◌⊎◌, ℕ, Bool, List, Option, Result, Ok}
 use Rattle.binlog_wire.specs.declared.error.Error.{Error}
 use Rattle.binlog_filters.specs.declared.filter.Filter.{Filter}
-use Rattle.binlog_change_lines.specs.Written.{Begins, KeepsMost, WritesTaken, RefusesTold, writer_of}
+use Rattle.binlog_change_lines.specs.Written.{Begins, KeepsMost, WritesTaken, RefusesTold, damaged_of, writer_of}
 use Rattle.binlog_change_lines.specs.declared.change_filter.ChangeFilter.{ChangeFilter}
 use Rattle.clap.specs.declared.parser.matches.Found.{Found}
 use Rattle.binlog_cli.specs.FilterWords.{StatesFilter}
@@ -15,9 +15,10 @@ use Rattle.binlog.specs.Reading.{unless_followed, is_last_followed, InOrder, Sho
 
 -- `contents` are the bytes of an output.
 module _ {W : Type 0} (contents : W → Option (List ℕ)) where
-  -- The lines are written of the rows that the filter takes of a file, of which it is shown all items. `old` has begun with the file.
+  -- The lines are written of the rows that the filter takes of a file, of which it is shown all items. An item of which a part is an error
+  -- is one for the file. `old` has begun with the file.
   abbrev pub WritesFile : (is_verified : Bool) (known : Option (List ℕ)) (old : ChangeFilter W) (answer : Result Status Error) (new : ChangeFilter W) → Type 0
-  WritesFile = ShowsFile (WritesTaken contents) (RefusesTold contents) (λ lines. 0)
+  WritesFile = ShowsFile (WritesTaken contents) (RefusesTold contents) (λ lines. damaged_of lines)
 
   -- The same, with the name of the file, or memory ran out for it, and nothing is written.
   abbrev pub ChangesFile : (is_verified : Bool) (known : Option (List ℕ)) (name : List ℕ) (old : ChangeFilter W) (answer : Result Status Error) (new : ChangeFilter W) → Type 0
@@ -36,7 +37,7 @@ pub record WritesChanges {B N : Type 0} (contents : B → Option (List ℕ)) (op
   pub filter : Filter
   pub states : StatesFilter options filter
   pub start : ChangeFilter (Output B)
-  pub filtered : start.filtered.filter ≡ filter
+  pub filtered : start.filtered.filtered.filter ≡ filter
   pub begins : commands.Begins contents old (writer_of start).output
   pub made : IsMade start
   pub outcome : Outcome

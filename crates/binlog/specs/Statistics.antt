@@ -1,7 +1,7 @@
 -- What `binlog stats` makes of its output, by what is counted together.
 use Rattle.std.specs.Prelude.{◌≡◌, ℕ, Bool, List, Option, unwrap_or}
 use Rattle.binlog_commands.specs.Counting.{IsNever}
-use Rattle.binlog_commands.specs.Statistics.{no_items, CountsItem as CountsType}
+use Rattle.binlog_statistics.specs.SplicedCounts.{CountsInside, CountsOutside, nothing_counted}
 use Rattle.change_statistics.specs.Facts.{Fact}
 use Rattle.change_statistics.specs.Intervals.{seconds_of, CountsNoInterval, AddsByTime, AreSameIntervals}
 use Rattle.change_statistics.specs.Tables.{AreEmpty, Adds, AreSame}
@@ -9,7 +9,7 @@ use Rattle.change_statistics.specs.Transactions.{seen_by, none_seen, SeesEvent}
 use Rattle.change_statistics.specs.declared.intervals.IntervalStats.{IntervalStats}
 use Rattle.change_statistics.specs.declared.tables.TableStats.{TableStats}
 use Rattle.change_statistics.specs.declared.transaction_stats.TransactionStats.{TransactionStats}
-use Rattle.binlog_statistics.specs.Counting.{CountsItem, RefusesItem}
+use Rattle.binlog_statistics.specs.Counting.{CountsItem, CountsPart, RefusesItem, end_behind}
 use Rattle.binlog_statistics.specs.declared.counter.Counter.{Counter}
 use Rattle.clap.specs.declared.parser.matches.Found.{Found}
 use Rattle.binlog_cli.specs.declared.exit_status.Outcome.{Outcome}
@@ -28,21 +28,24 @@ abbrev pub default_top : ℕ
 default_top = 20
 
 module _ {B N : Type 0} (contents : B → Option (List ℕ)) (found : Found) (is_verified is_followed : Bool) (bytes : N → Option (List ℕ)) (names : List N) (options : StatsOptions) where
-  -- A counter counts what the filter takes of the files, from `start` on: `adds` says what an event makes of the counts, and `keeps` that
-  -- they are the same. `writes` says what is written of them.
+  -- A counter counts what the filter takes of the files, and inside compressed transactions, from `start` on: `adds` says what an event makes
+  -- of the counts, and `keeps` that they are the same. `writes` says what is written of them.
   abbrev pub WritesCounted : {C : Type 0} → (adds : C → Fact → C → Type 0) → (keeps : C → C → Type 0) → (writes : C → Outcome → Option (List ℕ) → Option (List ℕ) → Type 0) → (start : C)
       → (old : Option (List ℕ)) (status : Status) (new : Option (List ℕ)) → Type 0
   WritesCounted {C} adds keeps writes start old status new =
       (counter : Counter C) × (counter.stats ≡ start) × WritesCounts contents found is_verified is_followed bytes names
-      (λ (before : Counter C) maps index item (after : Counter C). CountsItem adds before.stats maps item after.stats)
-      (λ (before : Counter C) maps index item error (after : Counter C). RefusesItem keeps before.stats error after.stats) (λ counter. 0)
+      (λ (before : Counter C) maps index item (after : Counter C). CountsItem adds before.stats maps item after.stats × (after.end_position ≡ end_behind before.end_position item))
+      (λ (before : Counter C) maps index number part (after : Counter C). CountsPart adds before.end_position before.stats maps part after.stats × (after.end_position ≡ before.end_position))
+      (λ (before : Counter C) maps index item error (after : Counter C). RefusesItem keeps before.stats error after.stats)
+      (λ (before : Counter C) maps index number part error (after : Counter C). RefusesItem keeps before.stats error after.stats)
       (λ (counter : Counter C) outcome before after. writes counter.stats outcome before after) counter old status new
 
   -- What is counted together is what the options ask for. It is counted from nothing.
   abbrev pub WritesBy : Grouping → (old : Option (List ℕ)) (status : Status) (new : Option (List ℕ)) → Type 0
   WritesBy Types old status new =
-      WritesCounts contents found is_verified is_followed bytes names (λ before maps index item after. CountsType before index item after) (λ before maps index item error after. IsNever)
-      (λ stats. 0) (λ stats outcome before after. WritesTypes options.is_json stats outcome before after) no_items old status new
+      WritesCounts contents found is_verified is_followed bytes names (λ before maps index item after. CountsOutside before index item after)
+      (λ before maps index number part after. CountsInside before part after) (λ before maps index item error after. IsNever) (λ before maps index number part error after. IsNever)
+      (λ stats outcome before after. WritesTypes options.is_json stats outcome before after) nothing_counted old status new
   WritesBy Tables old status new =
       (start : TableStats) × AreEmpty start × WritesCounted Adds AreSame (λ stats outcome before after. WritesTables options stats outcome before after) start old status new
   WritesBy (Intervals seconds) old status new =

@@ -2,13 +2,13 @@
 ghost use Rattle.std.specs.Prelude.{◌≡◌, ◌⊎◌, ◌^◌, IfErr, IfOk};
 ghost use Rattle.std.specs.Io.Buffered.{writer_capacity};
 ghost use Rattle.clap.specs.Matches.{found_of};
-ghost use Rattle.binlog_change_lines.specs.Written.{writer_of};
+ghost use Rattle.binlog_change_lines.specs.Written.{damaged_of, parts_of, writer_of};
 ghost use Rattle.binlog_cli.specs.FilterWords.{NeverBegins};
 ghost use Rattle.binlog_cli.specs.declared.exit_status.Status.TheVariants.{Fine};
 ghost use Rattle.binlog.specs.Changes.{ChangesFile, ChangesFiles, WritesChanges};
 ghost use Rattle.binlog.specs.Columns.{AreColumnFiles, IsUnreadColumns};
 ghost use Rattle.binlog.specs.Reading.{unless_followed, ShowsFile};
-ghost use Rattle.binlog.specs.Requests.{lines_capacity};
+ghost use Rattle.binlog.specs.Requests.{StatesTablesOf, lines_capacity};
 
 use crate::columns::{read_columns, report_contradictions};
 use crate::files::read_file;
@@ -28,8 +28,9 @@ use std::alloc::AllocError;
 use std::io::{BufWriter, Write};
 use std::time::Clock;
 
-/// `binlog json --compact`: writes the lines of the rows of the events that the filter takes, also of those inside compressed
-/// transactions. The files of columns are read before; behind the logs each table that contradicts them has a message.
+/// `binlog json --compact`: writes the lines of the rows of the events that the filter takes, and of those inside compressed
+/// transactions that are of the tables that it asks for. An event whose payload can't be read is damaged. The files of columns are read
+/// before; behind the logs each table that contradicts them has a message.
 pub(crate) fn changes<'a, S: Inputs, R: Clock + Eprint + AllocGlobal, W: Write + Drop>(
     rt: &'a R,
     inputs: &S,
@@ -38,20 +39,29 @@ pub(crate) fn changes<'a, S: Inputs, R: Clock + Eprint + AllocGlobal, W: Write +
 ) -> Result<(Status, W), Status>
     ensures ok { IfOk result (λ ended. WritesChanges ⟦<BufWriter<Retrying<W>> as Write>⟧.contents (found_of request.now.options.now) request.now.reading.is_verified request.now.reading.is_followed
         (λ name. name.now) (λ name. S.bytes inputs.now name.now) request.now.files.now
-        (λ lines. (lines.filtered.visitor.limit ≡ 2 ^ 30) × ((writer_of lines).options.keeps_stored ≡ request.now.keeps_stored)
+        (λ lines. (lines.filtered.limit ≡ 2 ^ 30) × (lines.filtered.filtered.visitor.limit ≡ 2 ^ 30) × (damaged_of lines ≡ 0) × StatesTablesOf (found_of request.now.options.now) (parts_of lines).tables
+        × ((writer_of lines).options.keeps_stored ≡ request.now.keeps_stored)
         × AreColumnFiles (λ name. S.bytes inputs.now name.now) request.now.columns.now (writer_of lines).options.files.items
         × (writer_capacity (writer_of lines).output.inner ≡ lines_capacity request.now.reading.is_followed))
         (W.contents writer) ended.0 (W.contents ended.1)) }
     ensures err { IfErr result (λ status. NeverBegins (found_of request.now.options.now) status ⊎ IsUnreadColumns request.now.columns.now status) }
 {
     let files = read_columns(rt, inputs, request.columns)?;
+    let asked = filter(rt, request.options)?;
     let filter = filter(rt, request.options)?;
     let output = Output::new(rt, request.reading.output_capacity(), writer)?;
     let options = LineOptions {
         keeps_stored: request.keeps_stored,
         files,
     };
-    let lines = ChangeFilter::new(rt.alloc(), filter, CONTENT_LIMIT, output, options);
+    let lines = ChangeFilter::new(
+        rt.alloc(),
+        filter,
+        asked.tables,
+        CONTENT_LIMIT,
+        output,
+        options,
+    );
     let (outcome, lines) = write_files(rt, inputs, request.files, request.reading, lines);
     report_left_out(rt, lines.left_out());
     report_contradictions(rt, lines.contradictions());

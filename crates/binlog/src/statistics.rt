@@ -13,19 +13,20 @@ use crate::commands::read_all;
 use crate::inputs::Inputs;
 use crate::request::Request;
 use crate::transaction_statistics::DEFAULT_TOP;
-use binlog_cli::{BUFFER_SIZE, Outcome, Output, Status};
-use binlog_commands::Stats;
+use binlog_cli::{BUFFER_SIZE, CONTENT_LIMIT, Outcome, Output, Status, filter};
 use binlog_file::Retrying;
-use binlog_statistics::Counter;
+use binlog_payload_checks::Noted;
+use binlog_payload_filters::TakenParts;
+use binlog_payload_visits::{PartVisitor, Spliced};
+use binlog_statistics::{Counter, SplicedStats};
 use binlog_summaries::{Grouping, StatsOptions, stats_options};
-use binlog_visits::{Refusing, Visitor};
 use change_statistics::{IntervalStats, TableStats, TransactionStats};
 use std::io::{BufWriter, Write};
 use std::num::NonZeroU32;
 use std::time::Clock;
 
-/// A visitor that counts, and what is written of its counts.
-pub(crate) trait Statistics: Visitor + Refusing {
+/// A visitor that counts, also what is inside compressed transactions, and what is written of its counts.
+pub(crate) trait Statistics: PartVisitor {
     /// What is written of the counts as these options ask for it, and with which outcome.
     ghost writes: { StatsOptions → Self → Outcome → Option (List ℕ) → Option (List ℕ) → Type 0 };
 
@@ -39,7 +40,8 @@ pub(crate) trait Statistics: Visitor + Refusing {
         ensures { writes options self result (W.contents output.old) (W.contents output.new) };
 }
 
-/// `binlog stats`: counts what the filter takes of all files, together as the options ask for it, and writes the counts.
+/// `binlog stats`: counts what the filter takes of all files, together as the options ask for it, and writes the counts. Of the events
+/// inside compressed transactions those of the tables are counted that the filter asks for. An event whose payload can't be read is damaged.
 pub(crate) fn stats<'a, S: Inputs, R: Clock + Eprint + AllocGlobal, W: Write + Drop>(
     rt: &'a R,
     inputs: &S,
@@ -69,7 +71,7 @@ fn grouped_stats<'a, S: Inputs, R: Clock + Eprint + AllocGlobal, W: Write + Drop
     ensures err { IfErr result (λ status. NeverBegins (found_of request.now.options.now) status) }
 {
     match options.grouping {
-        Grouping::Types => count(rt, inputs, request, options, Stats::new(), writer),
+        Grouping::Types => count(rt, inputs, request, options, SplicedStats::new(), writer),
         Grouping::Tables => {
             let counter = Counter::new(rt.alloc(), TableStats::new(rt.alloc()));
             count(rt, inputs, request, options, counter, writer)
@@ -99,11 +101,16 @@ fn count<'a, S: Inputs, R: Clock + Eprint + AllocGlobal, T: Statistics + Drop, W
     writer: W,
 ) -> Result<(Status, W), Status>
     ensures ok { IfOk result (λ ended. WritesCounts ⟦<BufWriter<Retrying<W>> as Write>⟧.contents (found_of request.now.options.now) request.now.reading.is_verified request.now.reading.is_followed
-        (λ name. S.bytes inputs.now name.now) request.now.files.now T.visits T.refuses T.refusals (T.writes options) counter (W.contents writer) ended.0 (W.contents ended.1)) }
+        (λ name. S.bytes inputs.now name.now) request.now.files.now T.visits T.visits_part T.refuses T.refuses_part (T.writes options) counter (W.contents writer) ended.0 (W.contents ended.1)) }
     ensures err { IfErr result (λ status. NeverBegins (found_of request.now.options.now) status) }
 {
     let mut output = Output::new(rt, BUFFER_SIZE, writer)?;
-    let (read, counter) = read_all(rt, inputs, request, counter)?;
+    let asked = filter(rt, request.options)?;
+    let taken = TakenParts::new(rt.alloc(), asked.tables, counter);
+    let noted = Noted::new(taken);
+    let spliced = Spliced::new(rt.alloc(), CONTENT_LIMIT, noted);
+    let (read, spliced) = read_all(rt, inputs, request, spliced)?;
+    let counter = spliced.visitor.visitor.visitor;
     let written = counter.write(rt, options, &mut output);
     Ok(output.finish(rt, read.worse(written)))
 }

@@ -9,19 +9,21 @@ use Rattle.binlog_wire.specs.declared.error.Error.TheVariants.{Memory, Writer}
 use Rattle.binlog_events.specs.Events.{EventView}
 use Rattle.binlog_file.specs.TableMapsInForce.{TableMaps}
 use Rattle.binlog_visits.specs.Visits.{VisitRelation, RefusalRelation}
-use Rattle.binlog_filters.specs.Filtering.{begun, Filters, RefusesTaken}
+use Rattle.binlog_filters.specs.Filtering.{begun}
 use Rattle.binlog_filters.specs.Places.{start_of}
-use Rattle.binlog_filters.specs.declared.filtered.Filtered.{Filtered}
 use Rattle.binlog_json_lines.specs.Contradicted.{NotesIf, map_of_item}
 use Rattle.binlog_json_lines.specs.Lines.{IsLine, map_of_event}
 use Rattle.binlog_json_lines.specs.Options.{RowOptions, options_of}
 use Rattle.binlog_json_lines.specs.PartLines.{map_of_part, part_error_object}
 use Rattle.binlog_payload_visits.specs.Parts.{Part}
-use Rattle.binlog_payload_visits.specs.PartVisits.{PartVisitRelation, PartRefusalRelation, VisitsSpliced, RefusesSpliced}
-use Rattle.binlog_payload_visits.specs.declared.spliced.Spliced.{Spliced}
+use Rattle.binlog_payload_visits.specs.PartVisits.{PartVisitRelation, PartRefusalRelation}
+use Rattle.binlog_payload_filters.specs.Filtering.{FiltersPayloads, RefusesTaken}
+use Rattle.binlog_payload_filters.specs.declared.filtered.PayloadFiltered.{PayloadFiltered}
+use Rattle.binlog_payload_filters.specs.declared.taken_parts.TakenParts.{TakenParts}
 use Rattle.binlog_change_lines.specs.EventTexts.{IsEventText, IsPartText}
 use Rattle.binlog_transaction_gtids.specs.Gtids.{FollowsGtid}
 use Rattle.binlog_change_lines.specs.Heads.{Place}
+use Rattle.binlog_change_lines.specs.InsideVisits.{Inside, VisitsInside, RefusesInside}
 use Rattle.binlog_change_lines.specs.declared.change_filter.ChangeFilter.{ChangeFilter}
 use Rattle.binlog_change_lines.specs.declared.change_writer.ChangeWriter.{ChangeWriter}
 
@@ -70,21 +72,38 @@ pub record BeginsFile {W : Type 0} (name : List ℕ) (old new : ChangeWriter W) 
   pub gtid : string_bytes new.gtid ≡ []
   pub kept : KeepsWritten old new
 
--- The writer of a filter.
-abbrev pub writer_of : {W : Type 0} → ChangeFilter W → ChangeWriter W
-writer_of lines = lines.filtered.visitor.visitor
+-- The writer, which is shown the items, and of their parts those that are taken.
+abbrev pub Lines : Type 0 → Type 0
+Lines W = Inside (ChangeWriter W)
 
--- The same filter begins with it, too.
+-- The same with another writer.
+abbrev pub with_writer : {W : Type 0} → Lines W → ChangeWriter W → Lines W
+with_writer lines writer = record lines { visitor = record lines.visitor { visitor = record lines.visitor.visitor { visitor = writer } } }
+
+-- What takes the parts for a filter, its writer, and the number of the events of which a part is an error.
+abbrev pub parts_of : {W : Type 0} → ChangeFilter W → TakenParts (ChangeWriter W)
+parts_of lines = lines.filtered.filtered.visitor.visitor.visitor
+
+abbrev pub writer_of : {W : Type 0} → ChangeFilter W → ChangeWriter W
+writer_of lines = (parts_of lines).visitor
+
+abbrev pub damaged_of : {W : Type 0} → ChangeFilter W → ℕ
+damaged_of lines = lines.filtered.filtered.visitor.visitor.damaged
+
+-- The filter is at the start of a file. All but its writer is as it was.
+abbrev pub IsAtStart : {W : Type 0} → (old new : ChangeFilter W) → Type 0
+IsAtStart old new =
+    new.filtered ≡ record old.filtered { filtered = record (begun old.filtered.filtered) { visitor = with_writer old.filtered.filtered.visitor (writer_of new) } }
+
+-- The filter and its writer begin with the file of this name.
 pub record Begins {W : Type 0} (name : List ℕ) (old new : ChangeFilter W) : Type 0 where
   pub writer : BeginsFile name (writer_of old) (writer_of new)
-  pub filter : new.filtered ≡ record (begun old.filtered) { visitor = record old.filtered.visitor { visitor = writer_of new } }
+  pub filter : IsAtStart old new
 
--- What is taken, written and noted stays as it was.
+-- The filter begins with it, and what is written and noted stays as it was.
 pub record KeepsMost {W : Type 0} (old new : ChangeFilter W) : Type 0 where
   pub writer : KeepsWritten (writer_of old) (writer_of new)
-  pub filter : new.filtered.filter ≡ old.filtered.filter
-  pub limit : new.filtered.visitor.limit ≡ old.filtered.visitor.limit
-  pub left_out : new.filtered.state.left_out ≡ old.filtered.state.left_out
+  pub filter : IsAtStart old new
 
 -- ---- visitors, where `contents` are the bytes of an output
 
@@ -124,14 +143,12 @@ module _ {W : Type 0} (contents : W → Option (List ℕ)) where
       WritesNoText (λ contradiction text. IsPartTextIn (options_of old.options) (place_at (Some number) old) maps index number part contradiction text) (contents old.output) error (contents new.output)
       × Keeps old new
 
-  -- The texts of the item and of all its parts are written.
-  abbrev pub WritesAll : VisitRelation (Spliced (ChangeWriter W))
-  WritesAll old maps index item new =
-      VisitsSpliced WritesItem WritesPart old.limit old.visitor maps index item new.visitor × (new.limit ≡ old.limit)
+  -- The texts of the item and of those of its parts are written that are of the tables, and the item is counted if a part is an error.
+  abbrev pub WritesAll : VisitRelation (Lines W)
+  WritesAll = VisitsInside WritesItem WritesPart
 
-  abbrev pub RefusesAll : RefusalRelation (Spliced (ChangeWriter W))
-  RefusesAll old maps index item error new =
-      RefusesSpliced WritesItem WritesPart RefusesItem RefusesPart old.limit old.visitor maps index item error new.visitor × (new.limit ≡ old.limit)
+  abbrev pub RefusesAll : RefusalRelation (Lines W)
+  RefusesAll = RefusesInside WritesItem WritesPart RefusesItem RefusesPart
 
   -- The writer is told where the item stands: where an event begins, by `position`, and the GTID of its transaction. Behind an error the
   -- GTID isn't known, since the damaged event may have been that of a GTID.
@@ -141,18 +158,18 @@ module _ {W : Type 0} (contents : W → Option (List ℕ)) where
   IsTold position (Err error) old new = (new ≡ record old { gtid = new.gtid }) × (string_bytes new.gtid ≡ [])
 
   -- The same filter with that writer.
-  abbrev pub telling : ChangeFilter W → ChangeWriter W → Filtered (Spliced (ChangeWriter W))
-  telling old told = record old.filtered { visitor = record old.filtered.visitor { visitor = told } }
+  abbrev pub telling : ChangeFilter W → ChangeWriter W → PayloadFiltered (Lines W)
+  telling old told = record old.filtered { filtered = record old.filtered.filtered { visitor = with_writer old.filtered.filtered.visitor told } }
 
   -- The writer is told where each item stands, and writes the texts of those that the filter takes, and of their parts.
   abbrev pub WritesTaken : VisitRelation (ChangeFilter W)
   WritesTaken old maps index item new = (told : ChangeWriter W)
-      × IsTold old.filtered.place.position item (writer_of old) told
-      × Filters WritesAll (telling old told) maps index item new.filtered
+      × IsTold old.filtered.filtered.place.position item (writer_of old) told
+      × FiltersPayloads WritesAll (telling old told) maps index item new.filtered
 
   -- Memory ran out for the GTID, or the filter or the writer refused the item.
   abbrev pub RefusesTold : RefusalRelation (ChangeFilter W)
   RefusesTold old maps index item error new =
       ((error ≡ Memory) × (contents (writer_of new).output ≡ contents (writer_of old).output))
-      ⊎ ((told : ChangeWriter W) × IsTold old.filtered.place.position item (writer_of old) told
+      ⊎ ((told : ChangeWriter W) × IsTold old.filtered.filtered.place.position item (writer_of old) told
       × RefusesTaken RefusesAll (telling old told) maps index item error new.filtered)

@@ -1,42 +1,55 @@
 //! A visitor that writes what is written for the items that a filter takes.
 ghost use Rattle.std.specs.Prelude.{◌≡◌, [], OnOk};
-ghost use Rattle.binlog_change_lines.specs.Written.{Begins, KeepsMost};
+ghost use Rattle.binlog_change_lines.specs.Written.{Begins, KeepsMost, damaged_of, parts_of, writer_of};
 
 use crate::change_writer::ChangeWriter;
 use binlog_declared_columns::Contradictions;
 use binlog_file::{Error, EventRef, EventStreamReader};
-use binlog_filters::{Filter, Filtered};
+use binlog_filters::{Filter, TableFilter};
 use binlog_json_lines::LineOptions;
+use binlog_payload_checks::Noted;
+use binlog_payload_filters::{PayloadFiltered, TakenParts};
 use binlog_payload_visits::Spliced;
 use binlog_transaction_gtids::follow;
 use binlog_visits::{Refusing, Visitor};
 use std::alloc::{AllocError, Global};
 use std::io::Write;
 
-/// Shows a writer of the lines of rows the items that a filter takes, and the events inside the compressed transactions among them. It is
-/// to be shown all items of a log: the position of an event and the GTID of its transaction are found in the events before it, whichever
-/// the filter takes.
+/// Shows a writer of the lines of rows the items that a filter takes, and of the events inside the compressed transactions among them those
+/// of the tables that are asked for. It is to be shown all items of a log: the position of an event and the GTID of its transaction are
+/// found in the events before it, whichever the filter takes. It counts the events of which a part is an error.
 #[derive(Drop)]
 pub struct ChangeFilter<W> {
     alloc: Global,
-    filtered: Filtered<Spliced<ChangeWriter<W>>>,
+    filtered: PayloadFiltered<Spliced<Noted<TakenParts<ChangeWriter<W>>>>>,
 }
 
 impl<W> ChangeFilter<W> {
-    /// Writes to this output the lines of rows that this filter takes. A compressed transaction with more than `limit` bytes is refused.
-    /// The files of columns are those of the options. Nothing is allocated.
-    pub fn new(alloc: Global, filter: Filter, limit: usize, output: W, options: LineOptions) -> Self
-        ensures filter { result.filtered.filter ≡ filter }
-        ensures limit { result.filtered.visitor.limit ≡ limit }
-        ensures output { result.filtered.visitor.visitor.output ≡ output }
-        ensures options { result.filtered.visitor.visitor.options ≡ options }
-        ensures none { result.filtered.visitor.visitor.contradictions.columns.entries ≡ [] }
+    /// Writes to this output the lines of rows that this filter takes, inside compressed transactions those of these tables: the
+    /// filter's conditions of tables. A compressed transaction with more than `limit` bytes is refused. The files of columns are those of
+    /// the options. Nothing is allocated.
+    pub fn new(
+        alloc: Global,
+        filter: Filter,
+        tables: Option<TableFilter>,
+        limit: usize,
+        output: W,
+        options: LineOptions,
+    ) -> Self
+        ensures filter { result.filtered.filtered.filter ≡ filter }
+        ensures tables { (parts_of result).tables ≡ tables }
+        ensures limits { (result.filtered.limit ≡ limit) × (result.filtered.filtered.visitor.limit ≡ limit) }
+        ensures output { (writer_of result).output ≡ output }
+        ensures options { (writer_of result).options ≡ options }
+        ensures none { (writer_of result).contradictions.columns.entries ≡ [] }
+        ensures undamaged { damaged_of result ≡ 0 }
     {
         let writer = ChangeWriter::new(alloc, output, options);
-        let spliced = Spliced::new(alloc, limit, writer);
+        let taken = TakenParts::new(alloc, tables, writer);
+        let spliced = Spliced::new(alloc, limit, Noted::new(taken));
         ChangeFilter {
             alloc,
-            filtered: Filtered::new(alloc, filter, spliced),
+            filtered: PayloadFiltered::new(alloc, limit, filter, spliced),
         }
     }
 
@@ -50,31 +63,39 @@ impl<W> ChangeFilter<W> {
         ensures kept { KeepsMost self.old self.new }
     {
         self.filtered.begin();
-        self.filtered.visitor.visitor.begin(file)
+        let writer = &mut self.filtered.filtered.visitor.visitor.visitor.visitor;
+        writer.begin(file)
     }
 
     /// How many events the filter left out though they may change one of its tables.
     pub fn left_out(&self) -> u64
-        ensures { result ≡ self.now.filtered.state.left_out }
+        ensures { result ≡ self.now.filtered.filtered.state.left_out }
     {
-        self.filtered.state.left_out
+        self.filtered.filtered.state.left_out
     }
 
     /// The tables so far that contradict the files of columns: each once, with the first column of the first row event in which one
     /// did.
     pub fn contradictions(&self) -> &Contradictions
-        ensures { result.now ≡ self.now.filtered.visitor.visitor.contradictions }
+        ensures { result.now ≡ (writer_of self.now).contradictions }
     {
-        &self.filtered.visitor.visitor.contradictions
+        &self
+            .filtered
+            .filtered
+            .visitor
+            .visitor
+            .visitor
+            .visitor
+            .contradictions
     }
 
     /// The output.
     pub fn into_output(self) -> W
-        ensures { result ≡ self.filtered.visitor.visitor.output }
+        ensures { result ≡ (writer_of self).output }
     {
         let filtered = self.filtered;
-        let spliced = filtered.visitor;
-        let writer = spliced.visitor;
+        let spliced = filtered.filtered.visitor;
+        let writer = spliced.visitor.visitor.visitor;
         writer.output
     }
 }
@@ -95,9 +116,10 @@ impl<W: Write> Visitor for ChangeFilter<W> {
         event: &EventRef<'_>,
         reader: &EventStreamReader,
     ) -> Result<(), Error> {
-        let position = self.filtered.place.of_event(event);
-        self.filtered.visitor.visitor.position = position;
-        follow(&mut self.filtered.visitor.visitor.gtid, self.alloc, event)?;
+        let position = self.filtered.filtered.place.of_event(event);
+        let writer = &mut self.filtered.filtered.visitor.visitor.visitor.visitor;
+        writer.position = position;
+        follow(&mut writer.gtid, self.alloc, event)?;
         self.filtered.visit_event(index, event, reader)
     }
 
@@ -107,14 +129,19 @@ impl<W: Write> Visitor for ChangeFilter<W> {
         error: &Error,
         reader: &EventStreamReader,
     ) -> Result<(), Error> {
-        self.filtered.visitor.visitor.gtid.clear();
+        let writer = &mut self.filtered.filtered.visitor.visitor.visitor.visitor;
+        writer.gtid.clear();
         self.filtered.visit_error(index, error, reader)
     }
 }
 
-/// Data that can't be read has its line, and is no error of the log.
+/// An event of which a part is an error is one for the log. Other data that can't be read has its line, and is none.
 impl<W> Refusing for ChangeFilter<W> {
+    ghost use Rattle.binlog_change_lines.specs.Written.{damaged_of};
+
+    ghost refusals = { λ lines. damaged_of lines };
+
     fn refused(&self) -> u64 {
-        0
+        self.filtered.refused()
     }
 }

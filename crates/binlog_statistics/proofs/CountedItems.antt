@@ -1,5 +1,5 @@
 -- What is counted of whole lists of items.
-use Rattle.std.proofs.Common.{ℕ, ◌+◌, Bool, true, false, List, [], ◌∷◌, Option, Result, Ok, Err, refl, ap, subst}
+use Rattle.std.proofs.Common.{◌≡◌, ℕ, ◌+◌, Bool, true, false, List, [], ◌∷◌, Option, Result, Ok, Err, refl, ap, subst}
 use Rattle.binlog_wire.specs.declared.error.Error.{Error}
 use Rattle.binlog_events.specs.Events.{EventView}
 use Rattle.binlog_file.specs.TableMapsInForce.{TableMaps}
@@ -13,7 +13,7 @@ use Rattle.binlog_filters.specs.declared.filtered.Filtered.{Filtered}
 use Rattle.change_statistics.specs.Counting.{AddsEach}
 use Rattle.change_statistics.specs.Facts.{Fact}
 use Rattle.binlog_statistics.specs.ItemFacts.{AreItemFacts, AreFactsIf, AreTakenFacts}
-use Rattle.binlog_statistics.specs.Counting.{CountsItem, AreOfItems, AreOfTakenItems}
+use Rattle.binlog_statistics.specs.Counting.{CountsItem, AreOfItems, AreOfTakenItems, end_behind}
 use Rattle.binlog_statistics.specs.declared.counter.Counter.{Counter}
 
 abbrev Item : Type 0
@@ -21,15 +21,15 @@ Item = Result EventView Error
 
 module _ {S : Type 0} (adds : S → Fact → S → Type 0) where
   abbrev pub Counts : VisitRelation (Counter S)
-  Counts old maps index item new = CountsItem adds old.stats maps item new.stats
+  Counts old maps index item new = CountsItem adds old.stats maps item new.stats × (new.end_position ≡ end_behind old.end_position item)
 
   -- An item is counted, and then others.
-  record AddsItem (maps : TableMaps) (item : Item) (others : List Fact) (old new : S) : Type 0 where
-    facts : List Fact
-    seen : AreItemFacts maps item others facts
-    added : AddsEach adds facts old new
+  pub record AddsItem (maps : TableMaps) (item : Item) (others : List Fact) (old new : S) : Type 0 where
+    pub facts : List Fact
+    pub seen : AreItemFacts maps item others facts
+    pub added : AddsEach adds facts old new
 
-  adds_item : (maps : TableMaps) (item : Item) (others : List Fact) (old mid new : S) → CountsItem adds old maps item mid → AddsEach adds others mid new → AddsItem maps item others old new
+  pub adds_item : (maps : TableMaps) (item : Item) (others : List Fact) (old mid new : S) → CountsItem adds old maps item mid → AddsEach adds others mid new → AddsItem maps item others old new
   adds_item maps (Ok event) others old mid new (fact, is, adds_one) rest = record { facts = fact ∷ others; seen = (fact, is, refl); added = (mid, adds_one, rest) }
   adds_item maps (Err error) others old mid new same rest = record { facts = others; seen = refl; added = subst (λ (s : S). AddsEach adds others s new) same rest }
 
@@ -38,7 +38,7 @@ module _ {S : Type 0} (adds : S → Fact → S → Type 0) where
   counts_all maps index [] old new same = record { facts = []; seen = refl; counted = ap (λ (c : Counter S). c.stats) same }
   counts_all maps index (item ∷ items) old new (mid, one, visited) =
       let rest = counts_all (maps_behind maps item) (index + 1) items mid new visited in
-      let first = adds_item (maps_behind maps item) item rest.facts old.stats mid.stats new.stats one rest.counted in
+      let first = adds_item (maps_behind maps item) item rest.facts old.stats mid.stats new.stats one.0 rest.counted in
       record { facts = first.facts; seen = (rest.facts, rest.seen, first.seen); counted = first.added }
 
   -- ---- the items that a filter takes
@@ -51,7 +51,7 @@ module _ {S : Type 0} (adds : S → Fact → S → Type 0) where
   adds_if_taken : (taken : Bool) (maps : TableMaps) (index : ℕ) (item : Item) (others : List Fact) (old mid : Counter S) (new : S) → VisitsIf Counts taken old maps index item mid
       → AddsEach adds others mid.stats new → AddsIfTaken taken maps item others old.stats new
   adds_if_taken true maps index item others old mid new one rest =
-      let first = adds_item maps item others old.stats mid.stats new one rest in
+      let first = adds_item maps item others old.stats mid.stats new one.0 rest in
       record { facts = first.facts; seen = first.seen; added = first.added }
   adds_if_taken false maps index item others old mid new same rest =
       record { facts = others; seen = refl; added = subst (λ (c : Counter S). AddsEach adds others c.stats new) same rest }

@@ -3,4 +3,6 @@ mod Fronts
 mod UncompressedRows
 mod FoundRows
 mod CountedItems
+mod CountedParts
+mod SplicedTypes
 mod SeenTransactions

@@ -6,8 +6,11 @@ use Rattle.binlog_events.specs.Events.{EventView}
 use Rattle.binlog_file.specs.TableMapsInForce.{TableMaps}
 use Rattle.binlog_filters.specs.declared.filter.Filter.{Filter}
 use Rattle.binlog_filters.specs.declared.state.FilterState.{FilterState}
+use Rattle.binlog_event_format.specs.Headers.{header_of}
+use Rattle.binlog_payload_visits.specs.Parts.{Part}
 use Rattle.change_statistics.specs.Facts.{Fact}
-use Rattle.binlog_statistics.specs.ItemFacts.{IsFact, AreFacts, AreTakenFacts}
+use Rattle.binlog_statistics.specs.ItemFacts.{IsFact, IsPartFact, AreFacts, AreTakenFacts}
+use Rattle.binlog_statistics.specs.SplicedFacts.{AreSplicedFacts}
 
 -- `adds old fact new` says what an event makes of what is counted.
 module _ {S : Type 0} (adds : S → Fact → S → Type 0) where
@@ -15,6 +18,16 @@ module _ {S : Type 0} (adds : S → Fact → S → Type 0) where
   abbrev pub CountsItem : S → TableMaps → Result EventView Error → S → Type 0
   CountsItem old maps (Ok event) new = (fact : Fact) × IsFact maps event fact × adds old fact new
   CountsItem old maps (Err error) new = new ≡ old
+
+  -- A part of the event that ends at `end` is counted, if it is an event.
+  abbrev pub CountsPart : (end : ℕ) → S → TableMaps → Part → S → Type 0
+  CountsPart end old maps (Ok event) new = (fact : Fact) × IsPartFact end maps event fact × adds old fact new
+  CountsPart end old maps (Err e) new = new ≡ old
+
+-- The position behind an item in its log, as it states. An error states none.
+abbrev pub end_behind : (end : ℕ) → Result EventView Error → ℕ
+end_behind end (Ok event) = (header_of event.frame).log_pos
+end_behind end (Err error) = end
 
 -- Memory ran out, and nothing is counted: the counts are as they were, or equal to these, which `keeps old new` says.
 abbrev pub RefusesItem : {S : Type 0} → (keeps : S → S → Type 0) → S → Error → S → Type 0
@@ -26,6 +39,12 @@ module _ {S : Type 0} (are : List Fact → S → Type 0) where
   pub record AreOfItems (maps : TableMaps) (items : List (Result EventView Error)) (stats : S) : Type 0 where
     pub facts : List Fact
     pub seen : AreFacts maps items facts
+    pub counted : are facts stats
+
+  -- The statistics are those of all items and of their parts. Contents of more than `limit` bytes are errors.
+  pub record AreOfSplicedItems (limit : ℕ) (maps : TableMaps) (items : List (Result EventView Error)) (stats : S) : Type 0 where
+    pub facts : List Fact
+    pub seen : AreSplicedFacts limit maps items facts
     pub counted : are facts stats
 
   -- The statistics are those of the items that a filter takes.

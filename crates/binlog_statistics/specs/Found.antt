@@ -1,5 +1,5 @@
 -- What an event says of rows.
-use Rattle.std.specs.Prelude.{◌≡◌, ◌⊎◌, ℕ, ◌==◌, Bool, true, false, [], ◌∷◌, Option, Some, None, is_some, Result, Ok, Err}
+use Rattle.std.specs.Prelude.{◌≡◌, ◌⊎◌, ℕ, ◌==◌, Bool, true, false, [], ◌∷◌, Option, Some, None, is_some, option_and_then, Result, Ok, Err}
 use Rattle.std.specs.List.{list_any}
 use Rattle.binlog_wire.specs.declared.error.Error.{Error}
 use Rattle.binlog_wire.specs.declared.error.Error.TheVariants.{Memory}
@@ -23,10 +23,10 @@ use Rattle.change_statistics.specs.declared.facts.ChangeKind.TheVariants.{Insert
 use Rattle.binlog_statistics.specs.declared.finding.RowsFound.{RowsFound}
 use Rattle.binlog_statistics.specs.declared.finding.RowsFound.TheVariants.{Other, Unreadable, Rows}
 
--- The types of events that have rows, or may have some: row events of all versions, partial updates, compressed transactions; of
--- MariaDB's own types the compressed row events.
+-- The types of events that have rows, or may have some: row events of all versions, partial updates; of MariaDB's own types the compressed
+-- row events. The rows of a compressed transaction are those of the events in it.
 abbrev pub may_have_rows : ℕ → Bool
-may_have_rows type = list_any (λ (other : ℕ). type == other) (20 ∷ 21 ∷ 22 ∷ 23 ∷ 24 ∷ 25 ∷ 30 ∷ 31 ∷ 32 ∷ 39 ∷ 40 ∷ 166 ∷ 167 ∷ 168 ∷ 169 ∷ 170 ∷ 171 ∷ [])
+may_have_rows type = list_any (λ (other : ℕ). type == other) (20 ∷ 21 ∷ 22 ∷ 23 ∷ 24 ∷ 25 ∷ 30 ∷ 31 ∷ 32 ∷ 39 ∷ 166 ∷ 167 ∷ 168 ∷ 169 ∷ 170 ∷ 171 ∷ [])
 
 -- Rows with an image after alone are inserted, those with one before alone deleted.
 abbrev pub kind_by : (has_before has_after : Bool) → ChangeKind
@@ -51,23 +51,28 @@ IsMappedStoredCount event None count = count ≡ None
 IsMappedStoredCount event (Some table_map) count = IsStoredCount event table_map count
 
 -- What a compressed event says of rows.
-abbrev pub IsFoundStored : TableMaps → RowsEvent → RowsFound → Type 0
-IsFoundStored maps event found = (count : Option ℕ) × IsMappedStoredCount event (maps event.head.table_id) count × (found ≡ rows_found event count)
+abbrev pub IsFoundStored : Option TableMapEvent → RowsEvent → RowsFound → Type 0
+IsFoundStored map event found = (count : Option ℕ) × IsMappedStoredCount event map count × (found ≡ rows_found event count)
 
--- What the data of an event that may have rows says of them.
-abbrev pub IsFound : TableMaps → Result (Option LogEventData) Error → RowsFound → Type 0
-IsFound maps (Ok (Some (Mysql (mysql.RowsEvent rows)))) found =
-    (count : Option ℕ) × IsMappedCount rows (maps (event_in rows).head.table_id) count × (found ≡ rows_found (event_in rows) count)
-IsFound maps (Ok (Some (Maria (maria.RowsCompressedEvent rows)))) found = IsFoundStored maps (event_in rows.event) found
-IsFound maps (Ok None) found = found ≡ Other
-IsFound maps read found = found ≡ Unreadable
+-- The table id of a row event of which this was read.
+abbrev pub table_id_in : Result (Option LogEventData) Error → Option ℕ
+table_id_in (Ok (Some (Mysql (mysql.RowsEvent rows)))) = Some (event_in rows).head.table_id
+table_id_in (Ok (Some (Maria (maria.RowsCompressedEvent rows)))) = Some (event_in rows.event).head.table_id
+table_id_in read = None
+
+-- What the data of an event that may have rows says of them, by the table map in force, if there is one.
+abbrev pub IsFound : Option TableMapEvent → Result (Option LogEventData) Error → RowsFound → Type 0
+IsFound map (Ok (Some (Mysql (mysql.RowsEvent rows)))) found = (count : Option ℕ) × IsMappedCount rows map count × (found ≡ rows_found (event_in rows) count)
+IsFound map (Ok (Some (Maria (maria.RowsCompressedEvent rows)))) found = IsFoundStored map (event_in rows.event) found
+IsFound map (Ok None) found = found ≡ Other
+IsFound map read found = found ≡ Unreadable
 
 -- What an event says of rows that may have some, by its data, or by the error that its bytes give. A lack of memory says nothing.
 pub record ReadsRows (maps : TableMaps) (event : EventView) (found : RowsFound) : Type 0 where
   pub read : Result (Option LogEventData) Error
   pub reads : ReadsLogData event read
   pub is_read : ¬ (read ≡ Err Memory)
-  pub is : IsFound maps read found
+  pub is : IsFound (option_and_then maps (table_id_in read)) read found
 
 -- What an event says of rows, where these table maps are in force.
 abbrev pub FindsRows : TableMaps → EventView → RowsFound → Type 0

@@ -1,5 +1,5 @@
 -- The facts of the items of a log.
-use Rattle.std.specs.Prelude.{◌≡◌, ℕ, Bool, true, false, List, [], ◌∷◌, length, take, Option, Some, None, Result, Ok, Err}
+use Rattle.std.specs.Prelude.{◌≡◌, ℕ, Bool, true, false, List, [], ◌∷◌, length, take, Option, Some, None, option_and_then, Result, Ok, Err}
 use Rattle.binlog_wire.specs.declared.error.Error.{Error}
 use Rattle.binlog_event_format.specs.Headers.{header_of}
 use Rattle.binlog_rows.specs.declared.table_map_event.TableMapEvent.{TableMapEvent}
@@ -26,27 +26,52 @@ abbrev pub rows_of : Option TableMapEvent → ChangeKind → Option ℕ → Rows
 rows_of None kind count = unknown
 rows_of (Some map) kind count = rows (name_in map) kind count
 
--- What is said of rows, by the table maps in force.
-abbrev pub rows_said : TableMaps → RowsFound → Rows
-rows_said maps found.Other = nothing
-rows_said maps found.Unreadable = unknown
-rows_said maps (found.Rows changed) = rows_of (maps changed.table_id) changed.kind changed.count
+-- What is said of rows, by the table map in force for them.
+abbrev pub rows_said : Option TableMapEvent → RowsFound → Rows
+rows_said map found.Other = nothing
+rows_said map found.Unreadable = unknown
+rows_said map (found.Rows changed) = rows_of map changed.kind changed.count
 
--- The facts of an event that says this of rows, where the transaction that begins with it has this GTID.
-abbrev pub fact_with : TableMaps → EventView → RowsFound → (gtid : List ℕ) → Fact
-fact_with maps event found gtid = record {
+abbrev pub table_id_of : RowsFound → Option ℕ
+table_id_of (found.Rows changed) = Some changed.table_id
+table_id_of said = None
+
+-- The table map in force for the rows that were found.
+abbrev pub map_of_rows : TableMaps → RowsFound → Option TableMapEvent
+map_of_rows maps found = option_and_then maps (table_id_of found)
+
+-- The facts of an event that says this of rows, by the table map in force for them, where the transaction that begins with it has this GTID.
+abbrev pub fact_with : Option TableMapEvent → EventView → RowsFound → (gtid : List ℕ) → Fact
+fact_with map event found gtid = record {
   begins = begins_transaction (header_of event.frame).event_type;
   gtid = gtid;
   bytes = length event.frame;
+  size = length event.frame;
   end = (header_of event.frame).log_pos;
   time = (header_of event.frame).timestamp;
-  rows = rows_said maps found;
+  rows = rows_said map found;
 }
 
 -- The facts of an event, where these table maps are in force. The GTID is empty if no transaction begins with it.
 abbrev pub IsFact : TableMaps → EventView → Fact → Type 0
 IsFact maps event fact =
-    (found : RowsFound) × FindsRows maps event found × (gtid : List ℕ) × FollowsGtid [] event gtid × (fact ≡ fact_with maps event found gtid)
+    (found : RowsFound) × FindsRows maps event found × (gtid : List ℕ) × FollowsGtid [] event gtid × (fact ≡ fact_with (map_of_rows maps found) event found gtid)
+
+-- The facts of an event inside a compressed transaction that says this of rows. It begins no transaction, takes no bytes of the log, and ends
+-- at `end`, where the event that has the transaction does.
+abbrev pub part_fact_with : Option TableMapEvent → (end : ℕ) → EventView → RowsFound → Fact
+part_fact_with map end event found = record {
+  begins = false;
+  gtid = [];
+  bytes = 0;
+  size = length event.frame;
+  end = end;
+  time = (header_of event.frame).timestamp;
+  rows = rows_said map found;
+}
+
+abbrev pub IsPartFact : (end : ℕ) → TableMaps → EventView → Fact → Type 0
+IsPartFact end maps event fact = (found : RowsFound) × FindsRows maps event found × (fact ≡ part_fact_with (map_of_rows maps found) end event found)
 
 -- ---- items one after another
 

@@ -15,11 +15,16 @@ ghost use Rattle.change_statistics.specs.WholeTransactions.{AreTransactionStats}
 ghost use Rattle.change_statistics.specs.declared.intervals.IntervalStats.{IntervalStats};
 ghost use Rattle.change_statistics.specs.declared.tables.TableStats.{TableStats};
 ghost use Rattle.change_statistics.specs.declared.transaction_stats.TransactionStats.{TransactionStats};
-ghost use Rattle.binlog_statistics.specs.Counting.{AreOfItems, AreOfTakenItems};
+ghost use Rattle.binlog_payload_visits.specs.declared.spliced.Spliced.{Spliced};
+ghost use Rattle.binlog_statistics.specs.Counting.{AreOfItems, AreOfSplicedItems, AreOfTakenItems};
+ghost use Rattle.binlog_statistics.specs.SplicedCounts.{AreSplicedCounts, nothing_counted};
 ghost use Rattle.binlog_statistics.specs.declared.counter.Counter.{Counter};
+ghost use Rattle.binlog_statistics.specs.declared.spliced_stats.SplicedStats.{SplicedStats};
 
 use crate::counter::Counter;
+use crate::spliced_stats::SplicedStats;
 use binlog_filters::Filtered;
+use binlog_payload_visits::Spliced;
 use binlog_visits::Visitor;
 use change_statistics::{Counts, IntervalStats, TableStats, TransactionStats};
 
@@ -77,4 +82,40 @@ pub fn filtered_transaction_counts_are_of_taken_items()
     ensures { (limit : ℕ) (maps : TableMaps) (items : List (Result EventView Error)) (old new : Filtered (Counter TransactionStats)) → seen_by old.visitor.stats ≡ none_seen limit
         → Visits ⟦<Filtered<Counter<TransactionStats>> as Visitor>⟧.visits maps 0 items old new
         → AreOfTakenItems (λ facts seen. AreTransactionStats limit facts seen) old.filter maps old.place.position old.state items (ended (seen_by new.visitor.stats)) }
+{}
+
+/// Of all items that are shown, and of the events inside compressed transactions of at most `limit` bytes, the facts are added, in order, by
+/// the table maps in force at each.
+pub fn spliced_counts_are_of_all_items<C: Counts>()
+    ensures { (maps : TableMaps) (items : List (Result EventView Error)) (old new : Spliced (Counter C)) → Visits ⟦<Spliced<Counter<C>> as Visitor>⟧.visits maps 0 items old new
+        → AreOfSplicedItems (λ facts stats. AddsEach C.adds facts old.visitor.stats stats) old.limit maps items new.visitor.stats }
+{}
+
+/// Where there was room for all tables, the statistics by table are those of all items that were shown, and of all events inside.
+pub fn spliced_table_counts_are_of_all_items()
+    ensures { (maps : TableMaps) (items : List (Result EventView Error)) (old new : Spliced (Counter TableStats)) → AreEmpty old.visitor.stats
+        → Visits ⟦<Spliced<Counter<TableStats>> as Visitor>⟧.visits maps 0 items old new → new.visitor.stats.is_full ≡ false
+        → AreOfSplicedItems AreTableStats old.limit maps items new.visitor.stats }
+{}
+
+/// Where there was room for all intervals, the statistics by time are those of all items that were shown, and of all events inside.
+pub fn spliced_interval_counts_are_of_all_items()
+    ensures { (maps : TableMaps) (items : List (Result EventView Error)) (old new : Spliced (Counter IntervalStats)) → CountsNoInterval old.visitor.stats
+        → Visits ⟦<Spliced<Counter<IntervalStats>> as Visitor>⟧.visits maps 0 items old new → new.visitor.stats.is_full ≡ false
+        → AreOfSplicedItems (AreIntervalStats (seconds_of old.visitor.stats)) old.limit maps items new.visitor.stats }
+{}
+
+/// When the last transaction has ended, the statistics by transaction are those of the transactions of all items that were shown, and of all
+/// events inside.
+pub fn spliced_transaction_counts_are_of_all_items()
+    ensures { (limit : ℕ) (maps : TableMaps) (items : List (Result EventView Error)) (old new : Spliced (Counter TransactionStats)) → seen_by old.visitor.stats ≡ none_seen limit
+        → Visits ⟦<Spliced<Counter<TransactionStats>> as Visitor>⟧.visits maps 0 items old new
+        → AreOfSplicedItems (λ facts seen. AreTransactionStats limit facts seen) old.limit maps items (ended (seen_by new.visitor.stats)) }
+{}
+
+/// The statistics by type are those of all items that were shown, as of a log without compressed transactions; and apart from them those of
+/// all events inside, and of all errors there.
+pub fn spliced_type_counts_are_of_all_items()
+    ensures { (maps : TableMaps) (items : List (Result EventView Error)) (old new : Spliced SplicedStats) → old.visitor ≡ nothing_counted
+        → Visits ⟦<Spliced<SplicedStats> as Visitor>⟧.visits maps 0 items old new → AreSplicedCounts old.limit items new.visitor }
 {}

@@ -6,3 +6,4 @@ mod IntervalLines
 mod TransactionLines
 mod Powers
 mod TypeLines
+mod InnerLines

@@ -9,3 +9,4 @@ pub mod IntervalText
 pub mod TransactionJson
 pub mod TransactionText
 pub mod TypeJson
+pub mod InnerTypes

@@ -1,6 +1,8 @@
 //! What `binlog stats` is asked for, and the texts and the lines of JSON of statistics.
 #![tactic(auto)]
 
+mod inner_json;
+mod inner_text;
 mod interval_json;
 mod interval_text;
 mod intervals;
@@ -12,6 +14,8 @@ mod transaction_json;
 mod transaction_text;
 mod type_json;
 
+pub use inner_json::write_inner_types_json;
+pub use inner_text::write_inner_types;
 pub use interval_json::write_intervals_json;
 pub use interval_text::write_intervals;
 pub use options::{Grouping, StatsOptions, stats_options};

@@ -153,8 +153,8 @@ fn write_type(line: &mut Line, number: u8, events: u64, bytes: u64) -> Result<()
     Ok(())
 }
 
-// Writes the members of the number and of the name of a type.
-fn write_type_members(line: &mut Line, number: u8) -> Result<(), AllocError>
+/// Writes the members of the number and of the name of a type.
+pub(crate) fn write_type_members(line: &mut Line, number: u8) -> Result<(), AllocError>
     ensures { Adds result line.old line.new (type_members number) }
 {
     line.number_member("type", u64::from(number))?;

@@ -10,7 +10,7 @@ use Rattle.change_statistics.specs.Names.{name_of, name_eq, is_named}
 use Rattle.change_statistics.specs.SeenTables.{SeenTables, named_entries}
 use Rattle.change_statistics.specs.Tables.{max_tables}
 use Rattle.change_statistics.specs.TransactionTables.{with_table, with_rows_behind, with_rows_if, with_tables}
-use Rattle.change_statistics.specs.WholeCounts.{is_of, of_table}
+use Rattle.change_statistics.specs.WholeCounts.{is_of, of_table, size}
 use Rattle.change_statistics.specs.WholeEvents.{AreEventCounts}
 use Rattle.change_statistics.specs.WholeTransactions.{AreTablesOf}
 use Rattle.change_statistics.specs.declared.event_counts.EventCounts.{EventCounts}
@@ -102,9 +102,9 @@ pushed_not_nil : (l : List Fact) (x : Fact) → l ++ x ∷ [] ≡ [] → ⊥
 pushed_not_nil [] x none = cc
 pushed_not_nil (y ∷ l) x none = cc
 
-module _ (facts : List Fact) (begins : Bool) (gtid : List ℕ) (bytes end time : ℕ) (old : SeenTables) (was : old.is_full ≡ false → AreTablesOf facts old.entries) where
+module _ (facts : List Fact) (begins : Bool) (gtid : List ℕ) (stored own_size end time : ℕ) (old : SeenTables) (was : old.is_full ≡ false → AreTablesOf facts old.entries) where
   abbrev With : Rows → Fact
-  With said = record { begins = begins; gtid = gtid; bytes = bytes; end = end; time = time; rows = said }
+  With said = record { begins = begins; gtid = gtid; bytes = stored; size = own_size; end = end; time = time; rows = said }
 
   abbrev AreThen : Rows → SeenTables → Type 0
   AreThen said new = new.is_full ≡ false → AreTablesOf (facts ++ With said ∷ []) new.entries
@@ -115,7 +115,7 @@ module _ (facts : List Fact) (begins : Bool) (gtid : List ℕ) (bytes end time :
       let are = was room in
       record {
         tables = λ name.
-            subst (λ (l : List Fact). MatchOption (lookup (name_eq name) old.entries) (l ≡ []) (λ counts. (l ≢ []) × AreEventCounts l counts))
+            subst (λ (l : List Fact). MatchOption (lookup (name_eq name) old.entries) (l ≡ []) (λ counts. (l ≢ []) × AreEventCounts size l counts))
             (sym (filter_same (is_of name) facts (With said) (other name))) (are.tables name);
         once = are.once;
       }
@@ -125,21 +125,21 @@ module _ (facts : List Fact) (begins : Bool) (gtid : List ℕ) (bytes end time :
     Event = With (rows own kind count)
 
     abbrev Is : Name → Option EventCounts → List Fact → Type 0
-    Is name found l = MatchOption found (l ≡ []) (λ counts. (l ≢ []) × AreEventCounts l counts)
+    Is name found l = MatchOption found (l ≡ []) (λ counts. (l ≢ []) × AreEventCounts size l counts)
 
     of_own : of_table own (facts ++ Event ∷ []) ≡ of_table own facts ++ Event ∷ []
     of_own = filter_more (is_of own) facts Event (own_name own)
 
     -- The counts of the table are those with one event more.
-    module _ (before : EventCounts) (counted : AreEventCounts (of_table own facts) before) (room : old.is_full ≡ false) where
+    module _ (before : EventCounts) (counted : AreEventCounts size (of_table own facts) before) (room : old.is_full ≡ false) where
       abbrev After : EventCounts
-      After = with_event before Event
+      After = with_event before own_size Event
 
       own_counted : Is own (lookup (name_eq own) (with_table old.entries own After)) (of_table own (facts ++ Event ∷ []))
       own_counted =
           subst (λ (l : List Fact). Is own (lookup (name_eq own) (with_table old.entries own After)) l) (sym of_own)
           (subst (λ (o : Option EventCounts). Is own o (of_table own facts ++ Event ∷ [])) (sym (own_found own After old.entries))
-          (pushed_not_nil (of_table own facts) Event, one_counted (of_table own facts) Event before counted))
+          (pushed_not_nil (of_table own facts) Event, one_counted size (of_table own facts) Event before counted))
 
       each_counted : (name : Name) (b : Bool) → name_eq own name ≡ b → Is name (lookup (name_eq name) (with_table old.entries own After)) (of_table name (facts ++ Event ∷ []))
       each_counted name true is =
@@ -158,7 +158,7 @@ module _ (facts : List Fact) (begins : Bool) (gtid : List ℕ) (bytes end time :
         table_counted counts own_was.1 room
     counted_behind None is true more room = rw more (λ still.
         let own_was : Is own None (of_table own facts) = subst (λ (o : Option EventCounts). Is own o (of_table own facts)) is ((was room).tables own) in
-        table_counted no_event_counts (subst (λ (l : List Fact). AreEventCounts l no_event_counts) (sym own_was) none_counted) room)
+        table_counted no_event_counts (subst (λ (l : List Fact). AreEventCounts size l no_event_counts) (sym own_was) (none_counted size)) room)
     counted_behind None is false more room = rw more (λ still. absurd (let no : true ≡ false = still in cc))
 
     counted_if : (b : Bool) → old.is_full ≡ b → AreThen (rows own kind count) (with_rows_if b old own Event)
@@ -173,4 +173,4 @@ module _ (facts : List Fact) (begins : Bool) (gtid : List ℕ) (bytes end time :
 -- The tables are those of the events with one more.
 pub tables_counted : (facts : List Fact) (fact : Fact) (old : SeenTables) → (old.is_full ≡ false → AreTablesOf facts old.entries)
     → (with_tables old fact).is_full ≡ false → AreTablesOf (facts ++ fact ∷ []) (with_tables old fact).entries
-tables_counted facts fact old was = counted_said facts fact.begins fact.gtid fact.bytes fact.end fact.time old was fact.rows
+tables_counted facts fact old was = counted_said facts fact.begins fact.gtid fact.bytes fact.size fact.end fact.time old was fact.rows

@@ -5,7 +5,7 @@ use Rattle.change_statistics.specs.EventCounting.{no_event_counts}
 use Rattle.change_statistics.specs.Facts.{Fact, begin_of}
 use Rattle.change_statistics.specs.Transactions.{begun, extended}
 use Rattle.change_statistics.specs.TransactionTables.{no_tables}
-use Rattle.change_statistics.specs.WholeCounts.{time, until_begin, transactions_in}
+use Rattle.change_statistics.specs.WholeCounts.{bytes, time, until_begin, transactions_in}
 use Rattle.change_statistics.specs.WholeTransactions.{gtid_of, end_of, IsTransactionOf, AreTransactionsOf}
 use Rattle.change_statistics.specs.declared.transaction.Transaction.{Transaction}
 use Rattle.change_statistics.proofs.CountedEvents.{none_counted, one_counted}
@@ -28,7 +28,7 @@ first_kept f (first ∷ xs) x y is = is
 
 first_is : (event : Fact) → IsTransactionOf (event ∷ []) (begun event)
 first_is event = record {
-  counts = one_counted [] event no_event_counts none_counted;
+  counts = one_counted bytes [] event no_event_counts (none_counted bytes);
   gtid = refl;
   begin_position = refl;
   end_position = refl;
@@ -39,7 +39,7 @@ first_is event = record {
 
 one_more : (before : List Fact) (event : Fact) (transaction : Transaction) → IsTransactionOf before transaction → IsTransactionOf (before ++ event ∷ []) (extended transaction event)
 one_more before event transaction was = record {
-  counts = one_counted before event transaction.counts was.counts;
+  counts = one_counted bytes before event transaction.counts was.counts;
   gtid = first_kept gtid_of before event transaction.gtid was.gtid;
   begin_position = first_kept begin_of before event transaction.begin_position was.begin_position;
   end_position = last_more end_of before event;

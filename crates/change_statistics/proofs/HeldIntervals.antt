@@ -10,6 +10,7 @@ use Rattle.std.proofs.lemmas.List.{length_push}
 use Rattle.change_statistics.specs.Facts.{Fact}
 use Rattle.change_statistics.specs.Intervals.{seconds_of, start_of, counts_of, CountsNoInterval, PutsInterval, AddsToInterval, AddsByTime, AddsAllByTime}
 use Rattle.change_statistics.specs.WholeIntervals.{lies_in, of_interval, AreIntervalStats}
+use Rattle.change_statistics.specs.WholeCounts.{bytes}
 use Rattle.change_statistics.specs.WholeEvents.{AreEventCounts}
 use Rattle.change_statistics.specs.EventCounting.{no_event_counts, with_event}
 use Rattle.change_statistics.specs.declared.event_counts.EventCounts.{EventCounts}
@@ -26,7 +27,7 @@ counts_at stats interval = unwrap_or (counts_of stats interval) no_event_counts
 -- The statistics are those of the facts.
 pub record Held (seconds : ℕ) (facts : List Fact) (stats : IntervalStats) : Type 0 where
   pub width : seconds_of stats ≡ seconds
-  pub intervals : (interval : ℕ) → AreEventCounts (of_interval seconds interval facts) (counts_at stats interval)
+  pub intervals : (interval : ℕ) → AreEventCounts bytes (of_interval seconds interval facts) (counts_at stats interval)
   pub there : (interval : ℕ) → is_some (counts_of stats interval) ≡ ltb 0 (length (of_interval seconds interval facts))
   pub ordered : IsOrdered nat_cmp stats.intervals
 
@@ -39,7 +40,7 @@ none_held stats empty =
     let none : (interval : ℕ) → counts_of stats interval ≡ None = λ interval. rw empty.intervals refl in
     record {
       width = refl;
-      intervals = λ interval. rw (none interval) none_counted;
+      intervals = λ interval. rw (none interval) (none_counted bytes);
       there = λ interval. rw (none interval) refl;
       ordered = nothing_ordered stats empty.intervals;
     }
@@ -59,7 +60,7 @@ module _ (seconds : ℕ) (facts : List Fact) (fact : Fact) (old new : IntervalSt
   Then interval = of_interval seconds interval (facts ++ fact ∷ [])
 
   abbrev Counted : EventCounts
-  Counted = with_event (counts_at old Own) fact
+  Counted = with_event (counts_at old Own) fact.bytes fact
 
   module _ (puts : PutsInterval old Own Counted new) where
     of_own : Then Own ≡ Of Own ++ fact ∷ []
@@ -74,16 +75,16 @@ module _ (seconds : ℕ) (facts : List Fact) (fact : Fact) (old new : IntervalSt
     other_counts : (interval : ℕ) → eqb Own interval ≡ false → counts_of new interval ≡ counts_of old interval
     other_counts interval other = puts.intervals interval ∙ ap (λ (b : Bool). cond b (Some Counted) (counts_of old interval)) other
 
-    own_held : AreEventCounts (Then Own) (counts_at new Own)
+    own_held : AreEventCounts bytes (Then Own) (counts_at new Own)
     own_held =
-        subst (λ (found : Option EventCounts). AreEventCounts (Then Own) (unwrap_or found no_event_counts)) (sym own_counts)
-        (subst (λ (l : List Fact). AreEventCounts l Counted) (sym of_own) (one_counted (Of Own) fact (counts_at old Own) (was.intervals Own)))
+        subst (λ (found : Option EventCounts). AreEventCounts bytes (Then Own) (unwrap_or found no_event_counts)) (sym own_counts)
+        (subst (λ (l : List Fact). AreEventCounts bytes l Counted) (sym of_own) (one_counted bytes (Of Own) fact (counts_at old Own) (was.intervals Own)))
 
-    each_held : (interval : ℕ) (b : Bool) → eqb Own interval ≡ b → AreEventCounts (Then interval) (counts_at new interval)
-    each_held interval true is = subst (λ (i : ℕ). AreEventCounts (Then i) (counts_at new i)) (same_number Own interval is) own_held
+    each_held : (interval : ℕ) (b : Bool) → eqb Own interval ≡ b → AreEventCounts bytes (Then interval) (counts_at new interval)
+    each_held interval true is = subst (λ (i : ℕ). AreEventCounts bytes (Then i) (counts_at new i)) (same_number Own interval is) own_held
     each_held interval false other =
-        subst (λ (found : Option EventCounts). AreEventCounts (Then interval) (unwrap_or found no_event_counts)) (sym (other_counts interval other))
-        (subst (λ (l : List Fact). AreEventCounts l (counts_at old interval)) (sym (of_other interval other)) (was.intervals interval))
+        subst (λ (found : Option EventCounts). AreEventCounts bytes (Then interval) (unwrap_or found no_event_counts)) (sym (other_counts interval other))
+        (subst (λ (l : List Fact). AreEventCounts bytes l (counts_at old interval)) (sym (of_other interval other)) (was.intervals interval))
 
     own_there : is_some (counts_of new Own) ≡ ltb 0 (length (Then Own))
     own_there = ap is_some own_counts ∙ sym (ap (λ (l : List Fact). ltb 0 (length l)) of_own ∙ ap (ltb 0) (length_push (Of Own) fact) ∙ positive (length (Of Own)))
@@ -110,7 +111,7 @@ stays_full (fact ∷ facts) old new (mid, inr added, rest) full = absurd (let no
 added_held : (seconds : ℕ) (facts : List Fact) (fact : Fact) (old new : IntervalStats) → Held seconds facts old → AddsToInterval old (start_of (seconds_of old) fact.time) fact new → Held seconds (facts ++ fact ∷ []) new
 added_held seconds facts fact old new was added =
     put_held seconds facts fact old new was
-    (subst (λ (s : ℕ). PutsInterval old (start_of s fact.time) (with_event (counts_at old (start_of s fact.time)) fact) new) was.width added.1)
+    (subst (λ (s : ℕ). PutsInterval old (start_of s fact.time) (with_event (counts_at old (start_of s fact.time)) fact.bytes fact) new) was.width added.1)
 
 fact_held : (seconds : ℕ) (facts : List Fact) (fact : Fact) (old new : IntervalStats) → Held seconds facts old → AddsByTime old fact new → new.is_full ≡ false
     → Held seconds (facts ++ fact ∷ []) new
@@ -132,8 +133,8 @@ all_held seconds done (fact ∷ facts) old new was (mid, added, rest) room = by 
 not_nil : (x : Fact) (l : List Fact) → x ∷ l ≡ [] → ⊥
 not_nil x l none = cc
 
-matched : (l : List Fact) (found : Option EventCounts) → is_some found ≡ ltb 0 (length l) → AreEventCounts l (unwrap_or found no_event_counts)
-    → MatchOption found (l ≡ []) (λ counts. (l ≢ []) × AreEventCounts l counts)
+matched : (l : List Fact) (found : Option EventCounts) → is_some found ≡ ltb 0 (length l) → AreEventCounts bytes l (unwrap_or found no_event_counts)
+    → MatchOption found (l ≡ []) (λ counts. (l ≢ []) × AreEventCounts bytes l counts)
 matched [] None there are = refl
 matched (x ∷ l) None there are =
     let long : length (x ∷ l) ≡ length l + 1 = omega arith in

@@ -8,7 +8,7 @@ use Rattle.change_statistics.specs.Facts.{Name, Rows, nothing, unknown, rows, Fa
 use Rattle.change_statistics.specs.Names.{name_eq}
 use Rattle.change_statistics.specs.Counting.{saturated, counted, counted_if, rows_as}
 use Rattle.change_statistics.specs.Tables.{no_counts, with_rows, counts_named, AreEmpty, AddsRows, AddsChange, Adds, AddsAll}
-use Rattle.change_statistics.specs.WholeCounts.{is_of, begins, bytes, time, rows_in, is_unread, is_unknown, of_table, bytes_of, transactions_in, touches}
+use Rattle.change_statistics.specs.WholeCounts.{is_of, begins, size, time, rows_in, is_unread, is_unknown, of_table, sizes_of, transactions_in, touches}
 use Rattle.change_statistics.specs.WholeTables.{AreTableCounts, AreTableStats}
 use Rattle.change_statistics.specs.declared.facts.ChangeKind.{ChangeKind}
 use Rattle.change_statistics.specs.declared.facts.ChangeKind.TheVariants.{Inserted, Updated, Deleted}
@@ -92,7 +92,7 @@ module _ (facts : List Fact) (fact : Fact) (name : Name) (transactions : ℕ) (c
           deleted = was.all.deleted ∙ ap (λ (l : List Fact). saturated (sum_by (rows_in Deleted) l)) same;
           events = was.all.events ∙ ap (λ (l : List Fact). saturated (length l)) same;
           unread_events = was.all.unread_events ∙ ap (λ (l : List Fact). saturated (count_by is_unread l)) same;
-          bytes = was.all.bytes ∙ ap (λ (l : List Fact). saturated (bytes_of l)) same;
+          bytes = was.all.bytes ∙ ap (λ (l : List Fact). saturated (sizes_of l)) same;
           transactions = λ small. was.all.transactions (fewer small) ∙ ap saturated (sym touching);
           first_time = was.all.first_time ∙ ap (λ (l : List Fact). option_map time (slice_get l 0)) same;
           last_time = was.all.last_time ∙ ap (λ (l : List Fact). option_map time (slice_get l (length l - 1))) same;
@@ -117,12 +117,12 @@ module _ (facts : List Fact) (fact : Fact) (name : Name) (transactions : ℕ) (c
         ∙ sym (touching_more name facts fact)
 
 -- An event of the table.
-held_more : (facts : List Fact) (begins_one : Bool) (gtid : List ℕ) (size end at : ℕ) (other name : Name) (kind : ChangeKind) (count : Option ℕ) (transactions : ℕ) (counts : TableCounts)
+held_more : (facts : List Fact) (begins_one : Bool) (gtid : List ℕ) (stored own_size end at : ℕ) (other name : Name) (kind : ChangeKind) (count : Option ℕ) (transactions : ℕ) (counts : TableCounts)
     → transactions ≡ saturated (count_by begins facts) → IsHeld facts name transactions counts → name_eq other name ≡ true
-    → IsHeld (facts ++ record { begins = begins_one; gtid = gtid; bytes = size; end = end; time = at; rows = rows other kind count } ∷ []) name (counted_if begins_one transactions)
-    (with_rows counts (counted_if begins_one transactions) size at kind count)
-held_more facts begins_one gtid size end at other name kind count transactions counts are was is =
-    let fact : Fact = record { begins = begins_one; gtid = gtid; bytes = size; end = end; time = at; rows = rows other kind count } in
+    → IsHeld (facts ++ record { begins = begins_one; gtid = gtid; bytes = stored; size = own_size; end = end; time = at; rows = rows other kind count } ∷ []) name (counted_if begins_one transactions)
+    (with_rows counts (counted_if begins_one transactions) own_size at kind count)
+held_more facts begins_one gtid stored own_size end at other name kind count transactions counts are was is =
+    let fact : Fact = record { begins = begins_one; gtid = gtid; bytes = stored; size = own_size; end = end; time = at; rows = rows other kind count } in
     let l : List Fact = of_table name facts in
     let sums : (f : Fact → ℕ) → sum_by f (of_table name (facts ++ fact ∷ [])) ≡ sum_by f l + f fact = sum_more facts fact name transactions counts are was is in
     let now : of_table name (facts ++ fact ∷ []) ≡ l ++ fact ∷ [] = more facts fact name transactions counts are was is in
@@ -135,7 +135,7 @@ held_more facts begins_one gtid size end at other name kind count transactions c
         unread_events =
             counted_if_more (is_none count) counts.unread_events (count_by is_unread l) was.all.unread_events
             ∙ ap saturated (sym (ap (count_by is_unread) now ∙ count_more is_unread l fact));
-        bytes = counted_more counts.bytes (bytes_of l) size was.all.bytes ∙ ap saturated (sym (sums bytes));
+        bytes = counted_more counts.bytes (sizes_of l) own_size was.all.bytes ∙ ap saturated (sym (sums size));
         transactions = λ small.
             counted_if_more (ltb counts.last_transaction (counted_if begins_one transactions)) counts.transactions (count_by (touches name) (transactions_in facts))
             (was.all.transactions (fewer facts fact name transactions counts are was small))
@@ -160,7 +160,7 @@ pub record Held (facts : List Fact) (stats : TableStats) : Type 0 where
   pub there : (name : Name) → is_some (counts_named stats name) ≡ ltb 0 (length (of_table name facts))
   pub transactions : stats.transactions ≡ saturated (count_by begins facts)
   pub unknown_events : stats.unknown.events ≡ saturated (count_by is_unknown facts)
-  pub unknown_bytes : stats.unknown.bytes ≡ saturated (bytes_of (filter is_unknown facts))
+  pub unknown_bytes : stats.unknown.bytes ≡ saturated (sizes_of (filter is_unknown facts))
 
 none_held : (stats : TableStats) → AreEmpty stats → Held [] stats
 none_held stats empty =
@@ -187,9 +187,9 @@ none_held stats empty =
       unknown_bytes = rw empty.unknown refl;
     }
 
-module _ (facts : List Fact) (old : TableStats) (was : Held facts old) (begins_one : Bool) (gtid : List ℕ) (size end at : ℕ) where
+module _ (facts : List Fact) (old : TableStats) (was : Held facts old) (begins_one : Bool) (gtid : List ℕ) (stored own_size end at : ℕ) where
   abbrev With : Rows → Fact
-  With said = record { begins = begins_one; gtid = gtid; bytes = size; end = end; time = at; rows = said }
+  With said = record { begins = begins_one; gtid = gtid; bytes = stored; size = own_size; end = end; time = at; rows = said }
 
   abbrev Then : ℕ
   Then = counted_if begins_one old.transactions
@@ -207,8 +207,8 @@ module _ (facts : List Fact) (old : TableStats) (was : Held facts old) (begins_o
       count_more is_unknown facts (With said) ∙ ap (λ (b : Bool). count_by is_unknown facts + cond b 1 0) known ∙ omega arith in
       was.unknown_events ∙ ap saturated (sym same)
 
-  known_bytes : (said : Rows) → is_unknown (With said) ≡ false → old.unknown.bytes ≡ saturated (bytes_of (filter is_unknown (facts ++ With said ∷ [])))
-  known_bytes said known = was.unknown_bytes ∙ ap (λ (l : List Fact). saturated (bytes_of l)) (sym (filter_same is_unknown facts (With said) known))
+  known_bytes : (said : Rows) → is_unknown (With said) ≡ false → old.unknown.bytes ≡ saturated (sizes_of (filter is_unknown (facts ++ With said ∷ [])))
+  known_bytes said known = was.unknown_bytes ∙ ap (λ (l : List Fact). saturated (sizes_of l)) (sym (filter_same is_unknown facts (With said) known))
 
   nothing_held : Held (facts ++ With nothing ∷ []) (record old { transactions = Then })
   nothing_held = record {
@@ -219,7 +219,7 @@ module _ (facts : List Fact) (old : TableStats) (was : Held facts old) (begins_o
     unknown_bytes = known_bytes nothing refl;
   }
 
-  unknown_held : Held (facts ++ With unknown ∷ []) (record old { transactions = Then; unknown = record { events = counted old.unknown.events 1; bytes = counted old.unknown.bytes size } })
+  unknown_held : Held (facts ++ With unknown ∷ []) (record old { transactions = Then; unknown = record { events = counted old.unknown.events 1; bytes = counted old.unknown.bytes own_size } })
   unknown_held = record {
     tables = λ name. held_same facts (With unknown) name old.transactions (counts_at old name) was.transactions (was.tables name) refl;
     there = λ name. there_same unknown name refl;
@@ -227,16 +227,16 @@ module _ (facts : List Fact) (old : TableStats) (was : Held facts old) (begins_o
     unknown_events =
         counted_more old.unknown.events (count_by is_unknown facts) 1 was.unknown_events ∙ ap saturated (sym (count_more is_unknown facts (With unknown)));
     unknown_bytes =
-        counted_more old.unknown.bytes (bytes_of (filter is_unknown facts)) size was.unknown_bytes
-        ∙ ap saturated (sym (ap bytes_of (filter_more is_unknown facts (With unknown) refl) ∙ sum_by_push bytes (filter is_unknown facts) (With unknown)));
+        counted_more old.unknown.bytes (sizes_of (filter is_unknown facts)) own_size was.unknown_bytes
+        ∙ ap saturated (sym (ap sizes_of (filter_more is_unknown facts (With unknown) refl) ∙ sum_by_push size (filter is_unknown facts) (With unknown)));
   }
 
-  module _ (own : Name) (kind : ChangeKind) (count : Option ℕ) (new : TableStats) (adds : AddsRows old Then size at own kind count new) where
+  module _ (own : Name) (kind : ChangeKind) (count : Option ℕ) (new : TableStats) (adds : AddsRows old Then own_size at own kind count new) where
     abbrev Event : Fact
     Event = With (rows own kind count)
 
     abbrev Written : TableCounts
-    Written = with_rows (counts_at old own) Then size at kind count
+    Written = with_rows (counts_at old own) Then own_size at kind count
 
     own_counts : counts_named new own ≡ Some Written
     own_counts = adds.tables own ∙ ap (λ (b : Bool). cond b (Some Written) (counts_named old own)) (own_name own)
@@ -247,7 +247,7 @@ module _ (facts : List Fact) (old : TableStats) (was : Held facts old) (begins_o
     own_held : IsHeld (facts ++ Event ∷ []) own Then (counts_at new own)
     own_held =
         subst (λ (found : Option TableCounts). IsHeld (facts ++ Event ∷ []) own Then (unwrap_or found no_counts)) (sym own_counts)
-        (held_more facts begins_one gtid size end at own own kind count old.transactions (counts_at old own) was.transactions (was.tables own) (own_name own))
+        (held_more facts begins_one gtid stored own_size end at own own kind count old.transactions (counts_at old own) was.transactions (was.tables own) (own_name own))
 
     each_held : (name : Name) (b : Bool) → name_eq own name ≡ b → IsHeld (facts ++ Event ∷ []) name Then (counts_at new name)
     each_held name true is = subst (λ (n : Name). IsHeld (facts ++ Event ∷ []) n Then (counts_at new n)) (same_name own name is) own_held
@@ -274,7 +274,7 @@ module _ (facts : List Fact) (old : TableStats) (was : Held facts old) (begins_o
       unknown_bytes = ap (λ (u : UnknownRows). u.bytes) adds.unknown ∙ known_bytes (rows own kind count) refl;
     }
 
-  one_held : (said : Rows) (new : TableStats) → AddsChange old Then size at said new → new.is_full ≡ false → Held (facts ++ With said ∷ []) new
+  one_held : (said : Rows) (new : TableStats) → AddsChange old Then own_size at said new → new.is_full ≡ false → Held (facts ++ With said ∷ []) new
   one_held nothing new same room = subst (Held (facts ++ With nothing ∷ [])) (sym same) nothing_held
   one_held unknown new same room = subst (Held (facts ++ With unknown ∷ [])) (sym same) unknown_held
   one_held (rows own kind count) new (inl adds) room = rows_held own kind count new adds
@@ -288,7 +288,7 @@ stays_full (fact ∷ facts) old new (mid, inr added, rest) full = absurd (let no
 
 fact_held : (facts : List Fact) (old new : TableStats) (fact : Fact) → Held facts old → Adds old fact new → new.is_full ≡ false → Held (facts ++ fact ∷ []) new
 fact_held facts old new fact was (inl kept) room = absurd (let no : true ≡ false = sym kept.0 ∙ sym (ap (λ (s : TableStats). s.is_full) kept.1) ∙ room in cc)
-fact_held facts old new fact was (inr added) room = one_held facts old was fact.begins fact.gtid fact.bytes fact.end fact.time fact.rows new added.1 room
+fact_held facts old new fact was (inr added) room = one_held facts old was fact.begins fact.gtid fact.bytes fact.size fact.end fact.time fact.rows new added.1 room
 
 all_held : (done facts : List Fact) (old new : TableStats) → Held done old → AddsAll facts old new → new.is_full ≡ false → Held (done ++ facts) new
 all_held done [] old new was same room = subst (Held (done ++ [])) (sym same) (subst (λ (l : List Fact). Held l old) (sym (append-nil done)) was)

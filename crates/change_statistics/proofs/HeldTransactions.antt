@@ -35,19 +35,19 @@ all_seen : (events : List Fact) (current : Option Transaction) (n limit : ℕ) (
 all_seen [] None n limit kept sizes new same = ap ended same
 all_seen [] (Some transaction) n limit kept sizes new same = ap ended same
 all_seen (event ∷ events) current n limit kept sizes new (mid, is, rest) =
-    by event.begins event.gtid event.bytes event.end event.time event.rows current is
+    by event.begins event.gtid event.bytes event.size event.end event.time event.rows current is
     (λ c m k z same. all_seen events c m limit k z new (subst (λ (s : Seen). SeesAll events s new) same rest))
   where
-    by : (b : Bool) (gtid : List ℕ) (bytes end time : ℕ) (said : Rows) (o : Option Transaction)
-        → mid ≡ added (seen_as o n limit kept sizes) (record { begins = b; gtid = gtid; bytes = bytes; end = end; time = time; rows = said })
+    by : (b : Bool) (gtid : List ℕ) (bytes size end time : ℕ) (said : Rows) (o : Option Transaction)
+        → mid ≡ added (seen_as o n limit kept sizes) (record { begins = b; gtid = gtid; bytes = bytes; size = size; end = end; time = time; rows = said })
         → ((c : Option Transaction) (m : ℕ) (k : List Transaction) (z : List ℕ) → mid ≡ seen_as c m limit k z → ended new ≡ all_counted_in (all_behind c events) (seen_as None m limit k z))
-        → ended new ≡ all_counted_in (all_behind o (record { begins = b; gtid = gtid; bytes = bytes; end = end; time = time; rows = said } ∷ events)) (seen_as None n limit kept sizes)
-    by true gtid bytes end time said None same others = others (Some (begun (record { begins = true; gtid = gtid; bytes = bytes; end = end; time = time; rows = said }))) n kept sizes same
-    by true gtid bytes end time said (Some t) same others =
-        others (Some (begun (record { begins = true; gtid = gtid; bytes = bytes; end = end; time = time; rows = said }))) (counted n 1) (kept_with limit t kept) (sizes_with t.counts.bytes sizes) same
-    by false gtid bytes end time said None same others = others None n kept sizes same
-    by false gtid bytes end time said (Some t) same others =
-        others (Some (extended t (record { begins = false; gtid = gtid; bytes = bytes; end = end; time = time; rows = said }))) n kept sizes same
+        → ended new ≡ all_counted_in (all_behind o (record { begins = b; gtid = gtid; bytes = bytes; size = size; end = end; time = time; rows = said } ∷ events)) (seen_as None n limit kept sizes)
+    by true gtid bytes size end time said None same others = others (Some (begun (record { begins = true; gtid = gtid; bytes = bytes; size = size; end = end; time = time; rows = said }))) n kept sizes same
+    by true gtid bytes size end time said (Some t) same others =
+        others (Some (begun (record { begins = true; gtid = gtid; bytes = bytes; size = size; end = end; time = time; rows = said }))) (counted n 1) (kept_with limit t kept) (sizes_with t.counts.bytes sizes) same
+    by false gtid bytes size end time said None same others = others None n kept sizes same
+    by false gtid bytes size end time said (Some t) same others =
+        others (Some (extended t (record { begins = false; gtid = gtid; bytes = bytes; size = size; end = end; time = time; rows = said }))) n kept sizes same
 
 -- ---- what is counted of them
 

@@ -10,3 +10,4 @@ mod SizeClasses
 mod CountedTables
 mod GrownTransactions
 pub mod HeldTransactions
+pub mod CountedTypes

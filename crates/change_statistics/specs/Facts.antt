@@ -19,11 +19,13 @@ pub data Rows : Type 0 where
   rows : Name → ChangeKind → Option ℕ → Rows
 
 -- What statistics see of an event: whether a transaction begins with it, the text of the GTID of that one, which is empty if it has none;
--- the number of its bytes, the position behind it in its log, as it states, its time, and what it says of changes of rows.
+-- the number of bytes that it takes in its log, and of its own, which are others inside a compressed transaction; the position behind it in
+-- its log, as it states, its time, and what it says of changes of rows.
 pub record Fact : Type 0 where
   pub begins : Bool
   pub gtid : List ℕ
   pub bytes : ℕ
+  pub size : ℕ
   pub end : ℕ
   pub time : ℕ
   pub rows : Rows
@@ -38,7 +40,7 @@ rows_of (changes.Rows change) = rows (name_in change) change.kind change.count
 
 -- The facts of an event, as contracts see them.
 abbrev pub fact_of : EventFacts → Fact
-fact_of event = record { begins = event.begins_transaction; gtid = event.gtid.now; bytes = event.bytes; end = event.end_position; time = event.time; rows = rows_of event.change }
+fact_of event = record { begins = event.begins_transaction; gtid = event.gtid.now; bytes = event.bytes; size = event.size; end = event.end_position; time = event.time; rows = rows_of event.change }
 
 -- The position where the event begins, by its bytes; None if it states that it ends before so many.
 abbrev pub begin_of : Fact → Option ℕ

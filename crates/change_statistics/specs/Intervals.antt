@@ -52,7 +52,7 @@ pub record PutsInterval (old : IntervalStats) (start : ℕ) (counts : EventCount
 abbrev pub AddsToInterval : IntervalStats → (start : ℕ) → Fact → IntervalStats → Type 0
 AddsToInterval old start fact new =
     (IsSome (counts_of old start) ⊎ (interval_count old < max_intervals))
-    × PutsInterval old start (with_event (unwrap_or (counts_of old start) no_event_counts) fact) new
+    × PutsInterval old start (with_event (unwrap_or (counts_of old start) no_event_counts) fact.bytes fact) new
 
 -- There is no room for the interval that begins then. Nothing is counted.
 abbrev pub HasNoIntervalLeft : IntervalStats → (start : ℕ) → IntervalStats → Type 0

@@ -13,3 +13,5 @@ pub mod SeenTables
 pub mod TransactionTables
 pub mod Transactions
 pub mod WholeTransactions
+pub mod TypeCounting
+pub mod WholeTypes

@@ -93,7 +93,7 @@ AddsChange old transaction bytes time (rows name kind count) new = AddsRows old 
 abbrev pub Adds : TableStats → Fact → TableStats → Type 0
 Adds old fact new =
     ((old.is_full ≡ true) × (new ≡ old))
-    ⊎ ((old.is_full ≡ false) × AddsChange old (counted_if fact.begins old.transactions) fact.bytes fact.time fact.rows new)
+    ⊎ ((old.is_full ≡ false) × AddsChange old (counted_if fact.begins old.transactions) fact.size fact.time fact.rows new)
 
 -- The facts of events one after another are counted.
 abbrev pub AddsAll : List Fact → TableStats → TableStats → Type 0

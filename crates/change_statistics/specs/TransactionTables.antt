@@ -19,9 +19,9 @@ with_table entries name counts = insert_entry name_eq entries name counts
 
 -- The event is counted for the table with this name, which has these counts, if there is room for it.
 abbrev pub with_rows_behind : Option EventCounts → SeenTables → Name → Fact → SeenTables
-with_rows_behind (Some counts) old name fact = record old { entries = with_table old.entries name (with_event counts fact) }
+with_rows_behind (Some counts) old name fact = record old { entries = with_table old.entries name (with_event counts fact.size fact) }
 with_rows_behind None old name fact =
-    if nat_lt (length old.entries) max_tables then record old { entries = with_table old.entries name (with_event no_event_counts fact) } else record old { is_full = true }
+    if nat_lt (length old.entries) max_tables then record old { entries = with_table old.entries name (with_event no_event_counts fact.size fact) } else record old { is_full = true }
 
 -- The same, unless there was no room for a table before.
 abbrev pub with_rows_if : Bool → SeenTables → Name → Fact → SeenTables

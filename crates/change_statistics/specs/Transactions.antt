@@ -17,7 +17,7 @@ begun fact = record {
   gtid = fact.gtid;
   begin_position = begin_of fact;
   end_position = fact.end;
-  counts = with_event no_event_counts fact;
+  counts = with_event no_event_counts fact.bytes fact;
   first_time = fact.time;
   last_time = fact.time;
   tables = with_tables no_tables fact;
@@ -27,7 +27,7 @@ begun fact = record {
 abbrev pub extended : Transaction → Fact → Transaction
 extended transaction fact = record transaction {
   end_position = fact.end;
-  counts = with_event transaction.counts fact;
+  counts = with_event transaction.counts fact.bytes fact;
   last_time = fact.time;
   tables = with_tables transaction.tables fact;
 }

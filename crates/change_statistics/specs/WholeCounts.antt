@@ -23,6 +23,9 @@ begins fact = fact.begins
 abbrev pub bytes : Fact → ℕ
 bytes fact = fact.bytes
 
+abbrev pub size : Fact → ℕ
+size fact = fact.size
+
 abbrev pub time : Fact → ℕ
 time fact = fact.time
 
@@ -65,9 +68,9 @@ has_uncounted fact = has_uncounted_in fact.rows
 abbrev pub of_table : Name → List Fact → List Fact
 of_table name facts = filter (is_of name) facts
 
--- The number of bytes of the events.
-abbrev pub bytes_of : List Fact → ℕ
-bytes_of facts = sum_by bytes facts
+-- The number of the bytes that the events have, by themselves.
+abbrev pub sizes_of : List Fact → ℕ
+sizes_of facts = sum_by size facts
 
 -- Those before the first event with which a transaction begins.
 abbrev pub until_begin : List Fact → List Fact

@@ -4,6 +4,7 @@ use Rattle.std.specs.BTreeMap.{IsOrdered}
 use Rattle.std.specs.Ordering.{nat_cmp}
 use Rattle.change_statistics.specs.Facts.{Fact}
 use Rattle.change_statistics.specs.Intervals.{seconds_of, start_of, counts_of}
+use Rattle.change_statistics.specs.WholeCounts.{bytes}
 use Rattle.change_statistics.specs.WholeEvents.{AreEventCounts}
 use Rattle.change_statistics.specs.declared.intervals.IntervalStats.{IntervalStats}
 
@@ -19,5 +20,5 @@ of_interval seconds start facts = filter (lies_in seconds start) facts
 -- counts, in ascending order.
 pub record AreIntervalStats (seconds : ℕ) (facts : List Fact) (stats : IntervalStats) : Type 0 where
   pub width : seconds_of stats ≡ seconds
-  pub intervals : (start : ℕ) → MatchOption (counts_of stats start) (of_interval seconds start facts ≡ []) (λ counts. (of_interval seconds start facts ≢ []) × AreEventCounts (of_interval seconds start facts) counts)
+  pub intervals : (start : ℕ) → MatchOption (counts_of stats start) (of_interval seconds start facts ≡ []) (λ counts. (of_interval seconds start facts ≢ []) × AreEventCounts bytes (of_interval seconds start facts) counts)
   pub ordered : IsOrdered nat_cmp stats.intervals

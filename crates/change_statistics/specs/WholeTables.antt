@@ -3,7 +3,7 @@ use Rattle.std.specs.Prelude.{◌≡◌, ◌≢◌, ◌<◌, ◌^◌, List, [], 
 use Rattle.change_statistics.specs.Facts.{Name, Fact}
 use Rattle.change_statistics.specs.Counting.{saturated}
 use Rattle.change_statistics.specs.Tables.{counts_named}
-use Rattle.change_statistics.specs.WholeCounts.{begins, time, rows_in, is_unread, is_unknown, of_table, bytes_of, transactions_in, touches, first_of, last_of}
+use Rattle.change_statistics.specs.WholeCounts.{begins, time, rows_in, is_unread, is_unknown, of_table, sizes_of, transactions_in, touches, first_of, last_of}
 use Rattle.change_statistics.specs.declared.facts.ChangeKind.TheVariants.{Inserted, Updated, Deleted}
 use Rattle.change_statistics.specs.declared.table_counts.TableCounts.{TableCounts}
 use Rattle.change_statistics.specs.declared.tables.TableStats.{TableStats}
@@ -15,7 +15,7 @@ pub record AreTableCounts (facts : List Fact) (name : Name) (counts : TableCount
   pub deleted : counts.deleted ≡ saturated (sum_by (rows_in Deleted) (of_table name facts))
   pub events : counts.events ≡ saturated (length (of_table name facts))
   pub unread_events : counts.unread_events ≡ saturated (count_by is_unread (of_table name facts))
-  pub bytes : counts.bytes ≡ saturated (bytes_of (of_table name facts))
+  pub bytes : counts.bytes ≡ saturated (sizes_of (of_table name facts))
   pub transactions : count_by begins facts < 2 ^ 64 → counts.transactions ≡ saturated (count_by (touches name) (transactions_in facts))
   pub first_time : counts.first_time ≡ option_map time (first_of (of_table name facts))
   pub last_time : counts.last_time ≡ option_map time (last_of (of_table name facts))
@@ -25,4 +25,4 @@ pub record AreTableStats (facts : List Fact) (stats : TableStats) : Type 0 where
   pub tables : (name : Name) → MatchOption (counts_named stats name) (of_table name facts ≡ []) (λ counts. (of_table name facts ≢ []) × AreTableCounts facts name counts)
   pub transactions : stats.transactions ≡ saturated (count_by begins facts)
   pub unknown_events : stats.unknown.events ≡ saturated (count_by is_unknown facts)
-  pub unknown_bytes : stats.unknown.bytes ≡ saturated (bytes_of (filter is_unknown facts))
+  pub unknown_bytes : stats.unknown.bytes ≡ saturated (sizes_of (filter is_unknown facts))

@@ -7,7 +7,7 @@ use Rattle.change_statistics.specs.Facts.{Name, Fact, begin_of}
 use Rattle.change_statistics.specs.Counting.{saturated}
 use Rattle.change_statistics.specs.Names.{name_eq}
 use Rattle.change_statistics.specs.Transactions.{is_smaller, Seen}
-use Rattle.change_statistics.specs.WholeCounts.{time, of_table, transactions_in, first_of, last_of}
+use Rattle.change_statistics.specs.WholeCounts.{bytes, size, time, of_table, transactions_in, first_of, last_of}
 use Rattle.change_statistics.specs.WholeEvents.{AreEventCounts}
 use Rattle.change_statistics.specs.declared.event_counts.EventCounts.{EventCounts}
 use Rattle.change_statistics.specs.declared.transaction.Transaction.{Transaction}
@@ -22,13 +22,13 @@ end_of fact = fact.end
 
 -- These are the tables of which the events have rows, each once, and what is counted of those of each.
 pub record AreTablesOf (facts : List Fact) (entries : List (Name × EventCounts)) : Type 0 where
-  pub tables : (name : Name) → MatchOption (lookup (name_eq name) entries) (of_table name facts ≡ []) (λ counts. (of_table name facts ≢ []) × AreEventCounts (of_table name facts) counts)
+  pub tables : (name : Name) → MatchOption (lookup (name_eq name) entries) (of_table name facts ≡ []) (λ counts. (of_table name facts ≢ []) × AreEventCounts size (of_table name facts) counts)
   pub once : IsDistinct name_eq (keys_of entries)
 
 -- What is counted of these events, the GTID of the first one, and where and when that begins and the last one ends.
 pub record IsTransactionOf (facts : List Fact) (transaction : Transaction) : Type 0 where
   pub gtid : Some transaction.gtid ≡ option_map gtid_of (first_of facts)
-  pub counts : AreEventCounts facts transaction.counts
+  pub counts : AreEventCounts bytes facts transaction.counts
   pub begin_position : Some transaction.begin_position ≡ option_map begin_of (first_of facts)
   pub end_position : Some transaction.end_position ≡ option_map end_of (last_of facts)
   pub first_time : Some transaction.first_time ≡ option_map time (first_of facts)

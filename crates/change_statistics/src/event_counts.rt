@@ -42,16 +42,16 @@ impl EventCounts {
         }
     }
 
-    /// The counts with one more event.
-    pub(crate) fn with_event(&self, event: &EventFacts<'_>) -> Self
-        ensures { result ≡ with_event self.now (fact_of event.now) }
+    /// The counts with one more event, of so many bytes.
+    pub(crate) fn with_event(&self, bytes: u64, event: &EventFacts<'_>) -> Self
+        ensures { result ≡ with_event self.now bytes (fact_of event.now) }
     {
         let inserted = event.change.rows_as(ChangeKind::Inserted);
         let updated = event.change.rows_as(ChangeKind::Updated);
         let deleted = event.change.rows_as(ChangeKind::Deleted);
         EventCounts {
             events: self.events.saturating_add(1),
-            bytes: self.bytes.saturating_add(event.bytes),
+            bytes: self.bytes.saturating_add(bytes),
             transactions: counted_if(event.begins_transaction, self.transactions),
             inserted: self.inserted.saturating_add(inserted),
             updated: self.updated.saturating_add(updated),

@@ -45,8 +45,10 @@ pub struct EventFacts<'a> {
     pub begins_transaction: bool,
     /// The text of the GTID of the transaction that begins with it; empty if that has none, or if none begins.
     pub gtid: &'a str,
-    /// The number of its bytes.
+    /// The number of bytes that it takes in its log; none if it is inside a compressed transaction, whose event has them.
     pub bytes: u64,
+    /// The number of its bytes. Inside a compressed transaction they are those of the uncompressed event.
+    pub size: u64,
     /// The position behind it in its log, as it states.
     pub end_position: u64,
     /// Its timestamp, in seconds since 1970.

@@ -72,7 +72,9 @@ impl Counts for IntervalStats {
             self.is_full = true;
             return Ok(());
         }
-        let counts = known.unwrap_or(EventCounts::none()).with_event(event);
+        let counts = known
+            .unwrap_or(EventCounts::none())
+            .with_event(event.bytes, event);
         self.put(start, counts)
     }
 }

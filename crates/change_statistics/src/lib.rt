@@ -15,6 +15,7 @@ mod tables;
 mod transaction;
 mod transaction_stats;
 mod transaction_tables;
+mod type_counts;
 
 pub use counts::Counts;
 pub use event_counts::EventCounts;
@@ -29,3 +30,4 @@ pub use tables::{MAX_TABLES, TableStats};
 pub use transaction::Transaction;
 pub use transaction_stats::TransactionStats;
 pub use transaction_tables::TransactionTables;
+pub use type_counts::TypeCounts;

@@ -127,9 +127,9 @@ impl Counts for TableStats {
         }
         let transactions = counted_if(event.begins_transaction, self.transactions);
         match &event.change {
-            Change::Rows(change) => self.add_rows(transactions, event.bytes, event.time, change),
+            Change::Rows(change) => self.add_rows(transactions, event.size, event.time, change),
             Change::Unknown => {
-                self.unknown = self.unknown.with_event(event.bytes);
+                self.unknown = self.unknown.with_event(event.size);
                 self.transactions = transactions;
                 Ok(())
             }

@@ -44,7 +44,7 @@ impl Transaction {
             gtid,
             begin_position: event.begin_position(),
             end_position: event.end_position,
-            counts: EventCounts::none().with_event(event),
+            counts: EventCounts::none().with_event(event.bytes, event),
             first_time: event.time,
             last_time: event.time,
             tables,
@@ -69,7 +69,7 @@ impl Transaction {
     {
         self.tables.add(event)?;
         self.end_position = event.end_position;
-        self.counts = self.counts.with_event(event);
+        self.counts = self.counts.with_event(event.bytes, event);
         self.last_time = event.time;
         Ok(())
     }

@@ -98,7 +98,9 @@ impl TransactionTables {
             self.is_full = true;
             return Ok(());
         }
-        let counts = known.unwrap_or(EventCounts::none()).with_event(event);
+        let counts = known
+            .unwrap_or(EventCounts::none())
+            .with_event(event.size, event);
         self.put(name, counts)
     }
 

@@ -13,7 +13,10 @@ returns-clause-ok g c = record {
     fine = rw c.new-lines.ensures.output c.in_ok-output.ensures.fine;
   };
   made = (
-    c.new-lines.ensures.limit,
+    c.new-lines.ensures.limits.0,
+    c.new-lines.ensures.limits.1,
+    c.new-lines.ensures.undamaged,
+    (c.in_ok-asked.asked, c.in_ok-asked.ensures.ok, c.new-lines.ensures.tables),
     rw c.new-lines.ensures.options refl,
     rw c.new-lines.ensures.options c.in_ok-files.ensures.ok,
     rw c.new-lines.ensures.output (c.in_ok-output.ensures.capacity ∙ c.output_capacity.ensures),
@@ -23,6 +26,11 @@ returns-clause-ok g c = record {
   changes = c.write_files-lines.ensures;
   ends = rw c.into_output.ensures at c.finish.ensures;
 }
+
+pub returns-in_err-asked-clause-err : goal.returns-in_err-asked-clause-err
+returns-in_err-asked-clause-err g c =
+    let p = err_from_is_err_and c.from_residual-in_err-asked.result c.from_residual-in_err-asked.ensures.1 in
+    rw (p.1, p.2) (inl c.in_err-asked.ensures.err)
 
 pub returns-in_err-filter-clause-err : goal.returns-in_err-filter-clause-err
 returns-in_err-filter-clause-err g c =

@@ -6,4 +6,5 @@ use Rattle.binlog_statistics.proofs.finding.find_rows.Goals as goal
 
 pub returns-clause-ok : goal.returns-clause-ok
 returns-clause-ok c =
-    rows_found (state_of c.args.reader.now).table_maps (view_of c.args.event.now) c.read_log_data-read.result c.read_rows-answer.result (search rules) c.read_log_data-read.ensures c.read_rows-answer.ensures.ok
+    rows_found (state_of c.args.reader.now).table_maps (view_of c.args.event.now) c.read_log_data-read.result c.read_rows-answer.result (search rules) c.read_log_data-read.ensures
+    _ c.outside_map-map.ensures c.read_rows-answer.ensures.ok
