@@ -102,8 +102,9 @@ def build_baseline(folder):
     return baseline
 
 
-def instructions(program, stream, text):
-    command = ["valgrind", "--tool=callgrind", "--callgrind-out-file=/dev/null", program, MODE]
+def counted(program, mode, stream, text):
+    """The instructions of the program over the stream, of which it has to write the text."""
+    command = ["valgrind", "--tool=callgrind", "--callgrind-out-file=/dev/null", program, mode]
     result = subprocess.run(command, input=stream, capture_output=True, check=True)
     if result.stdout != text:
         sys.exit(f"{program} wrote another text of {len(result.stdout)} bytes")
@@ -115,7 +116,7 @@ def main():
     program, folder = given + [PROGRAM, FOLDER][len(given) :]
     folder.mkdir(parents=True, exist_ok=True)
     programs = [program, build_baseline(folder)]
-    starts = [instructions(each, zlib.compress(b"", 0), b"") for each in programs]
+    starts = [counted(each, MODE, zlib.compress(b"", 0), b"") for each in programs]
     texts = Texts(1)
     print("| | Bytes | Compressed | Instructions | zlib's | Instructions / zlib's |")
     print("|---|---:|---:|---:|---:|---:|")
@@ -124,7 +125,7 @@ def main():
             pairs = [(text, zlib.compress(text, LEVEL)) for text in (make(length) for _ in range(TEXTS))]
             compressed = sum(len(stream) for _, stream in pairs) // TEXTS
             counts = [
-                sum(instructions(each, stream, text) - start for text, stream in pairs) // TEXTS
+                sum(counted(each, MODE, stream, text) - start for text, stream in pairs) // TEXTS
                 for each, start in zip(programs, starts)
             ]
             ratio = counts[0] / counts[1]

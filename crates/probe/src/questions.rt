@@ -18,8 +18,8 @@
 //!   `refused Position 2 5`. A column is its six fields with commas between, which are hexadecimal digits but the position; columns
 //!   have a `;` between, and no columns are `none`.
 //! - `type BYTES` is answered with the type of a column that the bytes spell, as Rust's `{:?}` writes it, or with `none`.
-//! - `frames LIMIT BYTES` is answered with the content of the Zstandard frames, which is at most LIMIT bytes long, or with `refused` and
-//!   why: `refused Checksum`. `inflate LIMIT BYTES` is answered so with the text of a zlib stream.
+//! - `inflate LIMIT BYTES` is answered with the text of the zlib stream, which is at most LIMIT bytes long, or with `refused` and why:
+//!   `refused Checksum`.
 //! - `payload LIMIT BYTES` is answered with what the data of a TRANSACTION_PAYLOAD event say, as Rust's `{:?}` writes it: compression
 //!   type, size of the content, and size of the payload; the data that are written for it; the content, which is at most LIMIT bytes
 //!   long; and the type, the size and the size of the data of each event in it, and the error behind them, if there is one: `ZSTD
@@ -37,10 +37,10 @@ mod bytes;
 mod characters;
 mod columns;
 mod documents;
-mod frames;
 mod logs;
 mod payloads;
 mod transactions;
+mod zlib;
 
 use crate::BUFFER_SIZE;
 use documents::Documents;
@@ -63,7 +63,7 @@ fn answer<W: Write>(
             documents.answer(alloc, kind, asked, output)
         }
         "file" | "type" => columns::write_answer(alloc, kind, asked, output),
-        "frames" | "inflate" => frames::write_answer(alloc, kind, asked, output),
+        "inflate" => zlib::write_answer(alloc, asked, output),
         "payload" | "inner" => payloads::write_answer(alloc, kind, asked, output),
         "events" | "rows" | "undo" => logs::write_answer(alloc, kind, asked, output),
         "text" | "name" | "collation" | "mariadb" => {

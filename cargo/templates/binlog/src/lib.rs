@@ -210,6 +210,11 @@ pub mod zlib {
     pub use crate::inflate::{Error, adler32, decompress_zlib};
 }
 
+/// The contents of Zstandard frames in memory.
+pub mod zstd {
+    pub use crate::zstd_decode::{ZstdError, decompress};
+}
+
 /// The columns of a table map, the rows of row events, and their values.
 ///
 /// [`RowsEventExt::rows`](values::RowsEventExt::rows) gives the rows of an event beside its table map, and
