@@ -1,5 +1,5 @@
 //! Where the files of a command come from.
-ghost use Rattle.std.specs.Prelude.{◌≡◌, ℕ, List, Option, None, IfOk};
+ghost use Rattle.std.specs.Prelude.{◌≡◌, ◌==◌, ◌&&◌, ℕ, List, Option, None, IfOk};
 
 use crate::states::StateFile;
 use binlog_rotation::Checkpoint;
@@ -133,7 +133,7 @@ impl<'a, R: Files<File = File> + Input + AllocGlobal> Inputs for HostInputs<'a, 
 
     fn save(&self, path: &str, checkpoint: Checkpoint) -> io::Result<()> {
         match &self.state {
-            Some(state) => state.save(self.rt.alloc(), path, checkpoint),
+            Some(state) => state.save(path, checkpoint),
             None => Ok(()),
         }
     }

@@ -1,4 +1,5 @@
 //! The state file of a log that is followed.
+ghost use Rattle.std.specs.Prelude.{◌≤◌, length, IfOk};
 
 use crate::inputs::{FileId, NEW_FILE, file_id};
 use binlog_cli::{Status, out_of_memory};
@@ -63,7 +64,7 @@ impl<'a, R: Files<File = File> + Eprint + AllocGlobal> StateFile<'a, R> {
     }
 }
 
-impl<'a, R: Files<File = File>> StateFile<'a, R> {
+impl<'a, R: Files<File = File> + AllocGlobal> StateFile<'a, R> {
     /// The path of the file with which following begins, and where in it: the file that the state names, in the folder of this name;
     /// without a state this name.
     pub(crate) fn start(
@@ -81,10 +82,11 @@ impl<'a, R: Files<File = File>> StateFile<'a, R> {
     }
 
     /// Writes the state: a new file, which then gets the name.
-    pub(crate) fn save(&self, alloc: Global, path: &str, checkpoint: Checkpoint) -> io::Result<()> {
+    pub(crate) fn save(&self, path: &str, checkpoint: Checkpoint) -> io::Result<()> {
+        let rt = self.rt;
         let output = written_output(self.rt);
         let state = FollowState { checkpoint, output };
-        let Ok(text) = state.text(alloc, name_of(path)) else {
+        let Ok(text) = state.text(rt.alloc(), name_of(path)) else {
             return Err(io::Error::from(ErrorKind::OutOfMemory));
         };
         if self.is_synced {
@@ -130,6 +132,7 @@ fn lock<R: Files<File = File> + Eprint + AllocGlobal>(rt: &R, path: &str) -> Res
 }
 
 // Why a state can't be read.
+#[derive(Drop)]
 enum StateFault {
     Reader(io::Error),
     Text(StateError),
