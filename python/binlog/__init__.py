@@ -8,7 +8,6 @@
 
 from ._bodies import Body, Diffs
 from ._errors import BinlogError, ColumnsWarning, InvalidColumns, InvalidLog, LogError, PayloadError, RowsError
-from ._follow import Followed, follow
 from ._library import library_version
 from ._log import Cursor, Damage, Event, Log, open
 from ._payloads import PayloadEvent
@@ -27,7 +26,6 @@ __all__ = [
     "Diffs",
     "Event",
     "EventType",
-    "Followed",
     "InvalidColumns",
     "InvalidLog",
     "Log",
@@ -43,7 +41,6 @@ __all__ = [
     "UndoRefused",
     "Undone",
     "Verification",
-    "follow",
     "gtid_set",
     "library_version",
     "open",
