@@ -1,9 +1,9 @@
 -- What the options of `binlog undo` ask for.
-use Rattle.std.specs.Prelude.{◌≡◌, ◌≢◌, ◌⊎◌, ℕ, Bool, true, false, List, Option, Some, None, codes}
+use Rattle.std.specs.Prelude.{◌≡◌, ◌≢◌, ◌⊎◌, ℕ, Bool, true, false, List, [], Option, Some, None, codes}
 use Rattle.clap.specs.Matches.{first_value, one_text}
 use Rattle.clap.specs.declared.parser.matches.Found.{Found}
 use Rattle.binlog_cli.specs.FilterWords.{NeverBegins, StatesFilter}
-use Rattle.binlog_cli.specs.TableWords.{texts_given}
+use Rattle.binlog_cli.specs.TableWords.{texts_given, HasNoTable, StatesTables}
 use Rattle.binlog_cli.specs.declared.exit_status.Status.{Status}
 use Rattle.binlog_cli.specs.declared.exit_status.Status.TheVariants.{Usage}
 use Rattle.binlog_undo.specs.declared.inverse_event.ForeignKeyChecks.{ForeignKeyChecks}
@@ -18,10 +18,10 @@ use Rattle.binlog_undo_log.specs.declared.scan.UndoScan.{UndoScan}
 abbrev pub StatesChecks : Option (List ℕ) → ForeignKeyChecks → Type 0
 StatesChecks text checks = (text ≡ None → checks ≡ AsLogged) × (text ≡ Some (codes "true") → checks ≡ Off) × (text ≡ Some (codes "false") → checks ≡ AsLogged)
 
--- The transactions are those of the filter that the options state, and the tables those of `--table`.
+-- The transactions are those of the filter that the options state, and the tables those of `--table` without those of `--exclude-table`.
 pub record StatesChoice (found : Found) (choice : Choice) : Type 0 where
   pub filter : StatesFilter found (record choice.transactions { tables = choice.tables })
-  pub excluded : choice.excluded ≡ None
+  pub excluded : StatesTables (texts_given found (codes "exclude-table")) [] choice.excluded
 
 -- A pass in front of the first item of a file, for what the options ask for.
 pub record StatesScan (found : Found) (scan : UndoScan) : Type 0 where
@@ -34,9 +34,13 @@ pub record StatesScan (found : Found) (scan : UndoScan) : Type 0 where
   pub skipped : StatesSkips (texts_given found (codes "skip")) skips
   pub fresh : IsFresh choice checks skips scan
 
+-- A word of the options of this command alone can't be read: it names no table that is left out, or no reason that can be skipped.
+abbrev pub HasNoWord : Found → Type 0
+HasNoWord found = HasNoTable (texts_given found (codes "exclude-table")) ⊎ (AreSkipNames (texts_given found (codes "skip")) → ⊥)
+
 -- The status of a command that can't begin: its options can't be read, or memory ran out.
 abbrev pub RefusesOptions : Found → Status → Type 0
-RefusesOptions found status = NeverBegins found status ⊎ ((status ≡ Usage) × (AreSkipNames (texts_given found (codes "skip")) → ⊥))
+RefusesOptions found status = NeverBegins found status ⊎ ((status ≡ Usage) × HasNoWord found)
 
 -- ---- `-o` and `--dry-run`
 

@@ -52,6 +52,11 @@ fn with_choice<'a>(alloc: Global, command: Command<'a>) -> Result<Command<'a>, A
             ),
         )?
         .arg(
+            append(alloc, "exclude-table").value_name("DB.TABLE").help(
+                "No rows of these tables, which are named in the same way; may be given again",
+            ),
+        )?
+        .arg(
             set(alloc, "start-datetime").value_name("TIME").help(
                 "Transactions that ended at this time or later, in UTC, as 2026-11-26T12:00:00",
             ),

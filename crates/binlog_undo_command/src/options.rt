@@ -1,13 +1,14 @@
 //! What the options of `binlog undo` ask for.
-ghost use Rattle.std.specs.Prelude.{◌≡◌, codes, map, IfErr, IfOk, IsNone, IsOk, IsSome};
+ghost use Rattle.std.specs.Prelude.{◌≡◌, [], codes, map, IfErr, IfOk, IsNone, IsOk, IsSome};
 ghost use Rattle.clap.specs.Matches.{found_of, one_text};
-ghost use Rattle.binlog_cli.specs.TableWords.{texts_given};
+ghost use Rattle.binlog_cli.specs.TableWords.{texts_given, StatesTables};
 ghost use Rattle.binlog_cli.specs.declared.exit_status.Status.TheVariants.{Usage};
 ghost use Rattle.binlog_undo_command.specs.Options.{StatesChecks, StatesChoice, StatesScan, RefusesOptions};
 ghost use Rattle.binlog_undo_command.specs.Reasons.{AreSkipNames, StatesSkips};
 
 use crate::reasons::{is_skip_name, skips_of};
-use binlog_cli::{Status, filter};
+use binlog_cli::{Status, filter, tables_of};
+use binlog_filters::TableFilter;
 use binlog_undo::ForeignKeyChecks;
 use binlog_undo_index::Skips;
 use binlog_undo_log::{Choice, UndoScan};
@@ -38,11 +39,23 @@ fn choice<R: Eprint + AllocGlobal>(rt: &R, options: &ArgMatches<'_>) -> Result<C
 {
     let mut transactions = filter(rt, options)?;
     let tables = transactions.tables.take();
+    let excluded = excluded(rt, options)?;
     Ok(Choice {
         transactions,
         tables,
-        excluded: None,
+        excluded,
     })
+}
+
+// The tables that are left out.
+fn excluded<R: Eprint + AllocGlobal>(
+    rt: &R,
+    options: &ArgMatches<'_>,
+) -> Result<Option<TableFilter>, Status>
+    ensures ok { IfOk result (λ excluded. StatesTables (texts_given (found_of options.now) (codes "exclude-table")) [] excluded) }
+    ensures err { IfErr result (RefusesOptions (found_of options.now)) }
+{
+    tables_of(rt, options, "exclude-table")
 }
 
 // Which refused transactions are left as they are. A word that is no reason's name has a message.
