@@ -8,6 +8,9 @@ use Rattle.binlog_cli.specs.declared.exit_status.Status.{Status}
 use Rattle.binlog_cli.specs.declared.exit_status.Status.TheVariants.{Usage}
 use Rattle.binlog_undo.specs.declared.inverse_event.ForeignKeyChecks.{ForeignKeyChecks}
 use Rattle.binlog_undo.specs.declared.inverse_event.ForeignKeyChecks.TheVariants.{AsLogged, Off}
+use Rattle.binlog_filters.specs.declared.filter.Filter.{Filter}
+use Rattle.binlog_undo_command.specs.LogPlaces.{start_at, stop_at}
+use Rattle.binlog_undo_command.specs.declared.log_place.LogPlace.{LogPlace}
 use Rattle.binlog_undo_command.specs.Reasons.{AreSkipNames, StatesSkips}
 use Rattle.binlog_undo_index.specs.declared.skips.Skips.{Skips}
 use Rattle.binlog_undo_log.specs.Files.{IsFresh}
@@ -19,14 +22,22 @@ abbrev pub StatesChecks : Option (List ℕ) → ForeignKeyChecks → Type 0
 StatesChecks text checks = (text ≡ None → checks ≡ AsLogged) × (text ≡ Some (codes "true") → checks ≡ Off) × (text ≡ Some (codes "false") → checks ≡ AsLogged)
 
 -- The transactions are those of the filter that the options state, and the tables those of `--table` without those of `--exclude-table`.
-pub record StatesChoice (found : Found) (choice : Choice) : Type 0 where
-  pub filter : StatesFilter found (record choice.transactions { tables = choice.tables })
+-- The start position is one of the first log alone, and the stop position of the last one.
+pub record StatesChoice (place : LogPlace) (found : Found) (choice : Choice) : Type 0 where
+  pub filter : Filter
+  pub states : StatesFilter found filter
+  pub transactions : choice.transactions ≡ record filter {
+    start_position = start_at place filter.start_position;
+    stop_position = stop_at place filter.stop_position;
+    tables = None;
+  }
+  pub tables : choice.tables ≡ filter.tables
   pub excluded : StatesTables (texts_given found (codes "exclude-table")) [] choice.excluded
 
--- A pass in front of the first item of a file, for what the options ask for.
-pub record StatesScan (found : Found) (scan : UndoScan) : Type 0 where
+-- A pass in front of the first item of a log at this place, for what the options ask for.
+pub record StatesScan (place : LogPlace) (found : Found) (scan : UndoScan) : Type 0 where
   pub choice : Choice
-  pub chosen : StatesChoice found choice
+  pub chosen : StatesChoice place found choice
   pub checks : ForeignKeyChecks
   pub checked : StatesChecks (one_text found (codes "no-foreign-key-checks")) checks
   pub skips : Skips

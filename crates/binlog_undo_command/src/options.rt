@@ -6,6 +6,7 @@ ghost use Rattle.binlog_cli.specs.declared.exit_status.Status.TheVariants.{Usage
 ghost use Rattle.binlog_undo_command.specs.Options.{StatesChecks, StatesChoice, StatesScan, RefusesOptions};
 ghost use Rattle.binlog_undo_command.specs.Reasons.{AreSkipNames, StatesSkips};
 
+use crate::log_place::LogPlace;
 use crate::reasons::{is_skip_name, skips_of};
 use binlog_cli::{Status, filter, tables_of};
 use binlog_filters::TableFilter;
@@ -14,7 +15,7 @@ use binlog_undo_index::Skips;
 use binlog_undo_log::{Choice, UndoScan};
 use clap::ArgMatches;
 
-/// A pass in front of the first item of a file, for what the options ask for.
+/// A pass in front of the first item of a log at this place, for what the options ask for.
 ///
 /// # Errors
 ///
@@ -23,22 +24,29 @@ use clap::ArgMatches;
 pub(crate) fn new_scan<R: Eprint + AllocGlobal>(
     rt: &R,
     options: &ArgMatches<'_>,
+    place: LogPlace,
 ) -> Result<UndoScan, Status>
-    ensures ok { IfOk result (StatesScan (found_of options.now)) }
+    ensures ok { IfOk result (StatesScan place (found_of options.now)) }
     ensures err { IfErr result (RefusesOptions (found_of options.now)) }
 {
-    let choice = choice(rt, options)?;
+    let choice = choice(rt, options, place)?;
     let skips = skips(rt, options)?;
     Ok(UndoScan::new(rt.alloc(), choice, checks(options), skips))
 }
 
-// Which transactions and tables are undone.
-fn choice<R: Eprint + AllocGlobal>(rt: &R, options: &ArgMatches<'_>) -> Result<Choice, Status>
-    ensures ok { IfOk result (StatesChoice (found_of options.now)) }
+// Which transactions and tables of a log at this place are undone.
+fn choice<R: Eprint + AllocGlobal>(
+    rt: &R,
+    options: &ArgMatches<'_>,
+    place: LogPlace,
+) -> Result<Choice, Status>
+    ensures ok { IfOk result (StatesChoice place (found_of options.now)) }
     ensures err { IfErr result (RefusesOptions (found_of options.now)) }
 {
     let mut transactions = filter(rt, options)?;
     let tables = transactions.tables.take();
+    transactions.start_position = place.start(transactions.start_position);
+    transactions.stop_position = place.stop(transactions.stop_position);
     let excluded = excluded(rt, options)?;
     Ok(Choice {
         transactions,
