@@ -85,14 +85,14 @@ class Damaged(Exception):
 
 
 class Model:
-    """What is undone of files, or refused. `chosen` are the tables that are asked for, if there are some."""
+    """What is undone of files, or refused. `chosen` are the tables that are asked for, if there are some, and `excluded` are left out."""
 
-    def __init__(self, chosen=()):
-        self.refused, self.kept, self.chosen = [], [], chosen
+    def __init__(self, chosen=(), excluded=()):
+        self.refused, self.kept, self.chosen, self.excluded = [], [], chosen, excluded
 
     def wants(self, map_body):
         """Whether the table of a table map is one that is undone."""
-        return not self.chosen or table_of(map_body) in self.chosen
+        return (not self.chosen or table_of(map_body) in self.chosen) and table_of(map_body) not in self.excluded
 
     def take(self, name, content):
         reading, place, index = transactions.Reading(), len(FILE_HEADER), 0
@@ -295,19 +295,18 @@ PHRASES = {
 
 
 def random_options(chance):
-    """Options that choose tables, and these tables."""
-    way, some = chance.random(), chance.sample(TABLES, chance.randint(1, 2))
-    if way < 0.2:
-        return [word for table in some for word in ("--table", table)], some
-    return [], ()
+    """Options that choose tables; these tables, and those that are left out."""
+    chosen, excluded = (chance.sample(TABLES, chance.randint(1, 2)) if chance.random() < 0.3 else [] for _ in range(2))
+    named = [("--table", table) for table in chosen] + [("--exclude-table", table) for table in excluded]
+    return [word for words in named for word in words], chosen, excluded
 
 
 def failure(words, seed, folder):
     """What is wrong with the undo of one set of logs, if something is."""
     chance, kinds = random.Random(seed), list(row_events.kinds())
     is_sound = chance.random() < 0.5
-    options, chosen = random_options(chance)
-    files, model = [], Model(chosen)
+    options, *tables = random_options(chance)
+    files, model = [], Model(*tables)
     for number in range(chance.randint(1, 3)):
         name = folder / f"{seed}-{number}.bin"
         content = random_file(chance, kinds, is_sound)
@@ -352,7 +351,8 @@ REFUSALS = [
     (lambda log: ["-o", str(log.parent / "taken"), str(log)], 3, "taken.part: File exists"),
     (lambda log: ["--skip", "Nothing", "--dry-run", str(log)], 64, "no reason that can be skipped"),
     (lambda log: ["--skip", "Damaged", "--dry-run", str(log)], 64, "no reason that can be skipped"),
-    (lambda log: ["--table", "t", "--dry-run", str(log)], 64, "--table"),
+    (lambda log: ["--table", "t", "--dry-run", str(log)], 64, "--table: "),
+    (lambda log: ["--exclude-table", "t", "--dry-run", str(log)], 64, "--exclude-table: "),
     (lambda log: ["-o", str(log.parent / "none/out"), str(log)], 3, "none/out.part"),
     (lambda log: ["-o", str(log.parent / "out"), str(log.parent / "none.bin")], 1, "none.bin"),
     (lambda log: ["--dry-run", str(log), "-"], 1, "-: "),

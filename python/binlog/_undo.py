@@ -64,6 +64,7 @@ def undo(
     out: Optional[Path] = None,
     *,
     tables: Iterable[str] = (),
+    exclude_tables: Iterable[str] = (),
     skip: Iterable[str] = (),
     start: Optional[Time] = None,
     stop: Optional[Time] = None,
@@ -77,7 +78,7 @@ def undo(
 
     files: the logs, in order, or one of them.
     out: the log that is written. It may not be there before, and is there whole or not at all.
-    tables: rows of these tables alone, each as "shop.orders"; * stands for any bytes, ? for one.
+    tables, exclude_tables: rows of these tables alone, and none of these, each as "shop.orders"; * stands for any bytes, ? for one.
     skip: the names of reasons: transactions that are refused for one of them are left as they are.
     start, stop: transactions that ended at this time or later, and before it: a datetime, or a text in UTC.
     server_id, include_gtids, exclude_gtids: transactions that this server created, and with one of these GTIDs, or with none of them.
@@ -88,7 +89,8 @@ def undo(
     found, or fails. Nothing is written then.
     """
     paths = [files] if isinstance(files, (str, os.PathLike)) else list(files)
-    words = [word for table in tables for word in ("--table", table)] + [word for reason in skip for word in ("--skip", reason)]
+    given = [("--table", tables), ("--exclude-table", exclude_tables), ("--skip", skip)]
+    words = [word for option, texts in given for text in texts for word in (option, text)]
     stated = {"--start-datetime": _text(start), "--stop-datetime": _text(stop), "--server-id": server_id, "--include-gtids": include_gtids, "--exclude-gtids": exclude_gtids}
     words += [str(word) for option, value in stated.items() if value is not None for word in (option, value)]
     words += [] if foreign_key_checks else ["--no-foreign-key-checks"]
