@@ -71,6 +71,8 @@ def undo(
     server_id: Optional[int] = None,
     include_gtids: Optional[str] = None,
     exclude_gtids: Optional[str] = None,
+    start_position: Optional[int] = None,
+    stop_position: Optional[int] = None,
     foreign_key_checks: bool = True,
     program: Optional[Path] = None,
 ) -> Undone:
@@ -82,6 +84,7 @@ def undo(
     skip: the names of reasons: transactions that are refused for one of them are left as they are.
     start, stop: transactions that ended at this time or later, and before it: a datetime, or a text in UTC.
     server_id, include_gtids, exclude_gtids: transactions that this server created, and with one of these GTIDs, or with none of them.
+    start_position, stop_position: transactions that begin at this byte of the first log or behind it, and before this byte of the last one.
     foreign_key_checks: whether the server checks foreign keys while the log is applied.
     program: the program `binlog`; if not given, the one that the variable BINLOG_PROGRAM names, or the one that the system finds.
 
@@ -91,7 +94,15 @@ def undo(
     paths = [files] if isinstance(files, (str, os.PathLike)) else list(files)
     given = [("--table", tables), ("--exclude-table", exclude_tables), ("--skip", skip)]
     words = [word for option, texts in given for text in texts for word in (option, text)]
-    stated = {"--start-datetime": _text(start), "--stop-datetime": _text(stop), "--server-id": server_id, "--include-gtids": include_gtids, "--exclude-gtids": exclude_gtids}
+    stated = {
+        "--start-position": start_position,
+        "--stop-position": stop_position,
+        "--start-datetime": _text(start),
+        "--stop-datetime": _text(stop),
+        "--server-id": server_id,
+        "--include-gtids": include_gtids,
+        "--exclude-gtids": exclude_gtids,
+    }
     words += [str(word) for option, value in stated.items() if value is not None for word in (option, value)]
     words += [] if foreign_key_checks else ["--no-foreign-key-checks"]
     if out is not None and os.path.exists(out):
