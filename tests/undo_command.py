@@ -85,10 +85,11 @@ class Damaged(Exception):
 
 
 class Model:
-    """What is undone of files, or refused. `chosen` are the tables that are asked for, if there are some, and `excluded` are left out."""
+    """What is undone of files, or refused. `chosen` are the tables that are asked for, if there are some, and `excluded` are left out. `is_plain` says that old dates and
+    times have no fractions."""
 
-    def __init__(self, chosen=(), excluded=()):
-        self.refused, self.kept, self.chosen, self.excluded = [], [], chosen, excluded
+    def __init__(self, chosen=(), excluded=(), is_plain=False):
+        self.refused, self.kept, self.chosen, self.excluded, self.is_plain = [], [], chosen, excluded, is_plain
 
     def wants(self, map_body):
         """Whether the table of a table map is one that is undone."""
@@ -186,7 +187,7 @@ class Model:
         if not self.wants(map_body):
             return word(False), None, None
         tables.take(map_body)
-        if is_maria and set(tables.maps[table_id]["columns_type"].bytes) & {7, 11, 12}:
+        if is_maria and not self.is_plain and set(tables.maps[table_id]["columns_type"].bytes) & {7, 11, 12}:
             found = [member for member in tables.wanted(kind, body) if member == ("error", "Columns")]
             return word(False), None, "Rows" if found else "OldTemporal"
         wanted = tables.wanted(kind, body)
@@ -314,10 +315,11 @@ def random_position(chance, content):
 
 
 def random_options(chance):
-    """Options that choose tables; these tables, and those that are left out."""
+    """Options that choose tables; these tables, those that are left out, and whether old dates and times are plain."""
     chosen, excluded = (chance.sample(TABLES, chance.randint(1, 2)) if chance.random() < 0.3 else [] for _ in range(2))
     named = [("--table", table) for table in chosen] + [("--exclude-table", table) for table in excluded]
-    return [word for words in named for word in words], chosen, excluded
+    is_plain = chance.random() < 0.3
+    return [word for words in named for word in words] + ["--plain-old-temporal"] * is_plain, chosen, excluded, is_plain
 
 
 def failure(words, seed, folder):

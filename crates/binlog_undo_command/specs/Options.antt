@@ -17,6 +17,10 @@ use Rattle.binlog_undo_log.specs.Files.{IsFresh}
 use Rattle.binlog_undo_log.specs.declared.choice.Choice.{Choice}
 use Rattle.binlog_undo_log.specs.declared.scan.UndoScan.{UndoScan}
 
+-- A flag with this text, if it is there, is given or not.
+abbrev pub StatesFlag : Option (List ℕ) → Bool → Type 0
+StatesFlag text is_given = (text ≡ None → is_given ≡ false) × (text ≡ Some (codes "true") → is_given ≡ true) × (text ≡ Some (codes "false") → is_given ≡ false)
+
 -- The flag with this text, if it is there, turns the checks of foreign keys off.
 abbrev pub StatesChecks : Option (List ℕ) → ForeignKeyChecks → Type 0
 StatesChecks text checks = (text ≡ None → checks ≡ AsLogged) × (text ≡ Some (codes "true") → checks ≡ Off) × (text ≡ Some (codes "false") → checks ≡ AsLogged)
@@ -33,6 +37,7 @@ pub record StatesChoice (place : LogPlace) (found : Found) (choice : Choice) : T
   }
   pub tables : choice.tables ≡ filter.tables
   pub excluded : StatesTables (texts_given found (codes "exclude-table")) [] choice.excluded
+  pub plain : StatesFlag (one_text found (codes "plain-old-temporal")) choice.has_plain_temporal
 
 -- A pass in front of the first item of a log at this place, for what the options ask for.
 pub record StatesScan (place : LogPlace) (found : Found) (scan : UndoScan) : Type 0 where
@@ -54,10 +59,6 @@ abbrev pub RefusesOptions : Found → Status → Type 0
 RefusesOptions found status = NeverBegins found status ⊎ ((status ≡ Usage) × HasNoWord found)
 
 -- ---- `-o` and `--dry-run`
-
--- A flag with this text, if it is there, is given or not.
-abbrev pub StatesFlag : Option (List ℕ) → Bool → Type 0
-StatesFlag text is_given = (text ≡ None → is_given ≡ false) × (text ≡ Some (codes "true") → is_given ≡ true) × (text ≡ Some (codes "false") → is_given ≡ false)
 
 -- The log that is written is the one that is named, which isn't standard output. In a dry run there is none.
 abbrev pub IsOutput : (is_dry : Bool) (named output : Option (List ℕ)) → Type 0

@@ -35,6 +35,9 @@ fn undo<'a>(alloc: Global) -> Result<Command<'a>, AllocError> {
         .arg(flag(alloc, "no-foreign-key-checks").help(
             "The server checks no foreign keys while the log is applied",
         ))?
+        .arg(flag(alloc, "plain-old-temporal").help(
+            "Columns of MariaDB's old types of dates and times are known to have no fractions",
+        ))?
         .arg(
             append(alloc, "skip").value_name("REASON").help(
                 "Leaves transactions as they are that are refused for this reason; may be given again",

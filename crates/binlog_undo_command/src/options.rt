@@ -3,7 +3,7 @@ ghost use Rattle.std.specs.Prelude.{◌≡◌, [], codes, map, IfErr, IfOk, IsNo
 ghost use Rattle.clap.specs.Matches.{found_of, one_text};
 ghost use Rattle.binlog_cli.specs.TableWords.{texts_given, StatesTables};
 ghost use Rattle.binlog_cli.specs.declared.exit_status.Status.TheVariants.{Usage};
-ghost use Rattle.binlog_undo_command.specs.Options.{StatesChecks, StatesChoice, StatesScan, RefusesOptions};
+ghost use Rattle.binlog_undo_command.specs.Options.{StatesChecks, StatesChoice, StatesFlag, StatesScan, RefusesOptions};
 ghost use Rattle.binlog_undo_command.specs.Reasons.{AreSkipNames, StatesSkips};
 
 use crate::log_place::LogPlace;
@@ -52,6 +52,7 @@ fn choice<R: Eprint + AllocGlobal>(
         transactions,
         tables,
         excluded,
+        has_plain_temporal: flag(options, "plain-old-temporal"),
     })
 }
 
@@ -93,6 +94,13 @@ fn unknown_in<'a>(words: &[&'a str]) -> Option<&'a str>
         }
     }
     None
+}
+
+// Whether a flag is given.
+fn flag(options: &ArgMatches<'_>, name: &str) -> bool
+    ensures { StatesFlag (one_text (found_of options.now) name.now) result }
+{
+    options.get_flag(name)
 }
 
 // How foreign keys are checked while the log is applied.

@@ -319,14 +319,14 @@ file_scanned choice checks skips bytes start scan fresh h skipped =
     let rules : Rules = rules_of choice skips in
     elim (outcome no_table_maps 0 h.visits.visited.items start h.between fresh.goes_on h.visits.visited.visited) [
       | inl all ↦
-        let end : IsEnd h.tail_len h.between scan = end_is h.between.is_stopped h.tail_len h.between scan all.goes skipped h.ends in
-        scanned_to rules bytes start h.between scan h.between h.tail_len h.visits fresh.automaton fresh.parts all.first
-        (elim end.at [ inl whole ↦ inl (all.all, whole) | inr past ↦ inr past ]) end.notes
+          let end : IsEnd h.tail_len h.between scan = end_is h.between.is_stopped h.tail_len h.between scan all.goes skipped h.ends in
+          scanned_to rules bytes start h.between scan h.between h.tail_len h.visits fresh.automaton fresh.parts all.first
+          (elim end.at [ inl whole ↦ inl (all.all, whole) | inr past ↦ inr past ]) end.notes
       | inr (inl part) ↦
-        let same : scan ≡ h.between = end_stays h.between.is_stopped h.tail_len h.between scan (ap (λ (s : UndoScan). s.is_stopped) part.at.1.is) h.ends in
-        scanned_to rules bytes start h.between scan part.behind h.tail_len h.visits fresh.automaton fresh.parts part.first (inr part.at.0)
-        (subst (λ (s : UndoScan). NotesIn (border_at part.behind) part.behind.index s.index) (sym same) part.at.1.notes)
+          let same : scan ≡ h.between = end_stays h.between.is_stopped h.tail_len h.between scan (ap (λ (s : UndoScan). s.is_stopped) part.at.1.is) h.ends in
+          scanned_to rules bytes start h.between scan part.behind h.tail_len h.visits fresh.automaton fresh.parts part.first (inr part.at.0)
+          (subst (λ (s : UndoScan). NotesIn (border_at part.behind) part.behind.index s.index) (sym same) part.at.1.notes)
       | inr (inr refused) ↦
-        let same : scan ≡ h.between = end_stays h.between.is_stopped h.tail_len h.between scan refused.0 h.ends in
-        absurd (refused.1 (subst (λ (s : UndoScan). AreSkipped (parts_of s.index).refusals) same skipped))
+          let same : scan ≡ h.between = end_stays h.between.is_stopped h.tail_len h.between scan refused.0 h.ends in
+          absurd (refused.1 (subst (λ (s : UndoScan). AreSkipped (parts_of s.index).refusals) same skipped))
     ]

@@ -16,6 +16,9 @@ pub struct Choice {
     pub tables: Option<TableFilter>,
     /// No row events of these tables.
     pub excluded: Option<TableFilter>,
+    /// Whether columns of the types TIMESTAMP (7), TIME (11) and DATETIME (12) of MariaDB's logs are known to have no fractions. Else
+    /// their rows can't be undone.
+    pub has_plain_temporal: bool,
 }
 
 impl Choice {
