@@ -6,3 +6,4 @@ pub mod Passes
 pub mod ReadEvents
 pub mod Scanned
 pub mod Undone
+pub mod Shown

@@ -36,11 +36,13 @@ pub record PushesDescription {W : Type 0} (contents : W → Option (List ℕ)) (
   pub bytes : Appends (contents old.writer) (contents new.writer)
       (event_bytes (is_some d.footer.checksum_alg) old.place (description_heading header) FORMAT_DESCRIPTION_EVENT written)
   pub place : new.place ≡ old.place + event_size (is_some d.footer.checksum_alg) written
+  pub bounds : new.has_bounds ≡ old.has_bounds
 
 -- The description is written, and the events behind it are under it.
 pub record Describes {W : Type 0} (contents : W → Option (List ℕ)) (header : BinlogEventHeader) (d : FormatDescriptionEvent) (old new : UndoOutput W) : Type 0 where
   pub written : PushesDescription contents header d (description_body d) old new
   pub is_under : IsUnder (description_body d) (has_checksums_under d.footer.checksum_alg) new
+  pub bounds : new.has_bounds ≡ old.has_bounds
 
 -- So it is, unless the events are under the same one.
 abbrev pub DescribesOnce : {W : Type 0} → (W → Option (List ℕ)) → BinlogEventHeader → FormatDescriptionEvent → UndoOutput W → UndoOutput W → Type 0
