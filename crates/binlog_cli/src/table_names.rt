@@ -26,7 +26,7 @@ pub fn tables<R: Eprint + AllocGlobal>(
 /// # Errors
 ///
 /// [`Status::Usage`] if a text names no table, [`Status::Failed`] if there is no memory.
-pub fn tables_of<R: Eprint + AllocGlobal>(
+pub fn tables_of_option<R: Eprint + AllocGlobal>(
     rt: &R,
     matches: &ArgMatches<'_>,
     option: &str,

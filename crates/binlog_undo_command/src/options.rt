@@ -8,7 +8,7 @@ ghost use Rattle.binlog_undo_command.specs.Reasons.{AreSkipNames, StatesSkips};
 
 use crate::log_place::LogPlace;
 use crate::reasons::{is_skip_name, skips_of};
-use binlog_cli::{Status, filter, tables_of};
+use binlog_cli::{Status, filter, tables_of_option};
 use binlog_filters::TableFilter;
 use binlog_undo::ForeignKeyChecks;
 use binlog_undo_index::Skips;
@@ -64,7 +64,7 @@ fn excluded<R: Eprint + AllocGlobal>(
     ensures ok { IfOk result (λ excluded. StatesTables (texts_given (found_of options.now) (codes "exclude-table")) [] excluded) }
     ensures err { IfErr result (RefusesOptions (found_of options.now)) }
 {
-    tables_of(rt, options, "exclude-table")
+    tables_of_option(rt, options, "exclude-table")
 }
 
 // Which refused transactions are left as they are. A word that is no reason's name has a message.
