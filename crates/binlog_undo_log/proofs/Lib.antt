@@ -7,3 +7,4 @@ pub mod ReadEvents
 pub mod Scanned
 pub mod Undone
 pub mod Shown
+pub mod OneTransaction
