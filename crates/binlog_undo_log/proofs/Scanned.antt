@@ -217,10 +217,10 @@ pub record AreSeenToStop (maps : TableMaps) (index : ℕ) (items : List (Result 
 abbrev Outcome : TableMaps → ℕ → List (Result EventView Error) → UndoScan → UndoScan → Type 0
 Outcome maps index items old new = AreAllSeen maps index items old new ⊎ (AreSeenToStop maps index items old new ⊎ IsRefused new)
 
-none_seen : (maps : TableMaps) (index : ℕ) (items : List (Result EventView Error)) (scan : UndoScan) → AreFirstSeen maps index items scan scan
+abbrev none_seen : (maps : TableMaps) (index : ℕ) (items : List (Result EventView Error)) (scan : UndoScan) → AreFirstSeen maps index items scan scan
 none_seen maps index items scan = record { front = []; rest = items; split = refl; seen = []; each = (refl, refl); told = refl }
 
-seen_before : (maps : TableMaps) (index : ℕ) (item : Result EventView Error) (items : List (Result EventView Error)) (old mid new : UndoScan)
+abbrev seen_before : (maps : TableMaps) (index : ℕ) (item : Result EventView Error) (items : List (Result EventView Error)) (old mid new : UndoScan)
     → IsOneSeen (maps_behind maps item) index item old mid → AreFirstSeen (maps_behind maps item) (index + 1) items mid new → AreFirstSeen maps index (item ∷ items) old new
 seen_before maps index item items old mid new here others = record {
   front = item ∷ others.front;
