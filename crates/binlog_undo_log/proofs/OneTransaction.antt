@@ -1,13 +1,12 @@
 -- The beginning of one transaction for all that is undone.
-use Rattle.std.proofs.Common.{◌≡◌, ℕ, Option, Some, sym, subst}
-use Rattle.std.proofs.Common.{List}
+use Rattle.std.proofs.Common.{◌≡◌, ℕ, List, Option, Some, subst}
 use Rattle.binlog_consts.specs.declared.version.BinlogVersion.TheVariants.{Version4}
 use Rattle.binlog_event_format.specs.FormatDescription.{default_description}
 use Rattle.binlog_event_format.specs.Headers.{header_of}
 use Rattle.binlog_event_format.specs.declared.format_description.FormatDescriptionEvent.{FormatDescriptionEvent}
 use Rattle.binlog_event_format.specs.declared.header.BinlogEventHeader.{BinlogEventHeader}
 use Rattle.binlog_events.specs.Events.{EventView, event_at}
-use Rattle.binlog_undo_log.proofs.Undone.{AreAmong, event_from}
+use Rattle.binlog_undo_log.proofs.Undone.{AreAmong}
 use Rattle.binlog_undo_log.specs.Descriptions.{DescribesOnce}
 use Rattle.binlog_undo_log.specs.Files.{IsDescribed}
 use Rattle.binlog_undo_log.specs.OneTransaction.{BeginsBy, BeginsUnder}
@@ -19,7 +18,7 @@ module _ {W : Type 0} (contents : W → Option (List ℕ)) (is_at now : FramesOf
   begins_from : (fde : FormatDescriptionEvent) (last : ℕ) (commit : Commit) (old new : UndoOutput W) → BeginsBy contents now fde last commit old new → BeginsBy contents is_at fde last commit old new
   begins_from fde last commit old new h = record {
     event = h.event;
-    event_at = event_from now is_at among fde last h.event h.event_at;
+    event_at = record { frame = h.event_at.frame; at = among last h.event_at.frame h.event_at.at; is = h.event_at.is; right = h.event_at.right };
     header = h.header;
     reads = h.reads;
     begun = h.begun;
