@@ -145,7 +145,7 @@ class Model:
             place, index = end, index + 1
         if reading.way is not None:
             refuse(cut_off(place))
-        self.kept.append((name, description, kept))
+        self.kept.append((description, kept))
 
     def description_of(self, content):
         header = HEADER.unpack_from(content, len(FILE_HEADER))
@@ -198,20 +198,14 @@ class Model:
         return word(True), (map_header, map_body, members["event"]), None
 
     def transactions(self):
-        return sum(len(kept) for *_, kept in self.kept)
+        return sum(len(kept) for _, kept in self.kept)
 
     def changes(self):
-        return sum(len(changes) for *_, kept in self.kept for _, _, changes in kept)
+        return sum(len(changes) for _, kept in self.kept for _, _, changes in kept)
 
-    def other_description(self):
-        """The last log with another description than those behind it, if there is one."""
-        kept = [(name, description[2][:52] + description[2][56:], description[1]) for name, description, kept in self.kept if kept]
-        return next((name for name, *description in reversed(kept) if description != list(kept[-1][1:])), None)
-
-    def written(self, is_one):
-        """The log that undoes the files, as one transaction or as several."""
-        out, written, ended = FILE_HEADER, None, None
-        for _, description, kept in reversed(self.kept):
+    def written(self):
+        out, written = FILE_HEADER, None
+        for description, kept in reversed(self.kept):
             if not kept:
                 continue
             header, algorithm, body, _ = description
@@ -222,16 +216,11 @@ class Model:
                 written = body, algorithm
             for last, xid, changes in reversed(kept):
                 head = lambda flags: (last[0], last[2], last[5] & 0x8000 | flags)
-                end = (xid.to_bytes(8, "little"), head(0))
-                if not (is_one and ended):
-                    out, ended = out + framed(2, BEGIN_BODY, len(out), head(8), algorithm == 1), end
+                out += framed(2, BEGIN_BODY, len(out), head(8), algorithm == 1)
                 for map_header, map_body, (kind, inverse), rows_header in reversed(changes):
                     for kind, body, source in ((19, map_body, map_header), (kind, bytes.fromhex(inverse), rows_header)):
                         out += framed(kind, body, len(out), (source[0], source[2], source[5] & ~0x61), algorithm == 1)
-                if not is_one:
-                    out += framed(16, end[0], len(out), end[1], algorithm == 1)
-        if is_one and ended:
-            out += framed(16, ended[0], len(out), ended[1], written[1] == 1)
+                out += framed(16, xid.to_bytes(8, "little"), len(out), head(0), algorithm == 1)
         return out
 
 
@@ -312,7 +301,6 @@ PHRASES = {
     "OldTemporal": "a column of a date or time whose form isn't in the log",
     "Image": "the images of the rows lack columns",
     "PartialJson": "partial updates of documents",
-    "Description": "another format description than that of the transaction's first events",
     "Straddles": "a position is within the transaction, which ends at byte {}",
 }
 
@@ -349,13 +337,9 @@ def failure(words, seed, folder):
     for number, (name, content) in enumerate(zip(files, contents)):
         Path(name).write_bytes(content)
         model.take(name, content, start if number == 0 else 0, stop if number == len(contents) - 1 else None)
-    is_one = chance.random() < 0.4
-    options += ["--one-transaction"] * is_one
     out = folder / f"{seed}.out"
     run = subprocess.run([*words, "undo", *options, "-o", str(out), *files], capture_output=True, text=True)
     messages = [f"binlog: {name}: event {index} at byte {place}: {reason}: {PHRASES[reason].format(*end)}" for name, index, place, reason, *end in model.refused]
-    other = None if messages or not is_one else model.other_description()
-    messages += [f"binlog: {other}: event 0 at byte 4: Description: {PHRASES['Description']}"] if other else []
     if run.stderr.splitlines() != messages:
         return f"seed {seed}: {run.stderr!r}, not {messages}"
     if messages:
@@ -366,7 +350,7 @@ def failure(words, seed, folder):
         return f"seed {seed}: status {run.returncode}, {run.stdout!r}, not {counted!r}"
     if Path(f"{out}.part").exists():
         return f"seed {seed}: what was written is left behind"
-    wanted = model.written(is_one)
+    wanted = model.written()
     return None if out.read_bytes() == wanted else f"seed {seed}: {out.read_bytes().hex()}, not {wanted.hex()}"
 
 

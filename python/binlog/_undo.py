@@ -73,7 +73,6 @@ def undo(
     exclude_gtids: Optional[str] = None,
     start_position: Optional[int] = None,
     stop_position: Optional[int] = None,
-    one_transaction: bool = False,
     plain_old_temporal: bool = False,
     foreign_key_checks: bool = True,
     program: Optional[Path] = None,
@@ -87,7 +86,6 @@ def undo(
     start, stop: transactions that ended at this time or later, and before it: a datetime, or a text in UTC.
     server_id, include_gtids, exclude_gtids: transactions that this server created, and with one of these GTIDs, or with none of them.
     start_position, stop_position: transactions that begin at this byte of the first log or behind it, and before this byte of the last one.
-    one_transaction: whether all that is undone is one transaction.
     plain_old_temporal: whether columns of MariaDB's old types of dates and times have no fractions.
     foreign_key_checks: whether the server checks foreign keys while the log is applied.
     program: the program `binlog`; if not given, the one that the variable BINLOG_PROGRAM names, or the one that the system finds.
@@ -108,7 +106,6 @@ def undo(
         "--exclude-gtids": exclude_gtids,
     }
     words += [str(word) for option, value in stated.items() if value is not None for word in (option, value)]
-    words += ["--one-transaction"] if one_transaction else []
     words += ["--plain-old-temporal"] if plain_old_temporal else []
     words += [] if foreign_key_checks else ["--no-foreign-key-checks"]
     if out is not None and os.path.exists(out):

@@ -1,9 +1,6 @@
 -- What undoes logs is written from the last one to the first.
-use Rattle.std.proofs.Common.{◌≡◌, ℕ, suc, zero, ◌<◌, arith, true, false, List, [], ◌∷◌, ◌++◌, length, drop, get_or, Option, refl, sym, ◌∙◌, ap, subst, append_assoc}
-use Rattle.std.specs.Prelude.{◌==◌}
-use Rattle.binlog_undo_command.specs.Written.{IsLeft, WritesOne, WritesLogs}
-use Rattle.binlog_undo_index.specs.Parts.{parts_of}
-use Rattle.binlog_undo_index.specs.declared.places.TransactionPlace.{TransactionPlace}
+use Rattle.std.proofs.Common.{◌≡◌, ℕ, suc, zero, ◌<◌, arith, List, [], ◌∷◌, length, drop, get_or, Option, refl, sym, subst}
+use Rattle.binlog_undo_command.specs.Written.{WritesOne, WritesLogs}
 use Rattle.binlog_undo_command.specs.declared.scanning.ScannedLog.{ScannedLog}
 use Rattle.binlog_undo_log.specs.declared.output.UndoOutput.{UndoOutput}
 
@@ -11,18 +8,6 @@ drop_at : (logs : List ScannedLog) (i : ℕ) (none : ScannedLog) → i < length 
 drop_at [] i none within = absurd (omega (arith, within))
 drop_at (log ∷ logs) zero none within = refl
 drop_at (log ∷ logs) (suc i) none within = drop_at logs i none (omega (arith, within))
-
--- What is behind an element at the end of a front.
-pub moved : (all left front behind : List ScannedLog) (last : ScannedLog) → all ≡ left ++ behind → left ≡ front ++ last ∷ [] → all ≡ front ++ last ∷ behind
-moved all left front behind last whole split = whole ∙ ap (λ (l : List ScannedLog). l ++ behind) split ∙ append_assoc front (last ∷ []) behind
-
-pub none_left : (log : ScannedLog) (transactions : List TransactionPlace) → transactions ≡ (parts_of log.scan.index).transactions → (length transactions == 0) ≡ true → IsLeft log
-none_left log [] are empty = sym are
-none_left log (transaction ∷ transactions) are empty = absurd cc
-
-pub some_left : (log : ScannedLog) (transactions : List TransactionPlace) → transactions ≡ (parts_of log.scan.index).transactions → (length transactions == 0) ≡ false → IsLeft log → ⊥
-some_left log [] are empty left = absurd cc
-some_left log (transaction ∷ transactions) are empty left = let no : transaction ∷ transactions ≡ [] = are ∙ left in cc
 
 module _ {F W : Type 0} (has_frames : List ℕ → F → Type 0) (is_at : F → ℕ → List ℕ → Type 0) (contents : W → Option (List ℕ)) where
   -- None of the logs is undone so far.

@@ -1,10 +1,8 @@
 -- What `binlog undo` makes of its logs.
-use Rattle.std.specs.Prelude.{ℕ, Bool, true, ◌-◌, ◌^◌, min, List, ◌++◌, length, sum_by, Option, codes, decimal}
+use Rattle.std.specs.Prelude.{ℕ, ◌-◌, ◌^◌, min, List, ◌++◌, length, sum_by, Option, codes, decimal}
 use Rattle.std.specs.Io.KnownBytes.{Appends}
-use Rattle.clap.specs.Matches.{one_text}
 use Rattle.clap.specs.declared.parser.matches.Found.{Found}
 use Rattle.binlog_cli.specs.TableWords.{texts_given}
-use Rattle.binlog_undo_command.specs.Options.{StatesFlag}
 use Rattle.binlog_undo_command.specs.Scanned.{AreUndone}
 use Rattle.binlog_undo_command.specs.Written.{WritesLog}
 use Rattle.binlog_undo_command.specs.declared.scanning.ScannedLog.{ScannedLog}
@@ -31,16 +29,12 @@ pub record CountsLogs (bytes : List ℕ → Option (List ℕ)) (found : Found) (
 -- A file has the log that undoes these logs, and nothing in front of it. `is_fresh` says which bytes it is begun with, and `has` which
 -- bytes it has.
 pub record PutsLog {F B : Type 0} (has_frames : List ℕ → F → Type 0) (is_at : F → ℕ → List ℕ → Type 0) (contents : B → Option (List ℕ))
-    (is_fresh has : Option (List ℕ) → Type 0) (is_one : Bool) (logs : List ScannedLog) : Type 0 where
+    (is_fresh has : Option (List ℕ) → Type 0) (logs : List ScannedLog) : Type 0 where
   pub begun : Option (List ℕ)
   pub fresh : is_fresh begun
   pub written : Option (List ℕ)
-  pub writes : WritesLog has_frames is_at contents is_one logs begun written
+  pub writes : WritesLog has_frames is_at contents logs begun written
   pub is : has written
-
--- All that is undone is to be one transaction, or not.
-abbrev pub StatesOne : Found → Bool → Type 0
-StatesOne found is_one = StatesFlag (one_text found (codes "one-transaction")) is_one
 
 -- Nothing is refused in the logs that the words name, their counts are written, and a file has the log that undoes them.
 pub record Undoes {F B : Type 0} (bytes : List ℕ → Option (List ℕ)) (has_frames : List ℕ → F → Type 0) (is_at : F → ℕ → List ℕ → Type 0) (contents : B → Option (List ℕ))
@@ -48,6 +42,4 @@ pub record Undoes {F B : Type 0} (bytes : List ℕ → Option (List ℕ)) (has_f
   pub logs : List ScannedLog
   pub undone : AreUndone bytes found (texts_given found (codes "FILE")) logs
   pub counts : Appends old new (counts_line logs)
-  pub is_one : Bool
-  pub one : StatesOne found is_one
-  pub puts : PutsLog has_frames is_at contents is_fresh has is_one logs
+  pub puts : PutsLog has_frames is_at contents is_fresh has logs

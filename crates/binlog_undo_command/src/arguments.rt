@@ -32,9 +32,6 @@ fn undo<'a>(alloc: Global) -> Result<Command<'a>, AllocError> {
                 .help("The log that is written"),
         )?
         .arg(flag(alloc, "dry-run").help("Writes nothing, and prints what would be undone"))?
-        .arg(flag(alloc, "one-transaction").help(
-            "All in one transaction, so that the server undoes all or nothing",
-        ))?
         .arg(flag(alloc, "no-foreign-key-checks").help(
             "The server checks no foreign keys while the log is applied",
         ))?

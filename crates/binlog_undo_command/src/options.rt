@@ -96,8 +96,8 @@ fn unknown_in<'a>(words: &[&'a str]) -> Option<&'a str>
     None
 }
 
-/// Whether a flag is given.
-pub(crate) fn flag(options: &ArgMatches<'_>, name: &str) -> bool
+// Whether a flag is given.
+fn flag(options: &ArgMatches<'_>, name: &str) -> bool
     ensures { StatesFlag (one_text (found_of options.now) name.now) result }
 {
     options.get_flag(name)

@@ -1,16 +1,15 @@
 //! Both passes over several logs.
-ghost use Rattle.std.specs.Prelude.{◌≡◌, ◌≢◌, ◌⊎◌, true, min, ◌^◌, ◌-◌, codes, IfErr, IfOk, OnOk};
+ghost use Rattle.std.specs.Prelude.{◌≡◌, ◌≢◌, true, min, ◌^◌, ◌-◌, codes, IfErr, IfOk, OnOk};
 ghost use Rattle.std.specs.Io.KnownBytes.{Appends};
 ghost use Rattle.clap.specs.Matches.{found_of};
 ghost use Rattle.binlog_cli.specs.TableWords.{texts_given};
 ghost use Rattle.binlog_cli.specs.declared.exit_status.Status.TheVariants.{Fine, Damaged, Failed, Usage};
 ghost use Rattle.binlog_undo_command.specs.Options.{RefusesOptions};
 ghost use Rattle.binlog_undo_command.specs.Scanned.{AreUndone, HasRefused};
-ghost use Rattle.binlog_undo_command.specs.Undoing.{transactions_in, changes_in, counts_line, CountsLogs, PutsLog, StatesOne, Undoes};
+ghost use Rattle.binlog_undo_command.specs.Undoing.{transactions_in, changes_in, counts_line, CountsLogs, PutsLog, Undoes};
 
 use crate::logs::Logs;
 use crate::new_file::NewFile;
-use crate::options::flag;
 use crate::scanning::{ScannedLog, scan_logs};
 use crate::writing::write_log;
 use binlog_cli::Status;
@@ -21,9 +20,6 @@ use std::io::{BufWriter, Write};
 
 /// Writes a log that undoes the chosen transactions of all logs, or names what can't be undone. Before that it writes how many
 /// transactions and row events are undone. The file is there if the status is [`Status::Fine`], and else it isn't.
-///
-/// The status is [`Status::Damaged`] if something can't be undone, and if all is to be one transaction and the logs have different format
-/// descriptions.
 pub fn undo<'a, L: Logs, T: NewFile, R: Eprint + AllocGlobal, W: Write>(
     rt: &R,
     logs: &L,
@@ -35,12 +31,11 @@ pub fn undo<'a, L: Logs, T: NewFile, R: Eprint + AllocGlobal, W: Write>(
         (T.is_fresh file.old) (T.has file.new) (found_of options.now) (W.contents writer.old) (W.contents writer.new) }
     ensures there { result ≡ Fine → T.is_there file.new ≡ true }
     ensures other { result ≢ Fine → T.is_there file.new ≡ T.is_there file.old }
-    ensures refused { result ≡ Damaged → HasRefused (L.bytes logs.now) (found_of options.now) (texts_given (found_of options.now) (codes "FILE")) ⊎ StatesOne (found_of options.now) true }
+    ensures refused { result ≡ Damaged → HasRefused (L.bytes logs.now) (found_of options.now) (texts_given (found_of options.now) (codes "FILE")) }
     ensures usage { result ≡ Usage → RefusesOptions (found_of options.now) Usage }
 {
-    let is_one = flag(options, "one-transaction");
     match count_logs(rt, logs, options, writer) {
-        Ok(scanned) => put_log(rt, logs, is_one, scanned.as_slice(), file),
+        Ok(scanned) => put_log(rt, logs, scanned.as_slice(), file),
         Err(status) => status,
     }
 }
@@ -122,14 +117,13 @@ fn write_counts<W: Write>(scanned: &[ScannedLog<'_>], writer: &mut W) -> io::Res
 fn put_log<L: Logs, T: NewFile, R: Eprint + AllocGlobal>(
     rt: &R,
     logs: &L,
-    is_one: bool,
     scanned: &[ScannedLog<'_>],
     file: &mut T,
 ) -> Status
-    ensures fine { result ≡ Fine → PutsLog (L.has_frames logs.now) L.Sought.is_at ⟦<Counted<BufWriter<Retrying<T::Draft>>> as WriteCounted>⟧.contents (T.is_fresh file.old) (T.has file.new) is_one scanned.now }
+    ensures fine { result ≡ Fine → PutsLog (L.has_frames logs.now) L.Sought.is_at ⟦<Counted<BufWriter<Retrying<T::Draft>>> as WriteCounted>⟧.contents (T.is_fresh file.old) (T.has file.new) scanned.now }
     ensures there { result ≡ Fine → T.is_there file.new ≡ true }
     ensures other { result ≢ Fine → T.is_there file.new ≡ T.is_there file.old }
-    ensures failed { result ≢ Fine → (result ≡ Failed) ⊎ ((result ≡ Damaged) × (is_one ≡ true)) }
+    ensures failed { result ≢ Fine → result ≡ Failed }
 {
     let draft = match file.begin() {
         Ok(draft) => draft,
@@ -138,7 +132,7 @@ fn put_log<L: Logs, T: NewFile, R: Eprint + AllocGlobal>(
             return Status::Failed;
         }
     };
-    match write_log(rt, logs, is_one, scanned, file.draft_name(), draft) {
+    match write_log(rt, logs, scanned, file.draft_name(), draft) {
         Ok(draft) => finish(rt, file, draft),
         Err(status) => {
             file.discard();

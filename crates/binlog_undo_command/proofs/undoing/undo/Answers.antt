@@ -5,7 +5,5 @@ returns-in-Ok-clause-fine g c = λ fine. record {
   logs = c.in-Ok.scanned.items;
   undone = c.in-Ok.ensures.ok;
   counts = c.in-Ok.ensures.counts;
-  is_one = c.flag-is_one.result;
-  one = c.flag-is_one.ensures;
   puts = rw c.as_slice.ensures.value at (c.put_log.ensures.fine fine);
 }
