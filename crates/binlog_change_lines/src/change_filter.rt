@@ -94,8 +94,11 @@ impl<W> ChangeFilter<W> {
         ensures { result ≡ (writer_of self).output }
     {
         let filtered = self.filtered;
-        let spliced = filtered.filtered.visitor;
-        let writer = spliced.visitor.visitor.visitor;
+        let within = filtered.filtered;
+        let spliced = within.visitor;
+        let noted = spliced.visitor;
+        let taken = noted.visitor;
+        let writer = taken.visitor;
         writer.output
     }
 }

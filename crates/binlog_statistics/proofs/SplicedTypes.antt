@@ -23,9 +23,9 @@ abbrev Item : Type 0
 Item = Result EventView Error
 
 -- What holds anyway holds, too.
-pub on_both : {T E P Q : Type 0} (result : Result T E) → Q → OnOk result P → OnOk result (P × Q)
-on_both (Ok x) same fact = (fact, same)
-on_both (Err e) same fact = tt
+pub on_both : {T E : Type 0} (result : Result T E) (P Q : Type 0) → Q → OnOk result P → OnOk result (P × Q)
+on_both (Ok x) P Q same fact = (fact, same)
+on_both (Err e) P Q same fact = tt
 
 abbrev Outside : VisitRelation SplicedStats
 Outside old maps index item new = CountsOutside old index item new

@@ -3,4 +3,4 @@ use Rattle.binlog_statistics.proofs.SplicedTypes.{on_both}
 use Rattle.binlog_statistics.proofs.spliced_stats.SplicedStatsVisitor.visit_error.Goals as goal
 
 pub returns-clause-ok : goal.returns-clause-ok
-returns-clause-ok c = on_both c.visit_error.result refl c.visit_error.ensures.ok
+returns-clause-ok c = on_both c.visit_error.result _ _ refl c.visit_error.ensures.ok
