@@ -1,5 +1,5 @@
 -- Rows and lines of types that are written one behind the other.
-use Rattle.std.proofs.Common.{◌≡◌, ℕ, ◌+◌, suc, List, [], ◌++◌, Option, Some, None, slice_index_or, refl, sym, arith}
+use Rattle.std.proofs.Common.{◌≡◌, ℕ, ◌+◌, suc, List, ◌++◌, Option, Some, None, slice_index_or, refl, sym, arith}
 use Rattle.std.proofs.lemmas.List.{append-nil}
 use Rattle.std.specs.Io.KnownBytes.{Appends}
 use Rattle.binlog_cli.proofs.WrittenTexts.{appends_both}
@@ -35,8 +35,3 @@ pub line_appended : (number : ℕ) (counts : TypeCounts) (old mid new : Option (
 line_appended number counts old mid new first second =
     let next : number + 1 ≡ suc number = omega arith in
     rw (next, next_line) (appends_both old mid new (lines_below number counts) _ first second)
-
--- Nothing is appended.
-pub none_appended : (old : Option (List ℕ)) → Appends old old []
-none_appended None = tt
-none_appended (Some bytes) = sym (append-nil bytes)

@@ -1,6 +1,6 @@
 //! The text of statistics by type of the events inside compressed transactions.
 ghost use Rattle.std.specs.Io.KnownBytes.{Appends};
-ghost use Rattle.std.specs.Prelude.{◌≡◌, OnOk};
+ghost use Rattle.std.specs.Prelude.{◌≡◌, ◌++◌, OnOk};
 ghost use Rattle.binlog_cli.specs.StatsText.{type_text};
 ghost use Rattle.binlog_summaries.specs.InnerTypes.{head_line, inner_text, is_empty, row_of, rows_below};
 
@@ -17,8 +17,7 @@ pub fn write_inner_types<W: Write>(counts: &TypeCounts, output: &mut W) -> io::R
     if is_empty(counts) {
         return Ok(());
     }
-    write_head(counts, output)?;
-    write_rows(counts, output)
+    write_lines(counts, output)
 }
 
 /// Whether nothing is counted.
@@ -26,6 +25,15 @@ pub(crate) fn is_empty(counts: &TypeCounts) -> bool
     ensures { result ≡ is_empty counts.now }
 {
     counts.all_events() == 0 && counts.errors == 0
+}
+
+// Writes the line of all types, and the rows of the types.
+#[tactic(auto, using(binlog_cli::proofs::WrittenTexts::appends_both))]
+fn write_lines<W: Write>(counts: &TypeCounts, output: &mut W) -> io::Result<()>
+    ensures { OnOk result (Appends (W.contents output.old) (W.contents output.new) (head_line counts.now ++ rows_below 256 counts.now)) }
+{
+    write_head(counts, output)?;
+    write_rows(counts, output)
 }
 
 // Writes the line of all types.
