@@ -13,10 +13,6 @@ use Rattle.binlog_undo_log.specs.Output.{is_bound, shown_if, shown}
 use Rattle.binlog_undo_log.specs.Undoing.{FramesOf, UndoesChange, UndoesRows, undone_events}
 use Rattle.binlog_undo_writing.specs.Transactions.{Event}
 
-pub negated : (b : Bool) → not b ≡ false → b ≡ true
-negated true h = refl
-negated false h = absurd cc
-
 if_over : (is : Bool) (event : Event) (events others : List Event) → shown_if is event (events ++ others) ≡ shown_if is event events ++ others
 if_over true event events others = refl
 if_over false event events others = refl
