@@ -24,8 +24,7 @@ fn read_input<R: Input + AllocGlobal>(rt: &R) -> io::Result<Vec<u8>> {
     Ok(bytes)
 }
 
-fn write_text<R: Print>(rt: &R, text: &[u8]) -> io::Result<Outcome> {
-    let mut output = io::writer(rt);
+fn write_text<W: Write>(text: &[u8], output: &mut W) -> io::Result<Outcome> {
     output.write_all(text)?;
     output.flush()?;
     Ok(Outcome::Written)
@@ -33,8 +32,9 @@ fn write_text<R: Print>(rt: &R, text: &[u8]) -> io::Result<Outcome> {
 
 fn write_zlib(rt: &(impl Input + Print + Eprint + AllocGlobal)) -> io::Result<Outcome> {
     let stream = read_input(rt)?;
+    let mut output = io::writer(rt);
     match decompress_zlib(rt.alloc(), &stream, LIMIT) {
-        Ok(text) => write_text(rt, &text),
+        Ok(text) => write_text(&text, &mut output),
         Err(Error::Memory) => Ok(Outcome::Failed),
         Err(error) => {
             eprintln!(rt; "{error:?}")?;
@@ -45,8 +45,9 @@ fn write_zlib(rt: &(impl Input + Print + Eprint + AllocGlobal)) -> io::Result<Ou
 
 fn write_zstd(rt: &(impl Input + Print + Eprint + AllocGlobal)) -> io::Result<Outcome> {
     let frames = read_input(rt)?;
+    let mut output = io::writer(rt);
     match decompress(rt.alloc(), &frames, LIMIT) {
-        Ok(content) => write_text(rt, &content),
+        Ok(content) => write_text(&content, &mut output),
         Err(ZstdError::Memory) => Ok(Outcome::Failed),
         Err(error) => {
             eprintln!(rt; "{error:?}")?;
