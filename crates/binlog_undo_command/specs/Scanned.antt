@@ -17,13 +17,13 @@ pub record IsScannedAs (found : Found) (place : LogPlace) (known : Option (List 
 
 -- Nothing in it is refused, unless that is skipped.
 pub record IsUndone (found : Found) (place : LogPlace) (known : Option (List ℕ)) (scan : UndoScan) : Type 0 where
-  pub scanned : IsScannedAs found known scan
+  pub scanned : IsScannedAs found place known scan
   pub skipped : AreSkipped (parts_of scan.index).refusals
 
 -- Something in it is refused that isn't skipped.
 pub record IsRefused (found : Found) (place : LogPlace) (known : Option (List ℕ)) : Type 0 where
   pub scan : UndoScan
-  pub scanned : IsScannedAs found known scan
+  pub scanned : IsScannedAs found place known scan
   pub refused : AreSkipped (parts_of scan.index).refusals → ⊥
 
 -- `bytes` are those of the log of a name, where they are known.

@@ -1,5 +1,5 @@
 -- The log that undoes several logs.
-use Rattle.std.specs.Prelude.{◌≡◌, ℕ, false, List, [], ◌∷◌, Option, None}
+use Rattle.std.specs.Prelude.{◌≡◌, ℕ, true, false, List, [], ◌∷◌, Option, None}
 use Rattle.std.specs.Io.KnownBytes.{Appends, Keeps}
 use Rattle.binlog_events.specs.FileHeader.{file_header}
 use Rattle.binlog_undo_command.specs.declared.scanning.ScannedLog.{ScannedLog}

@@ -1,5 +1,5 @@
 //! Where a log is among those that are undone.
-ghost use Rattle.std.specs.Prelude.{◌≡◌};
+ghost use Rattle.std.specs.Prelude.{◌≡◌, ◌<◌};
 ghost use Rattle.binlog_undo_command.specs.LogPlaces.{place_at, start_at, stop_at};
 
 /// Where a log is among those that are undone. The start position is one of the first log, and the stop position of the last one.
