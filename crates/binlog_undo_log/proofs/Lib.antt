@@ -6,3 +6,5 @@ pub mod Passes
 pub mod ReadEvents
 pub mod Scanned
 pub mod Undone
+pub mod Shown
+pub mod OneTransaction
