@@ -1,4 +1,5 @@
 pub mod Described
+pub mod FileChanges
 pub mod Grown
 pub mod LogChanges
 pub mod Looked

@@ -8,3 +8,4 @@ pub mod Looking
 pub mod Scanning
 pub mod Files
 pub mod LogChanges
+pub mod FileChanges
