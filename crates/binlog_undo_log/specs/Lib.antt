@@ -2,6 +2,7 @@ pub mod Choices
 pub mod Descriptions
 pub mod Heads
 pub mod Marks
+pub mod Compressed
 pub mod Undoing
 pub mod Output
 pub mod Looking

@@ -3,6 +3,8 @@ use Rattle.std.specs.Prelude.{◌≡◌, ◌≢◌, ◌⊎◌, ℕ, List, [], �
 use Rattle.binlog_columns.specs.Refusals.{refusal, columns_in}
 use Rattle.binlog_event_data.specs.declared.event_data.EventData.{EventData}
 use Rattle.binlog_event_data.specs.declared.event_data.EventData.TheVariants as mysql
+use Rattle.binlog_file.specs.declared.log_data.LogEventData.{LogEventData}
+use Rattle.binlog_mariadb.specs.declared.compressed_rows.RowsCompressedEvent.{RowsCompressedEvent}
 use Rattle.binlog_wire.specs.declared.error.Error.{Error}
 use Rattle.binlog_event_format.specs.Headers.{header_of}
 use Rattle.binlog_event_format.specs.declared.format_description.FormatDescriptionEvent.{FormatDescriptionEvent}
@@ -23,6 +25,7 @@ use Rattle.binlog_undo_index.specs.declared.places.ChangePlace.{ChangePlace}
 use Rattle.binlog_undo_index.specs.declared.places.TransactionPlace.{TransactionPlace}
 use Rattle.binlog_consts.specs.declared.event_type.EventType.TheVariants.{QUERY_EVENT, XID_EVENT, TABLE_MAP_EVENT}
 use Rattle.binlog_bodies.specs.declared.events.xid.XidEvent.{XidEvent}
+use Rattle.binlog_undo_log.specs.Compressed.{ReadsUncompressed, HasCompressedRows, IsReadAsRows, ReadsRows}
 use Rattle.binlog_undo_writing.specs.Events.{begin_body, xid_body}
 use Rattle.binlog_undo_writing.specs.Headings.{begin_heading, commit_heading, source_heading}
 use Rattle.binlog_undo_writing.specs.Transactions.{Event, AreWritten}
@@ -56,16 +59,34 @@ pub record UndoesRows (checks : ForeignKeyChecks) (map_event : EventView) (map :
   pub undoes : UndoesTable checks map rows inverse
   pub are : events ≡ undone_events map_event event inverse
 
--- What was read of an event are rows of the table of this table map.
-pub record UndoesReadRows (checks : ForeignKeyChecks) (map_event : EventView) (map : TableMapEvent) (event : EventView) (read : Result (Option EventData) Error) (events : List Event) : Type 0 where
+-- What was read of the body of an event that was compressed are rows of the table of this table map.
+pub record UndoesReadEvent (checks : ForeignKeyChecks) (map_event : EventView) (map : TableMapEvent) (event : EventView) (read : Result (Option EventData) Error) (events : List Event) : Type 0 where
   pub rows : RowsEventData
   pub is : read ≡ Ok (Some (mysql.RowsEvent rows))
+  pub undoes : UndoesRows checks map_event map event rows events
+
+-- This body is read so.
+pub record UndoesBody (checks : ForeignKeyChecks) (map_event : EventView) (map : TableMapEvent) (event : EventView) (body : List ℕ) (events : List Event) : Type 0 where
+  pub rows : RowsEventData
+  pub read : ReadsUncompressed event body (Ok (Some (mysql.RowsEvent rows)))
+  pub undoes : UndoesRows checks map_event map event rows events
+
+-- Compressed rows are those of the table of this table map.
+pub record UndoesCompressed (checks : ForeignKeyChecks) (map_event : EventView) (map : TableMapEvent) (event : EventView) (compressed : RowsCompressedEvent) (events : List Event) : Type 0 where
+  pub rows : RowsEventData
+  pub are : HasCompressedRows event compressed rows
+  pub undoes : UndoesRows checks map_event map event rows events
+
+-- What was read of an event are rows of the table of this table map, as they are or compressed.
+pub record UndoesReadRows (checks : ForeignKeyChecks) (map_event : EventView) (map : TableMapEvent) (event : EventView) (read : Result (Option LogEventData) Error) (events : List Event) : Type 0 where
+  pub rows : RowsEventData
+  pub are : IsReadAsRows event read rows
   pub undoes : UndoesRows checks map_event map event rows events
 
 -- An event is read as rows of the table of this table map.
 pub record UndoesMapped (checks : ForeignKeyChecks) (map_event : EventView) (map : TableMapEvent) (event : EventView) (events : List Event) : Type 0 where
   pub rows : RowsEventData
-  pub read : ReadsEventData event (Ok (Some (mysql.RowsEvent rows)))
+  pub read : ReadsRows event rows
   pub undoes : UndoesRows checks map_event map event rows events
 
 -- What was read of an event is a table map, of whose table the other event has rows.

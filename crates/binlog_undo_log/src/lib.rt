@@ -6,6 +6,7 @@
 #![tactic(auto)]
 
 mod choice;
+mod compressed;
 mod description;
 mod events;
 mod files;

@@ -27,6 +27,8 @@ pub(crate) enum RowsLook {
     Undone(ChangePlace),
     /// It can't be undone.
     Refused(Reason),
+    /// It can't be read.
+    Damaged,
 }
 
 // Whether one of these types is TIMESTAMP, TIME or DATETIME without a statement of its fractions.
