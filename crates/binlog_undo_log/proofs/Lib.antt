@@ -1,6 +1,7 @@
 pub mod Described
 pub mod FileChanges
 pub mod Grown
+pub mod Keys
 pub mod LogChanges
 pub mod Looked
 pub mod Passes

@@ -3,6 +3,7 @@ pub mod Descriptions
 pub mod Heads
 pub mod Marks
 pub mod Compressed
+pub mod Keys
 pub mod Undoing
 pub mod Output
 pub mod Looking

@@ -1,5 +1,5 @@
 -- Which events undo those at some places of a file.
-use Rattle.std.specs.Prelude.{◌≡◌, ◌≢◌, ◌⊎◌, ℕ, List, [], ◌∷◌, ◌++◌, length, Option, Some, None, IfSome, Result, Ok}
+use Rattle.std.specs.Prelude.{◌≡◌, ◌≢◌, ◌⊎◌, ℕ, Bool, List, [], ◌∷◌, ◌++◌, length, Option, Some, None, IfSome, Result, Ok}
 use Rattle.binlog_columns.specs.Refusals.{refusal, columns_in}
 use Rattle.binlog_event_data.specs.declared.event_data.EventData.{EventData}
 use Rattle.binlog_event_data.specs.declared.event_data.EventData.TheVariants as mysql
@@ -17,7 +17,6 @@ use Rattle.crc32_ieee.specs.Crc32.{crc32}
 use Rattle.binlog_rows.specs.RowsData.{event_in}
 use Rattle.binlog_rows.specs.declared.rows_event_data.RowsEventData.{RowsEventData}
 use Rattle.binlog_rows.specs.declared.table_map_event.TableMapEvent.{TableMapEvent}
-use Rattle.binlog_undo.specs.InverseEvents.{GivesInverse}
 use Rattle.binlog_undo.specs.declared.inverse_event.ForeignKeyChecks.{ForeignKeyChecks}
 use Rattle.binlog_undo.specs.declared.inverse_event.InverseEvent.{InverseEvent}
 use Rattle.binlog_undo_index.specs.Groups.{Kept}
@@ -25,6 +24,7 @@ use Rattle.binlog_undo_index.specs.declared.places.ChangePlace.{ChangePlace}
 use Rattle.binlog_undo_index.specs.declared.places.TransactionPlace.{TransactionPlace}
 use Rattle.binlog_consts.specs.declared.event_type.EventType.TheVariants.{QUERY_EVENT, XID_EVENT, TABLE_MAP_EVENT}
 use Rattle.binlog_bodies.specs.declared.events.xid.XidEvent.{XidEvent}
+use Rattle.binlog_undo_log.specs.Keys.{IsMariaEvent, GivesByKey}
 use Rattle.binlog_undo_log.specs.Compressed.{ReadsUncompressed, HasCompressedRows, IsReadAsRows, ReadsRows}
 use Rattle.binlog_undo_writing.specs.Events.{begin_body, xid_body}
 use Rattle.binlog_undo_writing.specs.Headings.{begin_heading, commit_heading, source_heading}
@@ -37,11 +37,11 @@ Writes are old new = (events : List Event) × are events × AreWritten events ol
 
 -- ---- a row event
 
--- The event undoes these rows, of the table of this table map. The primary key isn't asked for.
-pub record UndoesTable (checks : ForeignKeyChecks) (map : TableMapEvent) (rows : RowsEventData) (inverse : InverseEvent) : Type 0 where
+-- The event undoes these rows, of the table of this table map.
+pub record UndoesTable (is_maria_log : Bool) (checks : ForeignKeyChecks) (map : TableMapEvent) (rows : RowsEventData) (inverse : InverseEvent) : Type 0 where
   pub same : map.table.id ≡ (event_in rows).head.table_id
   pub columns : refusal 0 map.columns.types map.columns.metadata ≡ None
-  pub undoes : GivesInverse [] (columns_in map.columns.types map.columns.metadata) checks rows (Ok inverse)
+  pub undoes : GivesByKey is_maria_log map (columns_in map.columns.types map.columns.metadata) checks rows (Ok inverse)
 
 -- What is written for rows: a table map with this header and body, and the event that undoes the rows, which have this header.
 abbrev pub undone_parts : BinlogEventHeader → List ℕ → BinlogEventHeader → InverseEvent → List Event
@@ -55,8 +55,10 @@ undone_events map_event event inverse = undone_parts (header_of map_event.frame)
 
 -- These events undo rows, of the table of this table map.
 pub record UndoesRows (checks : ForeignKeyChecks) (map_event : EventView) (map : TableMapEvent) (event : EventView) (rows : RowsEventData) (events : List Event) : Type 0 where
+  pub is_maria_log : Bool
+  pub maria : IsMariaEvent event is_maria_log
   pub inverse : InverseEvent
-  pub undoes : UndoesTable checks map rows inverse
+  pub undoes : UndoesTable is_maria_log checks map rows inverse
   pub are : events ≡ undone_events map_event event inverse
 
 -- What was read of the body of an event that was compressed are rows of the table of this table map.

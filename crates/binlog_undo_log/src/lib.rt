@@ -15,6 +15,7 @@ mod heads;
 pub mod laws;
 mod looking;
 mod output;
+mod primary_key;
 mod rows;
 mod scan;
 mod undo_error;

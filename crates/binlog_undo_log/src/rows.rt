@@ -5,8 +5,9 @@ ghost use Rattle.binlog_events.specs.EventRefs.{view_of};
 ghost use Rattle.binlog_undo_log.specs.Undoing.{Writes, UndoesTable, UndoesRows, UndoesReadEvent, UndoesBody, UndoesCompressed, UndoesReadRows, UndoesMapped, UndoesReadMap, UndoesEvents, UndoesChange};
 
 use crate::compressed::{read_uncompressed, uncompressed_body};
-use crate::events::event_of;
+use crate::events::{event_of, is_maria_event};
 use crate::frames::Frames;
+use crate::primary_key::undo_by_key;
 use crate::undo_error::UndoLogError;
 use binlog_columns::TableColumns;
 use binlog_event_format::DescriptionRef;
@@ -14,7 +15,7 @@ use binlog_file::{
     Error, EventData, EventRef, LogEventData, RowsEventData, TableMapEvent, read_log_data,
 };
 use binlog_mariadb::{CompressionError, MariaEventData, RowsCompressedEvent};
-use binlog_undo::{ForeignKeyChecks, InverseEvent, UndoError, undo_event};
+use binlog_undo::{ForeignKeyChecks, InverseEvent, UndoError};
 use binlog_undo_index::ChangePlace;
 use binlog_undo_writing::{EventsWriter, UndoneChange};
 use std::alloc::Global;
@@ -24,9 +25,10 @@ fn inverse_of(
     alloc: Global,
     map: &TableMapEvent<'_>,
     rows: &RowsEventData<'_>,
+    is_maria_log: bool,
     checks: ForeignKeyChecks,
 ) -> Result<InverseEvent, UndoLogError>
-    ensures { IfOk result (λ inverse. UndoesTable checks map.now rows.now inverse) }
+    ensures { IfOk result (λ inverse. UndoesTable is_maria_log checks map.now rows.now inverse) }
 {
     if map.table_id() != rows.table_id() {
         return Err(UndoLogError::Changed);
@@ -35,7 +37,7 @@ fn inverse_of(
     let Ok(columns) = TableColumns::new(types, map.columns_metadata_raw()) else {
         return Err(UndoLogError::Changed);
     };
-    match undo_event(alloc, rows, columns, &[], checks) {
+    match undo_by_key(alloc, map, rows, columns, is_maria_log, checks) {
         Ok(inverse) => Ok(inverse),
         Err(UndoError::Memory) => Err(UndoLogError::Memory),
         Err(_) => Err(UndoLogError::Changed),
@@ -54,7 +56,7 @@ fn push_rows(
 ) -> Result<(), UndoLogError>
     ensures { OnOk result (Writes (UndoesRows checks (view_of map_event.now) map.now (view_of event.now) rows.now) writer.old writer.new) }
 {
-    let inverse = inverse_of(alloc, map, rows, checks)?;
+    let inverse = inverse_of(alloc, map, rows, is_maria_event(event), checks)?;
     let change = UndoneChange {
         map_header: map_event.header(),
         map_body: map_event.data(),
