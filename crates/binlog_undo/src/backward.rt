@@ -64,7 +64,8 @@ impl Backward {
     {
         let made = &self.buffer[self.room..];
         let room = count.max(made.len());
-        let mut buffer = vec![in alloc; 0; room]?;
+        let mut buffer = Vec::new(alloc);
+        buffer.resize(room, 0)?;
         buffer.extend_from_slice(made)?;
         self.buffer = buffer;
         self.room = room;

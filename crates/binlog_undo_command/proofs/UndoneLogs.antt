@@ -17,7 +17,7 @@ module _ {F W : Type 0} (bytes : List ℕ → Option (List ℕ)) (has_frames : L
       λ small. record {
         start = is.scanned.start;
         states = is.scanned.states;
-        undoes = file_undone contents (is_at one.frames) is.scanned.states.choice is.scanned.states.checks is.scanned.states.skips all is.scanned.start log.scan old new
+        undoes = file_undone contents (is_at one.frames) is.scanned.states.choice is.scanned.states.checks is.scanned.states.skips all is.scanned.start log.scan old new small
             (there log.name.now all one.frames has one.are) is.scanned.states.fresh (is.scanned.scans small) is.skipped one.writes;
       }
 

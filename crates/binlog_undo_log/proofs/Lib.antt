@@ -5,6 +5,7 @@ pub mod Keys
 pub mod LogChanges
 pub mod Looked
 pub mod Passes
+pub mod Placed
 pub mod ReadEvents
 pub mod Scanned
 pub mod Undone

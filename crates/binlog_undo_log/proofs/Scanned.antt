@@ -31,7 +31,7 @@ use Rattle.binlog_wire.specs.declared.error.Error.{Error}
 
 -- ---- truth values
 
-not_both : (b : Bool) → b ≡ true → b ≡ false → ⊥
+pub not_both : (b : Bool) → b ≡ true → b ≡ false → ⊥
 not_both b is other = cc
 
 one_of : (b : Bool) → (b ≡ true) ⊎ (b ≡ false)
@@ -44,7 +44,7 @@ no_tail (Some tail_len) h = ap (λ (n : ℕ). Some n) (eqb-true tail_len 0 h)
 
 -- ---- a pass that ends
 
-stopped : (index : ℕ) (reason : Reason) (old new : UndoScan) → Stops index reason old new → new.is_stopped ≡ true
+pub stopped : (index : ℕ) (reason : Reason) (old new : UndoScan) → Stops index reason old new → new.is_stopped ≡ true
 stopped index reason old new h = ap (λ (s : UndoScan). s.is_stopped) h.is
 
 last_skipped : (refusals : List RefusedAt) (last : RefusedAt) → AreSkipped (refusals ++ last ∷ []) → last.is_skipped ≡ true
@@ -59,7 +59,7 @@ not_skipped index reason old new h skipped =
     cc
 
 -- An event is noted, or ends the pass.
-noted_or : (mark : Mark) (index : ℕ) (event : EventView) (seen : SeenEvent) (old new : UndoScan) → NotesMark mark index event seen old new
+pub noted_or : (mark : Mark) (index : ℕ) (event : EventView) (seen : SeenEvent) (old new : UndoScan) → NotesMark mark index event seen old new
     → Notes index event seen old new ⊎ Stops index (reasons.Transaction refusals.Encrypted) old new
 noted_or marks.Encryption index event seen old new h = inr h
 noted_or marks.Nothing index event seen old new h = inl h
@@ -205,7 +205,7 @@ all_seen maps index (item ∷ items) old new goes h =
     let others : AreAllSeen behind (index + 1) items h.0 new = all_seen behind (index + 1) items h.0 new goes h.2 in
     record {
       seen = here.first ∷ others.seen;
-      each = (here.event, here.first, others.seen, h.0, here.is, refl, here.scanned, others.each);
+      each = (here.event, here.first, others.seen, h.0, here.is, refl, here.scanned, mid_goes, others.each);
       told = (h.0.index, here.told, others.told);
     }
 

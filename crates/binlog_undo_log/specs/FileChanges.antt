@@ -1,10 +1,11 @@
 -- What is written for a file: the inverse of the changes of its transactions that are undone.
-use Rattle.std.specs.Prelude.{◌≡◌, ℕ, List, [], ◌∷◌, ◌++◌, drop, Option}
+use Rattle.std.specs.Prelude.{◌≡◌, ℕ, List, [], ◌∷◌, ◌++◌, drop, Option, Result, Ok}
 use Rattle.binlog_consts.specs.declared.version.BinlogVersion.TheVariants.{Version4}
 use Rattle.binlog_event_format.specs.FormatDescription.{default_description}
 use Rattle.binlog_event_format.specs.Headers.{header_of}
 use Rattle.binlog_event_format.specs.declared.format_description.FormatDescriptionEvent.{FormatDescriptionEvent}
 use Rattle.binlog_events.specs.Events.{EventView}
+use Rattle.binlog_wire.specs.declared.error.Error.{Error}
 use Rattle.binlog_undo_index.specs.Groups.{Kept, kept_in}
 use Rattle.binlog_undo_index.specs.declared.seen.SeenEvent.{SeenEvent}
 use Rattle.binlog_undo_index.specs.declared.skips.Skips.{Skips}
@@ -23,6 +24,13 @@ use Rattle.table_changes.specs.Changes.{inverse}
 pub record IsFrameIn (bytes : List ℕ) (place : ℕ) (frame : List ℕ) : Type 0 where
   pub rest : List ℕ
   pub at : drop place bytes ≡ frame ++ rest
+
+-- Each of these items is an event whose frame is at the place of what is seen of it.
+abbrev pub AreAtPlaces : List ℕ → List (Result EventView Error) → List SeenEvent → Type 0
+AreAtPlaces bytes [] seen = seen ≡ []
+AreAtPlaces bytes (item ∷ items) seen =
+    (event : EventView) × (first : SeenEvent) × (others : List SeenEvent) × (item ≡ Ok event) × (seen ≡ first ∷ others) × IsFrameIn bytes first.place event.frame
+    × AreAtPlaces bytes items others
 
 -- The frames are those of a file of these bytes.
 abbrev pub AreFramesOf : List ℕ → FramesOf → Type 0
@@ -52,8 +60,9 @@ abbrev pub WritesInverseIfAny : {W : Type 0} → (W → Option (List ℕ)) → F
 WritesInverseIfAny contents is_at [] old new = new ≡ old
 WritesInverseIfAny contents is_at (first ∷ others) old new = WritesInverse contents is_at (first ∷ others) old new
 
--- A file of these bytes is undone: all of its items are events, and what is written is the inverse of the changes of its transactions
--- that are undone.
+-- A file of these bytes is undone: all of its items are events, which are at their places, and what is written is the inverse of the
+-- changes of its transactions that are undone.
 pub record UndoesFile {W : Type 0} (contents : W → Option (List ℕ)) (skips : Skips) (bytes : List ℕ) (start scan : UndoScan) (old new : UndoOutput W) : Type 0 where
   pub scanned : IsScanned skips bytes start scan
+  pub places : AreAtPlaces bytes scanned.items scanned.seen
   pub undoes : WritesInverseIfAny contents (IsFrameIn bytes) (undone_of skips scanned.seen scanned.behind) old new

@@ -1,5 +1,5 @@
 //! Laws of the definitions. Each is a function that does nothing and whose contract states the law.
-ghost use Rattle.std.specs.Prelude.{List, ℕ};
+ghost use Rattle.std.specs.Prelude.{List, ℕ, ◌<◌, ◌^◌, length};
 ghost use Rattle.binlog_event_format.specs.declared.format_description.FormatDescriptionEvent.{FormatDescriptionEvent};
 ghost use Rattle.binlog_undo.specs.RowChanges.{TableRow};
 ghost use Rattle.binlog_undo.specs.declared.inverse_event.ForeignKeyChecks.{ForeignKeyChecks};
@@ -44,9 +44,9 @@ pub fn logs_are_undone<F: Frames>()
 {}
 
 /// Both passes over a file together: if the first one refused nothing, unless it is skipped, and the second one reads the frames of the
-/// same bytes, then all items of the file are events, and what is written is the inverse of the changes of its transactions that are undone.
+/// same bytes, then all items of the file are events at their places, and what is written is the inverse of the changes of its transactions that are undone.
 pub fn files_are_undone<F: Frames, W: WriteCounted>()
     ensures { (frames : F) (choice : Choice) (checks : ForeignKeyChecks) (skips : Skips) (bytes : List ℕ) (start scan : UndoScan) (old new : UndoOutput W)
-        → AreFramesOf bytes (F.is_at frames) → IsFresh choice checks skips start → ScansWhole bytes start scan → AreSkipped (parts_of scan.index).refusals
+        → length bytes < 2 ^ 64 → AreFramesOf bytes (F.is_at frames) → IsFresh choice checks skips start → ScansWhole bytes start scan → AreSkipped (parts_of scan.index).refusals
         → WritesFile W.contents (F.is_at frames) scan old new → UndoesFile W.contents skips bytes start scan old new }
 {}
