@@ -334,6 +334,23 @@ def random_file(chance, kinds, is_sound):
     return log_of([(kind, body, random_header(chance)) for kind, body in events], algorithm, version)
 
 
+def long_file(chance):
+    """A log that is read in several parts: rows of a BLOB, some of which are longer than one."""
+    table = encode.table_map(row_values.SPELLING, database=b"d", table=b"t", table_id=5, flags=1, types=b"\xfc", metadata=b"\4", nulls=[True], optional=b"")
+    kinds, events = [kind for kind in encode.ROWS_KINDS if kind[0] in (30, 31, 32)], []
+    for _ in range(60):
+        events.append((2, query("BEGIN")))
+        events.append((19, table.body))
+        for _ in range(chance.randint(1, 4)):
+            kind = chance.choice(kinds)
+            blobs = (chance.randbytes(chance.choice((10, 1_000, 30_000, 70_000, 300_000))) for _ in range(kind[2] + kind[3]))
+            content = b"".join(b"\0" + len(blob).to_bytes(4, "little") + blob for blob in blobs)
+            event = encode.rows(kind, row_values.SPELLING, table_id=5, flags=0, extra=(2, b""), before=[True], after=[True], content=content)
+            events.append((kind[0], event.body))
+        events.append((16, bytes(8)))
+    return log_of([(kind, body, random_header(chance)) for kind, body in events], 1, "8.0.36")
+
+
 # ---- runs
 
 PHRASES = {
@@ -370,20 +387,37 @@ def failure(words, seed, folder):
         name.write_bytes(content)
         files.append(str(name))
         model.take(str(name), content)
-    out = folder / f"{seed}.out"
+    return difference(words, options, files, model, folder / f"{seed}.out", f"seed {seed}")
+
+
+def long_failure(words, folder):
+    """What is wrong with the undo of a long log, if something is."""
+    log, model = folder / "long.bin", Model()
+    content = long_file(random.Random(0))
+    log.write_bytes(content)
+    model.take(str(log), content)
+    return difference(words, [], [str(log)], model, folder / "long.out", "the long log")
+
+
+def difference(words, options, files, model, out, name):
+    """What is wrong with the undo of these files, if something is."""
     run = subprocess.run([*words, "undo", *options, "-o", str(out), *files], capture_output=True, text=True)
     messages = [f"binlog: {name}: event {index} at byte {place}: {reason}: {PHRASES[reason]}" for name, index, place, reason in model.refused]
     if run.stderr.splitlines() != messages:
-        return f"seed {seed}: {run.stderr!r}, not {messages}"
+        return f"{name}: {run.stderr!r}, not {messages}"
     if messages:
-        return None if run.returncode == 2 and not out.exists() else f"seed {seed}: status {run.returncode}, and {out.exists()}"
+        return None if run.returncode == 2 and not out.exists() else f"{name}: status {run.returncode}, and {out.exists()}"
     counted = f"transactions {model.transactions()}, row events {model.changes()}\n"
     if run.returncode != 0 or run.stdout != counted:
-        return f"seed {seed}: status {run.returncode}, {run.stdout!r}, not {counted!r}"
+        return f"{name}: status {run.returncode}, {run.stdout!r}, not {counted!r}"
     if Path(f"{out}.part").exists():
-        return f"seed {seed}: what was written is left behind"
+        return f"{name}: what was written is left behind"
     wanted = model.written()
-    return None if out.read_bytes() == wanted else f"seed {seed}: {out.read_bytes().hex()}, not {wanted.hex()}"
+    return None if out.read_bytes() == wanted else f"{name}: {shown(out.read_bytes())}, not {shown(wanted)}"
+
+
+def shown(content):
+    return content.hex() if len(content) < 10_000 else f"{len(content)} bytes"
 
 
 def refusal(words, folder, options, status, message):
@@ -426,6 +460,8 @@ def main():
         for seed in range(arguments.count):
             wrong = failure(words, seed, Path(folder))
             passed, failures = (passed, [*failures, wrong]) if wrong else (passed + 1, failures)
+        wrong = long_failure(words, Path(folder))
+        passed, failures = (passed, [*failures, wrong]) if wrong else (passed + 1, failures)
         for refused in REFUSALS:
             wrong = refusal(words, Path(folder), *refused)
             passed, failures = (passed, [*failures, wrong]) if wrong else (passed + 1, failures)
