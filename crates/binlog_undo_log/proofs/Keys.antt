@@ -10,7 +10,14 @@ use Rattle.binlog_optional_metadata.specs.declared.class_counts.ClassCounts.{Cla
 use Rattle.binlog_optional_metadata.specs.declared.field.OptionalMetadataField.{OptionalMetadataField}
 use Rattle.binlog_optional_metadata.specs.declared.metadata_error.OptionalMetadataError.{OptionalMetadataError}
 use Rattle.binlog_optional_metadata.specs.declared.optional_metadata.OptionalMetadata.{OptionalMetadata}
-use Rattle.binlog_undo_log.specs.Keys.{states_key, newer_key, LeavesKey}
+use Rattle.binlog_columns.specs.Metadata.{Typed}
+use Rattle.binlog_rows.specs.declared.rows_event_data.RowsEventData.{RowsEventData}
+use Rattle.binlog_undo.specs.InverseEvents.{GivesInverse}
+use Rattle.binlog_undo.specs.declared.inverse_event.ForeignKeyChecks.{ForeignKeyChecks}
+use Rattle.binlog_undo.specs.declared.inverse_event.InverseEvent.{InverseEvent}
+use Rattle.binlog_undo.specs.declared.undo_error.UndoError.{UndoError}
+use Rattle.binlog_undo.specs.declared.undo_error.UndoError.TheVariants as undo_errors
+use Rattle.binlog_undo_log.specs.Keys.{states_key, newer_key, LeavesKey, GivesAtOnce}
 
 abbrev Items : Type 0
 Items = List (Result OptionalMetadataField OptionalMetadataError)
@@ -67,3 +74,14 @@ pub item_taken : (items : Items) (item : Result OptionalMetadataField OptionalMe
 item_taken items item old new so_far is =
     is ∙ ap (λ (found : Option Content). newer_key found (answer_field_content item)) so_far ∙ keys_more (fields_of items) (answer_field_content item)
     ∙ ap (λ (fields : List FieldContent). key_in fields) (sym (fields_more items item))
+
+-- ---- rows that are undone by a key
+
+pub at_once : (columns : List Typed) (checks : ForeignKeyChecks) (rows : RowsEventData) (answer : Result InverseEvent UndoError) → ¬ (answer ≡ Err undo_errors.Image)
+    → GivesInverse [] columns checks rows answer → GivesAtOnce columns checks rows answer
+at_once columns checks rows (Ok inverse) not h = h
+at_once columns checks rows (Err (undo_errors.Event error)) not h = h
+at_once columns checks rows (Err (undo_errors.Rows error)) not h = h
+at_once columns checks rows (Err undo_errors.Image) not h = absurd (not refl)
+at_once columns checks rows (Err (undo_errors.PartialJson row)) not h = h
+at_once columns checks rows (Err undo_errors.Memory) not h = h

@@ -98,7 +98,8 @@ place_behind_event maps index event seen old new h goes =
 
 own_frame : (d : FormatDescriptionEvent) (frame : List ℕ) (item : Result EventView Error) (event : EventView) → IsVerifiedItem IsCrc32 d frame item → item ≡ Ok event → event.frame ≡ frame
 own_frame d frame item event (inl h) ok = ap (λ (e : EventView). e.frame) (event_is d frame event (sym h.1 ∙ ok)).1
-own_frame d frame item event (inr h) ok = absurd cc
+own_frame d frame item event (inr h) ok =
+    let other : item ≡ Err (errors.ChecksumMismatch h.0 h.1) = h.3 in absurd cc
 
 abbrev all_of : List (List ℕ) → List ℕ
 all_of frames = flat_map (λ (frame : List ℕ). frame) frames
@@ -109,7 +110,8 @@ drop_all (x ∷ front) s = drop_all front s
 
 tail_placed : (bytes : List ℕ) (is : Bool) (size : ℕ) (maps : TableMaps) (index : ℕ) (seen : List SeenEvent) (old new : UndoScan)
     → AreSeen maps index (if is then Err (errors.EventSizeTooSmall size) ∷ [] else []) seen old new → AreAtPlaces bytes (if is then Err (errors.EventSizeTooSmall size) ∷ [] else []) seen
-tail_placed bytes true size maps index seen old new h = absurd cc
+tail_placed bytes true size maps index seen old new h =
+    let none : ◌≡◌ {A = Result EventView Error} (Err (errors.EventSizeTooSmall size)) (Ok h.0) = h.4 in absurd cc
 tail_placed bytes false size maps index seen old new h = h.0
 
 module _ (bytes tail : List ℕ) (d : FormatDescriptionEvent) (small : length bytes < 2 ^ 64) where

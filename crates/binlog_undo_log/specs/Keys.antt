@@ -31,7 +31,7 @@ newer_key found (Err error) = found
 -- The indexes of the columns of the primary key that a field states.
 abbrev pub key_of : Option Content → List ℕ
 key_of (Some (numbers SIMPLE_PRIMARY_KEY columns)) = columns
-key_of (Some (indexed PRIMARY_KEY_WITH_PREFIX columns)) = map (λ column. column.0) columns
+key_of (Some (indexed PRIMARY_KEY_WITH_PREFIX columns)) = map (λ (column : ℕ × ℕ). column.0) columns
 key_of _ = []
 
 -- The last field of the bytes that states the primary key is this one.

@@ -1,5 +1,5 @@
 //! The primary key that a table map states.
-ghost use Rattle.std.specs.Prelude.{◌≡◌, map, option_map, IfOk};
+ghost use Rattle.std.specs.Prelude.{◌≡◌, ℕ, map, option_map, IfOk};
 ghost use Rattle.binlog_columns.specs.TableColumns.{columns_of};
 ghost use Rattle.binlog_optional_metadata.specs.FieldValues.{content_of};
 ghost use Rattle.binlog_optional_metadata.specs.FieldsLeft.{answer_field_content};
@@ -62,7 +62,7 @@ fn all_numbers(alloc: Global, numbers: Numbers<'_>) -> Result<Vec<u64>, AllocErr
 
 // The indexes of these pairs.
 fn all_indexes(alloc: Global, pairs: IndexedNumbers<'_>) -> Result<Vec<u64>, AllocError>
-    ensures { IfOk result (λ key. key.items ≡ map (λ pair. pair.0) (indexed_of pairs.entry)) }
+    ensures { IfOk result (λ key. key.items ≡ map (λ (pair : ℕ × ℕ). pair.0) (indexed_of pairs.entry)) }
 {
     let mut key = Vec::new(alloc);
     'pairs: for (index, _) in pairs {
