@@ -4,7 +4,7 @@
 Usage: undo_server.py [--count N] FLAG
 
 FLAG is one of `programs.py`. A server makes tables, with keys and without, of integers, texts, decimals, times, blobs and bits, and
-fills them. At a checkpoint its tables are selected, and its log is closed. N random loads (3 if not given) of inserts, updates,
+fills them. At a checkpoint its tables are selected, and its log is closed. N random loads (4 if not given) of inserts, updates,
 deletes and transactions of several statements follow, over several files. `binlog undo` undoes them, `mariadb-binlog` and `mariadb`
 apply that, and the tables are selected again. Then what undid them is undone. Where there is no server (`maria_daemon.py` says where it
 comes from) nothing is done. The last line is `N passed, M failed`; the exit status is 1 if something failed.
@@ -25,6 +25,7 @@ OPTIONS = [
     ["--binlog-checksum=CRC32"],
     ["--binlog-checksum=NONE", "--binlog-row-metadata=FULL"],
     ["--binlog-checksum=CRC32", "--binlog-row-metadata=MINIMAL"],
+    ["--binlog-checksum=CRC32", "--log-bin-compress=ON", "--log-bin-compress-min-len=10"],
 ]
 TABLES = {
     "keyed": "(id INT PRIMARY KEY, name VARCHAR(40), price DECIMAL(10,2), at DATETIME(3), content BLOB, flags BIT(5)) ENGINE=InnoDB",
@@ -124,7 +125,7 @@ def failure(words, program, folder, seed):
 def main():
     parser = argparse.ArgumentParser(description="Undoes what a MariaDB server did.")
     programs.add_flags(parser)
-    parser.add_argument("--count", type=int, default=3)
+    parser.add_argument("--count", type=int, default=4)
     arguments = programs.parsed(parser, "binlog")
     words = arguments.build.command("binlog")
     passed, failures = 0, []
