@@ -6,6 +6,6 @@ use Rattle.binlog_undo_log.proofs.primary_key.all_indexes.Goals as goal
 
 pub returns : goal.returns
 returns c =
-    let start : indexed_of c.into_iter-iterator.result ≡ indexed_of c.args.pairs = ap indexed_of c.into_iter-iterator.ensures.into_iter_gives in
-    let ended = YieldsList-end (YieldsList-from_first (λ (x : ℕ × ℕ). x) indexed_of (indexed_of c.args.pairs) start) c.pairs.yielded c.pairs.iterator c.pairs.yielded_by None c.next.new.self refl c.in-None.ensures.steps in
+    let start : indexed_of c.into_iter-index-iterator.result ≡ indexed_of c.args.pairs = ap indexed_of c.into_iter-index-iterator.ensures.into_iter_gives in
+    let ended = YieldsList-end (YieldsList-from_first (λ (x : ℕ × ℕ). x) indexed_of (indexed_of c.args.pairs) start) c.pairs.yielded c.pairs.index-iterator c.pairs.yielded_by None c.next.new.self refl c.in-None.ensures.steps in
     c.pairs.invariant ∙ ap (λ (ps : List (ℕ × ℕ)). map (λ (pair : ℕ × ℕ). pair.0) ps) (sym (map-id c.pairs.yielded) ∙ ended.0)
