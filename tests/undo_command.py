@@ -119,20 +119,28 @@ def indexes_in(kind, content, count):
 
 
 class Model:
-    """What is undone of files, or refused. `chosen` are the tables that are asked for, if there are some."""
+    """What is undone of files, or refused. `chosen` are the tables that are asked for, if there are some, and `excluded` are left out. `is_plain` says that old dates and
+    times have no fractions."""
 
-    def __init__(self, chosen=()):
-        self.refused, self.kept, self.chosen = [], [], chosen
+    def __init__(self, chosen=(), excluded=(), is_plain=False):
+        self.refused, self.kept, self.chosen, self.excluded, self.is_plain = [], [], chosen, excluded, is_plain
 
     def wants(self, map_body):
         """Whether the table of a table map is one that is undone."""
-        return not self.chosen or table_of(map_body) in self.chosen
+        return (not self.chosen or table_of(map_body) in self.chosen) and table_of(map_body) not in self.excluded
 
-    def take(self, name, content):
+    def take(self, name, content, start=0, stop=None):
+        """Undoes the transactions of a file that begin at one position or behind it, and before the other."""
         reading, place, index = transactions.Reading(), len(FILE_HEADER), 0
         kept, changes, maps, first, found = [], [], {}, None, []
         description = self.description_of(content)
-        while place < len(content):
+        is_past = lambda place: stop is not None and place >= stop
+        is_taken = lambda first: start <= first[1] and not is_past(first[1])
+        # A transaction that a position is within is refused, whether it is taken or not.
+        straddles = lambda end: [(*first, "Straddles", end)] if any(first[1] < position < end for position in (start, stop or 0)) else []
+        cut_off = lambda end: straddles(end) or ((found or [(*first, "Unfinished")])[:1] if is_taken(first) else [])
+        refuse = lambda refusals: self.refused.extend((name, *one) for one in refusals)
+        while place < len(content) and not (is_past(place) and reading.way is None):
             header = HEADER.unpack_from(content, place)
             end = place + header[3]
             body = content[place + HEADER.size : end - (CHECKSUM if description[1] == 1 and header[1] != 15 else 0)]
@@ -146,29 +154,31 @@ class Model:
             reading.take(word)
             turn, _, why = reading.told[told].partition(":")
             if turn.endswith("!"):
-                self.refused.append((name, *(found or [(*first, "Unfinished")])[0]))
+                refuse(cut_off(place))
                 changes, maps, found = [], {}, []
             turn = turn.rstrip("!")
             if turn in ("First", "Alone"):
                 first, changes, maps, found = (index, place), [], {}, []
             found += [(index, place, reason) for reason in (why, refusal) if reason]
             if turn == "Outside":
-                self.refused += [(name, *one) for one in found]
+                refuse(found if is_taken((index, place)) else [])
                 found = []
             if header[1] == 19:
                 maps[int.from_bytes(body[:6], "little")] = (header, body)
             if change:
                 changes.append(change)
             if turn in ("Last", "Alone"):
-                if found:
-                    self.refused.append((name, *found[0]))
+                if straddles(end) or not is_taken(first):
+                    refuse(straddles(end))
+                elif found:
+                    refuse(found[:1])
                 elif changes:
                     xid = int.from_bytes(body, "little") if header[1] == 16 else 0
                     kept.append((header, xid, changes))
                 changes, maps, found = [], {}, []
             place, index = end, index + 1
         if reading.way is not None:
-            self.refused.append((name, *(found or [(*first, "Unfinished")])[0]))
+            refuse(cut_off(place))
         self.kept.append((description, kept))
 
     def description_of(self, content):
@@ -212,7 +222,7 @@ class Model:
         if not self.wants(map_body):
             return word(False), None, None
         tables.take(map_body)
-        if is_maria and set(tables.maps[table_id]["columns_type"].bytes) & {7, 11, 12}:
+        if is_maria and not self.is_plain and set(tables.maps[table_id]["columns_type"].bytes) & {7, 11, 12}:
             found = [member for member in tables.wanted(kind, body) if member == ("error", "Columns")]
             return word(False), None, "Rows" if found else "OldTemporal"
         wanted = tables.wanted(kind, body)
@@ -364,29 +374,42 @@ PHRASES = {
     "OldTemporal": "a column of a date or time whose form isn't in the log",
     "Image": "the images of the rows lack columns",
     "PartialJson": "partial updates of documents",
+    "Straddles": "a position is within the transaction, which ends at byte {}",
 }
 
 
+def random_position(chance, content):
+    """A place of an event, or beside one."""
+    places, place = [], len(FILE_HEADER)
+    while place < len(content):
+        places.append(place)
+        place += HEADER.unpack_from(content, place)[3]
+    return chance.choice([*places, place]) + chance.choice((0, 0, 0, 0, 1, -1))
+
+
 def random_options(chance):
-    """Options that choose tables, and these tables."""
-    way, some = chance.random(), chance.sample(TABLES, chance.randint(1, 2))
-    if way < 0.2:
-        return [word for table in some for word in ("--table", table)], some
-    return [], ()
+    """Options that choose tables; these tables, those that are left out, and whether old dates and times are plain."""
+    chosen, excluded = (chance.sample(TABLES, chance.randint(1, 2)) if chance.random() < 0.3 else [] for _ in range(2))
+    named = [("--table", table) for table in chosen] + [("--exclude-table", table) for table in excluded]
+    is_plain = chance.random() < 0.3
+    return [word for words in named for word in words] + ["--plain-old-temporal"] * is_plain, chosen, excluded, is_plain
 
 
 def failure(words, seed, folder):
     """What is wrong with the undo of one set of logs, if something is."""
     chance, kinds = random.Random(seed), list(row_events.kinds())
     is_sound = chance.random() < 0.5
-    options, chosen = random_options(chance)
-    files, model = [], Model(chosen)
-    for number in range(chance.randint(1, 3)):
-        name = folder / f"{seed}-{number}.bin"
-        content = random_file(chance, kinds, is_sound)
-        name.write_bytes(content)
-        files.append(str(name))
-        model.take(str(name), content)
+    options, *tables = random_options(chance)
+    contents = [random_file(chance, kinds, is_sound) for _ in range(chance.randint(1, 3))]
+    files, model = [str(folder / f"{seed}-{number}.bin") for number in range(len(contents))], Model(*tables)
+    # The start position is one of the first file, and the stop position of the last one.
+    start = random_position(chance, contents[0]) if chance.random() < 0.3 else 0
+    stop = random_position(chance, contents[-1]) if chance.random() < 0.3 else None
+    options += ["--start-position", str(start)] if start else []
+    options += [] if stop is None else ["--stop-position", str(stop)]
+    for number, (name, content) in enumerate(zip(files, contents)):
+        Path(name).write_bytes(content)
+        model.take(name, content, start if number == 0 else 0, stop if number == len(contents) - 1 else None)
     return difference(words, options, files, model, folder / f"{seed}.out", f"seed {seed}")
 
 
@@ -402,7 +425,7 @@ def long_failure(words, folder):
 def difference(words, options, files, model, out, name):
     """What is wrong with the undo of these files, if something is."""
     run = subprocess.run([*words, "undo", *options, "-o", str(out), *files], capture_output=True, text=True)
-    messages = [f"binlog: {name}: event {index} at byte {place}: {reason}: {PHRASES[reason]}" for name, index, place, reason in model.refused]
+    messages = [f"binlog: {name}: event {index} at byte {place}: {reason}: {PHRASES[reason].format(*end)}" for name, index, place, reason, *end in model.refused]
     if run.stderr.splitlines() != messages:
         return f"{name}: {run.stderr!r}, not {messages}"
     if messages:
@@ -442,7 +465,8 @@ REFUSALS = [
     (lambda log: ["-o", str(log.parent / "taken"), str(log)], 3, "taken.part: File exists"),
     (lambda log: ["--skip", "Nothing", "--dry-run", str(log)], 64, "no reason that can be skipped"),
     (lambda log: ["--skip", "Damaged", "--dry-run", str(log)], 64, "no reason that can be skipped"),
-    (lambda log: ["--table", "t", "--dry-run", str(log)], 64, "--table"),
+    (lambda log: ["--table", "t", "--dry-run", str(log)], 64, "--table: "),
+    (lambda log: ["--exclude-table", "t", "--dry-run", str(log)], 64, "--exclude-table: "),
     (lambda log: ["-o", str(log.parent / "none/out"), str(log)], 3, "none/out.part"),
     (lambda log: ["-o", str(log.parent / "out"), str(log.parent / "none.bin")], 1, "none.bin"),
     (lambda log: ["--dry-run", str(log), "-"], 1, "-: "),

@@ -21,3 +21,4 @@ pub use output::{BUFFER_SIZE, Output};
 pub use progress::Progress;
 pub use reported::{CONTENT_LIMIT, Reported, report_left_out, shown_name};
 pub use summaries::{datetime_of, write_stats, write_tally};
+pub use table_names::tables_of_option;

@@ -1,5 +1,5 @@
 //! The tables that the words of `binlog`'s command line name.
-ghost use Rattle.std.specs.Prelude.{◌≡◌, ◌⊎◌, codes, map, IfErr, IfOk, MatchOption};
+ghost use Rattle.std.specs.Prelude.{◌≡◌, ◌⊎◌, [], codes, map, IfErr, IfOk, MatchOption};
 ghost use Rattle.clap.specs.Matches.{found_of};
 ghost use Rattle.binlog_cli.specs.declared.exit_status.Status.TheVariants.{Failed, Usage};
 ghost use Rattle.binlog_cli.specs.TableWords.{texts_given, ArePatterns, AreTables, HasNoTable, IsTable, IsNoTable, StatesTables};
@@ -18,12 +18,30 @@ pub fn tables<R: Eprint + AllocGlobal>(
 {
     let tables = matches.get_strs("table").unwrap_or(&[]);
     let databases = matches.get_strs("database").unwrap_or(&[]);
-    table_filter(rt, tables, databases)
+    table_filter(rt, "table", tables, databases)
 }
 
-// The filter of tables and of databases with these names, if there are some.
+/// The filter of the tables that this option names, if it names some. A text that names no table has a message.
+///
+/// # Errors
+///
+/// [`Status::Usage`] if a text names no table, [`Status::Failed`] if there is no memory.
+pub fn tables_of_option<R: Eprint + AllocGlobal>(
+    rt: &R,
+    matches: &ArgMatches<'_>,
+    option: &str,
+) -> Result<Option<TableFilter>, Status>
+    ensures ok { IfOk result (λ filter. StatesTables (texts_given (found_of matches.now) option.now) [] filter) }
+    ensures err { IfErr result (λ status. ((status ≡ Usage) × HasNoTable (texts_given (found_of matches.now) option.now)) ⊎ (status ≡ Failed)) }
+{
+    let tables = matches.get_strs(option).unwrap_or(&[]);
+    table_filter(rt, option, tables, &[])
+}
+
+// The filter of tables and of databases with these names, if there are some. `option` is that of the tables, for messages.
 fn table_filter<R: Eprint + AllocGlobal>(
     rt: &R,
+    option: &str,
     tables: &[&str],
     databases: &[&str],
 ) -> Result<Option<TableFilter>, Status>
@@ -33,7 +51,7 @@ fn table_filter<R: Eprint + AllocGlobal>(
     if tables.is_empty() && databases.is_empty() {
         return Ok(None);
     }
-    let tables = table_patterns(rt, tables)?;
+    let tables = table_patterns(rt, option, tables)?;
     let databases = database_patterns(rt, databases)?;
     Ok(Some(TableFilter { databases, tables }))
 }
@@ -59,6 +77,7 @@ fn database_patterns<R: Eprint + AllocGlobal>(
 // The patterns of tables. A text without a dot, or with nothing on one side of its first dot, names no table.
 fn table_patterns<R: Eprint + AllocGlobal>(
     rt: &R,
+    option: &str,
     names: &[&str],
 ) -> Result<Vec<TablePattern>, Status>
     ensures ok { IfOk result (λ patterns. AreTables (map (λ name. name.now) names.now) patterns.items) }
@@ -66,7 +85,7 @@ fn table_patterns<R: Eprint + AllocGlobal>(
 {
     let mut patterns = Vec::new(rt.alloc());
     for name in names {
-        match table_pattern(rt, name) {
+        match table_pattern(rt, option, name) {
             Ok(pattern) => {
                 if patterns.push(pattern).is_err() {
                     return Err(out_of_memory(rt));
@@ -79,12 +98,16 @@ fn table_patterns<R: Eprint + AllocGlobal>(
 }
 
 // The pattern of a table.
-fn table_pattern<R: Eprint + AllocGlobal>(rt: &R, name: &str) -> Result<TablePattern, Status>
+fn table_pattern<R: Eprint + AllocGlobal>(
+    rt: &R,
+    option: &str,
+    name: &str,
+) -> Result<TablePattern, Status>
     ensures ok { IfOk result (λ pattern. IsTable name.now pattern.database.bytes.items pattern.table.bytes.items) }
     ensures err { IfErr result (λ status. ((status ≡ Usage) × IsNoTable name.now) ⊎ (status ≡ Failed)) }
 {
     let Some((database, table)) = split_table(name) else {
-        let _ = eprintln!(rt; "binlog: --table: {name:?} is no table, as DB.TABLE");
+        let _ = eprintln!(rt; "binlog: --{option}: {name:?} is no table, as DB.TABLE");
         return Err(Status::Usage);
     };
     let database = pattern(rt, database.as_bytes())?;

@@ -1,4 +1,5 @@
 pub mod Reasons
+pub mod LogPlaces
 pub mod Options
 pub mod Scanned
 pub mod Written

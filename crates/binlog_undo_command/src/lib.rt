@@ -3,6 +3,7 @@
 
 mod arguments;
 pub mod laws;
+mod log_place;
 mod logs;
 mod new_file;
 mod options;
@@ -13,6 +14,7 @@ mod undoing;
 mod writing;
 
 pub use arguments::command;
+pub use log_place::LogPlace;
 pub use logs::{HostLogs, Logs};
 pub use new_file::{HostFile, NewFile};
 pub use reasons::reason_name;

@@ -37,6 +37,9 @@ pub enum Reason {
     /// another form.
     #[error("no format description that can be written")]
     Description,
+    /// A position is within a transaction, which ends in front of this byte of the file.
+    #[error("a position is within the transaction, which ends at byte {0}")]
+    Straddles(u64),
 }
 
 /// A transaction, or a log, that can't be undone.

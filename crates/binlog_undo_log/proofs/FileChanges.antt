@@ -11,6 +11,7 @@ use Rattle.binlog_undo_log.proofs.LogChanges.{kept_undone}
 use Rattle.binlog_undo_log.proofs.Placed.{file_placed}
 use Rattle.binlog_undo_log.proofs.Scanned.{file_scanned}
 use Rattle.binlog_undo_log.proofs.Undone.{AreAmong, event_from, all_from, kept_are_undone}
+use Rattle.binlog_undo_log.specs.Choices.{rules_of}
 use Rattle.binlog_undo_log.specs.FileChanges.{IsFrameIn, AreFramesOf, undone_of, WritesInverse, WritesInverseIfAny, UndoesFile}
 use Rattle.binlog_undo_log.specs.Files.{IsFresh, ScansWhole, AreSkipped, IsScanned, WritesDescribed, WritesAt, WritesIfAny, WritesFile}
 use Rattle.binlog_undo_log.specs.Undoing.{FramesOf, UndoesKept}
@@ -56,12 +57,12 @@ module _ {W : Type 0} (contents : W → Option (List ℕ)) (others is_at : Frame
 
 pub file_undone : {W : Type 0} (contents : W → Option (List ℕ)) (is_at : FramesOf) (choice : Choice) (checks : ForeignKeyChecks) (skips : Skips) (bytes : List ℕ)
     (start scan : UndoScan) (old new : UndoOutput W) → length bytes < 2 ^ 64 → AreFramesOf bytes is_at → IsFresh choice checks skips start → ScansWhole bytes start scan
-    → AreSkipped (parts_of scan.index).refusals → WritesFile contents is_at scan old new → UndoesFile contents skips bytes start scan old new
+    → AreSkipped (parts_of scan.index).refusals → WritesFile contents is_at scan old new → UndoesFile contents (rules_of choice skips) bytes start scan old new
 file_undone contents is_at choice checks skips bytes start scan old new small frames fresh h skipped writes =
-    let scanned : IsScanned skips bytes start scan = file_scanned choice checks skips bytes start scan fresh h skipped in
+    let scanned : IsScanned (rules_of choice skips) bytes start scan = file_scanned choice checks skips bytes start scan fresh h skipped in
     record {
       scanned = scanned;
       places = file_placed choice checks skips bytes start scan small fresh scanned;
-      undoes = inverse_if_any contents is_at (IsFrameIn bytes) frames scan.checks scan.description (undone_of skips scanned.seen scanned.behind)
+      undoes = inverse_if_any contents is_at (IsFrameIn bytes) frames scan.checks scan.description (undone_of (rules_of choice skips) scanned.seen scanned.behind)
           (parts_of scan.index).transactions (parts_of scan.index).changes old new scanned.keeps writes;
     }

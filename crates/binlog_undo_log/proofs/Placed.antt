@@ -23,6 +23,7 @@ use Rattle.binlog_undo_index.specs.declared.reason.Reason.TheVariants as reasons
 use Rattle.binlog_undo_index.specs.declared.seen.SeenEvent.{SeenEvent}
 use Rattle.binlog_undo_index.specs.declared.skips.Skips.{Skips}
 use Rattle.binlog_undo_log.proofs.Scanned.{noted_or, not_both, stopped}
+use Rattle.binlog_undo_log.specs.Choices.{rules_of}
 use Rattle.binlog_undo_log.specs.FileChanges.{IsFrameIn, AreAtPlaces}
 use Rattle.binlog_undo_log.specs.Files.{IsFresh, AreSeen, IsScanned}
 use Rattle.binlog_undo_log.specs.Scanning.{seen_event, seen_as, seen_mark, unread_mark, SeesRead, DescribesBehind, DescribesIf, Notes, ScansEvent}
@@ -108,50 +109,53 @@ drop_all : (front s : List ℕ) → drop (length front) (front ++ s) ≡ s
 drop_all [] s = refl
 drop_all (x ∷ front) s = drop_all front s
 
-tail_placed : (bytes : List ℕ) (is : Bool) (size : ℕ) (maps : TableMaps) (index : ℕ) (seen : List SeenEvent) (old new : UndoScan)
-    → AreSeen maps index (if is then Err (errors.EventSizeTooSmall size) ∷ [] else []) seen old new → AreAtPlaces bytes (if is then Err (errors.EventSizeTooSmall size) ∷ [] else []) seen
-tail_placed bytes true size maps index seen old new h =
-    let none : ◌≡◌ {A = Result EventView Error} (Err (errors.EventSizeTooSmall size)) (Ok h.0) = h.4 in absurd cc
-tail_placed bytes false size maps index seen old new h = h.0
+-- What is behind the last frame is no event.
+tail_is_no_event : (is : Bool) (size : ℕ) (item : Result EventView Error) (event : EventView) (more : List (Result EventView Error))
+    → ◌≡◌ {A = List (Result EventView Error)} (if is then Err (errors.EventSizeTooSmall size) ∷ [] else []) (item ∷ more) → item ≡ Ok event → ⊥
+tail_is_no_event true size item event more is ok =
+    let wrong : ◌≡◌ {A = Result EventView Error} (Err (errors.EventSizeTooSmall size)) (Ok event) = cc in cc
+tail_is_no_event false size item event more is ok = cc
 
 module _ (bytes tail : List ℕ) (d : FormatDescriptionEvent) (small : length bytes < 2 ^ 64) where
-  placed : (front : List ℕ) (before frames : List (List ℕ)) (given : List (Result EventView Error)) (maps : TableMaps) (index : ℕ) (seen : List SeenEvent) (old new : UndoScan)
-      → bytes ≡ front ++ (all_of frames ++ tail) → old.place ≡ length front → AreVerifiedBehind IsCrc32 d before frames given → AreSeen maps index (given ++ tail_items tail) seen old new
-      → AreAtPlaces bytes (given ++ tail_items tail) seen
-  placed front before [] [] maps index seen old new all at are h = tail_placed bytes (is_undersized tail) (stated_size tail) maps index seen old new h
-  placed front before [] (item ∷ given) maps index seen old new all at are h = absurd are
-  placed front before (frame ∷ frames) [] maps index seen old new all at are h = absurd are
-  placed front before (frame ∷ frames) (item ∷ given) maps index seen old new all at are h =
+  placed : (front : List ℕ) (before frames : List (List ℕ)) (given first rest : List (Result EventView Error)) (maps : TableMaps) (index : ℕ) (seen : List SeenEvent) (old new : UndoScan)
+      → bytes ≡ front ++ (all_of frames ++ tail) → old.place ≡ length front → AreVerifiedBehind IsCrc32 d before frames given → given ++ tail_items tail ≡ first ++ rest
+      → AreSeen maps index first seen old new → AreAtPlaces bytes first seen
+  placed front before frames given [] rest maps index seen old new all at are is h = h.0
+  placed front before [] [] (item ∷ first) rest maps index seen old new all at are is h =
+      absurd (tail_is_no_event (is_undersized tail) (stated_size tail) item h.0 (first ++ rest) is h.4)
+  placed front before [] (other ∷ given) (item ∷ first) rest maps index seen old new all at are is h = absurd are
+  placed front before (frame ∷ frames) [] (item ∷ first) rest maps index seen old new all at are is h = absurd are
+  placed front before (frame ∷ frames) (other ∷ given) (item ∷ first) rest maps index seen old new all at are is h =
+      let same : other ≡ item = cc in
+      let tails : given ++ tail_items tail ≡ first ++ rest = cc in
       let event : EventView = h.0 in
-      let first : SeenEvent = h.1 in
+      let here_seen : SeenEvent = h.1 in
       let mid : UndoScan = h.3 in
       let others : List ℕ = all_of frames ++ tail in
-      let own : event.frame ≡ frame = own_frame (in_force d before) frame item event are.0 h.4 in
+      let own : event.frame ≡ frame = own_frame (in_force d before) frame other event are.0 (same ∙ h.4) in
       let split : bytes ≡ front ++ (frame ++ others) = all ∙ ap (λ (s : List ℕ). front ++ s) (append_assoc frame (all_of frames) tail) in
-      let here : first.place ≡ length front = seen_place (maps_behind maps item) index event first old mid h.6 ∙ at in
-      let found : drop first.place bytes ≡ frame ++ others =
+      let here : here_seen.place ≡ length front = seen_place (maps_behind maps item) index event here_seen old mid h.6 ∙ at in
+      let found : drop here_seen.place bytes ≡ frame ++ others =
       ap (λ (p : ℕ). drop p bytes) here ∙ ap (λ (s : List ℕ). drop (length front) s) split ∙ drop_all front (frame ++ others) in
       let behind : bytes ≡ (front ++ frame) ++ others = split ∙ sym (append_assoc front frame others) in
       let next : mid.place ≡ length (front ++ frame) =
-      place_behind_event (maps_behind maps item) index event first old mid h.6 h.7
+      place_behind_event (maps_behind maps item) index event here_seen old mid h.6 h.7
       ∙ ap (λ (p : ℕ). min (p + length event.frame) (2 ^ 64 - 1)) at
       ∙ ap (λ (s : List ℕ). min (length front + length s) (2 ^ 64 - 1)) own
       ∙ omega (arith, small, ap length behind, length-append (front ++ frame) others, length-append front frame) in (
         event,
-        first,
+        here_seen,
         h.2,
         h.4,
         h.5,
         record { rest = others; at = found ∙ ap (λ (s : List ℕ). s ++ others) (sym own) },
-        placed (front ++ frame) (before ++ right_frame frame item) frames given (maps_behind maps item) (index + 1) h.2 mid new behind next are.1 h.8,
+        placed (front ++ frame) (before ++ right_frame frame other) frames given first rest (maps_behind maps item) (index + 1) h.2 mid new behind next are.1 tails h.8,
       )
 
 pub file_placed : (choice : Choice) (checks : ForeignKeyChecks) (skips : Skips) (bytes : List ℕ) (start scan : UndoScan) → length bytes < 2 ^ 64 → IsFresh choice checks skips start
-    → (scanned : IsScanned skips bytes start scan) → AreAtPlaces bytes scanned.items scanned.seen
+    → (scanned : IsScanned (rules_of choice skips) bytes start scan) → AreAtPlaces bytes scanned.front scanned.seen
 file_placed choice checks skips bytes start scan small fresh scanned =
     let d : FormatDescriptionEvent = default_description Version4 in
     let all : bytes ≡ file_header ++ (all_of scanned.are.frames ++ scanned.are.tail) = scanned.file ∙ ap (λ (s : List ℕ). file_header ++ s) scanned.are.split.whole in
-    let each : AreSeen no_table_maps 0 (scanned.are.given ++ tail_items scanned.are.tail) scanned.seen start scanned.behind =
-    subst (λ (l : List (Result EventView Error)). AreSeen no_table_maps 0 l scanned.seen start scanned.behind) scanned.are.all scanned.each in
-    subst (λ (l : List (Result EventView Error)). AreAtPlaces bytes l scanned.seen) (sym scanned.are.all)
-    (placed bytes scanned.are.tail d small file_header [] scanned.are.frames scanned.are.given no_table_maps 0 scanned.seen start scanned.behind all fresh.place scanned.are.each each)
+    placed bytes scanned.are.tail d small file_header [] scanned.are.frames scanned.are.given scanned.front scanned.rest no_table_maps 0 scanned.seen start scanned.behind all fresh.place
+    scanned.are.each (sym scanned.are.all ∙ scanned.split) scanned.each

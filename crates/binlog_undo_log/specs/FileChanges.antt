@@ -7,8 +7,8 @@ use Rattle.binlog_event_format.specs.declared.format_description.FormatDescripti
 use Rattle.binlog_events.specs.Events.{EventView}
 use Rattle.binlog_wire.specs.declared.error.Error.{Error}
 use Rattle.binlog_undo_index.specs.Groups.{Kept, kept_in}
+use Rattle.binlog_undo_index.specs.declared.rules.Rules.{Rules}
 use Rattle.binlog_undo_index.specs.declared.seen.SeenEvent.{SeenEvent}
-use Rattle.binlog_undo_index.specs.declared.skips.Skips.{Skips}
 use Rattle.binlog_undo_log.specs.Descriptions.{DescribesOnce}
 use Rattle.binlog_undo_log.specs.Files.{IsScanned, IsDescribed, groups_of}
 use Rattle.binlog_undo_log.specs.LogChanges.{LogChange, AreKeptChanges, AreLogChanges}
@@ -37,8 +37,8 @@ abbrev pub AreFramesOf : List ℕ → FramesOf → Type 0
 AreFramesOf bytes is_at = (place : ℕ) (frame : List ℕ) → is_at place frame → IsFrameIn bytes place frame
 
 -- The transactions of a file that are undone, of whose events this is seen.
-abbrev pub undone_of : Skips → List SeenEvent → UndoScan → List Kept
-undone_of skips seen behind = kept_in skips (groups_of (seen ++ border_at behind ∷ []))
+abbrev pub undone_of : Rules → List SeenEvent → UndoScan → List Kept
+undone_of rules seen behind = kept_in rules (groups_of (seen ++ border_at behind ∷ []))
 
 -- The events behind a description are the inverse of the changes of these transactions.
 pub record WritesInverse {W : Type 0} (contents : W → Option (List ℕ)) (is_at : FramesOf) (kept : List Kept) (old new : UndoOutput W) : Type 0 where
@@ -60,9 +60,9 @@ abbrev pub WritesInverseIfAny : {W : Type 0} → (W → Option (List ℕ)) → F
 WritesInverseIfAny contents is_at [] old new = new ≡ old
 WritesInverseIfAny contents is_at (first ∷ others) old new = WritesInverse contents is_at (first ∷ others) old new
 
--- A file of these bytes is undone: all of its items are events, which are at their places, and what is written is the inverse of the
+-- A file of these bytes is undone: its items, or those up to the stop position, are events, which are at their places, and what is written is the inverse of the
 -- changes of its transactions that are undone.
-pub record UndoesFile {W : Type 0} (contents : W → Option (List ℕ)) (skips : Skips) (bytes : List ℕ) (start scan : UndoScan) (old new : UndoOutput W) : Type 0 where
-  pub scanned : IsScanned skips bytes start scan
-  pub places : AreAtPlaces bytes scanned.items scanned.seen
-  pub undoes : WritesInverseIfAny contents (IsFrameIn bytes) (undone_of skips scanned.seen scanned.behind) old new
+pub record UndoesFile {W : Type 0} (contents : W → Option (List ℕ)) (rules : Rules) (bytes : List ℕ) (start scan : UndoScan) (old new : UndoOutput W) : Type 0 where
+  pub scanned : IsScanned rules bytes start scan
+  pub places : AreAtPlaces bytes scanned.front scanned.seen
+  pub undoes : WritesInverseIfAny contents (IsFrameIn bytes) (undone_of rules scanned.seen scanned.behind) old new

@@ -60,6 +60,11 @@ abbrev pub IsOldTemporal : EventView → List ℕ → Bool → Type 0
 IsOldTemporal event types old =
     (maria : Bool) × IsMariaEvent event maria × (old ≡ (maria && list_any is_old_temporal types))
 
+-- The form of the values isn't known, unless it is said that they have no fractions.
+abbrev pub IsUnknownTemporal : Bool → EventView → List ℕ → Bool → Type 0
+IsUnknownTemporal true event types unknown = unknown ≡ false
+IsUnknownTemporal false event types unknown = IsOldTemporal event types unknown
+
 -- ---- what undoes the rows
 
 abbrev pub look_if : Bool → ChangePlace → RowsLook
@@ -90,7 +95,7 @@ LooksUnlessOld false scan event rows map columns table_map look = LooksAtColumns
 abbrev pub LooksUnlessRefused : Option ColumnError → UndoScan → EventView → RowsEventData → TableMapEvent → (table_map : ℕ) → RowsLook → Type 0
 LooksUnlessRefused (Some error) scan event rows map table_map look = look ≡ Refused reasons.Rows
 LooksUnlessRefused None scan event rows map table_map look =
-    (old : Bool) × IsOldTemporal event map.columns.types old
+    (old : Bool) × IsUnknownTemporal scan.choice.has_plain_temporal event map.columns.types old
     × LooksUnlessOld old scan event rows map (columns_in map.columns.types map.columns.metadata) table_map look
 
 -- Of a table with this map, which is at this place.

@@ -1,5 +1,5 @@
 -- What the first pass sees of an item, and what it notes.
-use Rattle.std.specs.Prelude.{◌≡◌, ◌↔◌, ℕ, ◌+◌, ◌-◌, ◌^◌, min, ◌==◌, Bool, true, false, not, bit_and, List, [], ◌∷◌, length, Option, Some, None, Result, Ok, Err, take, IsTrue}
+use Rattle.std.specs.Prelude.{◌≡◌, ◌↔◌, ℕ, ◌+◌, ◌-◌, ◌^◌, min, ◌==◌, Bool, true, false, ◌&&◌, ◌||◌, not, bit_and, List, [], ◌∷◌, length, Option, Some, None, is_some, Result, Ok, Err, take, IsTrue}
 use Rattle.binlog_wire.specs.declared.error.Error.{Error}
 use Rattle.binlog_wire.specs.declared.error.Error.TheVariants.{Memory}
 use Rattle.binlog_event_data.specs.declared.event_data.EventData.TheVariants as mysql
@@ -30,7 +30,8 @@ use Rattle.binlog_undo_index.specs.declared.reason.Reason.{Reason}
 use Rattle.binlog_undo_index.specs.declared.reason.Reason.TheVariants as reasons
 use Rattle.binlog_undo_index.specs.declared.reason.Refused.{Refused as RefusedAt}
 use Rattle.binlog_undo_index.specs.declared.seen.SeenEvent.{SeenEvent}
-use Rattle.binlog_undo_log.specs.Choices.{takes_first, takes_last}
+use Rattle.binlog_undo_index.specs.Positions.{has_place, is_past}
+use Rattle.binlog_undo_log.specs.Choices.{positions_of, takes_first, takes_last}
 use Rattle.binlog_undo_log.specs.Looking.{LooksAtRows, LooksAtCompressed}
 use Rattle.binlog_undo_log.specs.Marks.{mark_in, table_id_in}
 use Rattle.binlog_undo_log.specs.declared.scan.seeing.RowsLook.{RowsLook}
@@ -85,16 +86,22 @@ IsRole event role =
     (maria : Bool) × (IsTrue maria ↔ IsMariaVersion (take 50 event.fde.server_version))
     × (role ≡ role_of maria (not (bit_and (header_of event.frame).flags 0x80 == 0)) (header_of event.frame).event_type)
 
--- The event with this index, this mark and these rows.
+-- The place behind an event that begins at the place of the pass.
+abbrev pub place_behind : UndoScan → EventView → ℕ
+place_behind scan event = min (scan.place + length event.frame) (2 ^ 64 - 1)
+
+-- The event with this index, this mark and these rows. The first event of a transaction takes it if it begins between the positions,
+-- too.
 abbrev pub seen_event : UndoScan → ℕ → EventView → Mark → Option ℕ → RowsLook → SeenEvent
 seen_event scan index event mark table_id look = record {
   index = index;
   place = scan.place;
+  end = place_behind scan event;
   mark = mark;
   table_id = table_id;
   change = change_in look;
   refusal = refusal_in look;
-  takes_first = takes_first scan.choice (header_of event.frame) scan.is_wanted;
+  takes_first = has_place (positions_of scan.choice) scan.place && takes_first scan.choice (header_of event.frame) scan.is_wanted;
   takes_last = takes_last scan.choice (header_of event.frame);
 }
 
@@ -193,12 +200,6 @@ pub record ScansEvent (maps : TableMaps) (index : ℕ) (event : EventView) (seen
 abbrev pub ScansSome : TableMaps → ℕ → EventView → UndoScan → UndoScan → Type 0
 ScansSome maps index event old new = (seen : Option SeenEvent) × ScansEvent maps index event seen old new
 
--- An item is looked at, unless the pass has ended.
-abbrev pub ScansItem : Bool → TableMaps → ℕ → Result EventView Error → UndoScan → UndoScan → Type 0
-ScansItem true maps index item old new = new ≡ old
-ScansItem false maps index (Ok event) old new = ScansSome maps index event old new
-ScansItem false maps index (Err error) old new = Stops index reasons.Damaged old new
-
 -- ---- the end of a file
 
 -- What is told of the end.
@@ -206,6 +207,7 @@ abbrev pub border_at : UndoScan → SeenEvent
 border_at scan = record {
   index = scan.items;
   place = scan.place;
+  end = scan.place;
   mark = marks.Border;
   table_id = None;
   change = None;
@@ -223,11 +225,32 @@ pub record EndsWhole (old new : UndoScan) : Type 0 where
   pub notes : NotesIn (border_at old) old.index new.index
   pub is : new ≡ record old { index = new.index }
 
+-- What follows is behind the stop position, and no transaction is read that begins before it.
+abbrev pub is_past_stop : UndoScan → Bool
+is_past_stop scan = is_past (positions_of scan.choice) scan.place && not (is_some scan.index.automaton.current)
+
+-- The pass ends there, as at the end of a file.
+pub record Closes (old new : UndoScan) : Type 0 where
+  pub notes : NotesIn (border_at old) old.index new.index
+  pub is : new ≡ record old { is_stopped = true; index = new.index }
+
 abbrev pub EndsIfWhole : Bool → UndoScan → UndoScan → Type 0
 EndsIfWhole true old new = EndsWhole old new
 EndsIfWhole false old new = Stops old.items reasons.Tail old new
 
--- The pass ends behind the last item of a file.
+-- The pass ends behind the last item of a file. What is behind the stop position is no tail.
 abbrev pub EndsScan : Bool → Option ℕ → UndoScan → UndoScan → Type 0
 EndsScan true tail_len old new = new ≡ old
-EndsScan false tail_len old new = EndsIfWhole (has_no_tail tail_len) old new
+EndsScan false tail_len old new = EndsIfWhole (has_no_tail tail_len || is_past_stop old) old new
+
+-- ---- an item
+
+abbrev pub ScansUnless : Bool → TableMaps → ℕ → Result EventView Error → UndoScan → UndoScan → Type 0
+ScansUnless true maps index item old new = Closes old new
+ScansUnless false maps index (Ok event) old new = ScansSome maps index event old new
+ScansUnless false maps index (Err error) old new = Stops index reasons.Damaged old new
+
+-- An item is looked at, unless the pass has ended, or ends in front of it.
+abbrev pub ScansItem : Bool → TableMaps → ℕ → Result EventView Error → UndoScan → UndoScan → Type 0
+ScansItem true maps index item old new = new ≡ old
+ScansItem false maps index item old new = ScansUnless (is_past_stop old) maps index item old new

@@ -142,7 +142,7 @@ pub mod undo {
     pub use crate::binlog_events::{Frame, event_ref_of_bytes};
     pub use crate::binlog_transactions::{GtidMark, Mark, Refusal, Role, RowsMark, StatementKind, Unsupported};
     pub use crate::binlog_undo::{ForeignKeyChecks, InverseEvent, UndoError, UndoneRows, undo_event, undo_rows};
-    pub use crate::binlog_undo_index::{ChangePlace, Reason, Refused, SeenEvent, Skips, TransactionPlace, UndoIndex};
+    pub use crate::binlog_undo_index::{ChangePlace, Positions, Reason, Refused, Rules, SeenEvent, Skips, TransactionPlace, UndoIndex};
     pub use crate::binlog_undo_writing::{EventsWriter, Heading, UndoneChange, WriteError};
 }
 

@@ -6,7 +6,7 @@ ghost use Rattle.binlog_event_format.specs.DescriptionRefs.{description_of};
 ghost use Rattle.binlog_wire.specs.declared.error.Error.TheVariants.{Memory};
 ghost use Rattle.binlog_events.specs.EventRefs.{view_of};
 ghost use Rattle.binlog_file.specs.State.{state_of};
-ghost use Rattle.binlog_undo_log.specs.Looking.{NamesTable, AsksFor, is_old_temporal, IsOldTemporal, LooksAs, LooksAtColumns, LooksAtTable, LooksAtChosen, LooksAtRows};
+ghost use Rattle.binlog_undo_log.specs.Looking.{NamesTable, AsksFor, is_old_temporal, IsOldTemporal, IsUnknownTemporal, LooksAs, LooksAtColumns, LooksAtTable, LooksAtChosen, LooksAtRows};
 
 use crate::events::is_maria_event;
 use crate::heads::{has_rows_length, is_writable};
@@ -51,6 +51,16 @@ fn is_old_temporal(event: &EventRef<'_>, types: &[u8]) -> bool
     ensures { IsOldTemporal (view_of event.now) types.now result }
 {
     is_maria_event(event) && has_old_temporal(types)
+}
+
+// Whether it isn't known which form values of these types have. `is_plain` says that they have no fractions.
+fn is_unknown_temporal(is_plain: bool, event: &EventRef<'_>, types: &[u8]) -> bool
+    ensures { IsUnknownTemporal is_plain (view_of event.now) types.now result }
+{
+    if is_plain {
+        return false;
+    }
+    is_old_temporal(event, types)
 }
 
 // What is seen of rows at these places, of which this undoes them.
@@ -146,7 +156,7 @@ impl UndoScan {
         match TableColumns::new(types, map.columns_metadata_raw()) {
             Err(_) => Ok(RowsLook::Refused(Reason::Rows)),
             Ok(columns) => {
-                if is_old_temporal(event, types) {
+                if is_unknown_temporal(self.choice.has_plain_temporal, event, types) {
                     Ok(RowsLook::Refused(Reason::OldTemporal))
                 } else {
                     self.look_at_columns(event, rows, map, columns, table_map)
