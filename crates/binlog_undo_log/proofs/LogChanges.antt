@@ -1,5 +1,5 @@
 -- The events that are written are the inverse changes.
-use Rattle.std.proofs.Common.{◌≡◌, ℕ, List, [], ◌∷◌, ◌++◌, Ok, refl, sym, ◌∙◌, ap, subst, append-nil, inl, inr}
+use Rattle.std.proofs.Common.{◌≡◌, ℕ, Bool, List, [], ◌∷◌, ◌++◌, Ok, refl, sym, ◌∙◌, ap, subst, append-nil, inl, inr}
 use Rattle.std.proofs.lemmas.Grind.{flat_map-append}
 use Rattle.std.specs.List.{AllByRecursion, flat_map}
 use Rattle.binlog_columns.specs.Refusals.{columns_in}
@@ -11,6 +11,8 @@ use Rattle.binlog_undo.specs.InverseEvents.{GivesInverse}
 use Rattle.binlog_columns.specs.Metadata.{Typed}
 use Rattle.binlog_rows.specs.declared.table_map_event.TableMapEvent.{TableMapEvent}
 use Rattle.binlog_undo.specs.declared.inverse_event.ForeignKeyChecks.{ForeignKeyChecks}
+use Rattle.binlog_undo.specs.declared.inverse_event.InverseEvent.{InverseEvent}
+use Rattle.binlog_undo_log.specs.Keys.{GivesByKey}
 use Rattle.binlog_undo_index.specs.Groups.{Kept}
 use Rattle.binlog_undo_index.specs.declared.places.ChangePlace.{ChangePlace}
 use Rattle.binlog_undo_log.specs.LogChanges.{LogChange, name_of, HasTableChanges, IsChanged, AreChanged, AreKeptChanges, ArePairChanges, IsBesideRows, LogPiece, beside, pair, IsLogPiece, piece_events, piece_changes, AreLogChanges}
@@ -55,6 +57,12 @@ log_as events others changes same h = subst (λ (e : List Event). AreLogChanges 
 
 -- ---- what undoes the log
 
+-- The rows are undone with some primary key, or none.
+some_key : (is_maria_log : Bool) (map : TableMapEvent) (columns : List Typed) (checks : ForeignKeyChecks) (rows : RowsEventData) (inverse : InverseEvent)
+    → GivesByKey is_maria_log map columns checks rows (Ok inverse) → (key : List ℕ) × GivesInverse key columns checks rows (Ok inverse)
+some_key is_maria_log map columns checks rows inverse (inl h) = (h.key, h.gives)
+some_key is_maria_log map columns checks rows inverse (inr h) = ([], h)
+
 module _ (is_at : FramesOf) (fde : FormatDescriptionEvent) (checks : ForeignKeyChecks) where
   -- The changes of what is undone, and the inverse of them in what is written.
   abbrev Undone : (List LogChange → Type 0) → List Event → Type 0
@@ -66,10 +74,12 @@ module _ (is_at : FramesOf) (fde : FormatDescriptionEvent) (checks : ForeignKeyC
       let columns : List Typed = columns_in map.columns.types map.columns.metadata in
       let source : RowsEventData = h.undoes.undoes.rows in
       let rows : UndoesRows checks h.map_event map h.event source events = h.undoes.undoes.undoes in
-      let gives : GivesInverse [] columns checks source (Ok rows.inverse) = rows.undoes.undoes in
+      let by_key = some_key rows.is_maria_log map columns checks source rows.inverse rows.undoes.undoes in
+      let key : List ℕ = by_key.0 in
+      let gives : GivesInverse key columns checks source (Ok rows.inverse) = by_key.1 in
       let undoing : RowsEventData = gives.0 in
-      let found = some_changes (name_of map) [] columns checks source undoing gives.1 in
-      let back : HasTableChanges map undoing (inverse found.0) = inverse_changes (name_of map) [] columns checks source undoing gives.1 found.0 found.1 in (
+      let found = some_changes (name_of map) key columns checks source undoing gives.1 in
+      let back : HasTableChanges map undoing (inverse found.0) = inverse_changes (name_of map) key columns checks source undoing gives.1 found.0 found.1 in (
         found.0,
         record {
           map_event = h.map_event;
