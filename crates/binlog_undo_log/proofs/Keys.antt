@@ -1,5 +1,5 @@
 -- The last field of the optional metadata that states the primary key.
-use Rattle.std.proofs.Common.{◌≡◌, ℕ, List, [], ◌∷◌, ◌++◌, None, Some, Option, Result, Ok, Err, refl, sym, ap, subst, ◌∙◌}
+use Rattle.std.proofs.Common.{◌≡◌, ℕ, Bool, List, [], ◌∷◌, ◌++◌, None, Some, Option, Result, Ok, Err, inl, inr, refl, sym, ap, subst, ◌∙◌}
 use Rattle.std.proofs.lemmas.List.{reverse-append}
 use Rattle.std.specs.Iterator.{Yields}
 use Rattle.binlog_optional_metadata.specs.AllFields.{AreFields, contents_of, last_field}
@@ -12,12 +12,13 @@ use Rattle.binlog_optional_metadata.specs.declared.metadata_error.OptionalMetada
 use Rattle.binlog_optional_metadata.specs.declared.optional_metadata.OptionalMetadata.{OptionalMetadata}
 use Rattle.binlog_columns.specs.Metadata.{Typed}
 use Rattle.binlog_rows.specs.declared.rows_event_data.RowsEventData.{RowsEventData}
+use Rattle.binlog_rows.specs.declared.table_map_event.TableMapEvent.{TableMapEvent}
 use Rattle.binlog_undo.specs.InverseEvents.{GivesInverse}
 use Rattle.binlog_undo.specs.declared.inverse_event.ForeignKeyChecks.{ForeignKeyChecks}
 use Rattle.binlog_undo.specs.declared.inverse_event.InverseEvent.{InverseEvent}
 use Rattle.binlog_undo.specs.declared.undo_error.UndoError.{UndoError}
 use Rattle.binlog_undo.specs.declared.undo_error.UndoError.TheVariants as undo_errors
-use Rattle.binlog_undo_log.specs.Keys.{states_key, newer_key, LeavesKey, GivesAtOnce}
+use Rattle.binlog_undo_log.specs.Keys.{states_key, newer_key, LeavesKey, GivesAtOnce, GivesByKey}
 
 abbrev Items : Type 0
 Items = List (Result OptionalMetadataField OptionalMetadataError)
@@ -85,3 +86,9 @@ at_once columns checks rows (Err (undo_errors.Rows error)) not h = h
 at_once columns checks rows (Err undo_errors.Image) not h = absurd (not refl)
 at_once columns checks rows (Err (undo_errors.PartialJson row)) not h = h
 at_once columns checks rows (Err undo_errors.Memory) not h = h
+
+-- The rows are undone with some primary key, or none.
+pub some_key : (is_maria_log : Bool) (map : TableMapEvent) (columns : List Typed) (checks : ForeignKeyChecks) (rows : RowsEventData) (inverse : InverseEvent)
+    → GivesByKey is_maria_log map columns checks rows (Ok inverse) → (key : List ℕ) × GivesInverse key columns checks rows (Ok inverse)
+some_key is_maria_log map columns checks rows inverse (inl h) = (h.key, h.gives)
+some_key is_maria_log map columns checks rows inverse (inr h) = ([], h)

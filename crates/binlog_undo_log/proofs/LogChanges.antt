@@ -1,5 +1,5 @@
 -- The events that are written are the inverse changes.
-use Rattle.std.proofs.Common.{◌≡◌, ℕ, Bool, List, [], ◌∷◌, ◌++◌, Ok, refl, sym, ◌∙◌, ap, subst, append-nil, inl, inr}
+use Rattle.std.proofs.Common.{◌≡◌, ℕ, List, [], ◌∷◌, ◌++◌, Ok, refl, sym, ◌∙◌, ap, subst, append-nil, inl, inr}
 use Rattle.std.proofs.lemmas.Grind.{flat_map-append}
 use Rattle.std.specs.List.{AllByRecursion, flat_map}
 use Rattle.binlog_columns.specs.Refusals.{columns_in}
@@ -11,8 +11,7 @@ use Rattle.binlog_undo.specs.InverseEvents.{GivesInverse}
 use Rattle.binlog_columns.specs.Metadata.{Typed}
 use Rattle.binlog_rows.specs.declared.table_map_event.TableMapEvent.{TableMapEvent}
 use Rattle.binlog_undo.specs.declared.inverse_event.ForeignKeyChecks.{ForeignKeyChecks}
-use Rattle.binlog_undo.specs.declared.inverse_event.InverseEvent.{InverseEvent}
-use Rattle.binlog_undo_log.specs.Keys.{GivesByKey}
+use Rattle.binlog_undo_log.proofs.Keys.{some_key}
 use Rattle.binlog_undo_index.specs.Groups.{Kept}
 use Rattle.binlog_undo_index.specs.declared.places.ChangePlace.{ChangePlace}
 use Rattle.binlog_undo_log.specs.LogChanges.{LogChange, name_of, HasTableChanges, IsChanged, AreChanged, AreKeptChanges, ArePairChanges, IsBesideRows, LogPiece, beside, pair, IsLogPiece, piece_events, piece_changes, AreLogChanges}
@@ -56,12 +55,6 @@ log_as : (events others : List Event) (changes : List LogChange) → events ≡ 
 log_as events others changes same h = subst (λ (e : List Event). AreLogChanges e changes) same h
 
 -- ---- what undoes the log
-
--- The rows are undone with some primary key, or none.
-some_key : (is_maria_log : Bool) (map : TableMapEvent) (columns : List Typed) (checks : ForeignKeyChecks) (rows : RowsEventData) (inverse : InverseEvent)
-    → GivesByKey is_maria_log map columns checks rows (Ok inverse) → (key : List ℕ) × GivesInverse key columns checks rows (Ok inverse)
-some_key is_maria_log map columns checks rows inverse (inl h) = (h.key, h.gives)
-some_key is_maria_log map columns checks rows inverse (inr h) = ([], h)
 
 module _ (is_at : FramesOf) (fde : FormatDescriptionEvent) (checks : ForeignKeyChecks) where
   -- The changes of what is undone, and the inverse of them in what is written.
