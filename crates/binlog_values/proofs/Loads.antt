@@ -1,10 +1,10 @@
 -- Numbers of a few bytes, by one load of eight.
-use Rattle.std.proofs.Common.{◌≡◌, ℕ, zero, suc, ◌+◌, ◌-◌, ◌*◌, ◌/◌, ◌%◌, ◌^◌, ◌<◌, ◌≤◌, List, refl, sym, ap, ◌∙◌, arith}
+use Rattle.std.proofs.Common.{◌≡◌, ℕ, zero, suc, ◌+◌, ◌-◌, ◌*◌, ◌/◌, ◌%◌, ◌^◌, ◌<◌, ◌≤◌, List, length, take, drop, refl, sym, ap, ◌∙◌, arith}
 use Rattle.std.proofs.Math.Nat.{mul_assoc, mul_comm, add-mul, pow-succ', one-le-pow, mul-lt-mul_of_pos_right}
 use Rattle.std.proofs.lemmas.Nat.{div-mul-add, mod-mul-add, pow-add}
 use Rattle.std.specs.Prelude.{slice_index}
 use Rattle.byteorder.specs.Endian.{little_from, little_number, big_from, big_number}
-use Rattle.byteorder.specs.Numbers.{little_from-lt, big_from-lt}
+use Rattle.byteorder.specs.Numbers.{little_from-lt, big_from-lt, big_from-take}
 use Rattle.binlog_wire.specs.Fields.{IsBytes}
 
 -- ---- little-endian
@@ -80,3 +80,11 @@ big_loaded len x s bytes most is =
 
 pub little_small : (len : ℕ) (s : List ℕ) → IsBytes s → little_number len s < 256 ^ len
 little_small len s bytes = little_from-lt 0 len s bytes
+
+-- ---- the first bytes of a slice
+
+-- The number of the first bytes behind a place, of as many as are there.
+pub big_front : (at len n : ℕ) (s : List ℕ) (number : ℕ) → number ≡ big_number n (take (length s - at) (drop at s)) → len ≡ n → at + len ≤ length s → number ≡ big_number len (drop at s)
+big_front at len n s number is same room =
+    let within : 0 + n ≤ length s - at = omega arith in
+    rw same (is ∙ big_from-take 0 n (length s - at) (drop at s) within)

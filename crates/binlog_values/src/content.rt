@@ -4,7 +4,7 @@ ghost use Rattle.byteorder.specs.Endian.{little_number, big_number};
 ghost use Rattle.binlog_wire.specs.Fields.{number_at, block_at};
 ghost use Rattle.binlog_wire.specs.Reading.{Gives, result_now};
 ghost use Rattle.binlog_values.specs.BigNumbers.{big_at};
-ghost use Rattle.binlog_values.specs.Contents.{counted, fraction_len, is_below_second, is_datetime2, is_time2, time2_zero, time2_distance, bits, timestamp2, datetime2, time2, decimal, decimal_len, is_decimal_bytes};
+ghost use Rattle.binlog_values.specs.Contents.{counted, fraction_len, before_fraction, is_below_second, is_datetime2, is_time2, time2_zero, time2_distance, bits, timestamp2, datetime2, time2, decimal, decimal_len, is_decimal_bytes};
 
 use crate::digits::{decimal_len, is_decimal};
 use binlog_wire::{Error, Invalid, ParseBuf};
@@ -89,7 +89,7 @@ pub(crate) fn fraction_len(digits: u8) -> usize
 
 /// 256 to the power of `len`, at most 3.
 #[inline(always)]
-pub(crate) fn pow_256(len: usize) -> u64
+fn pow_256(len: usize) -> u64
     requires { len ≤ 3 }
     ensures power { result ≡ 256 ^ len }
     ensures low { 0 < result }
@@ -117,6 +117,44 @@ fn pow_100(len: usize) -> u64
     }
 }
 
+/// The number before the fraction in its last `len` bytes, at most 3.
+// Each quotient by a constant is a shift.
+#[inline(always)]
+fn number_before(len: usize, number: u64) -> u64
+    requires { len ≤ 3 }
+    ensures { result ≡ number / 256 ^ len }
+{
+    match len {
+        0 => number,
+        1 => number / 256,
+        2 => number / 65_536,
+        _ => number / 16_777_216,
+    }
+}
+
+/// The fraction in the last `len` bytes of a number, at most 3.
+#[inline(always)]
+fn fraction_in(len: usize, number: u64) -> u64
+    requires { len ≤ 3 }
+    ensures { result ≡ number % 256 ^ len }
+{
+    match len {
+        0 => 0,
+        1 => number % 256,
+        2 => number % 65_536,
+        _ => number % 16_777_216,
+    }
+}
+
+/// The number before the fraction of this many decimal digits, at most 6, at its end.
+#[inline(always)]
+pub(crate) fn before_fraction(digits: u8, number: u64) -> u64
+    requires { digits ≤ 6 }
+    ensures { result ≡ before_fraction digits number }
+{
+    number_before(fraction_len(digits), number)
+}
+
 /// Whether the fraction at the end of a number is below one second.
 #[inline(always)]
 fn is_below_second(digits: u8, number: u64) -> bool
@@ -124,7 +162,7 @@ fn is_below_second(digits: u8, number: u64) -> bool
     ensures { result ≡ is_below_second digits number }
 {
     let len = fraction_len(digits);
-    number % pow_256(len) < pow_100(len)
+    fraction_in(len, number) < pow_100(len)
 }
 
 /// Whether the number is one of a DATETIME2.
@@ -133,7 +171,7 @@ fn is_datetime2(digits: u8, number: u64) -> bool
     requires { digits ≤ 6 }
     ensures { result ≡ is_datetime2 digits number }
 {
-    1 << 39 <= number / pow_256(fraction_len(digits)) && is_below_second(digits, number)
+    1 << 39 <= before_fraction(digits, number) && is_below_second(digits, number)
 }
 
 /// The number that encodes zero in a TIME2.
@@ -167,7 +205,7 @@ fn is_time2(digits: u8, number: u64) -> bool
     ensures { result ≡ is_time2 digits number }
 {
     let distance = time2_distance(digits, number);
-    is_below_second(digits, distance) && distance / pow_256(fraction_len(digits)) < 1 << 22
+    is_below_second(digits, distance) && before_fraction(digits, distance) < 1 << 22
 }
 
 /// Takes this many bits, 1 to 64, from the start of `buf`.

@@ -66,6 +66,25 @@ fn adjusted(at: usize, is_positive: bool, all: u64, stored: u64) -> u64
     }
 }
 
+/// The number of the group of `len` bytes, 1 to 4, from the index `at`, as it is stored.
+// A copy whose length is a constant is one load.
+#[tactic(auto, using(crate::proofs::Loads::big_front))]
+#[inline(always)]
+fn stored_group(bytes: &[u8], at: usize, len: usize) -> u64
+    requires low { 1 ≤ len }
+    requires high { len ≤ 4 }
+    requires room { at + len ≤ length bytes.now }
+    ensures { result ≡ big_number len (drop at bytes.now) }
+{
+    let group = &bytes[at..];
+    match len {
+        1 => BigEndian::read_uint(group, 1),
+        2 => BigEndian::read_uint(group, 2),
+        3 => BigEndian::read_uint(group, 3),
+        _ => BigEndian::read_uint(group, 4),
+    }
+}
+
 /// The number of the group of `len` bytes, 1 to 4, from the index `at`.
 #[tactic(auto, using(crate::specs::DecimalLaws::group_is))]
 #[inline(always)]
@@ -75,7 +94,7 @@ fn group(bytes: &[u8], at: usize, len: usize) -> u64
     requires room { at + len ≤ length bytes.now }
     ensures { result ≡ big_number len (drop at (magnitude bytes.now)) }
 {
-    let stored = BigEndian::read_uint(&bytes[at..], len);
+    let stored = stored_group(bytes, at, len);
     adjusted(at, bytes[0] >= 128, pow_256(len), stored)
 }
 

@@ -3,7 +3,7 @@ ghost use Rattle.std.specs.Prelude.{◌≡◌, ◌≤◌, ◌<◌, ◌+◌, ◌-
 ghost use Rattle.binlog_values.specs.Contents.{fraction_len, fraction_of, before_fraction, time2_zero, time2_distance};
 ghost use Rattle.binlog_values.specs.Times.{microseconds_of, date_time_of, time_distance, year_of};
 
-use crate::content::{fraction_len, pow_256, time2_distance, time2_zero};
+use crate::content::{before_fraction, fraction_len, time2_distance, time2_zero};
 
 /// The value of a DATE column.
 #[derive(Clone, Copy, Debug, PartialEq, Eq, Hash)]
@@ -13,6 +13,7 @@ pub struct Date {
 
 impl Date {
     /// The year, 0 to 32,767 in three bytes; servers write 0 to 9,999.
+    #[inline]
     pub fn year(&self) -> u64
         ensures { result ≡ self.now.bits / 512 }
     {
@@ -20,6 +21,7 @@ impl Date {
     }
 
     /// The month, 0 to 15; servers write 0 to 12.
+    #[inline]
     pub fn month(&self) -> u8
         ensures { result ≡ self.now.bits / 32 % 16 }
     {
@@ -27,6 +29,7 @@ impl Date {
     }
 
     /// The day, 0 to 31.
+    #[inline]
     pub fn day(&self) -> u8
         ensures { result ≡ self.now.bits % 32 }
     {
@@ -42,6 +45,7 @@ pub struct Year {
 
 impl Year {
     /// The year: 0, or 1901 to 2155.
+    #[inline]
     pub fn year(&self) -> u16
         ensures { result ≡ year_of self.now.byte }
     {
@@ -61,6 +65,7 @@ pub struct Time {
 
 impl Time {
     /// Whether the time is negative.
+    #[inline]
     pub fn is_negative(&self) -> bool
         ensures { result ≡ nat_le (2 ^ 23) self.now.bits }
     {
@@ -68,6 +73,7 @@ impl Time {
     }
 
     /// The time without its sign: six or seven decimal digits, hours, minutes and seconds.
+    #[inline]
     fn distance(&self) -> u64
         ensures { result ≡ time_distance self.now.bits }
     {
@@ -79,6 +85,7 @@ impl Time {
     }
 
     /// The hour, at most 838.
+    #[inline]
     pub fn hour(&self) -> u64
         ensures { result ≡ time_distance self.now.bits / 10000 }
     {
@@ -86,6 +93,7 @@ impl Time {
     }
 
     /// The minute, 0 to 99; servers write at most 59.
+    #[inline]
     pub fn minute(&self) -> u8
         ensures { result ≡ time_distance self.now.bits / 100 % 100 }
     {
@@ -93,6 +101,7 @@ impl Time {
     }
 
     /// The second, 0 to 99; servers write at most 59.
+    #[inline]
     pub fn second(&self) -> u8
         ensures { result ≡ time_distance self.now.bits % 100 }
     {
@@ -108,6 +117,7 @@ pub struct DateTime {
 
 impl DateTime {
     /// The year, at most 1,844,674,407; servers write 0 to 9,999.
+    #[inline]
     pub fn year(&self) -> u64
         ensures { result ≡ self.now.digits / 10000000000 }
     {
@@ -115,6 +125,7 @@ impl DateTime {
     }
 
     /// The month, 0 to 99; servers write at most 12.
+    #[inline]
     pub fn month(&self) -> u8
         ensures { result ≡ self.now.digits / 100000000 % 100 }
     {
@@ -122,6 +133,7 @@ impl DateTime {
     }
 
     /// The day, 0 to 99; servers write at most 31.
+    #[inline]
     pub fn day(&self) -> u8
         ensures { result ≡ self.now.digits / 1000000 % 100 }
     {
@@ -129,6 +141,7 @@ impl DateTime {
     }
 
     /// The hour, 0 to 99; servers write at most 23.
+    #[inline]
     pub fn hour(&self) -> u8
         ensures { result ≡ self.now.digits / 10000 % 100 }
     {
@@ -136,6 +149,7 @@ impl DateTime {
     }
 
     /// The minute, 0 to 99; servers write at most 59.
+    #[inline]
     pub fn minute(&self) -> u8
         ensures { result ≡ self.now.digits / 100 % 100 }
     {
@@ -143,6 +157,7 @@ impl DateTime {
     }
 
     /// The second, 0 to 99; servers write at most 59.
+    #[inline]
     pub fn second(&self) -> u8
         ensures { result ≡ self.now.digits % 100 }
     {
@@ -151,6 +166,7 @@ impl DateTime {
 }
 
 /// The microseconds of a fraction in the last `len` bytes of a number, at most 3.
+#[inline]
 fn microseconds_in(len: usize, number: u64) -> u64
     requires { len ≤ 3 }
     ensures { result ≡ number % 256 ^ len * 100 ^ (3 - len) }
@@ -164,6 +180,7 @@ fn microseconds_in(len: usize, number: u64) -> u64
 }
 
 /// The microseconds of the fraction at the end of a number.
+#[inline]
 fn microseconds(digits: u8, number: u64) -> u64
     requires { digits ≤ 6 }
     ensures { result ≡ microseconds_of digits number }
@@ -181,6 +198,7 @@ pub struct Timestamp2 {
 
 impl Timestamp2 {
     /// The value of this number, with a fraction of this many decimal digits.
+    #[inline]
     pub(crate) fn new(number: u64, digits: u8) -> Self
         requires { digits ≤ 6 }
         ensures number { result.number ≡ number }
@@ -190,13 +208,15 @@ impl Timestamp2 {
     }
 
     /// The seconds since 1970 UTC; 0, without a fraction, for the zero timestamp.
+    #[inline]
     pub fn seconds(&self) -> u64
         ensures { result ≡ before_fraction self.now.digits self.now.number }
     {
-        self.number / pow_256(fraction_len(self.digits))
+        before_fraction(self.digits, self.number)
     }
 
     /// The microseconds, below a million.
+    #[inline]
     pub fn microseconds(&self) -> u64
         ensures { result ≡ microseconds_of self.now.digits self.now.number }
     {
@@ -204,6 +224,7 @@ impl Timestamp2 {
     }
 
     /// The number of decimal digits of the column's fraction, 0 to 6.
+    #[inline]
     pub fn digits(&self) -> u8
         ensures { result ≡ self.now.digits }
     {
@@ -221,6 +242,7 @@ pub struct DateTime2 {
 
 impl DateTime2 {
     /// The value of this number, with a fraction of this many decimal digits.
+    #[inline]
     pub(crate) fn new(number: u64, digits: u8) -> Self
         requires { digits ≤ 6 }
         ensures number { result.number ≡ number }
@@ -230,13 +252,15 @@ impl DateTime2 {
     }
 
     /// The date and the time, without the sign that is always set.
+    #[inline]
     fn date_time(&self) -> u64
         ensures { result ≡ date_time_of self.now.digits self.now.number }
     {
-        (self.number / pow_256(fraction_len(self.digits))).saturating_sub(1 << 39)
+        before_fraction(self.digits, self.number).saturating_sub(1 << 39)
     }
 
     /// The year, at most 10,082 in five bytes; servers write 0 to 9,999.
+    #[inline]
     pub fn year(&self) -> u64
         ensures { result ≡ date_time_of self.now.digits self.now.number / 2 ^ 22 / 13 }
     {
@@ -244,6 +268,7 @@ impl DateTime2 {
     }
 
     /// The month, 0 to 12.
+    #[inline]
     pub fn month(&self) -> u8
         ensures { result ≡ date_time_of self.now.digits self.now.number / 2 ^ 22 % 13 }
     {
@@ -251,6 +276,7 @@ impl DateTime2 {
     }
 
     /// The day, 0 to 31.
+    #[inline]
     pub fn day(&self) -> u8
         ensures { result ≡ date_time_of self.now.digits self.now.number / 2 ^ 17 % 32 }
     {
@@ -258,6 +284,7 @@ impl DateTime2 {
     }
 
     /// The hour, 0 to 31; servers write at most 23.
+    #[inline]
     pub fn hour(&self) -> u8
         ensures { result ≡ date_time_of self.now.digits self.now.number / 2 ^ 12 % 32 }
     {
@@ -265,6 +292,7 @@ impl DateTime2 {
     }
 
     /// The minute, 0 to 63; servers write at most 59.
+    #[inline]
     pub fn minute(&self) -> u8
         ensures { result ≡ date_time_of self.now.digits self.now.number / 2 ^ 6 % 64 }
     {
@@ -272,6 +300,7 @@ impl DateTime2 {
     }
 
     /// The second, 0 to 63; servers write at most 59.
+    #[inline]
     pub fn second(&self) -> u8
         ensures { result ≡ date_time_of self.now.digits self.now.number % 64 }
     {
@@ -279,6 +308,7 @@ impl DateTime2 {
     }
 
     /// The microseconds, below a million.
+    #[inline]
     pub fn microseconds(&self) -> u64
         ensures { result ≡ microseconds_of self.now.digits self.now.number }
     {
@@ -286,6 +316,7 @@ impl DateTime2 {
     }
 
     /// The number of decimal digits of the column's fraction, 0 to 6.
+    #[inline]
     pub fn digits(&self) -> u8
         ensures { result ≡ self.now.digits }
     {
@@ -303,6 +334,7 @@ pub struct Time2 {
 
 impl Time2 {
     /// The value of this number, with a fraction of this many decimal digits.
+    #[inline]
     pub(crate) fn new(number: u64, digits: u8) -> Self
         requires { digits ≤ 6 }
         ensures number { result.number ≡ number }
@@ -312,6 +344,7 @@ impl Time2 {
     }
 
     /// Whether the time is negative.
+    #[inline]
     pub fn is_negative(&self) -> bool
         ensures { result ≡ nat_lt self.now.number (time2_zero self.now.digits) }
     {
@@ -319,13 +352,15 @@ impl Time2 {
     }
 
     /// The time without its sign and fraction.
+    #[inline]
     fn time(&self) -> u64
         ensures { result ≡ before_fraction self.now.digits (time2_distance self.now.digits self.now.number) }
     {
-        time2_distance(self.digits, self.number) / pow_256(fraction_len(self.digits))
+        before_fraction(self.digits, time2_distance(self.digits, self.number))
     }
 
     /// The hour, 0 to 1,023; servers write at most 838.
+    #[inline]
     pub fn hour(&self) -> u64
         ensures { result ≡ before_fraction self.now.digits (time2_distance self.now.digits self.now.number) / 2 ^ 12 }
     {
@@ -333,6 +368,7 @@ impl Time2 {
     }
 
     /// The minute, 0 to 63; servers write at most 59.
+    #[inline]
     pub fn minute(&self) -> u8
         ensures { result ≡ before_fraction self.now.digits (time2_distance self.now.digits self.now.number) / 2 ^ 6 % 64 }
     {
@@ -340,6 +376,7 @@ impl Time2 {
     }
 
     /// The second, 0 to 63; servers write at most 59.
+    #[inline]
     pub fn second(&self) -> u8
         ensures { result ≡ before_fraction self.now.digits (time2_distance self.now.digits self.now.number) % 64 }
     {
@@ -347,6 +384,7 @@ impl Time2 {
     }
 
     /// The microseconds, below a million.
+    #[inline]
     pub fn microseconds(&self) -> u64
         ensures { result ≡ microseconds_of self.now.digits (time2_distance self.now.digits self.now.number) }
     {
@@ -354,6 +392,7 @@ impl Time2 {
     }
 
     /// The number of decimal digits of the column's fraction, 0 to 6.
+    #[inline]
     pub fn digits(&self) -> u8
         ensures { result ≡ self.now.digits }
     {
