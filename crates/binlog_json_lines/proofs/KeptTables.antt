@@ -1,6 +1,6 @@
 -- Tables that are kept: what is stated of their columns, and the rows that are written by them.
 use Rattle.std.proofs.Common.{◌≡◌, ℕ, zero, suc, ◌<◌, Bool, true, List, [], ◌∷◌, ◌++◌, length, map, codes, Option, None, Some, Result, Ok, Err, IfOk, refl, sym, ap, subst, ◌∙◌, arith}
-use Rattle.std.specs.Prelude.{slice_get, slice_index_or, option_map, nat_eq}
+use Rattle.std.specs.Prelude.{slice_get, slice_index_or, option_map, nat_eq, eqb}
 use Rattle.std.proofs.lemmas.Bool.Decides.{nat_tests}
 use Rattle.std.proofs.lemmas.List.{length-map}
 use Rattle.std.proofs.lemmas.Option.{slice_get-map, get_or_from_slice_get}
@@ -25,6 +25,7 @@ use Rattle.binlog_optional_metadata.specs.declared.metadata_error.OptionalMetada
 use Rattle.binlog_json_values.proofs.KeptFacts.{column_of}
 use Rattle.binlog_json_values.specs.KeptColumns.{kept_facts}
 use Rattle.binlog_json_values.specs.Written.{ShowsKeptRows}
+use Rattle.column_files.specs.declared.tables.DeclaredTables.{DeclaredTables}
 use Rattle.binlog_json_lines.specs.KeptRows.{ShowsKept}
 use Rattle.binlog_json_lines.specs.KeptTables.{IsOf}
 use Rattle.binlog_json_lines.specs.Refusals.{metadata_member}
@@ -54,6 +55,14 @@ are_stated is_maria_log columns s facts refusal states = λ fields are.
           slice_get-map facts_of facts index ∙ ap (λ (o : Option ColumnFacts). option_map facts_of o) found.1
           ∙ ap (λ (f : Facts). Some f) (fact ∙ ap (λ (l : List FieldContent). facts_at is_maria_log (stated_in (contents_of l)) columns index) same),
     )
+
+-- The same of columns, bytes and facts that are kept.
+pub kept_states : (is_maria_log : Bool) (columns others : List Typed) (s bytes : List ℕ) (facts : List ColumnFacts) (kept : List Facts) (refusal : Option OptionalMetadataError)
+    → columns ≡ others → bytes ≡ s → kept ≡ map facts_of facts → StatesFacts is_maria_log columns s facts refusal → AreStated is_maria_log others bytes kept refusal
+kept_states is_maria_log columns others s bytes facts kept refusal same_columns same_bytes same_facts states =
+    subst (λ (l : List Typed). AreStated is_maria_log l bytes kept refusal) same_columns
+    (subst (λ (t : List ℕ). AreStated is_maria_log columns t kept refusal) (sym same_bytes)
+    (subst (λ (k : List Facts). AreStated is_maria_log columns s k refusal) (sym same_facts) (are_stated is_maria_log columns s facts refusal states)))
 
 fact_at : (facts : List ColumnFacts) (kept : List Facts) (index : ℕ) (none : ColumnFacts) (fact : Facts) → map facts_of facts ≡ kept → slice_get kept index ≡ Some fact
     → facts_of (slice_index_or facts index none) ≡ fact
@@ -125,3 +134,8 @@ pub columns_refused : (table_map : TableMapEvent) (event : RowsEvent) (error : C
 columns_refused table_map event error same refused =
     let table : nat_eq event.head.table_id table_map.table.id ≡ true = grind (arith, nat_tests) in
     rw (table, refused) refl
+
+-- No file is there.
+pub no_files : (files : List DeclaredTables) → eqb (length files) 0 ≡ true → [] ≡ files
+no_files [] none = refl
+no_files (file ∷ files) none = absurd cc

@@ -59,17 +59,15 @@ impl KeptTable {
         requires columns { columns_of columns ≡ columns_in table_map.now.columns.types table_map.now.columns.metadata }
         ensures { IfOk result (λ table. IsOf table is_maria_log table_map.now) }
     {
-        let stated = TableFacts::new(
-            alloc,
-            columns,
-            table_map.optional_metadata_raw(),
-            is_maria_log,
-        )?;
+        let types = table_map.columns_type_raw();
+        let metadata = table_map.columns_metadata_raw();
+        let optional_metadata = table_map.optional_metadata_raw();
+        let stated = TableFacts::new(alloc, columns, optional_metadata, is_maria_log)?;
         Ok(KeptTable {
             is_maria_log,
-            types: table_map.columns_type_raw().to_vec(alloc)?,
-            metadata: table_map.columns_metadata_raw().to_vec(alloc)?,
-            optional_metadata: table_map.optional_metadata_raw().to_vec(alloc)?,
+            types: types.to_vec(alloc)?,
+            metadata: metadata.to_vec(alloc)?,
+            optional_metadata: optional_metadata.to_vec(alloc)?,
             columns: collected(alloc, columns)?,
             known: KeptColumns::new(alloc, &stated.columns)?,
             refused: stated.refusal,

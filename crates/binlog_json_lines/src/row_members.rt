@@ -132,7 +132,7 @@ impl RowsWriter {
     /// Writes the members `table` and `rows` of a row event, and between them `metadata` where a field of the table map's
     /// optional metadata is refused; nothing for an event of another type, or one whose data isn't that of a row event. The
     /// table map is the one in force for the event's table id; one of another table id counts as none. The memory that is
-    /// taken is that of a value's text, and of the table's columns and their facts.
+    /// taken is that of a value's text, and of columns and their facts, which are kept for at most 16 tables.
     ///
     /// What the table map doesn't state of columns is what these files declare of them, unless the table contradicts that. The result
     /// says whether `rows` has all rows of the event, and which column contradicts the files.

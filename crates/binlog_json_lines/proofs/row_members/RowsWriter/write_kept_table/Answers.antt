@@ -1,5 +1,6 @@
-use Rattle.std.proofs.Common.{◌≡◌, List, [], Ok, Err, Option, sym, subst, ◌∙◌}
+use Rattle.std.proofs.Common.{◌≡◌, List, [], Ok, Err, Option, map, sym, subst, ◌∙◌}
 use Rattle.std.specs.Prelude.{is_some}
+use Rattle.binlog_columns.specs.Columns.{typed_of}
 use Rattle.binlog_columns.specs.Metadata.{Typed}
 use Rattle.binlog_columns.specs.TableColumns.{columns_of}
 use Rattle.binlog_wire.specs.Fields.{IsBytes}
@@ -25,27 +26,29 @@ write_kept_rows-requires c =
     (c.is_some-2.ensures ∙ some_bits bitmap_of c.columns_after_image.result event.columns.after c.columns_after_image.ensures.image)
 
 pub returns-in-Ok : goal.returns-in-Ok
-returns-in-Ok c = λ is_maria_log map of id.
+returns-in-Ok c = λ is_maria_log of is id.
     let table = c.args.table.now in
     let event = event_in c.args.body.now in
-    let columns : columns_of c.known.result ≡ mapped_columns map = c.known.ensures ∙ table.typed ∙ columns_of_map table is_maria_log map of in
+    let known : columns_of c.known.result ≡ map typed_of table.columns.items = rw c.deref.ensures.value at c.known.ensures in
+    let columns : columns_of c.known.result ≡ mapped_columns of = known ∙ table.typed ∙ columns_of_map table is_maria_log of is in
     let answer = rw c.in-Ok.is at c.rows_of_table.ensures in
-    let given = of_map (is_partial c.args.body.now) map event (Ok c.in-Ok.rows) id (whole_map table is_maria_log map of)
+    let given = of_map (is_partial c.args.body.now) of event (Ok c.in-Ok.rows) id (whole_map table is_maria_log of is)
     (subst (λ (l : List Typed). GivesRowsOf (is_partial c.args.body.now) l event (Ok c.in-Ok.rows)) columns answer) in
     let bytes : IsBytes c.in-Ok.rows.rest.now = subst IsBytes (c.rows_data.ensures ∙ sym given.1.bytes) c.are_bytes.ensures in
     let optional : IsBytes table.optional_metadata.items = subst IsBytes c.optional_metadata_raw.ensures c.are_bytes-2.ensures in
     subst
-    (λ (e : Option RowsEventError). ShowsBy c.write_kept_rows.result c.args.line.now c.write_kept_rows.new.line (AreRowsMembers [] is_maria_log c.args.body.now map e))
+    (λ (e : Option RowsEventError). ShowsBy c.write_kept_rows.result c.args.line.now c.write_kept_rows.new.line (AreRowsMembers [] is_maria_log c.args.body.now of e))
     (sym given.0)
-    (rows_value c.write_kept_rows.result [] is_maria_log (is_partial c.args.body.now) map event c.in-Ok.rows c.args.line.now c.write_kept_rows.new.line given.1
-    (stated_by_kept c.write_kept_rows.result table is_maria_log map c.in-Ok.rows c.args.line.now c.write_kept_rows.new.line of optional (c.write_kept_rows.ensures bytes)))
+    (rows_value c.write_kept_rows.result [] is_maria_log (is_partial c.args.body.now) of event c.in-Ok.rows c.args.line.now c.write_kept_rows.new.line given.1
+    (stated_by_kept c.write_kept_rows.result table is_maria_log of c.in-Ok.rows c.args.line.now c.write_kept_rows.new.line is optional (c.write_kept_rows.ensures bytes)))
 
 pub returns-in-Err : goal.returns-in-Err
-returns-in-Err c = λ is_maria_log map of id.
+returns-in-Err c = λ is_maria_log of is id.
     let table = c.args.table.now in
     let event = event_in c.args.body.now in
-    let columns : columns_of c.known.result ≡ mapped_columns map = c.known.ensures ∙ table.typed ∙ columns_of_map table is_maria_log map of in
+    let known : columns_of c.known.result ≡ map typed_of table.columns.items = rw c.deref.ensures.value at c.known.ensures in
+    let columns : columns_of c.known.result ≡ mapped_columns of = known ∙ table.typed ∙ columns_of_map table is_maria_log of is in
     let answer = rw c.in-Err.is at c.rows_of_table.ensures in
-    let given = of_map (is_partial c.args.body.now) map event (Err c.in-Err.error) id (whole_map table is_maria_log map of)
+    let given = of_map (is_partial c.args.body.now) of event (Err c.in-Err.error) id (whole_map table is_maria_log of is)
     (subst (λ (l : List Typed). GivesRowsOf (is_partial c.args.body.now) l event (Err c.in-Err.error)) columns answer) in
-    refused_members c.write_refused.result [] is_maria_log c.args.body.now map c.in-Err.error _ c.args.line.now c.write_refused.new.line given c.write_refused.ensures
+    refused_members c.write_refused.result [] is_maria_log c.args.body.now of c.in-Err.error _ c.args.line.now c.write_refused.new.line given c.write_refused.ensures
