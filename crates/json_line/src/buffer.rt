@@ -341,7 +341,7 @@ impl Buffer {
     }
 
     /// Writes a comma if wanted, and a date in quotation marks.
-    #[inline]
+    #[inline(always)]
     pub(crate) fn add_date(&mut self, after_value: bool, date: &DateParts) -> Result<(), AllocError>
         ensures { Puts result self.old self.new (comma after_value ++ 34 ∷ (date_text date.now.year date.now.month date.now.day ++ 34 ∷ [])) }
     {
@@ -365,7 +365,7 @@ impl Buffer {
     }
 
     /// Writes a comma if wanted, and a time in quotation marks.
-    #[inline]
+    #[inline(always)]
     pub(crate) fn add_time(
         &mut self,
         after_value: bool,
@@ -395,7 +395,7 @@ impl Buffer {
     }
 
     /// Writes a comma if wanted, and a date and a time in quotation marks.
-    #[inline]
+    #[inline(always)]
     pub(crate) fn add_date_time(
         &mut self,
         after_value: bool,

@@ -345,7 +345,7 @@ impl Line {
     }
 
     /// Writes a date as a string: `2026-11-25`. The year has four digits or more, the other parts two or more.
-    #[inline]
+    #[inline(always)]
     pub fn date(&mut self, date: &DateParts) -> Result<(), AllocError>
         ensures added { Adds result self.old self.new (tokens.string (date_text date.now.year date.now.month date.now.day) ∷ []) }
         ensures unchanged { OnErr result (self.new ≡ self.old) }
@@ -361,7 +361,7 @@ impl Line {
 
     /// Writes a time as a string, with a minus sign if it is negative: `-06:30:00.000250`. The parts have two digits or more,
     /// the fraction as many as [`TimeParts::digits`] says.
-    #[inline]
+    #[inline(always)]
     pub fn time(&mut self, is_negative: bool, time: &TimeParts) -> Result<(), AllocError>
         ensures added { Adds result self.old self.new (tokens.string (time_text is_negative time.now.hour time.now.minute time.now.second time.now.digits time.now.microseconds) ∷ []) }
         ensures unchanged { OnErr result (self.new ≡ self.old) }
@@ -377,7 +377,7 @@ impl Line {
 
     /// Writes a date and a time as a string: `2026-11-25 06:30:00.000250`, their parts as [`Line::date`] and [`Line::time`] write
     /// them.
-    #[inline]
+    #[inline(always)]
     pub fn date_time(&mut self, date: &DateParts, time: &TimeParts) -> Result<(), AllocError>
         ensures added { Adds result self.old self.new (tokens.string (date_time_text date.now.year date.now.month date.now.day time.now.hour time.now.minute time.now.second time.now.digits time.now.microseconds) ∷ []) }
         ensures unchanged { OnErr result (self.new ≡ self.old) }
