@@ -3,7 +3,7 @@ use Rattle.std.specs.Fmt.{decimal}
 use Rattle.json.specs.Token.{key, number}
 use Rattle.json_line.specs.Buffers.{comma}
 use Rattle.json_line.proofs.Members.{number_added, number_tokens}
-use Rattle.json_line.proofs.line_members.Line.number_member.Goals as goal
+use Rattle.json_line.proofs.line.Line.number_member.Goals as goal
 
 pub invariant_of-self-2 : goal.invariant_of-self-2
 invariant_of-self-2 c =

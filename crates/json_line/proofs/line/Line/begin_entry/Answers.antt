@@ -2,7 +2,7 @@ use Rattle.std.proofs.Common.{◌∷◌, ◌++◌, [], codes, ap, ◌∙◌}
 use Rattle.json.specs.Token.{begin_object, key, string}
 use Rattle.json_line.specs.Buffers.{comma}
 use Rattle.json_line.proofs.Members.{entry_begun, entry_tokens}
-use Rattle.json_line.proofs.line_members.Line.begin_entry.Goals as goal
+use Rattle.json_line.proofs.line.Line.begin_entry.Goals as goal
 
 pub invariant_of-self-2 : goal.invariant_of-self-2
 invariant_of-self-2 c =

@@ -1,5 +1,5 @@
 use Rattle.json_line.proofs.Texts.{text_is_string}
-use Rattle.json_line.proofs.line_texts.Line.other_text.Goals as goal
+use Rattle.json_line.proofs.line.Line.other_text.Goals as goal
 
 pub returns-in-Ok : goal.returns-in-Ok
 returns-in-Ok c =
