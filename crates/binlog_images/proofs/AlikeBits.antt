@@ -46,10 +46,10 @@ counted_each (suc n) i bits is k low high =
     at_by i k (nat_eq i k) bits refl low first.0 (λ more. counted_each n (i + 1) bits first.1 k more (omega (arith, high)))
 
 -- Each bit is set if as many are counted as there are.
-pub all_counted : (len count : ℕ) (bits : Bitmap) → count ≡ set_count len 0 bits → eqb count len ≡ true → (k : ℕ) → k < len → is_set bits k ≡ true
-all_counted len count bits counted same k below =
-    let all : count ≡ len = grind (arith, nat_tests) in
-    counted_each len 0 bits (sym counted ∙ all) k (omega arith) (omega (arith, below))
+pub all_counted : (len count there : ℕ) (bits : Bitmap) → count ≡ set_count len 0 bits → there ≡ len → nat_eq count there ≡ true → (k : ℕ) → k < len → is_set bits k ≡ true
+all_counted len count there bits counted is same k below =
+    let equal : count ≡ there = grind (arith, nat_tests) in
+    counted_each len 0 bits (sym counted ∙ equal ∙ is) k (omega arith) (omega (arith, below))
 
 -- ---- none is set
 

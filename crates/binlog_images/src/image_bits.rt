@@ -1,6 +1,7 @@
 //! The bits of an image.
-ghost use Rattle.std.specs.Prelude.{◌≡◌, ◌<◌, ◌≤◌, ◌+◌, ℕ, true, false};
+ghost use Rattle.std.specs.Prelude.{◌≡◌, ◌==◌, ◌<◌, ◌≤◌, ◌+◌, ℕ, true, false};
 ghost use Rattle.std.specs.Bool.{OnTrue};
+ghost use Rattle.std.specs.List.{list_all};
 ghost use Rattle.binlog_wire.specs.Reading.{Gives};
 ghost use Rattle.binlog_rows.specs.Columns.{bitmap};
 ghost use Rattle.binlog_rows.specs.Images.{bitmap_of};
@@ -98,13 +99,20 @@ pub(crate) fn is_set(bits: BitView<'_>, index: u64) -> bool
     bits.bit(index).unwrap_or(false)
 }
 
+/// Whether all bytes are zero.
+#[inline(always)]
+fn are_zero(bytes: &[u8]) -> bool
+    ensures { result ≡ list_all (λ byte. byte == 0) bytes.now }
+{
+    bytes.iter().all(|byte| *byte == 0)
+}
+
 /// Whether all bytes are zero, so that no bit is set.
 #[inline(always)]
 fn is_zero(bits: BitView<'_>) -> bool
     ensures { OnTrue result ((k : ℕ) → is_set (bitmap_of bits.entry) k ≡ false) }
 {
-    let bytes = bits.as_bytes();
-    bytes.iter().all(|byte| *byte == 0)
+    are_zero(bits.as_bytes())
 }
 
 /// The number of bits that are set.

@@ -28,7 +28,6 @@ impl<'a> ImageColumns<'a> {
     ghost use Rattle.binlog_images.specs.ImageShapes.{shape_of};
 
     /// The columns of a table, with a bit for each.
-    #[tactic(auto, using(crate::proofs::AlikeBits::all_counted))]
     pub(crate) fn new(columns: TableColumns<'a>, present: BitView<'a>) -> Self
         requires { present.len ≡ length (columns_of columns) }
         ensures { shape_of result ≡ (columns_of columns.entry, bitmap_of present.entry) }
