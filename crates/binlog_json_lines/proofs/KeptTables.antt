@@ -139,3 +139,7 @@ columns_refused table_map event error same refused =
 pub no_files : (files : List DeclaredTables) → eqb (length files) 0 ≡ true → [] ≡ files
 no_files [] none = refl
 no_files (file ∷ files) none = absurd cc
+
+-- The columns of bytes that are the same.
+pub columns_kept : (types others metadata more : List ℕ) → types ≡ others → metadata ≡ more → columns_in types metadata ≡ columns_in others more
+columns_kept types others metadata more same_types same_metadata = rw (same_types, same_metadata) refl

@@ -27,6 +27,20 @@ pub(crate) fn collected(alloc: Global, columns: TableColumns<'_>) -> Result<Vec<
     Ok(kept)
 }
 
+/// What this optional metadata states of these columns, in memory of its own, and why its first field is refused that is.
+fn known_columns(
+    alloc: Global,
+    columns: TableColumns<'_>,
+    optional_metadata: &[u8],
+    is_maria_log: bool,
+) -> Result<(KeptColumns, Option<OptionalMetadataError>), AllocError>
+    ensures { IfOk result (λ known. AreStated is_maria_log (columns_of columns.entry) optional_metadata.now (kept_facts known.0) known.1) }
+{
+    let stated = TableFacts::new(alloc, columns, optional_metadata, is_maria_log)?;
+    let known = KeptColumns::new(alloc, &stated.columns)?;
+    Ok((known, stated.refusal))
+}
+
 /// The columns of a table and what its table map states of them, in memory of its own, with the bytes that say so.
 #[derive(Drop)]
 pub(crate) struct KeptTable {
@@ -59,18 +73,22 @@ impl KeptTable {
         requires columns { columns_of columns ≡ columns_in table_map.now.columns.types table_map.now.columns.metadata }
         ensures { IfOk result (λ table. IsOf table is_maria_log table_map.now) }
     {
-        let types = table_map.columns_type_raw();
-        let metadata = table_map.columns_metadata_raw();
         let optional_metadata = table_map.optional_metadata_raw();
-        let stated = TableFacts::new(alloc, columns, optional_metadata, is_maria_log)?;
+        let (known, refused) = known_columns(alloc, columns, optional_metadata, is_maria_log)?;
+        let read = collected(alloc, columns)?;
+        let types = table_map.columns_type_raw();
+        let kept_types = types.to_vec(alloc)?;
+        let metadata = table_map.columns_metadata_raw();
+        let kept_metadata = metadata.to_vec(alloc)?;
+        let kept_optional = optional_metadata.to_vec(alloc)?;
         Ok(KeptTable {
             is_maria_log,
-            types: types.to_vec(alloc)?,
-            metadata: metadata.to_vec(alloc)?,
-            optional_metadata: optional_metadata.to_vec(alloc)?,
-            columns: collected(alloc, columns)?,
-            known: KeptColumns::new(alloc, &stated.columns)?,
-            refused: stated.refusal,
+            types: kept_types,
+            metadata: kept_metadata,
+            optional_metadata: kept_optional,
+            columns: read,
+            known,
+            refused,
         })
     }
 
