@@ -4,7 +4,7 @@
 Usage: undo_server.py [--count N] FLAG
 
 FLAG is one of `programs.py`. A server makes tables, with keys and without, of integers, texts, decimals, times, blobs and bits, and
-fills them. At a checkpoint its tables are selected, and its log is closed. N random loads (3 if not given) of inserts, updates,
+fills them. At a checkpoint its tables are selected, and its log is closed. N random loads (4 if not given) of inserts, updates,
 deletes and transactions of several statements follow, over several files. `binlog undo` undoes them;
 the server's programs apply that, and the tables are selected again. Then what undid them is undone. Where there is no server
 (`maria_daemon.py` and `mysql_daemon.py` say where they come from) nothing is done with it. The last line is `N passed, M failed`; the
@@ -42,6 +42,7 @@ class Maria:
     """A MariaDB server. One of its tables can't roll back."""
 
     name, engine, options = "MariaDB", "Aria", ["--binlog-format=ROW"]
+    forms = [*OPTIONS, ["--binlog-checksum=CRC32", "--log-bin-compress=ON", "--log-bin-compress-min-len=10"]]
 
     def __init__(self, folder):
         self.program = maria_daemon.program_in(folder / "package")
@@ -56,7 +57,7 @@ class Maria:
 class Mysql:
     """A MySQL server. What it does has new GTIDs, so what is applied states none."""
 
-    name, engine, options = "MySQL", "InnoDB", []
+    name, engine, options, forms = "MySQL", "InnoDB", [], OPTIONS
 
     def __init__(self, folder):
         self.programs, self.data = mysql_daemon.unpacked()
@@ -138,7 +139,7 @@ def failure(words, kind, folder, seed):
     chance, keys = random.Random(seed), dict.fromkeys(TABLES, 100)
     # A statement that fails in the middle, or is rolled back, would stay in tables that can't roll back.
     made = "CREATE DATABASE s; USE s;" + "".join(f"CREATE TABLE {name} {form};" for name, form in TABLES.items()).replace("ENGINE=;", f"ENGINE={kind.engine};")
-    with kind.server(folder / f"{kind.name}-{seed}", [*OPTIONS[seed % len(OPTIONS)], *kind.options]) as server:
+    with kind.server(folder / f"{kind.name}-{seed}", [*kind.forms[seed % len(kind.forms)], *kind.options]) as server:
         server.run((made + load(chance, keys, 30).replace("ROLLBACK", "COMMIT")).encode())
         checkpoint, count = tables_of(server), len(server.logs()) - 1
         server.run(load(chance, keys, 60).replace("ROLLBACK", "COMMIT").encode())
@@ -159,7 +160,7 @@ def failure(words, kind, folder, seed):
 def main():
     parser = argparse.ArgumentParser(description="Undoes what servers did.")
     programs.add_flags(parser)
-    parser.add_argument("--count", type=int, default=3)
+    parser.add_argument("--count", type=int, default=4)
     arguments = programs.parsed(parser, "binlog")
     words = arguments.build.command("binlog")
     passed, failures = 0, []

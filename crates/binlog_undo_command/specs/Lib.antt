@@ -4,3 +4,4 @@ pub mod Options
 pub mod Scanned
 pub mod Written
 pub mod Undoing
+pub mod UndoneLogs

@@ -2,6 +2,7 @@
 #![tactic(auto)]
 
 mod arguments;
+pub mod laws;
 mod log_place;
 mod logs;
 mod new_file;

@@ -24,8 +24,8 @@ pub enum Reason {
     /// The event has partial updates of JSON documents.
     #[error("partial updates of documents")]
     PartialJson,
-    /// The rows are compressed.
-    #[error("the rows are compressed")]
+    /// Compressed rows of more than 1 GiB.
+    #[error("the compressed rows are too long")]
     Compressed,
     /// An event is damaged, or its body can't be read.
     #[error("a damaged event")]

@@ -1,8 +1,11 @@
 pub mod Described
+pub mod FileChanges
 pub mod Grown
+pub mod Keys
 pub mod LogChanges
 pub mod Looked
 pub mod Passes
+pub mod Placed
 pub mod ReadEvents
 pub mod Scanned
 pub mod Undone

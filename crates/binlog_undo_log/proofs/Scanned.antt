@@ -35,7 +35,7 @@ use Rattle.std.specs.Prelude.{◌||◌}
 
 -- ---- truth values
 
-not_both : (b : Bool) → b ≡ true → b ≡ false → ⊥
+pub not_both : (b : Bool) → b ≡ true → b ≡ false → ⊥
 not_both b is other = cc
 
 one_of : (b : Bool) → (b ≡ true) ⊎ (b ≡ false)
@@ -48,7 +48,7 @@ no_tail (Some tail_len) h = ap (λ (n : ℕ). Some n) (eqb-true tail_len 0 h)
 
 -- ---- a pass that ends
 
-stopped : (index : ℕ) (reason : Reason) (old new : UndoScan) → Stops index reason old new → new.is_stopped ≡ true
+pub stopped : (index : ℕ) (reason : Reason) (old new : UndoScan) → Stops index reason old new → new.is_stopped ≡ true
 stopped index reason old new h = ap (λ (s : UndoScan). s.is_stopped) h.is
 
 last_skipped : (refusals : List RefusedAt) (last : RefusedAt) → AreSkipped (refusals ++ last ∷ []) → last.is_skipped ≡ true
@@ -63,7 +63,7 @@ not_skipped index reason old new h skipped =
     cc
 
 -- An event is noted, or ends the pass.
-noted_or : (mark : Mark) (index : ℕ) (event : EventView) (seen : SeenEvent) (old new : UndoScan) → NotesMark mark index event seen old new
+pub noted_or : (mark : Mark) (index : ℕ) (event : EventView) (seen : SeenEvent) (old new : UndoScan) → NotesMark mark index event seen old new
     → Notes index event seen old new ⊎ Stops index (reasons.Transaction refusals.Encrypted) old new
 noted_or marks.Encryption index event seen old new h = inr h
 noted_or marks.Nothing index event seen old new h = inl h
@@ -221,13 +221,13 @@ abbrev none_seen : (maps : TableMaps) (index : ℕ) (items : List (Result EventV
 none_seen maps index items scan = record { front = []; rest = items; split = refl; seen = []; each = (refl, refl); told = refl }
 
 abbrev seen_before : (maps : TableMaps) (index : ℕ) (item : Result EventView Error) (items : List (Result EventView Error)) (old mid new : UndoScan)
-    → IsOneSeen (maps_behind maps item) index item old mid → AreFirstSeen (maps_behind maps item) (index + 1) items mid new → AreFirstSeen maps index (item ∷ items) old new
-seen_before maps index item items old mid new here others = record {
+    → IsOneSeen (maps_behind maps item) index item old mid → mid.is_stopped ≡ false → AreFirstSeen (maps_behind maps item) (index + 1) items mid new → AreFirstSeen maps index (item ∷ items) old new
+seen_before maps index item items old mid new here goes others = record {
   front = item ∷ others.front;
   rest = others.rest;
   split = ap (λ (all : List (Result EventView Error)). item ∷ all) others.split;
   seen = here.first ∷ others.seen;
-  each = (here.event, here.first, others.seen, mid, here.is, refl, here.scanned, others.each);
+  each = (here.event, here.first, others.seen, mid, here.is, refl, here.scanned, goes, others.each);
   told = (mid.index, here.told, others.told);
 }
 
@@ -238,8 +238,8 @@ outcome maps index (item ∷ items) old new goes h =
     let behind : TableMaps = maps_behind maps item in
     elim (item_outcome old.is_stopped behind index item old h.0 refl goes h.1) [
       | inl one ↦ elim (outcome behind (index + 1) items h.0 new one.1 h.2) [
-        | inl all ↦ inl (record { first = seen_before maps index item items old h.0 new one.0 all.first; all = all.all; goes = all.goes })
-        | inr (inl part) ↦ inr (inl (record { behind = part.behind; first = seen_before maps index item items old h.0 part.behind one.0 part.first; at = part.at }))
+        | inl all ↦ inl (record { first = seen_before maps index item items old h.0 new one.0 one.1 all.first; all = all.all; goes = all.goes })
+        | inr (inl part) ↦ inr (inl (record { behind = part.behind; first = seen_before maps index item items old h.0 part.behind one.0 one.1 part.first; at = part.at }))
         | inr (inr refused) ↦ inr (inr refused)
       ]
       | inr (inl at) ↦ inr (inl (record {

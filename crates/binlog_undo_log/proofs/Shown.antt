@@ -1,6 +1,7 @@
 -- Which events are written where all that is undone is one transaction.
 use Rattle.std.proofs.Common.{◌≡◌, Bool, true, false, List, [], ◌∷◌, ◌++◌, Ok, refl, sym, ◌∙◌, ap, subst}
 use Rattle.std.specs.Prelude.{◌||◌, not}
+use Rattle.binlog_columns.specs.Metadata.{Typed}
 use Rattle.binlog_columns.specs.Refusals.{columns_in}
 use Rattle.binlog_event_format.specs.declared.format_description.FormatDescriptionEvent.{FormatDescriptionEvent}
 use Rattle.binlog_rows.specs.declared.rows_event_data.RowsEventData.{RowsEventData}
@@ -8,6 +9,7 @@ use Rattle.binlog_rows.specs.declared.rows_event_data.RowsEventData.TheVariants 
 use Rattle.binlog_undo.specs.InverseEvents.{GivesInverse, type_of}
 use Rattle.binlog_undo.specs.declared.inverse_event.ForeignKeyChecks.{ForeignKeyChecks}
 use Rattle.binlog_undo_index.specs.declared.places.ChangePlace.{ChangePlace}
+use Rattle.binlog_undo_log.proofs.Keys.{some_key}
 use Rattle.binlog_undo_log.specs.Output.{is_bound, shown_if, shown}
 use Rattle.binlog_undo_log.specs.Undoing.{FramesOf, UndoesChange, UndoesRows}
 use Rattle.binlog_undo_writing.specs.Transactions.{Event}
@@ -51,6 +53,9 @@ pub change_shown : (has_bounds : Bool) (is_at : FramesOf) (fde : FormatDescripti
     → UndoesChange is_at fde checks change events → shown has_bounds events ≡ events
 change_shown has_bounds is_at fde checks change events h =
     let rows : UndoesRows checks h.map_event h.undoes.map h.event h.undoes.undoes.rows events = h.undoes.undoes.undoes in
-    let gives : GivesInverse [] (columns_in h.undoes.map.columns.types h.undoes.map.columns.metadata) checks h.undoes.undoes.rows (Ok rows.inverse) = rows.undoes.undoes in
+    let columns : List Typed = columns_in h.undoes.map.columns.types h.undoes.map.columns.metadata in
+    let by_key = some_key rows.is_maria_log h.undoes.map columns checks h.undoes.undoes.rows rows.inverse rows.undoes.undoes in
+    let key : List ℕ = by_key.0 in
+    let gives : GivesInverse key columns checks h.undoes.undoes.rows (Ok rows.inverse) = by_key.1 in
     let type : is_bound rows.inverse.event_type ≡ false = ap is_bound gives.2.event_type ∙ rows_are_no_bound gives.0 in
     subst (λ (e : List Event). shown has_bounds e ≡ e) (sym rows.are) (pair_shown has_bounds _ _ refl type)

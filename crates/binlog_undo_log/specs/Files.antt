@@ -71,12 +71,12 @@ ScansFile bytes old (Err error) new = VisitsVerifiedLog IsCrc32 scans refuses by
 
 -- ---- what was scanned
 
--- Each of these items is an event of which this is seen. `maps` are the table maps in front of the first one.
+-- Each of these items is an event of which this is seen, and doesn't end the pass. `maps` are the table maps in front of the first one.
 abbrev pub AreSeen : TableMaps → ℕ → List (Result EventView Error) → List SeenEvent → UndoScan → UndoScan → Type 0
 AreSeen maps index [] seen old new = (seen ≡ []) × (new ≡ old)
 AreSeen maps index (item ∷ items) seen old new =
     (event : EventView) × (first : SeenEvent) × (others : List SeenEvent) × (mid : UndoScan) × (item ≡ Ok event) × (seen ≡ first ∷ others)
-    × ScansEvent (maps_behind maps item) index event (Some first) old mid × AreSeen (maps_behind maps item) (index + 1) items others mid new
+    × ScansEvent (maps_behind maps item) index event (Some first) old mid × (mid.is_stopped ≡ false) × AreSeen (maps_behind maps item) (index + 1) items others mid new
 
 abbrev pub groups_of : List SeenEvent → List Group
 groups_of events = groups_in [] (told_events None events)

@@ -2,6 +2,8 @@ pub mod Choices
 pub mod Descriptions
 pub mod Heads
 pub mod Marks
+pub mod Compressed
+pub mod Keys
 pub mod Undoing
 pub mod Output
 pub mod Looking
@@ -9,3 +11,4 @@ pub mod Scanning
 pub mod Files
 pub mod LogChanges
 pub mod OneTransaction
+pub mod FileChanges

@@ -9,9 +9,11 @@ use Rattle.binlog_events.specs.Parts.{is_description}
 use Rattle.binlog_file.specs.LogData.{ReadsLogData}
 use Rattle.binlog_file.specs.TableMapsInForce.{TableMaps}
 use Rattle.binlog_file.specs.declared.log_data.LogEventData.{LogEventData}
-use Rattle.binlog_file.specs.declared.log_data.LogEventData.TheVariants.{Mysql}
+use Rattle.binlog_file.specs.declared.log_data.LogEventData.TheVariants.{Mysql, Maria}
 use Rattle.binlog_filters.specs.Taking.{FollowsEvent}
 use Rattle.binlog_mariadb.specs.Flavour.{IsMariaVersion}
+use Rattle.binlog_mariadb.specs.declared.compressed_rows.RowsCompressedEvent.{RowsCompressedEvent}
+use Rattle.binlog_mariadb.specs.declared.event_data.MariaEventData.TheVariants as maria
 use Rattle.binlog_rows.specs.declared.rows_event_data.RowsEventData.{RowsEventData}
 use Rattle.binlog_transactions.specs.Pieces.{step}
 use Rattle.binlog_transactions.specs.Roles.{role_of}
@@ -30,30 +32,34 @@ use Rattle.binlog_undo_index.specs.declared.reason.Refused.{Refused as RefusedAt
 use Rattle.binlog_undo_index.specs.declared.seen.SeenEvent.{SeenEvent}
 use Rattle.binlog_undo_index.specs.Positions.{has_place, is_past}
 use Rattle.binlog_undo_log.specs.Choices.{positions_of, takes_first, takes_last}
-use Rattle.binlog_undo_log.specs.Looking.{LooksAtRows}
+use Rattle.binlog_undo_log.specs.Looking.{LooksAtRows, LooksAtCompressed}
 use Rattle.binlog_undo_log.specs.Marks.{mark_in, table_id_in}
 use Rattle.binlog_undo_log.specs.declared.scan.seeing.RowsLook.{RowsLook}
-use Rattle.binlog_undo_log.specs.declared.scan.seeing.RowsLook.TheVariants.{Left, Undone, Refused}
+use Rattle.binlog_undo_log.specs.declared.scan.seeing.RowsLook.TheVariants.{Left, Undone, Refused, Damaged}
 use Rattle.binlog_undo_log.specs.declared.scan.UndoScan.{UndoScan}
 
 -- ---- rows
-
--- Of an event without rows that can be read.
-abbrev pub look_beside : Role → RowsLook
-look_beside roles.CompressedRows = Refused reasons.Compressed
-look_beside role = Left
 
 abbrev pub rows_of : LogEventData → Option RowsEventData
 rows_of (Mysql (mysql.RowsEvent rows)) = Some rows
 rows_of body = None
 
-abbrev pub LooksAtSome : UndoScan → TableMaps → EventView → Role → Option RowsEventData → RowsLook → Type 0
-LooksAtSome scan maps event role (Some rows) look = LooksAtRows scan maps event rows look
-LooksAtSome scan maps event role None look = look ≡ look_beside role
+abbrev pub compressed_of : LogEventData → Option RowsCompressedEvent
+compressed_of (Maria (maria.RowsCompressedEvent compressed)) = Some compressed
+compressed_of body = None
+
+-- Of an event without rows as they are.
+abbrev pub LooksBeside : UndoScan → TableMaps → EventView → Option RowsCompressedEvent → RowsLook → Type 0
+LooksBeside scan maps event (Some compressed) look = LooksAtCompressed scan maps event compressed look
+LooksBeside scan maps event None look = look ≡ Left
+
+abbrev pub LooksAtSome : UndoScan → TableMaps → EventView → Option RowsEventData → Option RowsCompressedEvent → RowsLook → Type 0
+LooksAtSome scan maps event (Some rows) compressed look = LooksAtRows scan maps event rows look
+LooksAtSome scan maps event None compressed look = LooksBeside scan maps event compressed look
 
 -- What is seen of the rows of an event with this data.
-abbrev pub LooksAtData : UndoScan → TableMaps → EventView → Role → LogEventData → RowsLook → Type 0
-LooksAtData scan maps event role body look = LooksAtSome scan maps event role (rows_of body) look
+abbrev pub LooksAtData : UndoScan → TableMaps → EventView → LogEventData → RowsLook → Type 0
+LooksAtData scan maps event body look = LooksAtSome scan maps event (rows_of body) (compressed_of body) look
 
 abbrev pub is_undone : RowsLook → Bool
 is_undone (Undone change) = true
@@ -66,6 +72,11 @@ change_in _ = None
 abbrev pub refusal_in : RowsLook → Option Reason
 refusal_in (Refused reason) = Some reason
 refusal_in _ = None
+
+-- The mark of an event with this role, this data and these rows; None if it is damaged.
+abbrev pub seen_mark : Role → LogEventData → RowsLook → Option Mark
+seen_mark role body Damaged = None
+seen_mark role body look = mark_in role (is_undone look) body
 
 -- ---- an event
 
@@ -112,8 +123,8 @@ seen_as scan index event (Some mark) table_id look = Some (seen_event scan index
 
 abbrev pub SeesData : UndoScan → TableMaps → ℕ → EventView → LogEventData → Option SeenEvent → Type 0
 SeesData scan maps index event body seen =
-    (role : Role) × (look : RowsLook) × IsRole event role × LooksAtData scan maps event role body look
-    × (seen ≡ seen_as scan index event (mark_in role (is_undone look) body) (table_id_in body) look)
+    (role : Role) × (look : RowsLook) × IsRole event role × LooksAtData scan maps event body look
+    × (seen ≡ seen_as scan index event (seen_mark role body look) (table_id_in body) look)
 
 abbrev pub SeesUnread : UndoScan → ℕ → EventView → Bool → Option SeenEvent → Type 0
 SeesUnread scan index event is_known seen =

@@ -6,6 +6,7 @@
 #![tactic(auto)]
 
 mod choice;
+mod compressed;
 mod description;
 mod events;
 mod files;
@@ -15,6 +16,7 @@ pub mod laws;
 mod looking;
 mod one_transaction;
 mod output;
+mod primary_key;
 mod rows;
 mod scan;
 mod undo_error;

@@ -6,10 +6,11 @@ ghost use Rattle.binlog_file.specs.State.{state_of};
 ghost use Rattle.binlog_undo_log.specs.Files.{IsFresh};
 ghost use Rattle.binlog_undo_log.specs.Scanning.{LooksAtData, IsRole, place_behind, seen_event, SeesData, SeesUnread, SeesRead, Sees, Stops, Describes, DescribesIf, Notes, NotesMark, NotesIf, ScansSome, is_past_stop, Closes, has_no_tail, EndsWhole, EndsScan};
 
+mod compressed_rows;
 pub(crate) mod seeing;
 
 use crate::choice::Choice;
-use crate::looking::{mark_in, rows_in, table_id_in, unread_mark};
+use crate::looking::{compressed_in, rows_in, seen_mark, table_id_in, unread_mark};
 use binlog_file::{
     BinlogFileHeader, Error, EventRef, EventStreamReader, LogEventData, read_log_data,
 };
@@ -87,17 +88,16 @@ impl UndoScan {
         &self,
         event: &EventRef<'_>,
         body: &LogEventData<'_>,
-        role: Role,
         reader: &EventStreamReader,
     ) -> Result<RowsLook, Error>
-        ensures ok { IfOk result (LooksAtData self.now (state_of reader.now).table_maps (view_of event.now) role body.now) }
+        ensures ok { IfOk result (LooksAtData self.now (state_of reader.now).table_maps (view_of event.now) body.now) }
         ensures memory { IfErr result (λ e. e ≡ Memory) }
     {
         match rows_in(body) {
             Some(rows) => self.look_at_rows(event, rows, reader),
-            None => match role {
-                Role::CompressedRows => Ok(RowsLook::Refused(Reason::Compressed)),
-                _ => Ok(RowsLook::Left),
+            None => match compressed_in(body) {
+                Some(compressed) => self.look_at_compressed(event, compressed, reader),
+                None => Ok(RowsLook::Left),
             },
         }
     }
@@ -122,7 +122,7 @@ impl UndoScan {
     {
         let header = event.header();
         let (change, refusal) = match look {
-            RowsLook::Left => (None, None),
+            RowsLook::Left | RowsLook::Damaged => (None, None),
             RowsLook::Undone(change) => (Some(change), None),
             RowsLook::Refused(reason) => (None, Some(reason)),
         };
@@ -140,7 +140,7 @@ impl UndoScan {
         }
     }
 
-    // What is seen of an event with this data; None if the data isn't that of an event of its type.
+    // What is seen of an event with this data; None if the data isn't that of an event of its type, or compressed rows can't be read.
     fn see_data(
         &self,
         index: u64,
@@ -151,9 +151,8 @@ impl UndoScan {
         ensures ok { IfOk result (SeesData self.now (state_of reader.now).table_maps index (view_of event.now) body.now) }
         ensures memory { IfErr result (λ e. e ≡ Memory) }
     {
-        let role = role_of(event);
-        let look = self.look_at_data(event, body, role, reader)?;
-        match mark_in(role, body, look.is_undone()) {
+        let look = self.look_at_data(event, body, reader)?;
+        match seen_mark(role_of(event), body, look) {
             Some(mark) => Ok(Some(self.seen(index, event, mark, table_id_in(body), look))),
             None => Ok(None),
         }
