@@ -1,5 +1,5 @@
 //! Both passes over several logs.
-ghost use Rattle.std.specs.Prelude.{◌≡◌, ◌≢◌, false, true, min, ◌^◌, ◌-◌, codes, IfErr, IfOk, OnOk};
+ghost use Rattle.std.specs.Prelude.{◌≡◌, ◌≢◌, true, min, ◌^◌, ◌-◌, codes, IfErr, IfOk, OnOk};
 ghost use Rattle.std.specs.Io.KnownBytes.{Appends};
 ghost use Rattle.clap.specs.Matches.{found_of};
 ghost use Rattle.binlog_cli.specs.TableWords.{texts_given};
@@ -19,8 +19,7 @@ use std::io;
 use std::io::{BufWriter, Write};
 
 /// Writes a log that undoes the chosen transactions of all logs, or names what can't be undone. Before that it writes how many
-/// transactions and row events are undone. The file is there if the status is [`Status::Fine`]. Else it isn't, and what was begun of
-/// it is removed.
+/// transactions and row events are undone. The file is there if the status is [`Status::Fine`], and else it isn't.
 pub fn undo<'a, L: Logs, T: NewFile, R: Eprint + AllocGlobal, W: Write>(
     rt: &R,
     logs: &L,
@@ -32,7 +31,6 @@ pub fn undo<'a, L: Logs, T: NewFile, R: Eprint + AllocGlobal, W: Write>(
         (T.is_fresh file.old) (T.has file.new) (found_of options.now) (W.contents writer.old) (W.contents writer.new) }
     ensures there { result ≡ Fine → T.is_there file.new ≡ true }
     ensures other { result ≢ Fine → T.is_there file.new ≡ T.is_there file.old }
-    ensures left { T.has_draft file.old ≡ false → T.has_draft file.new ≡ false }
     ensures refused { result ≡ Damaged → HasRefused (L.bytes logs.now) (found_of options.now) (texts_given (found_of options.now) (codes "FILE")) }
     ensures usage { result ≡ Usage → RefusesOptions (found_of options.now) Usage }
 {
@@ -125,7 +123,6 @@ fn put_log<L: Logs, T: NewFile, R: Eprint + AllocGlobal>(
     ensures fine { result ≡ Fine → PutsLog (L.has_frames logs.now) L.Sought.is_at ⟦<Counted<BufWriter<Retrying<T::Draft>>> as WriteCounted>⟧.contents (T.is_fresh file.old) (T.has file.new) scanned.now }
     ensures there { result ≡ Fine → T.is_there file.new ≡ true }
     ensures other { result ≢ Fine → T.is_there file.new ≡ T.is_there file.old }
-    ensures left { T.has_draft file.old ≡ false → T.has_draft file.new ≡ false }
     ensures failed { result ≢ Fine → result ≡ Failed }
 {
     let draft = match file.begin() {
@@ -149,7 +146,6 @@ fn finish<T: NewFile, R: Eprint>(rt: &R, file: &mut T, draft: T::Draft) -> Statu
     ensures fine { result ≡ Fine → T.has file.new (T.Draft.contents draft) }
     ensures there { result ≡ Fine → T.is_there file.new ≡ true }
     ensures other { result ≢ Fine → T.is_there file.new ≡ T.is_there file.old }
-    ensures left { T.has_draft file.new ≡ false }
     ensures failed { result ≢ Fine → result ≡ Failed }
 {
     match file.finish(draft) {
