@@ -1,8 +1,9 @@
 -- Which events are written where all that is undone is one transaction.
-use Rattle.std.proofs.Common.{◌≡◌, Bool, true, false, List, [], ◌∷◌, ◌++◌, Ok, refl, sym, ◌∙◌, ap, subst}
+use Rattle.std.proofs.Common.{◌≡◌, ℕ, Bool, true, false, List, [], ◌∷◌, ◌++◌, Ok, refl, sym, ◌∙◌, ap, subst}
 use Rattle.std.specs.Prelude.{◌||◌, not}
 use Rattle.binlog_columns.specs.Metadata.{Typed}
 use Rattle.binlog_columns.specs.Refusals.{columns_in}
+use Rattle.binlog_consts.specs.declared.event_type.EventType.{EventType}
 use Rattle.binlog_event_format.specs.declared.format_description.FormatDescriptionEvent.{FormatDescriptionEvent}
 use Rattle.binlog_rows.specs.declared.rows_event_data.RowsEventData.{RowsEventData}
 use Rattle.binlog_rows.specs.declared.rows_event_data.RowsEventData.TheVariants as types
@@ -11,7 +12,7 @@ use Rattle.binlog_undo.specs.declared.inverse_event.ForeignKeyChecks.{ForeignKey
 use Rattle.binlog_undo_index.specs.declared.places.ChangePlace.{ChangePlace}
 use Rattle.binlog_undo_log.proofs.Keys.{some_key}
 use Rattle.binlog_undo_log.specs.Output.{is_bound, shown_if, shown}
-use Rattle.binlog_undo_log.specs.Undoing.{FramesOf, UndoesChange, UndoesRows}
+use Rattle.binlog_undo_log.specs.Undoing.{FramesOf, UndoesChange, UndoesRows, undone_events}
 use Rattle.binlog_undo_writing.specs.Transactions.{Event}
 
 if_over : (is : Bool) (event : Event) (events others : List Event) → shown_if is event (events ++ others) ≡ shown_if is event events ++ others

@@ -1,4 +1,4 @@
-use Rattle.std.proofs.Common.{◌∙◌, ℕ, ◌+◌, min, Bool, length, ap, subst}
+use Rattle.std.proofs.Common.{◌∙◌, ℕ, ◌+◌, min, Bool, List, length, ap, subst}
 use Rattle.binlog_undo_log.specs.Scanning.{DescribesIf}
 use Rattle.binlog_undo_log.specs.declared.scan.UndoScan.{UndoScan}
 use Rattle.binlog_undo_log.proofs.scan.UndoScan.note.Goals as goal
