@@ -1,7 +1,7 @@
 //! Dates and times as text.
 #![tactic(auto, using(std::proofs::Common::append_assoc))]
 
-ghost use Rattle.std.specs.Prelude.{◌≡◌, ◌≤◌, ◌<◌, ◌%◌, ◌^◌, ◌∷◌, [], ◌++◌, OnOk, string_bytes};
+ghost use Rattle.std.specs.Prelude.{◌≡◌, ◌≤◌, ◌<◌, ◌/◌, ◌%◌, ◌^◌, ◌∷◌, [], ◌++◌, OnOk, string_bytes};
 ghost use Rattle.json.specs.Token.{string};
 ghost use Rattle.json_line.specs.Tokens.{Adds};
 ghost use Rattle.binary_json_lines.specs.Digits.{padded_text};
