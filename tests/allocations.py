@@ -13,19 +13,26 @@ table map, is copied once: one allocation for each of its texts that isn't empty
 No allocation of a program is larger than the bytes that came and 65,536 more; the vector of table maps may have 12 bytes for
 each byte that came. All memory is freed when a program or a test ends; Rust's runtime keeps some blocks, as many whatever the
 log. Where a header states 4,294,967,295 bytes and few come, 20 at a time, no allocation of a program grows by more than 65,536
-bytes, nor does one of a test whose name contains `boundless`. The last line is `N passed, M failed`; the exit status is 1 if
-something failed. Without the C compiler `cc` nothing is run, and both numbers are 0.
+bytes, nor does one of a test whose name contains `boundless`. Decompression of Zstandard frames (`probe frames`) takes at most the
+bytes of the frames and of the content three times, those of a block's literals, and 128 KB of tables at a time; a content that is
+stated and isn't there takes nothing. The last line is `N passed, M failed`; the exit status is 1 if something failed. Without the
+C compiler `cc` nothing is run, and both numbers are 0.
 """
 
 import argparse
+import random
+import shutil
 import socket
 import struct
+import subprocess
 import sys
 from typing import Callable, NamedTuple
 
 import programs
 import samples
 import watched
+import zstd_frames
+from compressible_texts import TEXTS
 from damaged_copies import MAGIC
 
 FEW, MANY = 10, 1010
@@ -140,6 +147,15 @@ BOUNDLESS_LOGS = {
 }
 
 
+# Bytes that vectors which double and are copied have at a time for each of their own, and the most bytes of the literals of a block
+# of a Zstandard frame, and of its tables.
+OF_VECTORS = 3
+LITERALS = TABLES = 131_072
+
+# Of texts that are compressed, in bytes.
+TEXT = 3_000_000
+
+
 def counts(name, log, few, many, for_each):
     """None if each further event makes as many further allocations as it should, else what is wrong."""
     further = len(many.allocations) - len(few.allocations)
@@ -229,6 +245,31 @@ def total_failure(name, run, came):
     return f"{name}: an allocation of {largest} bytes where {came} came"
 
 
+def frames():
+    """Zstandard frames: the most bytes of content, and the frames, by names."""
+    chance = random.Random(1)
+    yield from ((f"random frame {number}", zstd_frames.LIMIT, zstd_frames.frame(chance)) for number in range(20))
+    # One block of a byte, which is raw.
+    stated = zstd_frames.MAGIC + bytes.fromhex("e0") + struct.pack("<Q", 1 << 62) + bytes.fromhex("09000041")
+    yield "a size of 2^62 bytes that is stated", 1 << 63, stated
+    if shutil.which("zstd") is None:
+        return
+    for make in TEXTS:
+        words = ["zstd", "-q", "-19", "--no-check", "-c"]
+        compressed = subprocess.run(words, input=make(chance, TEXT), capture_output=True, check=True).stdout
+        yield f"{make.__name__} of {TEXT} bytes", TEXT, compressed
+
+
+def frame_failures(watch, words):
+    """What is wrong with the memory that Zstandard frames take: None, or that it is too much."""
+    nothing = watch.run(words).peak
+    for name, limit, data in frames():
+        run = watch.run(words, struct.pack("<QQ", limit, len(data)) + data)
+        head, _, content = run.output.partition(b"\n")
+        most = nothing + OF_VECTORS * (len(data) + len(content)) + LITERALS + TABLES
+        yield None if run.peak <= most else f"{name}: {run.peak} bytes at a time for {len(content)} bytes of content ({head})"
+
+
 def proved_failures(watch):
     for name, for_each in PROGRAMS.items():
         yield from program_failures(watch, Program(name, programs.proved(*name.split())), for_each)
@@ -236,6 +277,7 @@ def proved_failures(watch):
         program = Program(name, programs.proved(*name.split()))
         yield from log_failures(watch, program, None)
         yield from whole_log_failures(watch, program)
+    yield from frame_failures(watch, programs.proved("probe", "frames"))
     for path, name in watched.tests():
         test = Program(f"the test {name}", [path, name])
         run = watch.run(test.command)
@@ -249,12 +291,13 @@ def packaged_failures(watch):
         words = next(filter(programs.is_command, programs.CARGO.commands(purpose)))
         kept = watch.run(words, b"").left
         yield from program_failures(watch, Program(" ".join(words[1:]), words, kept), 0)
+    yield from frame_failures(watch, programs.CARGO.command("frames"))
 
 
 def main():
     parser = argparse.ArgumentParser(description="Checks the allocations of the programs.")
     programs.add_flags(parser)
-    build = programs.parsed(parser, *PACKAGED).build
+    build = programs.parsed(parser, *PACKAGED, "frames").build
     return watched.report(packaged_failures if build is programs.CARGO else proved_failures)
 
 

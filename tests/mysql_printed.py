@@ -95,10 +95,7 @@ def event(head, body, is_inner):
 
 
 def rows(output):
-    """The rows of an output, without those of compressed transactions."""
-    while (start := output.find(INNER_START)) >= 0:
-        end = output.find(INNER_END, start)
-        output = output[:start] + output[end + len(INNER_END) :]
+    """The rows of an output, also those of compressed transactions."""
     heads = list(ROW.finditer(output))
     ends = [head.start() for head in heads[1:]] + [len(output)]
     for head, end in zip(heads, ends):

@@ -16,7 +16,7 @@ checksums, with tags and without GTIDs; it is shut down once, and killed once. T
 - that the GTIDs are those that the next log begins with, and at the end those that the server has executed;
 - that a copy has the bytes of its log, and that each table is the same in another server, in which the copies are replayed.
 
-Of compressed transactions the events that have them are compared, not those within them. Where no server is kept from an earlier
+Rows and table maps are also those inside compressed transactions. Other events in them aren't compared. Where no server is kept from an earlier
 run and none can be downloaded (`mysql_daemon.py` says where it comes from), a line says so, nothing is run, and both numbers are
 0. The last line is `N passed, M failed`; the exit status is 1 if something failed.
 """
@@ -49,14 +49,18 @@ from programs import add_flags, parsed
 
 
 class Log(NamedTuple):
-    """A log: whether it ends within an event, as that of a killed server may; its lines of JSON, what `mysqlbinlog` prints, and
-    the events that are printed."""
+    """A log: whether it ends within an event, as that of a killed server may; its lines of JSON, also those of the events inside
+    compressed transactions, what `mysqlbinlog` prints, and the events that are printed."""
 
     path: Path
     is_cut: bool
-    lines: list
+    all_lines: list
     output: bytes
     printed: list
+
+    def lines(self):
+        """The lines of the log's events, without those inside compressed transactions."""
+        return [line for line in self.all_lines if "part" not in line]
 
     def outer(self):
         """The printed events that aren't within compressed transactions."""
@@ -71,9 +75,7 @@ def read_log(program, programs, path):
 
 
 def lines_of(output):
-    """The lines of a log's events, without those inside compressed transactions."""
-    lines = (json.loads(line, parse_float=mysql_documents.Number) for line in output.splitlines())
-    return [line for line in lines if "part" not in line]
+    return [json.loads(line, parse_float=mysql_documents.Number) for line in output.splitlines()]
 
 
 def output_of(program, *words, is_cut=False):
@@ -91,7 +93,7 @@ def log_failures(program, log, collations, columns, described):
     """For each test of a log, None or what is wrong."""
     listing = output_of(program, "list", log.path, is_cut=log.is_cut).decode().splitlines()
     yield from event_failures(log, listing, collations)
-    yield from printed_failures(columns, log.lines, mysql_printed.rows(log.output))
+    yield from printed_failures(columns, log.all_lines, mysql_printed.rows(log.output))
     yield from metadata_failures(log, described)
     yield from model_failures(program, log.path)
     yield verified(program, log)
@@ -100,7 +102,7 @@ def log_failures(program, log, collations, columns, described):
 def event_failures(log, listing, collations):
     """For each part of each event, None or how it is printed otherwise."""
     events, place = Events(collations), len(listing_model.FILE_HEADER)
-    lines = zip_longest(log.lines, listing)
+    lines = zip_longest(log.lines(), listing)
     for event in log.printed:
         if event.is_inner:
             events.take_settings(event)
@@ -120,7 +122,7 @@ def event_failures(log, listing, collations):
 
 def metadata_failures(log, described):
     """For each field of each table map of the forms, None or what else the server says of the table."""
-    for line in log.lines:
+    for line in log.all_lines:
         schema = line["data"]["database_name"] if line["name"] == "TABLE_MAP_EVENT" else None
         if schema in METADATA:
             table = described[f"{schema}.{line['data']['table_name']}"]
@@ -181,7 +183,7 @@ def table_failures(logs, columns, selected_rows):
     names = [table for table in columns if table.split(".")[0] in SCHEMAS_OF_ROWS or table in TABLES_OF_ROWS]
     tables = Tables(columns)
     for log in logs:
-        for line in row_events(log.lines):
+        for line in row_events(log.all_lines):
             yield from tables.apply(line) if line["table"] in names else ()
     for table in names:
         yield from tables.failures(table, selected_rows[table])

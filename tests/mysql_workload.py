@@ -20,20 +20,18 @@ class Form(NamedTuple):
     session: str
 
 
-# In compressed transactions no values can be seen.
-COMPRESSED = Form("compressed", "FULL", "CRC32", "binlog_transaction_compression = 1")
 FORMS = [
     Form("complete", "FULL", "CRC32", "binlog_row_image = 'FULL'"),
     Form("minimal", "FULL", "CRC32", "binlog_row_image = 'MINIMAL'"),
     Form("no_blob", "FULL", "CRC32", "binlog_row_image = 'NOBLOB'"),
     Form("few_facts", "MINIMAL", "NONE", "gtid_next = 'automatic:few_facts'"),
     Form("changes", "FULL", "CRC32", "binlog_row_value_options = 'PARTIAL_JSON'"),
-    COMPRESSED,
+    Form("compressed", "FULL", "CRC32", "binlog_transaction_compression = 1"),
 ]
 METADATA = {form.schema: form.metadata for form in FORMS}
 
-# What is changed by rows alone, in transactions that aren't compressed.
-SCHEMAS_OF_ROWS = {form.schema for form in FORMS} - {COMPRESSED.schema}
+# What is changed by rows alone.
+SCHEMAS_OF_ROWS = {form.schema for form in FORMS}
 TABLES_OF_ROWS = {"shop.loaded_rows", "shop.chosen"}
 
 

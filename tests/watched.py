@@ -16,13 +16,15 @@ COMPILER = "cc"
 
 class Run(NamedTuple):
     """The result of a run: its output, its status, whether an allocation was refused; for each other one the bytes
-    before it and the bytes asked for; and the number of blocks that were not freed, None if the program didn't exit."""
+    before it and the bytes asked for; and the number of blocks that were not freed, and the most bytes that were allocated at a
+    time, both None if the program didn't exit."""
 
     output: bytes
     status: int
     is_refused: bool
     allocations: list
     left: int | None
+    peak: int | None
 
 
 class Watch:
@@ -61,10 +63,9 @@ class Watch:
             )
             report.seek(0)
             lines = report.read().decode().splitlines()
-        left = [int(line.split()[1]) for line in lines if line.startswith("left")]
+        number = lambda word: next((int(line.split()[1]) for line in reversed(lines) if line.startswith(word)), None)
         sizes = [tuple(map(int, line.split())) for line in lines if line[0].isdigit()]
-        left_last = left[-1] if left else None
-        return Run(finished.stdout, finished.returncode, "refused" in lines, sizes, left_last)
+        return Run(finished.stdout, finished.returncode, "refused" in lines, sizes, number("left"), number("peak"))
 
 
 def tests():

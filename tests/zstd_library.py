@@ -61,8 +61,10 @@ LACKING = {
 BEYOND_LITERALS = "four streams of literals end too early or too late; its fast loop doesn't look at where they end"
 BEYOND_SEQUENCES = "the bits of sequences run out"
 BEYOND_DISTRIBUTION = "the bits of a distribution run out; it goes on with bits that it has read before"
+BEYOND_WEIGHTS = "the bits of the first states of a tree's weights run out"
 BEYOND = {("four streams", name): BEYOND_LITERALS for name in ("BitsLeft", "BitsOut", "NoMark")}
-BEYOND |= {("sequences", "BitsOut"): BEYOND_SEQUENCES, ("distribution", "Short"): BEYOND_DISTRIBUTION}
+BEYOND |= {("sequences", "BitsOut"): BEYOND_SEQUENCES, ("weights", "BitsOut"): BEYOND_WEIGHTS}
+BEYOND |= {("distribution", "Short"): BEYOND_DISTRIBUTION}
 
 OLDER_FORMAT = "the magic number is that of an older format, which this build of libzstd reads"
 OLDER_MAGICS = [bytes([first]) + bytes.fromhex("b52ffd") for first in range(0x22, 0x28)]
