@@ -22,7 +22,6 @@ use Rattle.binlog_optional_metadata.specs.FieldsLeft.{FieldContent}
 use Rattle.binlog_optional_metadata.specs.Stated.{stated_in, facts_at, StatesFacts}
 use Rattle.binlog_optional_metadata.specs.declared.column_facts.ColumnFacts.{ColumnFacts}
 use Rattle.binlog_optional_metadata.specs.declared.metadata_error.OptionalMetadataError.{OptionalMetadataError}
-use Rattle.binlog_json_values.proofs.KeptFacts.{column_of}
 use Rattle.binlog_json_values.specs.KeptColumns.{kept_facts}
 use Rattle.binlog_json_values.specs.Written.{ShowsKeptRows}
 use Rattle.column_files.specs.declared.tables.DeclaredTables.{DeclaredTables}
@@ -63,6 +62,10 @@ kept_states is_maria_log columns others s bytes facts kept refusal same_columns 
     subst (λ (l : List Typed). AreStated is_maria_log l bytes kept refusal) same_columns
     (subst (λ (t : List ℕ). AreStated is_maria_log columns t kept refusal) (sym same_bytes)
     (subst (λ (k : List Facts). AreStated is_maria_log columns s k refusal) (sym same_facts) (are_stated is_maria_log columns s facts refusal states)))
+
+column_of : (found : Option ColumnFacts) (fact : Facts) → option_map facts_of found ≡ Some fact → (column : ColumnFacts) × (found ≡ Some column) × (facts_of column ≡ fact)
+column_of None fact is = absurd cc
+column_of (Some column) fact is = (column, refl, cc)
 
 fact_at : (facts : List ColumnFacts) (kept : List Facts) (index : ℕ) (none : ColumnFacts) (fact : Facts) → map facts_of facts ≡ kept → slice_get kept index ≡ Some fact
     → facts_of (slice_index_or facts index none) ≡ fact
