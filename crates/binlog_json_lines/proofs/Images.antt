@@ -4,14 +4,14 @@ use Rattle.std.specs.Prelude.{is_some, option_map}
 use Rattle.binlog_columns.specs.Metadata.{Typed}
 use Rattle.binlog_rows.specs.Columns.{Bitmap}
 use Rattle.binlog_rows.specs.declared.rows_event.RowsEvent.{RowsEvent}
-use Rattle.binlog_images.specs.Cells.{RowsShape}
+use Rattle.binlog_images.specs.Cells.{ImageShape, RowsShape}
 use Rattle.binlog_images.specs.EventRows.{AreAllRows}
 use Rattle.binlog_images.specs.RowsLeft.{row_shape}
 use Rattle.binlog_images.specs.declared.rows.Rows.{Rows}
 use Rattle.binlog_json_values.proofs.Presence.{images_present}
 use Rattle.binlog_json_values.specs.Written.{HasImages}
 
-some_shape : (columns : List Typed) (bits : Option Bitmap) → is_some (option_map (λ (b : Bitmap). (columns, b)) bits) ≡ is_some bits
+some_shape : (columns : List Typed) (bits : Option Bitmap) → is_some {T = ImageShape} (option_map (λ (b : Bitmap). (columns, b)) bits) ≡ is_some bits
 some_shape columns None = refl
 some_shape columns (Some bits) = refl
 

@@ -141,7 +141,9 @@ columns_refused table_map event error same refused =
 -- No file is there.
 pub no_files : (files : List DeclaredTables) → eqb (length files) 0 ≡ true → [] ≡ files
 no_files [] none = refl
-no_files (file ∷ files) none = absurd cc
+no_files (file ∷ files) none =
+    let zero : length (file ∷ files) ≡ 0 = grind (arith, nat_tests) in
+    absurd (omega (arith, zero))
 
 -- The columns of bytes that are the same.
 pub columns_kept : (types others metadata more : List ℕ) → types ≡ others → metadata ≡ more → columns_in types metadata ≡ columns_in others more

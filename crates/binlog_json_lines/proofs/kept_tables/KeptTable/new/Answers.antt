@@ -16,5 +16,5 @@ invariant_of-result-clause-stated c =
     let columns : columns_of c.args.columns ≡ columns_in c.in_ok-kept_types.kept_types.items c.in_ok-kept_metadata.kept_metadata.items =
     c.requires.columns ∙ columns_kept _ _ _ _ (sym types) (sym metadata) in
     subst (λ (l : List Typed). AreStated c.args.is_maria_log l c.in_ok-kept_optional.kept_optional.items (kept_facts c.in_ok-known.known) c.in_ok-known.refused) columns
-    (subst (λ (s : List ℕ). AreStated c.args.is_maria_log (columns_of c.args.columns) s (kept_facts c.in_ok-known.known) c.in_ok-known.refused) (c.optional_metadata_raw.ensures ∙ sym optional)
+    (subst (λ (s : List ℕ). AreStated c.args.is_maria_log (columns_of c.args.columns) s (kept_facts c.in_ok-known.known) c.in_ok-known.refused) (c.optional_metadata_raw-optional_metadata.ensures ∙ sym optional)
     c.in_ok-known.ensures)
