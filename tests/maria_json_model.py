@@ -36,16 +36,21 @@ METHOD, GREATEST_WIDTH, MOST_BYTES = 0x80, 4, 1 << 30
 ENCRYPTION_LENGTH = 17
 
 
-def uncompressed(stored):
-    """The text that is stored as a length and a zlib stream."""
+def stated_length(stored):
+    """The length that is stated in front of a zlib stream."""
     allowed(bool(stored))
     width = stored[0] % 8
     allowed(stored[0] // 32 == METHOD // 32 and 1 <= width <= GREATEST_WIDTH and len(stored) > width)
-    length = int.from_bytes(stored[1 : 1 + width], "big")
+    return int.from_bytes(stored[1 : 1 + width], "big")
+
+
+def uncompressed(stored):
+    """The text that is stored as a length and a zlib stream."""
+    length = stated_length(stored)
     allowed(length <= MOST_BYTES)
     stream = zlib.decompressobj()
     try:
-        text = stream.decompress(stored[1 + width :], length + 1)
+        text = stream.decompress(stored[1 + stored[0] % 8 :], length + 1)
         # The rest of a stream without text.
         text += stream.decompress(stream.unconsumed_tail, 1) if len(text) <= length else b""
     except zlib.error:

@@ -89,10 +89,16 @@ class Damaged(Exception):
     """A body that can't be read."""
 
 
+class TooLong(Exception):
+    """Rows that are more than 1 GiB uncompressed."""
+
+
 def uncompressed(kind, body):
     """The type and the body of the event that was compressed."""
     event = event_data_model.fields(UNCOMPRESSED[kind], body, POST_HEADER_LENGTHS)
     stored = event["rows_data"].bytes
+    if maria_json_model.stated_length(stored) > maria_json_model.MOST_BYTES:
+        raise TooLong
     return UNCOMPRESSED[kind], body[: len(body) - len(stored)] + maria_json_model.uncompressed(stored)
 
 
@@ -211,6 +217,8 @@ class Model:
             event = event_data_model.fields(kind, body, POST_HEADER_LENGTHS)
         except event_data_model.Fault:
             raise Damaged
+        except TooLong:
+            return word(False), None, "Compressed"
         if not event["rows_data"].bytes:
             return word(False), None, None
         table_id = int.from_bytes(body[:6], "little")
@@ -373,6 +381,7 @@ PHRASES = {
     "Rows": "the rows can't be read",
     "OldTemporal": "a column of a date or time whose form isn't in the log",
     "Image": "the images of the rows lack columns",
+    "Compressed": "the compressed rows are too long",
     "PartialJson": "partial updates of documents",
     "Straddles": "a position is within the transaction, which ends at byte {}",
 }

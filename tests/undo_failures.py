@@ -43,7 +43,7 @@ def logs_in(folder):
     logs = []
     while len(logs) < 2:
         content = undo_command.log_of(
-            [(kind, body, undo_command.random_header(chance)) for kind, body in undo_command.random_transaction(chance, kinds, True)], 1, "8.0.36"
+            [(kind, body, undo_command.random_header(chance)) for kind, body in undo_command.random_transaction(chance, kinds, True, False)], 1, "8.0.36"
         )
         model = undo_command.Model()
         model.take("log", content)

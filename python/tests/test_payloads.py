@@ -124,9 +124,10 @@ class Payloads(unittest.TestCase):
         *_, event = binlog.Log(content, columns=io.BytesIO(test_columns.FILE))
         self.assertEqual([inside.event_type for inside in self.inside(event)], [19, 30])
         self.assertEqual(self.columns.read_bytes(), test_columns.FILE)
-        (outside,) = (event.rows for event in binlog.Log(payload_lines.log_of([test_columns.TABLE, test_columns.ROW]), columns=io.BytesIO(test_columns.FILE)) if event.event_type == 30)
+        outside = payload_lines.log_of([test_columns.TABLE, test_columns.ROW])
+        *_, wanted = binlog.Log(outside, columns=io.BytesIO(test_columns.FILE))
         *_, row = event.payload_log()
-        self.assertEqual(row.rows, outside)
+        self.assertEqual(row.rows, wanted.rows)
 
     def test_the_program(self):
         *_, event = binlog.Log(payload_lines.log_of([payload(INSIDE)]))
