@@ -1,0 +1,3 @@
+pub mod Checked
+pub mod Runs
+pub mod Ends
