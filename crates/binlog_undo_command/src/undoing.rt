@@ -1,5 +1,5 @@
 //! Both passes over several logs.
-ghost use Rattle.std.specs.Prelude.{◌≡◌, ◌≢◌, true, min, ◌^◌, ◌-◌, codes, IfErr, IfOk, OnOk};
+ghost use Rattle.std.specs.Prelude.{◌≡◌, ◌≢◌, false, true, min, ◌^◌, ◌-◌, codes, IfErr, IfOk, OnOk};
 ghost use Rattle.std.specs.Io.KnownBytes.{Appends};
 ghost use Rattle.clap.specs.Matches.{found_of};
 ghost use Rattle.binlog_cli.specs.TableWords.{texts_given};
@@ -19,7 +19,8 @@ use std::io;
 use std::io::{BufWriter, Write};
 
 /// Writes a log that undoes the chosen transactions of all logs, or names what can't be undone. Before that it writes how many
-/// transactions and row events are undone. The file is there if the status is [`Status::Fine`], and else it isn't.
+/// transactions and row events are undone. The file is there if the status is [`Status::Fine`]. Else it isn't, and what was begun of
+/// it is removed.
 pub fn undo<'a, L: Logs, T: NewFile, R: Eprint + AllocGlobal, W: Write>(
     rt: &R,
     logs: &L,
@@ -31,6 +32,8 @@ pub fn undo<'a, L: Logs, T: NewFile, R: Eprint + AllocGlobal, W: Write>(
         (T.is_fresh file.old) (T.has file.new) (found_of options.now) (W.contents writer.old) (W.contents writer.new) }
     ensures there { result ≡ Fine → T.is_there file.new ≡ true }
     ensures other { result ≢ Fine → T.is_there file.new ≡ T.is_there file.old }
+    ensures left { T.has_draft file.old ≡ false → T.has_draft file.new ≡ false }
+    ensures silent { result ≢ Fine → result ≢ Failed → W.contents writer.new ≡ W.contents writer.old }
     ensures refused { result ≡ Damaged → HasRefused (L.bytes logs.now) (found_of options.now) (texts_given (found_of options.now) (codes "FILE")) }
     ensures usage { result ≡ Usage → RefusesOptions (found_of options.now) Usage }
 {
@@ -40,7 +43,7 @@ pub fn undo<'a, L: Logs, T: NewFile, R: Eprint + AllocGlobal, W: Write>(
     }
 }
 
-/// Writes how many transactions and row events are undone, or names what can't be.
+/// Writes how many transactions and row events are undone, or names what can't be. If something is refused nothing is written.
 pub fn count_undo<'a, L: Logs, R: Eprint + AllocGlobal, W: Write>(
     rt: &R,
     logs: &L,
@@ -48,6 +51,7 @@ pub fn count_undo<'a, L: Logs, R: Eprint + AllocGlobal, W: Write>(
     writer: &mut W,
 ) -> Status
     ensures fine { result ≡ Fine → CountsLogs (L.bytes logs.now) (found_of options.now) (W.contents writer.old) (W.contents writer.new) }
+    ensures silent { result ≢ Fine → result ≢ Failed → W.contents writer.new ≡ W.contents writer.old }
     ensures refused { result ≡ Damaged → HasRefused (L.bytes logs.now) (found_of options.now) (texts_given (found_of options.now) (codes "FILE")) }
     ensures usage { result ≡ Usage → RefusesOptions (found_of options.now) Usage }
 {
@@ -67,6 +71,7 @@ fn count_logs<'a, L: Logs, R: Eprint + AllocGlobal, W: Write>(
     ensures ok { IfOk result (λ scanned. AreUndone (L.bytes logs.now) (found_of options.now) (texts_given (found_of options.now) (codes "FILE")) scanned.items) }
     ensures counts { IfOk result (λ scanned. Appends (W.contents writer.old) (W.contents writer.new) (counts_line scanned.items)) }
     ensures err { IfErr result (λ status. status ≢ Fine) }
+    ensures silent { IfErr result (λ status. status ≢ Failed → W.contents writer.new ≡ W.contents writer.old) }
     ensures refused { IfErr result (λ status. status ≡ Damaged → HasRefused (L.bytes logs.now) (found_of options.now) (texts_given (found_of options.now) (codes "FILE"))) }
     ensures usage { IfErr result (λ status. status ≡ Usage → RefusesOptions (found_of options.now) Usage) }
 {
@@ -123,6 +128,7 @@ fn put_log<L: Logs, T: NewFile, R: Eprint + AllocGlobal>(
     ensures fine { result ≡ Fine → PutsLog (L.has_frames logs.now) L.Sought.is_at ⟦<Counted<BufWriter<Retrying<T::Draft>>> as WriteCounted>⟧.contents (T.is_fresh file.old) (T.has file.new) scanned.now }
     ensures there { result ≡ Fine → T.is_there file.new ≡ true }
     ensures other { result ≢ Fine → T.is_there file.new ≡ T.is_there file.old }
+    ensures left { T.has_draft file.old ≡ false → T.has_draft file.new ≡ false }
     ensures failed { result ≢ Fine → result ≡ Failed }
 {
     let draft = match file.begin() {
@@ -146,6 +152,7 @@ fn finish<T: NewFile, R: Eprint>(rt: &R, file: &mut T, draft: T::Draft) -> Statu
     ensures fine { result ≡ Fine → T.has file.new (T.Draft.contents draft) }
     ensures there { result ≡ Fine → T.is_there file.new ≡ true }
     ensures other { result ≢ Fine → T.is_there file.new ≡ T.is_there file.old }
+    ensures left { T.has_draft file.new ≡ false }
     ensures failed { result ≢ Fine → result ≡ Failed }
 {
     match file.finish(draft) {
