@@ -5,6 +5,8 @@ use Rattle.std.specs.List.{AllByRecursion}
 use Rattle.binlog_undo_command.specs.Descriptions.{HasNone}
 use Rattle.binlog_undo_command.specs.Written.{BeginsBy, BeginsLogs, WritesOne, WritesLogs}
 use Rattle.binlog_undo_command.specs.declared.scanning.ScannedLog.{ScannedLog}
+use Rattle.binlog_undo_index.specs.declared.index.UndoIndex.{UndoIndex}
+use Rattle.binlog_undo_index.specs.declared.places.TransactionPlace.{TransactionPlace}
 use Rattle.binlog_undo_log.specs.declared.one_transaction.Commit.{Commit}
 use Rattle.binlog_undo_log.specs.declared.output.UndoOutput.{UndoOutput}
 
@@ -27,6 +29,12 @@ module _ {F W : Type 0} (has_frames : List ℕ → F → Type 0) (is_at : F → 
       (mid, subst (λ (k : ℕ). WritesLogs has_frames is_at contents (drop k logs) old mid) (sym next) behind, subst (λ (found : ScannedLog). WritesOne has_frames is_at contents found mid new) is one)
 
 -- ---- the last log in which something is undone
+
+-- Nothing is undone in a log whose places of transactions are none.
+pub none_in : (log : ScannedLog) (index : UndoIndex) (transactions : List TransactionPlace) (is_empty : Bool) → index ≡ log.scan.index → transactions ≡ index.transactions.items
+    → is_empty ≡ (length transactions == 0) → is_empty ≡ true → HasNone log
+none_in log index [] is_empty at are is yes = sym (are ∙ ap (λ (i : UndoIndex). i.transactions.items) at)
+none_in log index (transaction ∷ transactions) is_empty at are is yes = absurd cc
 
 -- Nothing is undone behind the last log.
 pub none_behind : (logs : List ScannedLog) → AllByRecursion HasNone (drop (length logs) logs)

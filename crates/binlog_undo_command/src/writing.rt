@@ -132,8 +132,9 @@ fn begin_logs<L: Logs, R: Eprint + AllocGlobal, W: WriteCounted>(
     let mut left = scanned.len();
     'logs: while left > 0 {
         left -= 1;
-        if !scanned[left].scan.index().transactions().is_empty() {
-            return Ok(Some(begin_log(rt, logs, &scanned[left], output)?));
+        let log = &scanned[left];
+        if !log.scan.index().transactions().is_empty() {
+            return Ok(Some(begin_log(rt, logs, log, output)?));
         }
     }
     Ok(None)
