@@ -2,8 +2,10 @@
 ghost use Rattle.std.specs.Prelude.{◌≡◌, ◌≢◌, false, true, min, ◌^◌, ◌-◌, codes, IfErr, IfOk, OnOk};
 ghost use Rattle.std.specs.Io.KnownBytes.{Appends};
 ghost use Rattle.clap.specs.Matches.{found_of, one_text};
+ghost use Rattle.binlog_cli.specs.TableWords.{texts_given};
 ghost use Rattle.binlog_cli.specs.declared.exit_status.Status.TheVariants.{Fine, Damaged, Failed, Usage};
 ghost use Rattle.binlog_undo_command.specs.Options.{RefusesOptions, StatesFlag};
+ghost use Rattle.binlog_undo_command.specs.Scanned.{AreUndone, HasRefused};
 ghost use Rattle.binlog_undo_command.specs.Undoing.{transactions_in, changes_in, counts_line, AreUndoneAs, IsRefusedAs, CountsLogs, PutsLog, Undoes};
 
 use crate::descriptions::check_descriptions;
@@ -102,12 +104,29 @@ fn scan_as<'a, L: Logs, R: Eprint + AllocGlobal>(
     ensures refused { IfErr result (λ status. status ≡ Damaged → IsRefusedAs (L.bytes logs.now) (L.has_frames logs.now) L.Sought.is_at (found_of options.now)) }
     ensures usage { IfErr result (λ status. status ≡ Usage → RefusesOptions (found_of options.now) Usage) }
 {
-    let names = options.get_strs("FILE").unwrap_or(&[]);
-    let scanned = scan_logs(rt, logs, options, names)?;
-    if is_one {
-        check_descriptions(rt, logs, scanned.as_slice())?;
+    let scanned = scan_files(rt, logs, options)?;
+    if !is_one {
+        return Ok(scanned);
     }
-    Ok(scanned)
+    match check_descriptions(rt, logs, scanned.as_slice()) {
+        Ok(()) => Ok(scanned),
+        Err(status) => Err(status),
+    }
+}
+
+// The first pass over the logs that the words name.
+fn scan_files<'a, L: Logs, R: Eprint + AllocGlobal>(
+    rt: &R,
+    logs: &L,
+    options: &ArgMatches<'a>,
+) -> Result<Vec<ScannedLog<'a>>, Status>
+    ensures ok { IfOk result (λ scanned. AreUndone (L.bytes logs.now) (found_of options.now) (texts_given (found_of options.now) (codes "FILE")) scanned.items) }
+    ensures err { IfErr result (λ status. status ≢ Fine) }
+    ensures refused { IfErr result (λ status. status ≡ Damaged → HasRefused (L.bytes logs.now) (found_of options.now) (texts_given (found_of options.now) (codes "FILE"))) }
+    ensures usage { IfErr result (λ status. status ≡ Usage → RefusesOptions (found_of options.now) Usage) }
+{
+    let names = options.get_strs("FILE").unwrap_or(&[]);
+    scan_logs(rt, logs, options, names)
 }
 
 // How many transactions of logs are undone.
