@@ -101,8 +101,9 @@ fn description_of<L: Logs, R: Eprint + AllocGlobal>(
     ensures some { IfOk result (λ found. IfSome found (λ d. IsUnder (L.has_frames logs.now) L.Sought.is_at d.body.items d.has_checksums log.now)) }
     ensures err { IfErr result (λ status. status ≡ Failed) }
 {
-    let Ok(mut frames) = seek(rt, logs, log) else {
-        return Err(Status::Failed);
+    let mut frames = match seek(rt, logs, log) {
+        Ok(frames) => frames,
+        Err(_) => return Err(Status::Failed),
     };
     match log_description(rt.alloc(), &mut frames, &log.scan) {
         Ok(found) => Ok(found),
