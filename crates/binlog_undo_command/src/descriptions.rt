@@ -8,7 +8,7 @@ use crate::logs::Logs;
 use crate::scanning::ScannedLog;
 use crate::writing::seek;
 use binlog_cli::Status;
-use binlog_undo_log::{LogDescription, log_description};
+use binlog_undo_log::{LogDescription, read_description};
 
 /// Whether all that is undone is under one description, as one transaction has to be. The first log that is under another one than the
 /// logs in front of it has a message.
@@ -105,7 +105,7 @@ fn description_of<L: Logs, R: Eprint + AllocGlobal>(
         Ok(frames) => frames,
         Err(_) => return Err(Status::Failed),
     };
-    match log_description(rt.alloc(), &mut frames, &log.scan) {
+    match read_description(rt.alloc(), &mut frames, &log.scan) {
         Ok(found) => Ok(found),
         Err(error) => {
             let _ = eprintln!(rt; "binlog: {}: {error}", log.name);

@@ -27,7 +27,7 @@ pub use choice::Choice;
 pub use files::{scan_file, write_file};
 pub use frames::{Frames, SeekFrames};
 pub use heads::is_writable;
-pub use log_description::{LogDescription, log_description};
+pub use log_description::{LogDescription, read_description};
 pub use one_transaction::{Commit, begin_one};
 pub use output::UndoOutput;
 pub use scan::UndoScan;

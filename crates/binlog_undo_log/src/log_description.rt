@@ -39,7 +39,7 @@ impl LogDescription {
 /// - [`UndoLogError::Changed`] if the file doesn't have this description any more.
 /// - [`UndoLogError::Reader`] if the file can't be read.
 /// - [`UndoLogError::Memory`] if memory is refused.
-pub fn log_description<F: Frames>(
+pub fn read_description<F: Frames>(
     alloc: Global,
     frames: &mut F,
     scan: &UndoScan,

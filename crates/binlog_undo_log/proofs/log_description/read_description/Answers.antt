@@ -2,7 +2,7 @@ use Rattle.std.proofs.Common.{◌≡◌, ◌∙◌, ℕ, Bool, true, false, List
 use Rattle.std.specs.Prelude.{◌==◌}
 use Rattle.binlog_undo_index.specs.declared.index.UndoIndex.{UndoIndex}
 use Rattle.binlog_undo_index.specs.declared.places.TransactionPlace.{TransactionPlace}
-use Rattle.binlog_undo_log.proofs.log_description.log_description.Goals as goal
+use Rattle.binlog_undo_log.proofs.log_description.read_description.Goals as goal
 
 none_if : (transactions : List TransactionPlace) → (length transactions == 0) ≡ true → transactions ≡ []
 none_if [] is = refl
