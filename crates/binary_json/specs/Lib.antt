@@ -1,6 +1,7 @@
 pub mod Values
 pub mod Layout
 pub mod Opaques
+pub mod Temporals
 pub mod Grammar
 pub mod Refusals
 pub mod Decoding

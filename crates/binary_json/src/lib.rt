@@ -12,6 +12,7 @@ mod iterators;
 pub mod laws;
 mod opaque;
 mod scalar;
+mod temporal;
 mod value;
 
 pub use containers::{Array, Object};
@@ -20,4 +21,5 @@ pub use diffs::{JsonDiff, JsonDiffError, JsonDiffOperation, JsonDiffs};
 pub use document::Document;
 pub use error::{JsonError, Refusal};
 pub use iterators::{Elements, Members};
+pub use temporal::Temporal;
 pub use value::{Double, OpaqueValue, Value};

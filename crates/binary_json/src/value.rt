@@ -7,6 +7,7 @@ use crate::containers::{Array, Object};
 use crate::decimal::{Decimal, decimal_in};
 use crate::opaque::{is_opaque, is_temporal};
 use crate::scalar::text;
+use crate::temporal::Temporal;
 use byteorder::{ByteOrder, LittleEndian};
 use std::num::f64_from_bits_with_nan;
 
@@ -125,6 +126,20 @@ impl<'a> OpaqueValue<'a> {
             return None;
         }
         Some(LittleEndian::read_i64(self.bytes))
+    }
+
+    /// The date and the time, if the column type is DATE, TIME, DATETIME or TIMESTAMP; else None.
+    pub fn temporal(&self) -> Option<Temporal>
+        ensures packed { option_map (λ t. t.packed) result ≡ packed_of self.now.column self.now.bytes.now }
+        ensures column { IfSome result (λ t. t.column ≡ self.now.column) }
+    {
+        match self.packed_time() {
+            Some(packed) => Some(Temporal {
+                column: self.column,
+                packed,
+            }),
+            None => None,
+        }
     }
 }
 

@@ -8,3 +8,4 @@ pub mod TextTests
 pub mod Trees
 pub mod DiffLemmas
 pub mod TextDiffLemmas
+pub mod TimeTexts

@@ -1,9 +1,14 @@
 -- The test for a text says whether there is one.
-use Rattle.std.proofs.Common.{◌≡◌, true, false, Some, None, refl}
+use Rattle.std.proofs.Common.{◌≡◌, ℕ, List, true, false, Some, None, refl}
+use Rattle.std.specs.Prelude.{IsAscii, IsUtf8}
 use Rattle.std.proofs.lemmas.Bool.{and_parts, and_from, false_from_ne_true}
-use Rattle.std.proofs.lemmas.Str.{IsUtf8-from_is_utf8, is_utf8-from_IsUtf8}
+use Rattle.std.proofs.lemmas.Str.{IsUtf8-from_is_utf8, is_utf8-from_IsUtf8, IsUtf8-from_ascii}
 use Rattle.binary_json.specs.Values.{Scalar, null, boolean, int16, uint16, int32, uint32, int64, uint64, double, string, opaque, Json, scalar, array, object, Entries, no_entries, entry}
 use Rattle.binary_json_lines.specs.HasText.{ScalarHasText, HasText, ElementsHaveText, MembersHaveText, scalar_has_text, has_text, elements_have_text, members_have_text}
+
+-- ASCII is UTF-8.
+pub ascii_is_utf8 : (bytes : List ℕ) → IsAscii bytes → IsUtf8 bytes
+ascii_is_utf8 bytes ascii = IsUtf8-from_ascii bytes ascii
 
 scalar_tested : (x : Scalar) → ScalarHasText x → scalar_has_text x ≡ true
 scalar_tested null h = refl

@@ -54,10 +54,21 @@ fn write_object(line: &mut Line, memory: &mut String, object: &Object<'_>) -> Re
     line.end_object()
 }
 
-// Writes a value.
+/// Writes the text of a value that has one, as [`value_has_text`](crate::value_has_text) says: values and members in the order in which
+/// they are stored, integers and decimal numbers with all their digits, floating-point numbers as MySQL prints them, dates and times
+/// as strings, and other opaque values as strings with the column type and the bytes in base64. `memory` is for parts of the text, and
+/// may be used again.
+///
+/// # Errors
+///
+/// `AllocError` if memory is refused. A part of the text may have been written.
 #[cycle(write)]
 #[tactic(auto, using(crate::proofs::PartLemmas::token_written, crate::proofs::PartLemmas::text_written))]
-fn write_value(line: &mut Line, memory: &mut String, value: &Value<'_>) -> Result<(), AllocError>
+pub fn write_value(
+    line: &mut Line,
+    memory: &mut String,
+    value: &Value<'_>,
+) -> Result<(), AllocError>
     requires { HasText (json value.now) }
     ensures { Writes result line.old line.new (value_parts (json value.now)) }
 {
@@ -78,10 +89,7 @@ fn write_value(line: &mut Line, memory: &mut String, value: &Value<'_>) -> Resul
     }
 }
 
-/// Writes the text of a document that has one, as [`has_text`](crate::has_text) says: its values and members in the order in which
-/// they are stored, integers and decimal numbers with all their digits, floating-point numbers as MySQL prints them, dates and times
-/// as strings, and other opaque values as strings with the column type and the bytes in base64. `memory` is for parts of the text, and
-/// may be used again.
+/// Writes the text of a document that has one, as [`has_text`](crate::has_text) says: [`write_value`] of its value.
 ///
 /// # Errors
 ///

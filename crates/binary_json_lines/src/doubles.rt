@@ -44,8 +44,11 @@ fn push_small(text: &mut String, digits: &str, places: u8) -> Result<(), AllocEr
 
 // Appends a number without a sign, where MySQL lays it out otherwise than `ryu`. Answers whether it does.
 fn push_laid_out(text: &mut String, shortest: &str) -> Result<bool, AllocError> {
-    if let Some((digits, exponent)) = shortest.split_once("e-") {
-        let Ok(places) = exponent.parse::<u8>() else {
+    if let Some((digits, exponent)) = shortest.split_once('e') {
+        let Some(size) = exponent.strip_prefix('-') else {
+            return Ok(false);
+        };
+        let Ok(places) = size.parse::<u8>() else {
             return Ok(false);
         };
         if places > MOST_PLACES {

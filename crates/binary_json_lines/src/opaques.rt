@@ -8,7 +8,7 @@ ghost use Rattle.binary_json_lines.specs.Digits.{decimal_text};
 ghost use Rattle.binary_json_lines.specs.Opaques.{base64_text, other_text, opaque_token};
 
 use crate::decimals::push_decimal;
-use crate::times::push_time;
+use crate::times::write_time;
 use base64::engine::general_purpose::STANDARD;
 use binary_json::{Decimal, OpaqueValue};
 use itoa::Buffer;
@@ -69,10 +69,10 @@ pub(crate) fn write_opaque(
     if let Some(decimal) = opaque.decimal() {
         return write_decimal(line, memory, &decimal);
     }
-    memory.clear();
-    match opaque.packed_time() {
-        Some(packed) => push_time(memory, opaque.value_type(), packed)?,
-        None => push_other(memory, opaque)?,
+    if let Some(packed) = opaque.packed_time() {
+        return write_time(line, memory, opaque.value_type(), packed);
     }
+    memory.clear();
+    push_other(memory, opaque)?;
     line.string(memory)
 }

@@ -9,10 +9,14 @@ use binary_json::{Array, Document, Object, Value};
 use std::str;
 
 /// Whether the bytes are UTF-8.
+#[tactic(auto, using(crate::proofs::TextTests::ascii_is_utf8))]
 pub(crate) fn is_utf8(bytes: &[u8]) -> bool
     ensures is { OnTrue result (IsUtf8 bytes.now) }
     ensures isnt { OnFalse result (¬ (IsUtf8 bytes.now)) }
 {
+    if bytes.is_ascii() {
+        return true;
+    }
     match str::from_utf8(bytes) {
         Ok(_) => true,
         Err(_) => false,
@@ -50,9 +54,9 @@ fn members_have_text(object: &Object<'_>) -> bool
     true
 }
 
-// Whether a value has a text.
+/// Whether a value of a document has a text: all strings and keys in it are UTF-8, and all its floating-point numbers are finite.
 #[cycle(texts)]
-fn value_has_text(value: &Value<'_>) -> bool
+pub fn value_has_text(value: &Value<'_>) -> bool
     ensures has { OnTrue result (HasText (json value.now)) }
     ensures hasnt { OnFalse result (¬ (HasText (json value.now))) }
 {
@@ -65,8 +69,7 @@ fn value_has_text(value: &Value<'_>) -> bool
     }
 }
 
-/// Whether a document has a text: all its strings and keys are UTF-8, and all its floating-point numbers are finite. Servers
-/// write no others.
+/// Whether a document has a text, as [`value_has_text`] says of its value. Servers write no others.
 pub fn has_text(document: &Document<'_>) -> bool
     ensures has { OnTrue result (HasText (document_json document.now)) }
     ensures hasnt { OnFalse result (¬ (HasText (document_json document.now))) }

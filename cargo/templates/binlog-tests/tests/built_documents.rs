@@ -39,9 +39,18 @@ fn opaque_values_keep_their_parts() {
     let value = OpaqueValue::new(DATETIME, &moment).unwrap();
     assert_eq!((value.value_type(), value.data()), (DATETIME, &moment[..]));
     assert_eq!(value.packed_time(), Some(MOMENT));
+    let moment = value.temporal().unwrap();
+    assert_eq!((moment.year(), moment.month(), moment.day()), (2026, 11, 25));
+    assert_eq!((moment.hour(), moment.minute(), moment.second(), moment.microseconds()), (6, 30, 0, 250));
     assert!(value.decimal().is_none());
     let number = OpaqueValue::new(DECIMAL, NUMBER).unwrap().decimal().unwrap();
     assert_eq!((number.precision(), number.scale(), number.is_negative()), (5, 2, true));
+    assert!(OpaqueValue::new(DECIMAL, NUMBER).unwrap().temporal().is_none());
+    // -838:59:58: the hour above 12 bits, with ten bits of its own.
+    let hours = (-((838_i64 << 12 | 59 << 6 | 58) << 24)).to_le_bytes();
+    let time = OpaqueValue::new(TIME, &hours).unwrap().temporal().unwrap();
+    assert_eq!((time.is_negative(), time.hour(), time.minute(), time.second()), (true, 838, 59, 58));
+    assert_eq!((time.year(), time.month(), time.day(), time.microseconds()), (0, 0, 0, 0));
 }
 
 #[test]

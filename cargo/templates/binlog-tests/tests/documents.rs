@@ -1,7 +1,7 @@
 //! Documents of JSON columns as `serde_json` has them, with the feature of this name.
 #![cfg(feature = "serde_json")]
 
-use binlog::jsonb::{Document, DocumentError, JsonWriteError, OwnedDocument};
+use binlog::jsonb::{Document, DocumentError, JsonWriteError, OwnedDocument, Value as JsonValue};
 use binlog::raw::ParseBuf;
 use binlog::values::{Column, Value};
 use serde_json::json;
@@ -61,6 +61,17 @@ fn a_column_of_documents() {
     let read = Value::read(&column, &mut ParseBuf(b"\x02\0\0\0\x04\x01")).unwrap();
     let document = read.document().unwrap().unwrap();
     assert_eq!(serde_json::Value::try_from(&document).unwrap(), json!(true));
+}
+
+// A value within a document.
+#[test]
+fn parts_of_documents_are_values() {
+    let document = Document::read(b"\0\x01\0\x13\0\x0b\0\x01\0\x02\x0c\0a\x01\0\x07\0\x04\x01\0").unwrap();
+    let JsonValue::Object(members) = document.value() else {
+        panic!("{document:?}");
+    };
+    let part = members.get("a").unwrap();
+    assert_eq!(serde_json::Value::try_from(&part).unwrap(), json!([true]));
 }
 
 /// The bytes of the document of a value.

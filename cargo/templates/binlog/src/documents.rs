@@ -1,6 +1,6 @@
 //! The documents of JSON columns as the crate `serde_json` has them, and the other way. By hand, with the feature `serde_json`.
-use crate::binary_json::Document;
-use crate::binary_json_lines::{has_text, write_document};
+use crate::binary_json::{Document, Value};
+use crate::binary_json_lines::{value_has_text, write_value};
 use crate::binary_json_writing::{ArrayBuilder, JsonWriteError, ObjectBuilder, OwnedDocument};
 use crate::json_line::Line;
 use crate::memory::AllocError;
@@ -10,7 +10,7 @@ use thiserror::Error;
 /// How many arrays and objects of a document may be within one another.
 const MOST_NESTED: usize = 100;
 
-/// Why a document isn't a value of `serde_json`.
+/// Why a document, or a value of one, isn't a value of `serde_json`.
 #[derive(Debug, Error)]
 pub enum DocumentError {
     /// A string or a key isn't UTF-8, or a floating-point number isn't finite. Servers write no such document.
@@ -24,8 +24,37 @@ pub enum DocumentError {
     Memory(#[from] AllocError),
 }
 
-/// What `serde_json` reads of the document's text, which `binlog json` prints: an integer keeps its digits, a decimal number becomes
+/// What `serde_json` reads of the value's text, which `binlog json` prints: an integer keeps its digits, a decimal number becomes
 /// a float, a date or a time a string, and of members with equal keys the last one stays.
+///
+/// # Example
+///
+/// ```
+/// use binlog::jsonb::{Document, Value};
+/// use serde_json::json;
+///
+/// let document = Document::read(b"\0\x01\0\x13\0\x0b\0\x01\0\x02\x0c\0a\x01\0\x07\0\x04\x01\0")?;
+/// let Value::Object(members) = document.value() else {
+///     panic!("an object");
+/// };
+/// let value = members.get("a").expect("a member");
+/// assert_eq!(serde_json::Value::try_from(&value)?, json!([true]));
+/// # Ok::<(), Box<dyn std::error::Error>>(())
+/// ```
+impl TryFrom<&Value<'_>> for serde_json::Value {
+    type Error = DocumentError;
+
+    fn try_from(value: &Value<'_>) -> Result<Self, DocumentError> {
+        if !value_has_text(value) {
+            return Err(DocumentError::NoText);
+        }
+        let mut line = Line::new();
+        write_value(&mut line, &mut String::new(), value)?;
+        Ok(serde_json::from_slice(line.end()?)?)
+    }
+}
+
+/// The same of the value of a document.
 ///
 /// # Example
 ///
@@ -41,12 +70,7 @@ impl TryFrom<&Document<'_>> for serde_json::Value {
     type Error = DocumentError;
 
     fn try_from(document: &Document<'_>) -> Result<Self, DocumentError> {
-        if !has_text(document) {
-            return Err(DocumentError::NoText);
-        }
-        let mut line = Line::new();
-        write_document(&mut line, &mut String::new(), document)?;
-        Ok(serde_json::from_slice(line.end()?)?)
+        serde_json::Value::try_from(&document.value())
     }
 }
 

@@ -261,7 +261,7 @@ pub mod columns {
 /// converted to a `serde_json::Value`, and such a value to an [`OwnedDocument`](jsonb::OwnedDocument).
 pub mod jsonb {
     pub use crate::binary_json::{Array, Decimal, Document, Double, Elements, JsonError, Members};
-    pub use crate::binary_json::{Object, OpaqueValue, Refusal, Value};
+    pub use crate::binary_json::{Object, OpaqueValue, Refusal, Temporal, Value};
     pub use crate::binary_json_writing::{ArrayBuilder, JsonWriteError, ObjectBuilder, OwnedDocument};
     pub use crate::binary_json_writing::rewritten;
     #[cfg(feature = "serde_json")]
