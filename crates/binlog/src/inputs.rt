@@ -1,55 +1,16 @@
 //! Where the files of a command come from.
-ghost use Rattle.std.specs.Prelude.{◌≡◌, ◌==◌, ◌&&◌, ℕ, List, Option, None, IfOk};
+ghost use Rattle.std.specs.Prelude.{◌≡◌, ℕ, List, Option, None, IfOk, ⊤};
 
-use crate::states::StateFile;
+use binlog_following::{FileId, LogFiles, NEW_FILE, OpenLog, StateFile, file_id};
 use binlog_rotation::Checkpoint;
 use std::alloc::{AllocError, Global};
 use std::fs::File;
 use std::io::Read;
-use std::os::unix::fs::MetadataExt;
 use std::rt::Files;
 use std::{fs, io};
 
-/// Where a file begins of which nothing was read.
-pub(crate) const NEW_FILE: Checkpoint = Checkpoint {
-    position: 0,
-    crc32: 0,
-};
-
-/// Which file there is under a name.
-#[derive(Clone, Copy, Debug, PartialEq, Eq)]
-pub(crate) struct FileId {
-    /// Its device.
-    pub(crate) device: u64,
-    /// Its inode.
-    pub(crate) inode: u64,
-    /// How many bytes it has.
-    pub(crate) len: u64,
-}
-
-impl FileId {
-    /// Whether both are one file.
-    pub(crate) fn is_same(self, other: FileId) -> bool
-        ensures { result ≡ (self.device == other.device && self.inode == other.inode) }
-    {
-        self.device == other.device && self.inode == other.inode
-    }
-}
-
-/// Which file has this name.
-pub(crate) fn file_id<R: Files>(rt: &R, name: &str) -> Option<FileId> {
-    match fs::metadata(rt, name) {
-        Ok(metadata) => Some(FileId {
-            device: metadata.dev(),
-            inode: metadata.ino(),
-            len: metadata.len(),
-        }),
-        Err(_) => None,
-    }
-}
-
 /// Opens files by their names; `-` is standard input.
-pub(crate) trait Inputs {
+pub(crate) trait Inputs: LogFiles {
     /// An open file.
     type Opened: Read + Drop;
 
@@ -62,19 +23,6 @@ pub(crate) trait Inputs {
 
     /// The size of a file in bytes, if it is known.
     fn size(&self, name: &str) -> Option<u64>;
-
-    /// Which file has this name.
-    fn named(&self, name: &str) -> Option<FileId>;
-
-    /// Whether there is a state that says where to go on following a log.
-    fn has_state(&self) -> bool;
-
-    /// The path of the file with which following a log begins, and where in it: what the state says, in the folder of this name; else
-    /// this name.
-    fn start(&self, alloc: Global, name: &str) -> Result<(String, Checkpoint), AllocError>;
-
-    /// Writes where to go on following a log: in the file of this path, from there on.
-    fn save(&self, path: &str, checkpoint: Checkpoint) -> io::Result<()>;
 }
 
 /// The files of the machine. What they have isn't known.
@@ -115,9 +63,20 @@ impl<'a, R: Files<File = File> + Input + AllocGlobal> Inputs for HostInputs<'a, 
             Err(_) => None,
         }
     }
+}
 
-    fn named(&self, name: &str) -> Option<FileId> {
-        file_id(self.rt, name)
+impl<'a, R: Files<File = File> + Input + AllocGlobal> LogFiles for HostInputs<'a, R> {
+    type Log = HostLog<R::File>;
+
+    fn open_log(&self, path: &str) -> io::Result<HostLog<R::File>> {
+        match fs::open(self.rt, path) {
+            Ok(file) => Ok(HostLog { file }),
+            Err(error) => Err(error),
+        }
+    }
+
+    fn named(&self, path: &str) -> Option<FileId> {
+        file_id(self.rt, path)
     }
 
     fn has_state(&self) -> bool {
@@ -152,5 +111,19 @@ impl<S: Read, F: Read> Read for HostInput<S, F> {
             HostInput::Standard(input) => input.read(buf),
             HostInput::File(file) => file.read(buf),
         }
+    }
+}
+
+/// A file of the machine. What is read of it isn't known.
+#[derive(Drop)]
+pub(crate) struct HostLog<F> {
+    file: F,
+}
+
+impl<F: Read> OpenLog for HostLog<F> {
+    ghost has_given = { λ log bytes. ⊤ };
+
+    fn read_log(&mut self, buf: &mut [u8]) -> io::Result<usize> {
+        self.file.read(buf)
     }
 }

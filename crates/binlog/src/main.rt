@@ -2,7 +2,7 @@
 #![tactic(auto)]
 
 ghost use Rattle.std.specs.Prelude.{◌≡◌};
-ghost use Rattle.binlog_cli.specs.declared.exit_status.Status.TheVariants.{Usage};
+ghost use Rattle.binlog_cli.specs.declared.exit_status.Status.TheVariants.{Usage, Failed};
 ghost use Rattle.clap.specs.Values.{kind_of};
 ghost use Rattle.binlog.specs.Ends.{EndsRefused, EndsUnread, status_of};
 ghost use Rattle.binlog.specs.Requests.{IsNoCommand};
@@ -13,27 +13,24 @@ mod commands;
 mod copying;
 mod files;
 mod following;
-mod growing;
 mod gtids;
 mod inputs;
 mod interval_statistics;
 mod request;
 mod rotations;
-mod states;
 mod statistics;
 mod table_statistics;
 mod transaction_statistics;
 mod type_statistics;
 mod verifying;
-mod waits;
 
 use binlog_cli::{Status, out_of_memory};
+use binlog_following::{StateFile, StateFileError};
 use binlog_undo_command::{command, run_undo};
 use clap::ArgMatches;
 use clap::error::ErrorKind;
 use inputs::HostInputs;
 use request::{Request, Terminals};
-use states::StateFile;
 use std::env::Env;
 use std::fs::File;
 use std::io::IsTerminal;
@@ -147,8 +144,27 @@ fn state_of<'a, R: Files<File = File> + Eprint + AllocGlobal>(
     }
     match StateFile::open(rt, path, request.is_synced) {
         Ok(state) => Ok(Some(state)),
-        Err(status) => Err(status),
+        Err(error) => Err(no_state(rt, path, &error)),
     }
+}
+
+// The message if following can't begin with a state file.
+fn no_state<E: Eprint>(rt: &E, path: &str, error: &StateFileError) -> Status
+    ensures { result ≡ Failed }
+{
+    let _ = match error {
+        StateFileError::Locked => {
+            eprintln!(rt; "binlog: {path}: another process follows a log with this state")
+        }
+        StateFileError::Lock(error) => eprintln!(rt; "binlog: {path}.lock: {error}"),
+        StateFileError::Reader(error) => eprintln!(rt; "binlog: {path}: {error}"),
+        StateFileError::Text(error) => eprintln!(rt; "binlog: {path}: {error}"),
+        StateFileError::Output(error) => {
+            eprintln!(rt; "binlog: the output can't be cut back: {error}")
+        }
+        StateFileError::Memory => return out_of_memory(rt),
+    };
+    Status::Failed
 }
 
 // The status of a command that ended, or of one that can't begin.

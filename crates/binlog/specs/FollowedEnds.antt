@@ -1,0 +1,28 @@
+-- The status behind a file that was followed, and the path of the next one.
+use Rattle.std.specs.Prelude.{ℕ, Option, Some, None, Result, Ok, Err, String}
+use Rattle.std.specs.Global.{Global}
+use Rattle.binlog_cli.specs.Statuses.{worse}
+use Rattle.binlog_cli.specs.declared.exit_status.Status.{Status}
+use Rattle.binlog_cli.specs.declared.exit_status.Status.TheVariants.{NotOpened, Damaged, Failed}
+use Rattle.binlog_rotation.specs.declared.error.NextFileError.{NextFileError}
+use Rattle.binlog_rotation.specs.declared.error.NextFileError.TheVariants.{Memory}
+use Rattle.binlog_rotation.specs.declared.fault.LogFault.{LogFault}
+use Rattle.binlog_rotation.specs.declared.fault.LogFault.TheVariants.{OtherLog, Size, Checksum, Position}
+
+-- Another log isn't the one that was to be read; everything else is damage.
+abbrev pub status_of_fault : LogFault → Status
+status_of_fault OtherLog = NotOpened
+status_of_fault (Size size) = Damaged
+status_of_fault Checksum = Damaged
+status_of_fault (Position position) = Damaged
+
+-- The next file is in sight, or there is a reason why it isn't.
+abbrev pub behind_whole : Result (Option (String Global)) NextFileError → Status → Status × Option (String Global)
+behind_whole (Ok next) status = (status, next)
+behind_whole (Err Memory) status = (worse status Failed, None)
+behind_whole (Err error) status = (worse status NotOpened, None)
+
+-- A fault comes first: no file comes behind one.
+abbrev pub behind_file : Option (LogFault × ℕ) → Result (Option (String Global)) NextFileError → Status → Status × Option (String Global)
+behind_file (Some fault) next status = (worse status (status_of_fault fault.0), None)
+behind_file None next status = behind_whole next status
