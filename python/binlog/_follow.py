@@ -22,7 +22,10 @@ class Followed:
 
     def __init__(self, command: list[str]) -> None:
         # A pipe that nobody reads would stop the program; what it says is for the error.
-        self._running = subprocess.Popen(command, stdout=subprocess.PIPE, stderr=subprocess.PIPE)
+        try:
+            self._running = subprocess.Popen(command, stdin=subprocess.DEVNULL, stdout=subprocess.PIPE, stderr=subprocess.PIPE)
+        except OSError as error:
+            raise ProgramError(f"{command[0]}: {error.strerror}") from error
         self._messages: list[bytes] = []
         self._reader = threading.Thread(target=self._read_messages, daemon=True)
         self._reader.start()
