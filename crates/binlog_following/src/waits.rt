@@ -1,5 +1,5 @@
 //! Waiting for more of a log.
-ghost use Rattle.std.specs.Prelude.{◌≡◌, ◌==◌, ◌+◌, ◌-◌, ◌^◌, min};
+ghost use Rattle.std.specs.Prelude.{◌≡◌, ◌==◌, ◌+◌, ◌-◌, ◌%◌, ◌^◌, min};
 ghost use Rattle.binlog_following.specs.Files.{missing_of};
 
 use binlog_rotation::NamedFile;
@@ -11,6 +11,9 @@ const WAIT: u64 = 50;
 
 /// How many looks without anything new there are before a message: those of ten seconds.
 const LOOKS: u64 = 200;
+
+/// How many looks there are in a second.
+const LOOKS_A_SECOND: u64 = 20;
 
 /// What is missing, where it is waited for.
 #[derive(Clone, Copy, Debug, PartialEq, Eq)]
@@ -61,6 +64,13 @@ impl Waits {
         ensures { result.looks ≡ 0 }
     {
         Waits { looks: 0 }
+    }
+
+    /// Whether this is the first look of a second without anything new.
+    pub(crate) fn is_second(self) -> bool
+        ensures { result ≡ (self.looks % 20 == 1) }
+    {
+        self.looks % LOOKS_A_SECOND == 1
     }
 
     /// Waits for a moment. After ten seconds there is a message, if something is missing.
