@@ -466,6 +466,31 @@ def killed_runs(command):
     return scene
 
 
+def killed_at_once(program, folder):
+    """Runs that are killed while they write their first lines, into one file and then into another one: each line is there once."""
+    content = log(PLAIN, *[XID] * 40_000)
+    (folder / "log.000001").write_bytes(content)
+    wanted = lines_of(content)
+    for output in ("lines", "others"):
+        for part in (1, 100_000):
+            run = with_state(program, folder, output, "log.000001", command="list")
+            yield None if is_within(PATIENCE, lambda: (folder / output).stat().st_size >= part) else "no lines"
+            run.kill()
+            run.wait()
+        written = (folder / output).read_bytes()
+        yield None if len(written) < len(wanted) and wanted.startswith(written) else f"all lines before a kill, or other ones: {len(written)}"
+        run = with_state(program, folder, output, "log.000001", command="list")
+        is_written = is_within(PATIENCE, lambda: (folder / output).stat().st_size >= len(wanted))
+        time.sleep(QUIET)
+        run.kill()
+        run.wait()
+        yield None if is_written and (folder / output).read_bytes() == wanted else f"other lines in {output}"
+        # The other file has the lines from the middle on.
+        content = log(PLAIN, *[XID] * 80_000)
+        wanted = lines_of(content)[len(wanted) :]
+        (folder / "log.000001").write_bytes(content)
+
+
 def repeated(program, folder):
     """Into a pipe the lines since the last state come again, and none is left out."""
     content = log(PLAIN, *[XID] * 20)
@@ -563,7 +588,7 @@ def mirrored(program, folder):
 
 
 SCENES = [mirrored, late, byte_by_byte, rotations, checksums, prefixes, stops, stays, refused, damages, several, filters, compact_rows]
-SCENES += [transactions, begun_again, other_log, zeros, killed_runs("list"), killed_runs("json"), repeated, states]
+SCENES += [transactions, begun_again, other_log, zeros, killed_runs("list"), killed_runs("json"), killed_at_once, repeated, states]
 SCENES += [cut_at(cut) for cut in range(len(sealed(rotate(b"log.000002"))))]
 
 
