@@ -5,7 +5,7 @@ Usage: undo_command.py [--count N] FLAG
 
 FLAG is one of `programs.py`. N random logs (300 if not given) of one to three files have transactions of all kinds: with GTIDs or
 without, ended by an XID, a COMMIT or the last row event, with statements and events that can't be undone, cut off, or with rows that
-are damaged or have partial images. Some tables are chosen. The model, written from `docs/UNDO.md`, makes the bytes of the
+are damaged or have partial images. Some tables are chosen, some table maps state a primary key, and MariaDB's rows may be compressed. The model, written from `docs/UNDO.md`, makes the bytes of the
 log that undoes them, or the refusals. Then wrong words and outputs that fail are tried: nothing is written. The last line is
 `N passed, M failed`; the exit status is 1 if something failed.
 """
@@ -19,6 +19,8 @@ from pathlib import Path
 
 import encoded_events as encode
 import event_data_model
+import maria_events
+import maria_json_model
 import programs
 import results
 import row_events
@@ -33,6 +35,9 @@ BEGIN_BODY = bytes(14) + b"BEGIN"
 # A server version, and the algorithm of its logs; None where it states none.
 SERVERS = [("8.0.36", 1), ("8.0.36", 0), ("10.11.6-MariaDB", 1), ("10.11.6-MariaDB", 0), ("5.5.62", None)]
 ROWS_TYPES = [kind[0] for kind in encode.ROWS_KINDS]
+UNCOMPRESSED = maria_json_model.ROWS_COMPRESSED
+COMPRESSED = {plain: kind for kind, plain in UNCOMPRESSED.items()}
+SIMPLE_PRIMARY_KEY, PRIMARY_KEY_WITH_PREFIX = 8, 9
 
 # ---- logs
 
@@ -84,21 +89,58 @@ class Damaged(Exception):
     """A body that can't be read."""
 
 
-class Model:
-    """What is undone of files, or refused. `chosen` are the tables that are asked for, if there are some."""
+def uncompressed(kind, body):
+    """The type and the body of the event that was compressed."""
+    event = event_data_model.fields(UNCOMPRESSED[kind], body, POST_HEADER_LENGTHS)
+    stored = event["rows_data"].bytes
+    return UNCOMPRESSED[kind], body[: len(body) - len(stored)] + maria_json_model.uncompressed(stored)
 
-    def __init__(self, chosen=()):
-        self.refused, self.kept, self.chosen = [], [], chosen
+
+def key_in(map_body):
+    """The columns of the primary key that a table map states: by the last such field that can be read."""
+    key, table = [], event_data_model.fields(19, map_body, POST_HEADER_LENGTHS)
+    for kind, content in row_model.fields_of(table["optional_metadata"].bytes):
+        if kind not in (SIMPLE_PRIMARY_KEY, PRIMARY_KEY_WITH_PREFIX):
+            continue
+        try:
+            key = list(indexes_in(kind, content, table["columns_count"]))
+        except row_model.Fault:
+            continue
+    return key
+
+
+def indexes_in(kind, content, count):
+    while content.left():
+        index = content.lenenc()
+        row_model.allowed(index < count)
+        if kind == PRIMARY_KEY_WITH_PREFIX:
+            content.lenenc()
+        yield index
+
+
+class Model:
+    """What is undone of files, or refused. `chosen` are the tables that are asked for, if there are some, and `excluded` are left out. `is_plain` says that old dates and
+    times have no fractions."""
+
+    def __init__(self, chosen=(), excluded=(), is_plain=False):
+        self.refused, self.kept, self.chosen, self.excluded, self.is_plain = [], [], chosen, excluded, is_plain
 
     def wants(self, map_body):
         """Whether the table of a table map is one that is undone."""
-        return not self.chosen or table_of(map_body) in self.chosen
+        return (not self.chosen or table_of(map_body) in self.chosen) and table_of(map_body) not in self.excluded
 
-    def take(self, name, content):
+    def take(self, name, content, start=0, stop=None):
+        """Undoes the transactions of a file that begin at one position or behind it, and before the other."""
         reading, place, index = transactions.Reading(), len(FILE_HEADER), 0
         kept, changes, maps, first, found = [], [], {}, None, []
         description = self.description_of(content)
-        while place < len(content):
+        is_past = lambda place: stop is not None and place >= stop
+        is_taken = lambda first: start <= first[1] and not is_past(first[1])
+        # A transaction that a position is within is refused, whether it is taken or not.
+        straddles = lambda end: [(*first, "Straddles", end)] if any(first[1] < position < end for position in (start, stop or 0)) else []
+        cut_off = lambda end: straddles(end) or ((found or [(*first, "Unfinished")])[:1] if is_taken(first) else [])
+        refuse = lambda refusals: self.refused.extend((name, *one) for one in refusals)
+        while place < len(content) and not (is_past(place) and reading.way is None):
             header = HEADER.unpack_from(content, place)
             end = place + header[3]
             body = content[place + HEADER.size : end - (CHECKSUM if description[1] == 1 and header[1] != 15 else 0)]
@@ -112,29 +154,31 @@ class Model:
             reading.take(word)
             turn, _, why = reading.told[told].partition(":")
             if turn.endswith("!"):
-                self.refused.append((name, *(found or [(*first, "Unfinished")])[0]))
+                refuse(cut_off(place))
                 changes, maps, found = [], {}, []
             turn = turn.rstrip("!")
             if turn in ("First", "Alone"):
                 first, changes, maps, found = (index, place), [], {}, []
             found += [(index, place, reason) for reason in (why, refusal) if reason]
             if turn == "Outside":
-                self.refused += [(name, *one) for one in found]
+                refuse(found if is_taken((index, place)) else [])
                 found = []
             if header[1] == 19:
                 maps[int.from_bytes(body[:6], "little")] = (header, body)
             if change:
                 changes.append(change)
             if turn in ("Last", "Alone"):
-                if found:
-                    self.refused.append((name, *found[0]))
+                if straddles(end) or not is_taken(first):
+                    refuse(straddles(end))
+                elif found:
+                    refuse(found[:1])
                 elif changes:
                     xid = int.from_bytes(body, "little") if header[1] == 16 else 0
                     kept.append((header, xid, changes))
                 changes, maps, found = [], {}, []
             place, index = end, index + 1
         if reading.way is not None:
-            self.refused.append((name, *(found or [(*first, "Unfinished")])[0]))
+            refuse(cut_off(place))
         self.kept.append((description, kept))
 
     def description_of(self, content):
@@ -147,7 +191,7 @@ class Model:
 
     def word_of(self, kind, body, maps, description):
         """The word of an event, what undoes it, and its refusal."""
-        if kind in ROWS_TYPES:
+        if kind in ROWS_TYPES or kind in UNCOMPRESSED:
             return self.rows_of(kind, body, maps, description)
         if kind == 2:
             kind_of_text = transactions.kind_of(body[14:].decode())
@@ -163,6 +207,7 @@ class Model:
         flags = int.from_bytes(body[6:8], "little")
         word = lambda undone: ("last-" if flags & 1 else "") + ("rows" if undone else "other-rows")
         try:
+            kind, body = uncompressed(kind, body) if kind in UNCOMPRESSED else (kind, body)
             event = event_data_model.fields(kind, body, POST_HEADER_LENGTHS)
         except event_data_model.Fault:
             raise Damaged
@@ -170,14 +215,14 @@ class Model:
             return word(False), None, None
         table_id = int.from_bytes(body[:6], "little")
         is_maria = "MariaDB" in description[3]
-        tables = undone_rows.Tables(is_maria, [])
         if table_id not in maps:
             return word(False), None, "NoTableMap"
         map_header, map_body = maps[table_id]
+        tables = undone_rows.Tables(is_maria, key_in(map_body))
         if not self.wants(map_body):
             return word(False), None, None
         tables.take(map_body)
-        if is_maria and set(tables.maps[table_id]["columns_type"].bytes) & {7, 11, 12}:
+        if is_maria and not self.is_plain and set(tables.maps[table_id]["columns_type"].bytes) & {7, 11, 12}:
             found = [member for member in tables.wanted(kind, body) if member == ("error", "Columns")]
             return word(False), None, "Rows" if found else "OldTemporal"
         wanted = tables.wanted(kind, body)
@@ -221,15 +266,35 @@ def random_header(chance):
     return chance.randrange(1_000_000_000, 1_000_000_400), chance.choice((1, 7)), chance.choice((0, 0, 8, 0x8000, 0x21))
 
 
-def statement_rows(chance, kinds, is_sound):
+def random_key(chance, count):
+    """A primary key in the optional metadata, some of them damaged."""
+    kind = chance.choice((SIMPLE_PRIMARY_KEY, PRIMARY_KEY_WITH_PREFIX))
+    columns = chance.sample(range(count), chance.randint(0, min(count, 2)))
+    field = row_events.field(kind, b"".join(bytes([column, 3][: kind - 7]) for column in columns))
+    return row_values.damage(chance, field) if chance.random() < 0.1 else field
+
+
+def compressed(chance, kind, body, is_sound):
+    """A row event as MariaDB compresses it."""
+    rows = event_data_model.fields(kind, body, POST_HEADER_LENGTHS)["rows_data"].bytes
+    stored = maria_events.stored(rows, chance.choice((None, 3, 4)), chance.randrange(10))
+    if not is_sound and chance.random() < 0.1:
+        stored = row_values.damage(chance, stored)
+    return COMPRESSED[kind], body[: len(body) - len(rows)] + stored
+
+
+def statement_rows(chance, kinds, is_sound, is_maria):
     """A table map and row events, the last one of which ends a statement."""
     chosen, table = row_values.random_table(chance, kinds)
     count = chance.randint(1, 3)
-    events = [(table[0], named(table[1], chance.choice(TABLES)))]
+    keys = b"".join(random_key(chance, len(chosen)) for _ in range(chance.choice((0, 0, 1, 2))))
+    events = [(table[0], named(table[1], chance.choice(TABLES)) + keys)]
     for left in range(count, 0, -1):
         kind, body = rows_of(chance, chosen, table, is_sound)
         flags = chance.choice((0, 2)) | (left == 1)
         body = body[:6] + flags.to_bytes(2, "little") + body[8:]
+        if is_maria and kind in COMPRESSED and chance.random() < 0.3:
+            kind, body = compressed(chance, kind, body, is_sound)
         events.append((kind, body if is_sound or chance.random() < 0.7 else row_values.damage(chance, body)))
     return events
 
@@ -247,13 +312,13 @@ def rows_of(chance, chosen, table, is_sound):
     return kind[0], event.body
 
 
-def random_transaction(chance, kinds, is_sound):
+def random_transaction(chance, kinds, is_sound, is_maria):
     events = [(chance.choice((33, 34)), bytes([1]) + bytes(chance.randrange(256) for _ in range(16)) + bytes([chance.randrange(1, 200)]) + bytes(7))] if chance.random() < 0.5 else []
     way = chance.choice(("xid", "xid", "COMMIT", "rows"))
     if way != "rows":
         events.append((2, query("BEGIN")))
     for _ in range(1 if way == "rows" else chance.randint(0, 3)):
-        events += statement_rows(chance, kinds, is_sound)
+        events += statement_rows(chance, kinds, is_sound, is_maria)
         if chance.random() < 0.2:
             events.append((29, b"\x08a comment"[:9]))
         if way != "rows" and chance.random() < 0.1:
@@ -271,11 +336,29 @@ def random_transaction(chance, kinds, is_sound):
 
 
 def random_file(chance, kinds, is_sound):
-    events = [event for _ in range(chance.randint(0, 6)) for event in random_transaction(chance, kinds, is_sound)]
     version, algorithm = chance.choice(SERVERS)
+    is_maria = "MariaDB" in version
+    events = [event for _ in range(chance.randint(0, 6)) for event in random_transaction(chance, kinds, is_sound, is_maria)]
     if chance.random() < 0.5:
         events.append((4, (4).to_bytes(8, "little") + b"next"))
     return log_of([(kind, body, random_header(chance)) for kind, body in events], algorithm, version)
+
+
+def long_file(chance):
+    """A log that is read in several parts: rows of a BLOB, some of which are longer than one."""
+    table = encode.table_map(row_values.SPELLING, database=b"d", table=b"t", table_id=5, flags=1, types=b"\xfc", metadata=b"\4", nulls=[True], optional=b"")
+    kinds, events = [kind for kind in encode.ROWS_KINDS if kind[0] in (30, 31, 32)], []
+    for _ in range(60):
+        events.append((2, query("BEGIN")))
+        events.append((19, table.body))
+        for _ in range(chance.randint(1, 4)):
+            kind = chance.choice(kinds)
+            blobs = (chance.randbytes(chance.choice((10, 1_000, 30_000, 70_000, 300_000))) for _ in range(kind[2] + kind[3]))
+            content = b"".join(b"\0" + len(blob).to_bytes(4, "little") + blob for blob in blobs)
+            event = encode.rows(kind, row_values.SPELLING, table_id=5, flags=0, extra=(2, b""), before=[True], after=[True], content=content)
+            events.append((kind[0], event.body))
+        events.append((16, bytes(8)))
+    return log_of([(kind, body, random_header(chance)) for kind, body in events], 1, "8.0.36")
 
 
 # ---- runs
@@ -291,43 +374,74 @@ PHRASES = {
     "OldTemporal": "a column of a date or time whose form isn't in the log",
     "Image": "the images of the rows lack columns",
     "PartialJson": "partial updates of documents",
+    "Straddles": "a position is within the transaction, which ends at byte {}",
 }
 
 
+def random_position(chance, content):
+    """A place of an event, or beside one."""
+    places, place = [], len(FILE_HEADER)
+    while place < len(content):
+        places.append(place)
+        place += HEADER.unpack_from(content, place)[3]
+    return chance.choice([*places, place]) + chance.choice((0, 0, 0, 0, 1, -1))
+
+
 def random_options(chance):
-    """Options that choose tables, and these tables."""
-    way, some = chance.random(), chance.sample(TABLES, chance.randint(1, 2))
-    if way < 0.2:
-        return [word for table in some for word in ("--table", table)], some
-    return [], ()
+    """Options that choose tables; these tables, those that are left out, and whether old dates and times are plain."""
+    chosen, excluded = (chance.sample(TABLES, chance.randint(1, 2)) if chance.random() < 0.3 else [] for _ in range(2))
+    named = [("--table", table) for table in chosen] + [("--exclude-table", table) for table in excluded]
+    is_plain = chance.random() < 0.3
+    return [word for words in named for word in words] + ["--plain-old-temporal"] * is_plain, chosen, excluded, is_plain
 
 
 def failure(words, seed, folder):
     """What is wrong with the undo of one set of logs, if something is."""
     chance, kinds = random.Random(seed), list(row_events.kinds())
     is_sound = chance.random() < 0.5
-    options, chosen = random_options(chance)
-    files, model = [], Model(chosen)
-    for number in range(chance.randint(1, 3)):
-        name = folder / f"{seed}-{number}.bin"
-        content = random_file(chance, kinds, is_sound)
-        name.write_bytes(content)
-        files.append(str(name))
-        model.take(str(name), content)
-    out = folder / f"{seed}.out"
+    options, *tables = random_options(chance)
+    contents = [random_file(chance, kinds, is_sound) for _ in range(chance.randint(1, 3))]
+    files, model = [str(folder / f"{seed}-{number}.bin") for number in range(len(contents))], Model(*tables)
+    # The start position is one of the first file, and the stop position of the last one.
+    start = random_position(chance, contents[0]) if chance.random() < 0.3 else 0
+    stop = random_position(chance, contents[-1]) if chance.random() < 0.3 else None
+    options += ["--start-position", str(start)] if start else []
+    options += [] if stop is None else ["--stop-position", str(stop)]
+    for number, (name, content) in enumerate(zip(files, contents)):
+        Path(name).write_bytes(content)
+        model.take(name, content, start if number == 0 else 0, stop if number == len(contents) - 1 else None)
+    return difference(words, options, files, model, folder / f"{seed}.out", f"seed {seed}")
+
+
+def long_failure(words, folder):
+    """What is wrong with the undo of a long log, if something is."""
+    log, model = folder / "long.bin", Model()
+    content = long_file(random.Random(0))
+    log.write_bytes(content)
+    model.take(str(log), content)
+    return difference(words, [], [str(log)], model, folder / "long.out", "the long log")
+
+
+def difference(words, options, files, model, out, name):
+    """What is wrong with the undo of these files, if something is."""
     run = subprocess.run([*words, "undo", *options, "-o", str(out), *files], capture_output=True, text=True)
-    messages = [f"binlog: {name}: event {index} at byte {place}: {reason}: {PHRASES[reason]}" for name, index, place, reason in model.refused]
+    messages = [f"binlog: {name}: event {index} at byte {place}: {reason}: {PHRASES[reason].format(*end)}" for name, index, place, reason, *end in model.refused]
     if run.stderr.splitlines() != messages:
-        return f"seed {seed}: {run.stderr!r}, not {messages}"
+        return f"{name}: {run.stderr!r}, not {messages}"
     if messages:
-        return None if run.returncode == 2 and not out.exists() else f"seed {seed}: status {run.returncode}, and {out.exists()}"
+        left = [path for path in (out, Path(f"{out}.part")) if path.exists()]
+        return None if run.returncode == 2 and not left else f"{name}: status {run.returncode}, and {left}"
     counted = f"transactions {model.transactions()}, row events {model.changes()}\n"
     if run.returncode != 0 or run.stdout != counted:
-        return f"seed {seed}: status {run.returncode}, {run.stdout!r}, not {counted!r}"
+        return f"{name}: status {run.returncode}, {run.stdout!r}, not {counted!r}"
     if Path(f"{out}.part").exists():
-        return f"seed {seed}: what was written is left behind"
+        return f"{name}: what was written is left behind"
     wanted = model.written()
-    return None if out.read_bytes() == wanted else f"seed {seed}: {out.read_bytes().hex()}, not {wanted.hex()}"
+    return None if out.read_bytes() == wanted else f"{name}: {shown(out.read_bytes())}, not {shown(wanted)}"
+
+
+def shown(content):
+    return content.hex() if len(content) < 10_000 else f"{len(content)} bytes"
 
 
 def refusal(words, folder, options, status, message):
@@ -352,7 +466,8 @@ REFUSALS = [
     (lambda log: ["-o", str(log.parent / "taken"), str(log)], 3, "taken.part: File exists"),
     (lambda log: ["--skip", "Nothing", "--dry-run", str(log)], 64, "no reason that can be skipped"),
     (lambda log: ["--skip", "Damaged", "--dry-run", str(log)], 64, "no reason that can be skipped"),
-    (lambda log: ["--table", "t", "--dry-run", str(log)], 64, "--table"),
+    (lambda log: ["--table", "t", "--dry-run", str(log)], 64, "--table: "),
+    (lambda log: ["--exclude-table", "t", "--dry-run", str(log)], 64, "--exclude-table: "),
     (lambda log: ["-o", str(log.parent / "none/out"), str(log)], 3, "none/out.part"),
     (lambda log: ["-o", str(log.parent / "out"), str(log.parent / "none.bin")], 1, "none.bin"),
     (lambda log: ["--dry-run", str(log), "-"], 1, "-: "),
@@ -370,6 +485,8 @@ def main():
         for seed in range(arguments.count):
             wrong = failure(words, seed, Path(folder))
             passed, failures = (passed, [*failures, wrong]) if wrong else (passed + 1, failures)
+        wrong = long_failure(words, Path(folder))
+        passed, failures = (passed, [*failures, wrong]) if wrong else (passed + 1, failures)
         for refused in REFUSALS:
             wrong = refusal(words, Path(folder), *refused)
             passed, failures = (passed, [*failures, wrong]) if wrong else (passed + 1, failures)

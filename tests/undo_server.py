@@ -1,13 +1,14 @@
 #!/usr/bin/env python3
-"""Undoes what a MariaDB server did: its tables have to be those of a checkpoint again.
+"""Undoes what a MariaDB server did, and a MySQL server: its tables have to be those of a checkpoint again.
 
 Usage: undo_server.py [--count N] FLAG
 
 FLAG is one of `programs.py`. A server makes tables, with keys and without, of integers, texts, decimals, times, blobs and bits, and
-fills them. At a checkpoint its tables are selected, and its log is closed. N random loads (3 if not given) of inserts, updates,
-deletes and transactions of several statements follow, over several files. `binlog undo` undoes them, `mariadb-binlog` and `mariadb`
-apply that, and the tables are selected again. Then what undid them is undone. Where there is no server (`maria_daemon.py` says where it
-comes from) nothing is done. The last line is `N passed, M failed`; the exit status is 1 if something failed.
+fills them. At a checkpoint its tables are selected, and its log is closed. N random loads (4 if not given) of inserts, updates,
+deletes and transactions of several statements follow, over several files. `binlog undo` undoes them;
+the server's programs apply that, and the tables are selected again. Then what undid them is undone. Where there is no server
+(`maria_daemon.py` and `mysql_daemon.py` say where they come from) nothing is done with it. The last line is `N passed, M failed`; the
+exit status is 1 if something failed.
 """
 
 import argparse
@@ -15,22 +16,58 @@ import random
 import subprocess
 import sys
 import tempfile
+from contextlib import contextmanager
 from pathlib import Path
 
+import maria_daemon
+import mysql_daemon
 import programs
 import results
-from maria_daemon import PRINTER, LeftOut, Server, program_in
+from maria_daemon import LeftOut
 
 OPTIONS = [
     ["--binlog-checksum=CRC32"],
     ["--binlog-checksum=NONE", "--binlog-row-metadata=FULL"],
     ["--binlog-checksum=CRC32", "--binlog-row-metadata=MINIMAL"],
 ]
+# The engine of the last table is that of the server's kind.
 TABLES = {
     "keyed": "(id INT PRIMARY KEY, name VARCHAR(40), price DECIMAL(10,2), at DATETIME(3), content BLOB, flags BIT(5)) ENGINE=InnoDB",
     "keyless": "(a BIGINT, b TEXT, c DOUBLE, d ENUM('x','y','z')) ENGINE=InnoDB",
-    "other": "(id INT AUTO_INCREMENT PRIMARY KEY, t TIMESTAMP(6) NOT NULL DEFAULT '2020-01-01', j LONGTEXT, s SET('p','q')) ENGINE=Aria",
+    "other": "(id INT AUTO_INCREMENT PRIMARY KEY, t TIMESTAMP(6) NOT NULL DEFAULT '2020-01-01', j LONGTEXT, s SET('p','q')) ENGINE=",
 }
+
+
+class Maria:
+    """A MariaDB server. One of its tables can't roll back."""
+
+    name, engine, options = "MariaDB", "Aria", ["--binlog-format=ROW"]
+    forms = [*OPTIONS, ["--binlog-checksum=CRC32", "--log-bin-compress=ON", "--log-bin-compress-min-len=10"]]
+
+    def __init__(self, folder):
+        self.program = maria_daemon.program_in(folder / "package")
+        self.printer = [maria_daemon.PRINTER, "--no-defaults"]
+
+    @contextmanager
+    def server(self, folder, options):
+        with maria_daemon.Server(self.program, folder, options) as server:
+            yield server
+
+
+class Mysql:
+    """A MySQL server. What it does has new GTIDs, so what is applied states none."""
+
+    name, engine, options, forms = "MySQL", "InnoDB", [], OPTIONS
+
+    def __init__(self, folder):
+        self.programs, self.data = mysql_daemon.unpacked()
+        self.printer = [*self.programs.command("mysqlbinlog"), "--skip-gtids"]
+
+    @contextmanager
+    def server(self, folder, options):
+        with mysql_daemon.Server(self.programs, self.data, folder) as server:
+            server.start(*options)
+            yield server
 
 
 def text(chance):
@@ -83,8 +120,8 @@ def tables_of(server):
     return found
 
 
-def applied(server, log):
-    printed = subprocess.run([PRINTER, "--no-defaults", str(log)], stdout=subprocess.PIPE, check=True)
+def applied(kind, server, log):
+    printed = subprocess.run([*kind.printer, str(log)], stdout=subprocess.PIPE, check=True)
     server.run(printed.stdout)
 
 
@@ -98,45 +135,45 @@ def behind(server, count):
     return server.logs()[count:-1]
 
 
-def failure(words, program, folder, seed):
+def failure(words, kind, folder, seed):
     chance, keys = random.Random(seed), dict.fromkeys(TABLES, 100)
     # A statement that fails in the middle, or is rolled back, would stay in tables that can't roll back.
-    made = "CREATE DATABASE s; USE s;" + "".join(f"CREATE TABLE {name} {form};" for name, form in TABLES.items())
-    options = [*OPTIONS[seed % len(OPTIONS)], "--binlog-format=ROW"]
-    with Server(program, folder / f"server-{seed}", options) as server:
+    made = "CREATE DATABASE s; USE s;" + "".join(f"CREATE TABLE {name} {form};" for name, form in TABLES.items()).replace("ENGINE=;", f"ENGINE={kind.engine};")
+    with kind.server(folder / f"{kind.name}-{seed}", [*kind.forms[seed % len(kind.forms)], *kind.options]) as server:
         server.run((made + load(chance, keys, 30).replace("ROLLBACK", "COMMIT")).encode())
         checkpoint, count = tables_of(server), len(server.logs()) - 1
         server.run(load(chance, keys, 60).replace("ROLLBACK", "COMMIT").encode())
         end, logs = tables_of(server), behind(server, count)
-        wrong = undone(words, logs, folder / f"{seed}.out")
+        wrong = undone(words, logs, folder / f"{kind.name}-{seed}.out")
         if wrong:
-            return f"seed {seed}: {wrong}"
-        applied(server, folder / f"{seed}.out")
+            return f"{kind.name}, seed {seed}: {wrong}"
+        applied(kind, server, folder / f"{kind.name}-{seed}.out")
         if tables_of(server) != checkpoint:
-            return f"seed {seed}: the tables aren't those of the checkpoint"
-        wrong = undone(words, [folder / f"{seed}.out"], folder / f"{seed}.back")
+            return f"{kind.name}, seed {seed}: the tables aren't those of the checkpoint"
+        wrong = undone(words, [folder / f"{kind.name}-{seed}.out"], folder / f"{kind.name}-{seed}.back")
         if wrong:
-            return f"seed {seed}, again: {wrong}"
-        applied(server, folder / f"{seed}.back")
-        return None if tables_of(server) == end else f"seed {seed}: the tables aren't those of the end"
+            return f"{kind.name}, seed {seed}, again: {wrong}"
+        applied(kind, server, folder / f"{kind.name}-{seed}.back")
+        return None if tables_of(server) == end else f"{kind.name}, seed {seed}: the tables aren't those of the end"
 
 
 def main():
-    parser = argparse.ArgumentParser(description="Undoes what a MariaDB server did.")
+    parser = argparse.ArgumentParser(description="Undoes what servers did.")
     programs.add_flags(parser)
-    parser.add_argument("--count", type=int, default=3)
+    parser.add_argument("--count", type=int, default=4)
     arguments = programs.parsed(parser, "binlog")
     words = arguments.build.command("binlog")
     passed, failures = 0, []
     with tempfile.TemporaryDirectory() as name:
         folder = Path(name)
-        try:
-            program = program_in(folder / "package")
-            for seed in range(arguments.count):
-                wrong = failure(words, program, folder, seed)
-                passed, failures = (passed, [*failures, wrong]) if wrong else (passed + 1, failures)
-        except LeftOut as why:
-            print(f"left out: {why}")
+        for made in (Maria, Mysql):
+            try:
+                kind = made(folder)
+                for seed in range(arguments.count):
+                    wrong = failure(words, kind, folder, seed)
+                    passed, failures = (passed, [*failures, wrong]) if wrong else (passed + 1, failures)
+            except LeftOut as why:
+                print(f"left out: {why}")
     return results.report_counts(passed, failures)
 
 

@@ -64,12 +64,16 @@ def undo(
     out: Optional[Path] = None,
     *,
     tables: Iterable[str] = (),
+    exclude_tables: Iterable[str] = (),
     skip: Iterable[str] = (),
     start: Optional[Time] = None,
     stop: Optional[Time] = None,
     server_id: Optional[int] = None,
     include_gtids: Optional[str] = None,
     exclude_gtids: Optional[str] = None,
+    start_position: Optional[int] = None,
+    stop_position: Optional[int] = None,
+    plain_old_temporal: bool = False,
     foreign_key_checks: bool = True,
     program: Optional[Path] = None,
 ) -> Undone:
@@ -77,10 +81,12 @@ def undo(
 
     files: the logs, in order, or one of them.
     out: the log that is written. It may not be there before, and is there whole or not at all.
-    tables: rows of these tables alone, each as "shop.orders"; * stands for any bytes, ? for one.
+    tables, exclude_tables: rows of these tables alone, and none of these, each as "shop.orders"; * stands for any bytes, ? for one.
     skip: the names of reasons: transactions that are refused for one of them are left as they are.
     start, stop: transactions that ended at this time or later, and before it: a datetime, or a text in UTC.
     server_id, include_gtids, exclude_gtids: transactions that this server created, and with one of these GTIDs, or with none of them.
+    start_position, stop_position: transactions that begin at this byte of the first log or behind it, and before this byte of the last one.
+    plain_old_temporal: whether columns of MariaDB's old types of dates and times have no fractions.
     foreign_key_checks: whether the server checks foreign keys while the log is applied.
     program: the program `binlog`; if not given, the one that the variable BINLOG_PROGRAM names, or the one that the system finds.
 
@@ -88,9 +94,19 @@ def undo(
     found, or fails. Nothing is written then.
     """
     paths = [files] if isinstance(files, (str, os.PathLike)) else list(files)
-    words = [word for table in tables for word in ("--table", table)] + [word for reason in skip for word in ("--skip", reason)]
-    stated = {"--start-datetime": _text(start), "--stop-datetime": _text(stop), "--server-id": server_id, "--include-gtids": include_gtids, "--exclude-gtids": exclude_gtids}
+    given = [("--table", tables), ("--exclude-table", exclude_tables), ("--skip", skip)]
+    words = [word for option, texts in given for text in texts for word in (option, text)]
+    stated = {
+        "--start-position": start_position,
+        "--stop-position": stop_position,
+        "--start-datetime": _text(start),
+        "--stop-datetime": _text(stop),
+        "--server-id": server_id,
+        "--include-gtids": include_gtids,
+        "--exclude-gtids": exclude_gtids,
+    }
     words += [str(word) for option, value in stated.items() if value is not None for word in (option, value)]
+    words += ["--plain-old-temporal"] if plain_old_temporal else []
     words += [] if foreign_key_checks else ["--no-foreign-key-checks"]
     if out is not None and os.path.exists(out):
         raise FileExistsError(f"{os.fspath(out)}: there is a file of this name")

@@ -8,3 +8,4 @@ pub mod Steps
 pub mod Taking
 pub mod Visited
 pub mod Stored
+pub mod AlikeBits

@@ -91,12 +91,7 @@ impl<'a> Image<'a> {
                 });
             }
         };
-        let bits = ImageBits {
-            present: of.present,
-            nulls,
-            index: 0,
-            place: 0,
-        };
+        let bits = ImageBits::first(of.present, of.all_present, nulls);
         let diffs = first_diffs(diffs);
         let rest = buf.0;
         match skip_columns(of.columns, bits, diffs, buf) {

@@ -1,8 +1,8 @@
 //! Which columns an image has.
-ghost use Rattle.std.specs.Prelude.{◌≡◌, length};
+ghost use Rattle.std.specs.Prelude.{◌≡◌, ◌<◌, ℕ, length, true};
 ghost use Rattle.binlog_columns.specs.TableColumns.{columns_of};
 ghost use Rattle.binlog_rows.specs.Images.{bitmap_of};
-ghost use Rattle.binlog_images.specs.Bits.{set_count};
+ghost use Rattle.binlog_images.specs.Bits.{is_set, set_count};
 ghost use Rattle.binlog_images.specs.Diffs.{json_count};
 
 use crate::diff_bits::is_json;
@@ -17,7 +17,10 @@ pub(crate) struct ImageColumns<'a> {
     pub(crate) present: BitView<'a>,
     /// How many are present.
     pub(crate) count: u64,
+    /// Whether all are present.
+    pub(crate) all_present: bool,
     ghost bit_each: { present.len ≡ length (columns_of columns) },
+    ghost present_each: { all_present ≡ true → (k : ℕ) → k < present.len → is_set (bitmap_of present) k ≡ true },
     ghost counted: { count ≡ set_count (length (columns_of columns)) 0 (bitmap_of present) },
 }
 
@@ -29,10 +32,12 @@ impl<'a> ImageColumns<'a> {
         requires { present.len ≡ length (columns_of columns) }
         ensures { shape_of result ≡ (columns_of columns.entry, bitmap_of present.entry) }
     {
+        let count = set_count(present);
         ImageColumns {
             columns,
             present,
-            count: set_count(present),
+            count,
+            all_present: count == present.len(),
         }
     }
 

@@ -91,11 +91,6 @@ pub fn read_stored_columns<'a>(
     let Ok(nulls) = read_bitmap(of.count, &mut buf) else {
         return Ok(None);
     };
-    let bits = ImageBits {
-        present,
-        nulls,
-        index: 0,
-        place: 0,
-    };
+    let bits = ImageBits::first(present, of.all_present, nulls);
     read_columns(alloc, columns, bits, &mut buf)
 }

@@ -85,12 +85,7 @@ pub(crate) fn visit_image<T: ColumnVisitor>(
             });
         }
     };
-    let bits = ImageBits {
-        present: of.present,
-        nulls,
-        index: 0,
-        place: 0,
-    };
+    let bits = ImageBits::first(of.present, of.all_present, nulls);
     visit_columns(kind, of.columns, bits, first_diffs(diffs), buf, visitor)
 }
 

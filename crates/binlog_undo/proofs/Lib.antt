@@ -1,4 +1,3 @@
-pub mod Backwards
 pub mod Completed
 pub mod Columns
 pub mod Covered

@@ -1,6 +1,7 @@
 -- Bytes that are made from their end.
-use Rattle.std.specs.Prelude.{ℕ, List, reverse}
-use Rattle.binlog_undo.specs.declared.backward.Backward.{Backward}
+use Rattle.std.specs.Prelude.{ℕ, List}
 
-abbrev pub bytes_in : Backward → List ℕ
-bytes_in bytes = reverse bytes.reversed.items
+-- The bytes that are made, and how many more there is room for in front of them.
+pub record BackwardBytes : Type 0 where
+  pub made : List ℕ
+  pub room : ℕ

@@ -2,7 +2,6 @@
 ghost use Rattle.std.specs.Prelude.{◌≡◌, ◌++◌, [], map, get_or, IfOk, OnOk};
 ghost use Rattle.binlog_images.specs.StoredColumns.{column_of};
 ghost use Rattle.binlog_images.specs.declared.stored_columns.StoredColumn.TheVariants.{Absent};
-ghost use Rattle.binlog_undo.specs.Backwards.{bytes_in};
 ghost use Rattle.binlog_undo.specs.Completion.{updated_stored, completed_stored, value_bytes, null_flag};
 ghost use Rattle.binlog_undo.specs.NewImages.{HasColumns};
 ghost use Rattle.binlog_undo.specs.NullBits.{nulls_of};
@@ -62,11 +61,11 @@ impl NewImage {
     /// Puts the bytes of the image in front of others.
     #[tactic(auto, using(std::proofs::Common::append_assoc))]
     pub(crate) fn prepend_to(&self, alloc: Global, bytes: &mut Backward) -> Result<(), AllocError>
-        ensures { OnOk result (bytes_in bytes.new ≡ (nulls_of self.now.nulls.items ++ self.now.values.items) ++ bytes_in bytes.old) }
+        ensures { OnOk result (bytes.new.made ≡ (nulls_of self.now.nulls.items ++ self.now.values.items) ++ bytes.old.made) }
     {
         let nulls = null_bitmap(alloc, self.nulls.as_slice())?;
-        bytes.prepend(self.values.as_slice())?;
-        bytes.prepend(nulls.as_slice())
+        bytes.prepend(alloc, self.values.as_slice())?;
+        bytes.prepend(alloc, nulls.as_slice())
     }
 }
 

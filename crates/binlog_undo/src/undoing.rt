@@ -1,7 +1,6 @@
 //! How the rows of an event are undone.
 ghost use Rattle.binlog_images.specs.RowsLeft.{row_shape};
 ghost use Rattle.binlog_wire.specs.Fields.{IsBytes};
-ghost use Rattle.binlog_undo.specs.Backwards.{bytes_in};
 ghost use Rattle.binlog_undo.specs.Outcomes.{undone_by, Fits, PrependsRow, GivesUndoing};
 ghost use Rattle.binlog_undo.specs.declared.undoing.Undoing.TheVariants.{Complete};
 
@@ -30,7 +29,7 @@ impl<'a> ImagePair<'a> {
         row: &StoredRow<'_>,
         bytes: &mut Backward,
     ) -> Result<(), UndoError>
-        ensures { PrependsRow (Complete self.now) row.now (bytes_in bytes.old) (bytes_in bytes.new) result }
+        ensures { PrependsRow (Complete self.now) row.now bytes.old.made bytes.new.made result }
     {
         let Some(before) = read_stored_columns(alloc, self.columns, self.before, row.before_data())?
         else {
@@ -41,7 +40,7 @@ impl<'a> ImagePair<'a> {
             return Err(UndoError::Image);
         };
         let image = completed(alloc, before.as_slice(), after.as_slice())?;
-        bytes.prepend(row.before_data())?;
+        bytes.prepend(alloc, row.before_data())?;
         image.prepend_to(alloc, bytes)?;
         Ok(())
     }
@@ -56,12 +55,12 @@ impl<'a> Undoing<'a> {
         row: &StoredRow<'_>,
         bytes: &mut Backward,
     ) -> Result<(), UndoError>
-        ensures { PrependsRow self.now row.now (bytes_in bytes.old) (bytes_in bytes.new) result }
+        ensures { PrependsRow self.now row.now bytes.old.made bytes.new.made result }
     {
         match self {
             Undoing::Exchange => {
-                bytes.prepend(row.before_data())?;
-                bytes.prepend(row.after_data())?;
+                bytes.prepend(alloc, row.before_data())?;
+                bytes.prepend(alloc, row.after_data())?;
                 Ok(())
             }
             Undoing::Complete(images) => images.prepend(alloc, row, bytes),
@@ -80,7 +79,7 @@ impl<'a> Undoing<'a> {
         ensures { IsBytes rows.entry.rest.now → GivesUndoing (undone_by self.now) rows.entry result }
     {
         let mut left = rows;
-        let mut bytes = Backward::new(alloc);
+        let mut bytes = Backward::with_room(alloc, rows.rest_data().len())?;
         'rows: while let Some(row) = left.next_stored() {
             match row {
                 Ok(row) => {

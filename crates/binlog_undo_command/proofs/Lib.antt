@@ -2,3 +2,4 @@ mod Words
 mod Counts
 mod Scans
 mod LogsWritten
+mod UndoneLogs

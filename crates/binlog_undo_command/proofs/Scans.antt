@@ -1,11 +1,12 @@
 -- The first pass over several logs, one after the other.
-use Rattle.std.proofs.Common.{◌≡◌, ◌≢◌, ◌⊎◌, inl, inr, ℕ, ◌+◌, ◌<◌, ◌^◌, Bor, List, [], ◌∷◌, ◌++◌, length, take, map, get_or, Option, Some, None, IfSome, refl, sym, subst, ap, ◌∙◌}
-use Rattle.std.proofs.lemmas.List.{map-append, take_more}
+use Rattle.std.proofs.Common.{◌≡◌, ◌≢◌, ◌⊎◌, inl, inr, ℕ, ◌+◌, ◌<◌, ◌^◌, arith, Bor, List, [], ◌∷◌, ◌++◌, length, take, map, get_or, Option, Some, None, IfSome, refl, sym, subst, ap, ◌∙◌}
+use Rattle.std.proofs.lemmas.List.{length-map, length-take-le, map-append, take_more}
 use Rattle.clap.specs.declared.parser.matches.Found.{Found}
 use Rattle.binlog_cli.specs.Statuses.{worse}
 use Rattle.binlog_cli.specs.declared.exit_status.Status.{Status}
 use Rattle.binlog_cli.specs.declared.exit_status.Status.TheVariants.{Fine, NotOpened, Damaged, Failed, Usage}
-use Rattle.binlog_undo_command.specs.Scanned.{AreUndone, HasRefused, IsRefused, IsUndone}
+use Rattle.binlog_undo_command.specs.LogPlaces.{place_at}
+use Rattle.binlog_undo_command.specs.Scanned.{AreUndoneFrom, HasRefusedFrom, IsRefused, IsUndone}
 use Rattle.binlog_undo_command.specs.declared.scanning.ScannedLog.{ScannedLog}
 use Rattle.binlog_undo_log.specs.Files.{ScansWhole}
 use Rattle.binlog_undo_log.specs.declared.scan.UndoScan.{UndoScan}
@@ -60,35 +61,51 @@ abbrev no_name : Bor (List ℕ)
 no_name = record { ref_ptr = (0, 0); now = [] }
 
 module _ (bytes : List ℕ → Option (List ℕ)) (found : Found) where
-  undone_more : (names : List (List ℕ)) (logs : List ScannedLog) (name : List ℕ) (log : ScannedLog) → AreUndone bytes found names logs → log.name.now ≡ name → IsUndone found (bytes name) log.scan
-      → AreUndone bytes found (names ++ name ∷ []) (logs ++ log ∷ [])
-  undone_more [] [] name log are named is = (named, is, tt)
-  undone_more [] (other ∷ logs) name log are named is = absurd are
-  undone_more (other ∷ names) [] name log are named is = absurd are
-  undone_more (other ∷ names) (first ∷ logs) name log are named is = (are.0, are.1, undone_more names logs name log are.2 named is)
+  undone_more : (count index at : ℕ) (names : List (List ℕ)) (logs : List ScannedLog) (name : List ℕ) (log : ScannedLog) → AreUndoneFrom bytes found count index names logs → log.name.now ≡ name
+      → at ≡ index + length names → IsUndone found (place_at count at) (bytes name) log.scan → AreUndoneFrom bytes found count index (names ++ name ∷ []) (logs ++ log ∷ [])
+  undone_more count index at [] [] name log are named behind is =
+      let here : at ≡ index = omega (arith, behind) in
+      (named, subst (λ (i : ℕ). IsUndone found (place_at count i) (bytes name) log.scan) here is, tt)
+  undone_more count index at [] (other ∷ logs) name log are named behind is = absurd are
+  undone_more count index at (other ∷ names) [] name log are named behind is = absurd are
+  undone_more count index at (other ∷ names) (first ∷ logs) name log are named behind is =
+      (are.0, are.1, undone_more count (index + 1) at names logs name log are.2 named (omega (arith, behind)) is)
+
+  texts_length : (names : List (Bor (List ℕ))) (i : ℕ) → i < length names → i ≡ 0 + length (texts_of (take i names))
+  texts_length names i within =
+      let long : length (take i names) ≡ i = length-take-le i names (omega (arith, within)) in
+      omega (arith, length-map (take i names) (λ (name : Bor (List ℕ)). name.now), long)
 
   -- One more log is scanned, in which nothing is refused.
-  pub undone_next : (names : List (Bor (List ℕ))) (i : ℕ) (none : Bor (List ℕ)) (logs new : List ScannedLog) (scan : UndoScan) → i < length names → AreUndone bytes found (texts_of (take i names)) logs
-      → IsUndone found (bytes (get_or names i none).now) scan → new ≡ logs ++ record { name = get_or names i none; scan = scan } ∷ [] → AreUndone bytes found (texts_of (take (i + 1) names)) new
+  pub undone_next : (names : List (Bor (List ℕ))) (i : ℕ) (none : Bor (List ℕ)) (logs new : List ScannedLog) (scan : UndoScan) → i < length names
+      → AreUndoneFrom bytes found (length names) 0 (texts_of (take i names)) logs → IsUndone found (place_at (length names) i) (bytes (get_or names i none).now) scan
+      → new ≡ logs ++ record { name = get_or names i none; scan = scan } ∷ [] → AreUndoneFrom bytes found (length names) 0 (texts_of (take (i + 1) names)) new
   undone_next names i none logs new scan within are is more =
-      rw more (subst (λ (texts : List (List ℕ)). AreUndone bytes found texts (logs ++ record { name = get_or names i none; scan = scan } ∷ [])) (sym (texts_more names i none within))
-      (undone_more (texts_of (take i names)) logs (get_or names i none).now (record { name = get_or names i none; scan = scan }) are refl is))
+      rw more (subst (λ (texts : List (List ℕ)). AreUndoneFrom bytes found (length names) 0 texts (logs ++ record { name = get_or names i none; scan = scan } ∷ [])) (sym (texts_more names i none within))
+      (undone_more (length names) 0 i (texts_of (take i names)) logs (get_or names i none).now (record { name = get_or names i none; scan = scan }) are refl (texts_length names i within) is))
 
-  refused_more : (names : List (List ℕ)) (name : List ℕ) → HasRefused bytes found names → HasRefused bytes found (names ++ name ∷ [])
-  refused_more [] name has = absurd has
-  refused_more (other ∷ names) name (inl is) = inl is
-  refused_more (other ∷ names) name (inr has) = inr (refused_more names name has)
+  refused_more : (count index : ℕ) (names : List (List ℕ)) (name : List ℕ) → HasRefusedFrom bytes found count index names → HasRefusedFrom bytes found count index (names ++ name ∷ [])
+  refused_more count index [] name has = absurd has
+  refused_more count index (other ∷ names) name (inl is) = inl is
+  refused_more count index (other ∷ names) name (inr has) = inr (refused_more count (index + 1) names name has)
 
-  refused_last : (names : List (List ℕ)) (name : List ℕ) → IsRefused found (bytes name) → HasRefused bytes found (names ++ name ∷ [])
-  refused_last [] name is = inl is
-  refused_last (other ∷ names) name is = inr (refused_last names name is)
+  refused_last : (count index at : ℕ) (names : List (List ℕ)) (name : List ℕ) → at ≡ index + length names → IsRefused found (place_at count at) (bytes name)
+      → HasRefusedFrom bytes found count index (names ++ name ∷ [])
+  refused_last count index at [] name behind is =
+      let here : at ≡ index = omega (arith, behind) in
+      inl (subst (λ (i : ℕ). IsRefused found (place_at count i) (bytes name)) here is)
+  refused_last count index at (other ∷ names) name behind is = inr (refused_last count (index + 1) at names name (omega (arith, behind)) is)
 
   -- Something is refused in the logs so far, and one more is scanned.
-  pub refused_next : (names : List (Bor (List ℕ))) (i : ℕ) → i < length names → HasRefused bytes found (texts_of (take i names)) → HasRefused bytes found (texts_of (take (i + 1) names))
+  pub refused_next : (names : List (Bor (List ℕ))) (i : ℕ) → i < length names → HasRefusedFrom bytes found (length names) 0 (texts_of (take i names))
+      → HasRefusedFrom bytes found (length names) 0 (texts_of (take (i + 1) names))
   refused_next names i within has =
-      subst (λ (texts : List (List ℕ)). HasRefused bytes found texts) (sym (texts_more names i no_name within)) (refused_more (texts_of (take i names)) (get_or names i no_name).now has)
+      subst (λ (texts : List (List ℕ)). HasRefusedFrom bytes found (length names) 0 texts) (sym (texts_more names i no_name within))
+      (refused_more (length names) 0 (texts_of (take i names)) (get_or names i no_name).now has)
 
   -- Something is refused in one more log.
-  pub refused_here : (names : List (Bor (List ℕ))) (i : ℕ) (none : Bor (List ℕ)) → i < length names → IsRefused found (bytes (get_or names i none).now) → HasRefused bytes found (texts_of (take (i + 1) names))
+  pub refused_here : (names : List (Bor (List ℕ))) (i : ℕ) (none : Bor (List ℕ)) → i < length names → IsRefused found (place_at (length names) i) (bytes (get_or names i none).now)
+      → HasRefusedFrom bytes found (length names) 0 (texts_of (take (i + 1) names))
   refused_here names i none within is =
-      subst (λ (texts : List (List ℕ)). HasRefused bytes found texts) (sym (texts_more names i none within)) (refused_last (texts_of (take i names)) (get_or names i none).now is)
+      subst (λ (texts : List (List ℕ)). HasRefusedFrom bytes found (length names) 0 texts) (sym (texts_more names i none within))
+      (refused_last (length names) 0 i (texts_of (take i names)) (get_or names i none).now (texts_length names i within) is)

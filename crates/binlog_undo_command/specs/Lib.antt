@@ -1,5 +1,7 @@
 pub mod Reasons
+pub mod LogPlaces
 pub mod Options
 pub mod Scanned
 pub mod Written
 pub mod Undoing
+pub mod UndoneLogs

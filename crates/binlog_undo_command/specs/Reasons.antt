@@ -31,6 +31,7 @@ reason_name reasons.Compressed = codes "Compressed"
 reason_name reasons.Damaged = codes "Damaged"
 reason_name reasons.Tail = codes "Tail"
 reason_name reasons.Description = codes "Description"
+reason_name (reasons.Straddles end) = codes "Straddles"
 
 -- ---- `--skip`
 

@@ -26,18 +26,20 @@ pub record CountsLogs (bytes : List ℕ → Option (List ℕ)) (found : Found) (
   pub undone : AreUndone bytes found (texts_given found (codes "FILE")) logs
   pub counts : Appends old new (counts_line logs)
 
--- A file has the log that undoes these logs. `has` says which bytes it has.
-pub record PutsLog {F B : Type 0} (has_frames : List ℕ → F → Type 0) (is_at : F → ℕ → List ℕ → Type 0) (contents : B → Option (List ℕ)) (has : Option (List ℕ) → Type 0)
-    (logs : List ScannedLog) : Type 0 where
+-- A file has the log that undoes these logs, and nothing in front of it. `is_fresh` says which bytes it is begun with, and `has` which
+-- bytes it has.
+pub record PutsLog {F B : Type 0} (has_frames : List ℕ → F → Type 0) (is_at : F → ℕ → List ℕ → Type 0) (contents : B → Option (List ℕ))
+    (is_fresh has : Option (List ℕ) → Type 0) (logs : List ScannedLog) : Type 0 where
   pub begun : Option (List ℕ)
+  pub fresh : is_fresh begun
   pub written : Option (List ℕ)
   pub writes : WritesLog has_frames is_at contents logs begun written
   pub is : has written
 
 -- Nothing is refused in the logs that the words name, their counts are written, and a file has the log that undoes them.
 pub record Undoes {F B : Type 0} (bytes : List ℕ → Option (List ℕ)) (has_frames : List ℕ → F → Type 0) (is_at : F → ℕ → List ℕ → Type 0) (contents : B → Option (List ℕ))
-    (has : Option (List ℕ) → Type 0) (found : Found) (old new : Option (List ℕ)) : Type 0 where
+    (is_fresh has : Option (List ℕ) → Type 0) (found : Found) (old new : Option (List ℕ)) : Type 0 where
   pub logs : List ScannedLog
   pub undone : AreUndone bytes found (texts_given found (codes "FILE")) logs
   pub counts : Appends old new (counts_line logs)
-  pub puts : PutsLog has_frames is_at contents has logs
+  pub puts : PutsLog has_frames is_at contents is_fresh has logs

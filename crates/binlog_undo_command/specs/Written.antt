@@ -1,5 +1,5 @@
 -- The log that undoes several logs.
-use Rattle.std.specs.Prelude.{◌≡◌, ℕ, false, List, [], ◌∷◌, Option, None}
+use Rattle.std.specs.Prelude.{◌≡◌, ℕ, true, false, List, [], ◌∷◌, Option, None}
 use Rattle.std.specs.Io.KnownBytes.{Appends, Keeps}
 use Rattle.binlog_events.specs.FileHeader.{file_header}
 use Rattle.binlog_undo_command.specs.declared.scanning.ScannedLog.{ScannedLog}
@@ -31,5 +31,5 @@ pub record WritesLog {F B : Type 0} (has_frames : List ℕ → F → Type 0) (is
   pub start : B
   pub begins : contents start ≡ old
   pub end : UndoOutput B
-  pub whole : WritesWhole has_frames is_at contents logs (record { writer = start; place = 4; has_checksums = false; description = None }) end
+  pub whole : WritesWhole has_frames is_at contents logs (record { writer = start; place = 4; has_checksums = false; has_bounds = true; description = None }) end
   pub ends : Keeps (contents end.writer) new

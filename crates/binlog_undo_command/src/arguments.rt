@@ -35,6 +35,9 @@ fn undo<'a>(alloc: Global) -> Result<Command<'a>, AllocError> {
         .arg(flag(alloc, "no-foreign-key-checks").help(
             "The server checks no foreign keys while the log is applied",
         ))?
+        .arg(flag(alloc, "plain-old-temporal").help(
+            "Columns of MariaDB's old types of dates and times are known to have no fractions",
+        ))?
         .arg(
             append(alloc, "skip").value_name("REASON").help(
                 "Leaves transactions as they are that are refused for this reason; may be given again",
@@ -52,6 +55,17 @@ fn with_choice<'a>(alloc: Global, command: Command<'a>) -> Result<Command<'a>, A
             ),
         )?
         .arg(
+            append(alloc, "exclude-table").value_name("DB.TABLE").help(
+                "No rows of these tables, which are named in the same way; may be given again",
+            ),
+        )?
+        .arg(number(alloc, "start-position").help(
+            "Transactions that begin at this byte of the first FILE or behind it",
+        ))?
+        .arg(number(alloc, "stop-position").help(
+            "Transactions that begin before this byte of the last FILE",
+        ))?
+        .arg(
             set(alloc, "start-datetime").value_name("TIME").help(
                 "Transactions that ended at this time or later, in UTC, as 2026-11-26T12:00:00",
             ),
@@ -61,12 +75,7 @@ fn with_choice<'a>(alloc: Global, command: Command<'a>) -> Result<Command<'a>, A
                 .value_name("TIME")
                 .help("Transactions that ended before this time, in UTC"),
         )?
-        .arg(
-            set(alloc, "server-id")
-                .value_name("N")
-                .value_parser(value_parser!(u64))
-                .help("Transactions that this server created"),
-        )?
+        .arg(number(alloc, "server-id").help("Transactions that this server created"))?
         .arg(
             set(alloc, "include-gtids")
                 .value_name("GTIDS")
@@ -82,6 +91,13 @@ fn with_choice<'a>(alloc: Global, command: Command<'a>) -> Result<Command<'a>, A
 // An option with a text.
 fn set<'a>(alloc: Global, name: &'a str) -> Arg<'a> {
     Arg::new(alloc, name).long(name).action(ArgAction::Set)
+}
+
+// An option with a number.
+fn number<'a>(alloc: Global, name: &'a str) -> Arg<'a> {
+    set(alloc, name)
+        .value_name("N")
+        .value_parser(value_parser!(u64))
 }
 
 // An option with a text that may be given again.

@@ -2,6 +2,8 @@
 #![tactic(auto)]
 
 mod arguments;
+pub mod laws;
+mod log_place;
 mod logs;
 mod new_file;
 mod options;
@@ -12,6 +14,7 @@ mod undoing;
 mod writing;
 
 pub use arguments::command;
+pub use log_place::LogPlace;
 pub use logs::{HostLogs, Logs};
 pub use new_file::{HostFile, NewFile};
 pub use reasons::reason_name;

@@ -1,5 +1,5 @@
 //! A file that is there whole or not at all.
-ghost use Rattle.std.specs.Prelude.{◌≡◌, ℕ, Bool, true, false, List, Option, OnErr, OnOk, ⊤};
+ghost use Rattle.std.specs.Prelude.{◌≡◌, ℕ, Bool, true, false, List, Option, IfOk, OnErr, OnOk, ⊤};
 
 use std::fs::{File, OpenFile};
 use std::io::Write;
@@ -20,6 +20,9 @@ pub trait NewFile {
     /// Whether the file is there.
     ghost is_there: { Self → Bool };
 
+    /// What was begun to be written has these bytes, where they are known: none.
+    ghost is_fresh: { Self → Option (List ℕ) → Type 0 };
+
     /// The file has these bytes, where they are known.
     ghost has: { Self → Option (List ℕ) → Type 0 };
 
@@ -31,13 +34,14 @@ pub trait NewFile {
     fn draft_name(&self) -> &str
         ensures { result.now ≡ drafted self.now };
 
-    /// Begins to write. The file isn't there yet.
+    /// Begins to write, from the first byte on. The file isn't there yet.
     ///
     /// # Errors
     ///
     /// Those of making a file, and `AlreadyExists` if there is one of the other name. Nothing has changed then.
     fn begin(&mut self) -> io::Result<Self::Draft>
-        ensures { is_there self.new ≡ is_there self.old };
+        ensures there { is_there self.new ≡ is_there self.old }
+        ensures fresh { IfOk result (λ draft. is_fresh self.old (Self.Draft.contents draft)) };
 
     /// Gives the file its name. It has the bytes of the draft then.
     ///
@@ -87,6 +91,8 @@ impl<'a, R: Files> NewFile for HostFile<'a, R> {
     ghost drafted = { λ file. file.draft.now };
 
     ghost is_there = { λ file. file.is_there };
+
+    ghost is_fresh = { λ file bytes. ⊤ };
 
     ghost has = { λ file bytes. ⊤ };
 

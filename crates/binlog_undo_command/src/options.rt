@@ -1,19 +1,21 @@
 //! What the options of `binlog undo` ask for.
-ghost use Rattle.std.specs.Prelude.{◌≡◌, codes, map, IfErr, IfOk, IsNone, IsOk, IsSome};
+ghost use Rattle.std.specs.Prelude.{◌≡◌, [], codes, map, IfErr, IfOk, IsNone, IsOk, IsSome};
 ghost use Rattle.clap.specs.Matches.{found_of, one_text};
-ghost use Rattle.binlog_cli.specs.TableWords.{texts_given};
+ghost use Rattle.binlog_cli.specs.TableWords.{texts_given, StatesTables};
 ghost use Rattle.binlog_cli.specs.declared.exit_status.Status.TheVariants.{Usage};
-ghost use Rattle.binlog_undo_command.specs.Options.{StatesChecks, StatesChoice, StatesScan, RefusesOptions};
+ghost use Rattle.binlog_undo_command.specs.Options.{StatesChecks, StatesChoice, StatesFlag, StatesScan, RefusesOptions};
 ghost use Rattle.binlog_undo_command.specs.Reasons.{AreSkipNames, StatesSkips};
 
+use crate::log_place::LogPlace;
 use crate::reasons::{is_skip_name, skips_of};
-use binlog_cli::{Status, filter};
+use binlog_cli::{Status, filter, tables_of_option};
+use binlog_filters::TableFilter;
 use binlog_undo::ForeignKeyChecks;
 use binlog_undo_index::Skips;
 use binlog_undo_log::{Choice, UndoScan};
 use clap::ArgMatches;
 
-/// A pass in front of the first item of a file, for what the options ask for.
+/// A pass in front of the first item of a log at this place, for what the options ask for.
 ///
 /// # Errors
 ///
@@ -22,27 +24,47 @@ use clap::ArgMatches;
 pub(crate) fn new_scan<R: Eprint + AllocGlobal>(
     rt: &R,
     options: &ArgMatches<'_>,
+    place: LogPlace,
 ) -> Result<UndoScan, Status>
-    ensures ok { IfOk result (StatesScan (found_of options.now)) }
+    ensures ok { IfOk result (StatesScan place (found_of options.now)) }
     ensures err { IfErr result (RefusesOptions (found_of options.now)) }
 {
-    let choice = choice(rt, options)?;
+    let choice = choice(rt, options, place)?;
     let skips = skips(rt, options)?;
     Ok(UndoScan::new(rt.alloc(), choice, checks(options), skips))
 }
 
-// Which transactions and tables are undone.
-fn choice<R: Eprint + AllocGlobal>(rt: &R, options: &ArgMatches<'_>) -> Result<Choice, Status>
-    ensures ok { IfOk result (StatesChoice (found_of options.now)) }
+// Which transactions and tables of a log at this place are undone.
+fn choice<R: Eprint + AllocGlobal>(
+    rt: &R,
+    options: &ArgMatches<'_>,
+    place: LogPlace,
+) -> Result<Choice, Status>
+    ensures ok { IfOk result (StatesChoice place (found_of options.now)) }
     ensures err { IfErr result (RefusesOptions (found_of options.now)) }
 {
     let mut transactions = filter(rt, options)?;
     let tables = transactions.tables.take();
+    transactions.start_position = place.start(transactions.start_position);
+    transactions.stop_position = place.stop(transactions.stop_position);
+    let excluded = excluded(rt, options)?;
     Ok(Choice {
         transactions,
         tables,
-        excluded: None,
+        excluded,
+        has_plain_temporal: flag(options, "plain-old-temporal"),
     })
+}
+
+// The tables that are left out.
+fn excluded<R: Eprint + AllocGlobal>(
+    rt: &R,
+    options: &ArgMatches<'_>,
+) -> Result<Option<TableFilter>, Status>
+    ensures ok { IfOk result (λ excluded. StatesTables (texts_given (found_of options.now) (codes "exclude-table")) [] excluded) }
+    ensures err { IfErr result (RefusesOptions (found_of options.now)) }
+{
+    tables_of_option(rt, options, "exclude-table")
 }
 
 // Which refused transactions are left as they are. A word that is no reason's name has a message.
@@ -72,6 +94,13 @@ fn unknown_in<'a>(words: &[&'a str]) -> Option<&'a str>
         }
     }
     None
+}
+
+// Whether a flag is given.
+fn flag(options: &ArgMatches<'_>, name: &str) -> bool
+    ensures { StatesFlag (one_text (found_of options.now) name.now) result }
+{
+    options.get_flag(name)
 }
 
 // How foreign keys are checked while the log is applied.

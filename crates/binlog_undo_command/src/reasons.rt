@@ -38,6 +38,7 @@ pub fn reason_name(reason: Reason) -> &'static str
         Reason::Damaged => "Damaged",
         Reason::Tail => "Tail",
         Reason::Description => "Description",
+        Reason::Straddles(_) => "Straddles",
     }
 }
 

@@ -7,6 +7,7 @@ ghost use Rattle.binlog_undo_log.specs.Files.{AreSkipped, ScansWhole};
 ghost use Rattle.binlog_undo_command.specs.Options.{RefusesOptions};
 ghost use Rattle.binlog_undo_command.specs.Scanned.{IsUndone, AreUndone, IsRefused, HasRefused};
 
+use crate::log_place::LogPlace;
 use crate::logs::Logs;
 use crate::options::new_scan;
 use crate::reasons::reason_name;
@@ -45,8 +46,11 @@ pub(crate) fn scan_logs<'a, L: Logs, R: Eprint + AllocGlobal>(
 {
     let mut scanned = Vec::new(rt.alloc());
     let mut worst = Status::Fine;
+    let mut index = 0usize;
     for name in names {
-        match scan_log(rt, logs, options, name) {
+        let place = LogPlace::at(names.len(), index);
+        index += 1;
+        match scan_log(rt, logs, options, place, name) {
             Ok(scan) => {
                 if scanned.push(ScannedLog { name, scan }).is_err() {
                     return Err(out_of_memory(rt));
@@ -62,19 +66,20 @@ pub(crate) fn scan_logs<'a, L: Logs, R: Eprint + AllocGlobal>(
     }
 }
 
-// The first pass over a log. Err if something in it can't be undone or read.
+// The first pass over a log at this place. Err if something in it can't be undone or read.
 fn scan_log<L: Logs, R: Eprint + AllocGlobal>(
     rt: &R,
     logs: &L,
     options: &ArgMatches<'_>,
+    place: LogPlace,
     name: &str,
 ) -> Result<UndoScan, Status>
-    ensures ok { IfOk result (IsUndone (found_of options.now) (L.bytes logs.now name.now)) }
+    ensures ok { IfOk result (IsUndone (found_of options.now) place (L.bytes logs.now name.now)) }
     ensures err { IfErr result (λ status. status ≢ Fine) }
-    ensures refused { IfErr result (λ status. status ≡ Damaged → IsRefused (found_of options.now) (L.bytes logs.now name.now)) }
+    ensures refused { IfErr result (λ status. status ≡ Damaged → IsRefused (found_of options.now) place (L.bytes logs.now name.now)) }
     ensures usage { IfErr result (λ status. status ≡ Usage → RefusesOptions (found_of options.now) Usage) }
 {
-    let mut scan = new_scan(rt, options)?;
+    let mut scan = new_scan(rt, options, place)?;
     match logs.open(name) {
         Ok(input) => scan_open(rt, name, input, &mut scan)?,
         Err(error) => {

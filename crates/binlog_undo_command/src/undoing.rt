@@ -28,7 +28,7 @@ pub fn undo<'a, L: Logs, T: NewFile, R: Eprint + AllocGlobal, W: Write>(
     writer: &mut W,
 ) -> Status
     ensures fine { result ≡ Fine → Undoes (L.bytes logs.now) (L.has_frames logs.now) L.Sought.is_at ⟦<Counted<BufWriter<Retrying<T::Draft>>> as WriteCounted>⟧.contents
-        (T.has file.new) (found_of options.now) (W.contents writer.old) (W.contents writer.new) }
+        (T.is_fresh file.old) (T.has file.new) (found_of options.now) (W.contents writer.old) (W.contents writer.new) }
     ensures there { result ≡ Fine → T.is_there file.new ≡ true }
     ensures other { result ≢ Fine → T.is_there file.new ≡ T.is_there file.old }
     ensures refused { result ≡ Damaged → HasRefused (L.bytes logs.now) (found_of options.now) (texts_given (found_of options.now) (codes "FILE")) }
@@ -120,7 +120,7 @@ fn put_log<L: Logs, T: NewFile, R: Eprint + AllocGlobal>(
     scanned: &[ScannedLog<'_>],
     file: &mut T,
 ) -> Status
-    ensures fine { result ≡ Fine → PutsLog (L.has_frames logs.now) L.Sought.is_at ⟦<Counted<BufWriter<Retrying<T::Draft>>> as WriteCounted>⟧.contents (T.has file.new) scanned.now }
+    ensures fine { result ≡ Fine → PutsLog (L.has_frames logs.now) L.Sought.is_at ⟦<Counted<BufWriter<Retrying<T::Draft>>> as WriteCounted>⟧.contents (T.is_fresh file.old) (T.has file.new) scanned.now }
     ensures there { result ≡ Fine → T.is_there file.new ≡ true }
     ensures other { result ≢ Fine → T.is_there file.new ≡ T.is_there file.old }
     ensures failed { result ≢ Fine → result ≡ Failed }

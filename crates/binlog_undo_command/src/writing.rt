@@ -35,6 +35,7 @@ pub(crate) fn write_log<L: Logs, R: Eprint + AllocGlobal, W: Write + Drop>(
         writer: Counted::new(buffer),
         place: BinlogFileHeader::LEN as u64,
         has_checksums: false,
+        has_bounds: true,
         description: None,
     };
     match write_whole(rt, logs, scanned, &mut log) {

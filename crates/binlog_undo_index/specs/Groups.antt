@@ -14,8 +14,11 @@ use Rattle.binlog_undo_index.specs.declared.places.ChangePlace.{ChangePlace}
 use Rattle.binlog_undo_index.specs.declared.reason.Reason.{Reason}
 use Rattle.binlog_undo_index.specs.declared.reason.Reason.TheVariants as reasons
 use Rattle.binlog_undo_index.specs.declared.reason.Refused.{Refused}
+use Rattle.binlog_undo_index.specs.declared.rules.Positions.{Positions}
+use Rattle.binlog_undo_index.specs.declared.rules.Rules.{Rules}
 use Rattle.binlog_undo_index.specs.declared.seen.SeenEvent.{SeenEvent}
 use Rattle.binlog_undo_index.specs.declared.skips.Skips.{Skips}
+use Rattle.binlog_undo_index.specs.Positions.{splits}
 use Rattle.binlog_undo_index.specs.Skips.{is_skipped}
 
 -- ---- the groups of a log
@@ -115,12 +118,27 @@ counted_in skips found (told ∷ others) = counted_in skips (counted_behind skip
 
 -- Before the first event of a transaction.
 abbrev pub open_at : SeenEvent → Begun
-open_at event = record { index = event.index; place = event.place; is_taken = event.takes_first; refused = None }
+open_at event = record { index = event.index; place = event.place; end = event.end; is_taken = event.takes_first; refused = None }
 
--- What is known of a transaction behind these events: of its first event, and which refusal counts.
+-- Where the last of these events ends, or else this place.
+abbrev pub end_of : ℕ → List Told → ℕ
+end_of end [] = end
+end_of end (told ∷ others) = end_of told.event.end others
+
+-- What is known of a transaction behind these events: of its first event, where its last one ends, and which refusal counts.
 abbrev pub open_of : Skips → List Told → Option Begun
 open_of skips [] = None
-open_of skips (told ∷ others) = Some (record (open_at told.event) { refused = counted_in skips None (told ∷ others) })
+open_of skips (told ∷ others) = Some (record (open_at told.event) { end = end_of told.event.end others; refused = counted_in skips None (told ∷ others) })
+
+-- ---- positions
+
+-- The refusal of a transaction that a position is within, with its end.
+abbrev pub split_if : Bool → Begun → Option Refused
+split_if true begun = Some (record { index = begun.index; place = begun.place; reason = reasons.Straddles begun.end; is_skipped = false })
+split_if false begun = None
+
+abbrev pub split_of : Positions → Begun → Option Refused
+split_of positions begun = split_if (splits positions begun.place begun.end) begun
 
 -- The row events that are undone.
 abbrev pub change_list : Option ChangePlace → List ChangePlace
@@ -152,18 +170,24 @@ abbrev pub kept_if : Bool → ℕ → List ChangePlace → Option Refused → Li
 kept_if true last changes refused = kept_unless last changes refused
 kept_if false last changes refused = []
 
-abbrev pub kept_as : SeenEvent → List ChangePlace → Option Begun → List Kept
-kept_as event changes None = []
-kept_as event changes (Some begun) = kept_if (begun.is_taken && event.takes_last) event.place changes begun.refused
+abbrev pub kept_beside : Option Refused → List Kept → List Kept
+kept_beside (Some refused) kept = []
+kept_beside None kept = kept
 
--- The transaction with these events is kept if its first event and its last one take it, no refusal counts, and it has changes.
-abbrev pub kept_of : Skips → Group → List Kept
-kept_of skips (outside told) = []
-kept_of skips (whole events told) = kept_as told.event (changes_in (events ++ told ∷ [])) (open_of skips (events ++ told ∷ []))
-kept_of skips (unfinished events) = []
+abbrev pub kept_as : Rules → SeenEvent → List ChangePlace → Option Begun → List Kept
+kept_as rules event changes None = []
+kept_as rules event changes (Some begun) =
+    kept_beside (split_of rules.positions begun) (kept_if (begun.is_taken && event.takes_last) event.place changes begun.refused)
 
-abbrev pub kept_in : Skips → List Group → List Kept
-kept_in skips groups = flat_map (kept_of skips) groups
+-- The transaction with these events is kept if no position is within it, its first event and its last one take it, no refusal counts,
+-- and it has changes.
+abbrev pub kept_of : Rules → Group → List Kept
+kept_of rules (outside told) = []
+kept_of rules (whole events told) = kept_as rules told.event (changes_in (events ++ told ∷ [])) (open_of rules.skips (events ++ told ∷ []))
+kept_of rules (unfinished events) = []
+
+abbrev pub kept_in : Rules → List Group → List Kept
+kept_in rules groups = flat_map (kept_of rules) groups
 
 -- ---- what is refused
 
@@ -179,29 +203,45 @@ abbrev pub refused_if : Skips → SeenEvent → Option Reason → List Refused
 refused_if skips event None = []
 refused_if skips event (Some reason) = refused_at skips event reason ∷ []
 
-abbrev pub refused_as : SeenEvent → Option Begun → List Refused
-refused_as event None = []
-refused_as event (Some begun) = list_if (begun.is_taken && event.takes_last) (option_list begun.refused)
+abbrev pub refused_over : Option Refused → List Refused → List Refused
+refused_over (Some refused) others = refused ∷ []
+refused_over None others = others
+
+abbrev pub refused_as : Rules → SeenEvent → Option Begun → List Refused
+refused_as rules event None = []
+refused_as rules event (Some begun) =
+    refused_over (split_of rules.positions begun) (list_if (begun.is_taken && event.takes_last) (option_list begun.refused))
 
 -- At the first event of a transaction that isn't finished.
 abbrev pub unfinished_at : Skips → Begun → Refused
 unfinished_at skips begun =
     record { index = begun.index; place = begun.place; reason = reasons.Transaction refusals.Unfinished; is_skipped = is_skipped skips (reasons.Transaction refusals.Unfinished) }
 
-abbrev pub refused_unfinished : Skips → Option Begun → List Refused
-refused_unfinished skips None = []
-refused_unfinished skips (Some begun) = list_if begun.is_taken (option_list (counted begun.refused (unfinished_at skips begun)))
+abbrev pub counted_unfinished : Bool → Skips → Begun → Option Refused
+counted_unfinished true skips begun = counted begun.refused (unfinished_at skips begun)
+counted_unfinished false skips begun = None
 
--- A transaction that isn't finished is refused for that, unless another refusal counts. An event of no transaction is refused for both
--- of its reasons.
-abbrev pub refused_of : Skips → Group → List Refused
-refused_of skips (outside told) =
-    list_if told.event.takes_first (refused_if skips told.event (of_transaction told.turn.refusal) ++ refused_if skips told.event told.event.refusal)
-refused_of skips (whole events told) = refused_as told.event (open_of skips (events ++ told ∷ []))
-refused_of skips (unfinished events) = refused_unfinished skips (open_of skips events)
+abbrev pub unfinished_beside : Option Refused → Option Refused → Option Refused
+unfinished_beside (Some refused) other = Some refused
+unfinished_beside None other = other
 
-abbrev pub refused_in : Skips → List Group → List Refused
-refused_in skips groups = flat_map (refused_of skips) groups
+abbrev pub unfinished_of : Rules → Begun → Option Refused
+unfinished_of rules begun = unfinished_beside (split_of rules.positions begun) (counted_unfinished begun.is_taken rules.skips begun)
+
+abbrev pub refused_unfinished : Rules → Option Begun → List Refused
+refused_unfinished rules None = []
+refused_unfinished rules (Some begun) = option_list (unfinished_of rules begun)
+
+-- A transaction that a position is within is refused for that, whether it is taken or not. One that isn't finished is refused for that,
+-- unless another refusal counts. An event of no transaction is refused for both of its reasons.
+abbrev pub refused_of : Rules → Group → List Refused
+refused_of rules (outside told) =
+    list_if told.event.takes_first (refused_if rules.skips told.event (of_transaction told.turn.refusal) ++ refused_if rules.skips told.event told.event.refusal)
+refused_of rules (whole events told) = refused_as rules told.event (open_of rules.skips (events ++ told ∷ []))
+refused_of rules (unfinished events) = refused_unfinished rules (open_of rules.skips events)
+
+abbrev pub refused_in : Rules → List Group → List Refused
+refused_in rules groups = flat_map (refused_of rules) groups
 
 -- ---- table maps
 

@@ -6,8 +6,8 @@ use Rattle.binlog_undo_index.specs.Groups.{Told, Group, Kept, kept_in, refused_i
 use Rattle.binlog_undo_index.specs.Parts.{Parts}
 use Rattle.binlog_undo_index.specs.declared.places.ChangePlace.{ChangePlace}
 use Rattle.binlog_undo_index.specs.declared.places.TransactionPlace.{TransactionPlace}
+use Rattle.binlog_undo_index.specs.declared.rules.Rules.{Rules}
 use Rattle.binlog_undo_index.specs.declared.seen.SeenEvent.{SeenEvent}
-use Rattle.binlog_undo_index.specs.declared.skips.Skips.{Skips}
 
 abbrev pub mark_of : SeenEvent → Mark
 mark_of event = event.mark
@@ -28,13 +28,13 @@ pub record Keeps (kept : List Kept) (transactions : List TransactionPlace) (chan
   pub changes_are : changes ≡ flat_map changes_of kept
 
 -- What an index has where these groups have ended, and these events are those of the transaction that is read.
-abbrev pub parts_for : Skips → List Group → List Told → Parts
-parts_for skips groups begun = record {
-  skips = skips;
+abbrev pub parts_for : Rules → List Group → List Told → Parts
+parts_for rules groups begun = record {
+  rules = rules;
   maps = maps_in [] begun;
-  begun = open_of skips begun;
+  begun = open_of rules.skips begun;
   open_changes = changes_in begun;
-  changes = flat_map changes_of (kept_in skips groups);
-  transactions = map place_of (kept_in skips groups);
-  refusals = refused_in skips groups;
+  changes = flat_map changes_of (kept_in rules groups);
+  transactions = map place_of (kept_in rules groups);
+  refusals = refused_in rules groups;
 }

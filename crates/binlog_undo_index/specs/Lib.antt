@@ -1,3 +1,4 @@
+pub mod Positions
 pub mod Skips
 pub mod Groups
 pub mod Parts

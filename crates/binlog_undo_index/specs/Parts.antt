@@ -6,20 +6,21 @@ use Rattle.binlog_transactions.specs.declared.transaction.Transaction.{Transacti
 use Rattle.binlog_transactions.specs.declared.turn.Place.{Place}
 use Rattle.binlog_transactions.specs.declared.turn.Place.TheVariants.{Outside, First, Within, Last, Alone}
 use Rattle.binlog_transactions.specs.declared.turn.Turn.{Turn}
-use Rattle.binlog_undo_index.specs.Groups.{counted_if, of_transaction, with_map_at, open_at, refused_if, refused_unfinished, change_list}
+use Rattle.binlog_undo_index.specs.Groups.{counted_if, of_transaction, with_map_at, open_at, split_of, refused_if, refused_unfinished, change_list}
 use Rattle.binlog_undo_index.specs.declared.index.UndoIndex.{UndoIndex}
 use Rattle.binlog_undo_index.specs.declared.begun.Begun.{Begun}
 use Rattle.binlog_undo_index.specs.declared.places.ChangePlace.{ChangePlace}
 use Rattle.binlog_undo_index.specs.declared.places.TransactionPlace.{TransactionPlace}
 use Rattle.binlog_undo_index.specs.declared.reason.Reason.{Reason}
 use Rattle.binlog_undo_index.specs.declared.reason.Refused.{Refused}
+use Rattle.binlog_undo_index.specs.declared.rules.Rules.{Rules}
 use Rattle.binlog_undo_index.specs.declared.seen.SeenEvent.{SeenEvent}
 use Rattle.binlog_undo_index.specs.declared.skips.Skips.{Skips}
 
 -- What an index has: of the transaction that is read its table maps, its refusal and its changes; and of those before it the changes,
 -- the transactions and the refusals.
 pub record Parts : Type 0 where
-  pub skips : Skips
+  pub rules : Rules
   pub maps : List (ℕ × ℕ)
   pub begun : Option Begun
   pub open_changes : List ChangePlace
@@ -29,7 +30,7 @@ pub record Parts : Type 0 where
 
 abbrev pub parts_of : UndoIndex → Parts
 parts_of index = record {
-  skips = index.skips;
+  rules = index.rules;
   maps = index.maps.entries;
   begun = index.begun;
   open_changes = index.open_changes.items;
@@ -38,8 +39,8 @@ parts_of index = record {
   refusals = index.refusals.items;
 }
 
-abbrev pub no_parts : Skips → Parts
-no_parts skips = record { skips = skips; maps = []; begun = None; open_changes = []; changes = []; transactions = []; refusals = [] }
+abbrev pub no_parts : Rules → Parts
+no_parts rules = record { rules = rules; maps = []; begun = None; open_changes = []; changes = []; transactions = []; refusals = [] }
 
 abbrev pub reset : Parts → Parts
 reset parts = record parts { maps = []; begun = None; open_changes = [] }
@@ -52,13 +53,13 @@ opened event (Some begun) = begun
 abbrev pub with_refused : Refused → Parts → Parts
 with_refused refused parts = record parts { refusals = parts.refusals ++ refused ∷ [] }
 
--- The transaction with the refusals of an event.
-abbrev pub with_refusals : Skips → SeenEvent → Option Refusal → Begun → Begun
-with_refusals skips event refusal begun =
-    record begun { refused = counted_if skips event event.refusal (counted_if skips event (of_transaction refusal) begun.refused) }
+-- The transaction behind an event of it, with the refusals of that.
+abbrev pub begun_behind : Skips → SeenEvent → Option Refusal → Begun → Begun
+begun_behind skips event refusal begun =
+    record begun { end = event.end; refused = counted_if skips event event.refusal (counted_if skips event (of_transaction refusal) begun.refused) }
 
 abbrev pub with_event : SeenEvent → Option Refusal → Parts → Parts
-with_event event refusal parts = record parts { begun = Some (with_refusals parts.skips event refusal (opened event parts.begun)) }
+with_event event refusal parts = record parts { begun = Some (begun_behind parts.rules.skips event refusal (opened event parts.begun)) }
 
 abbrev pub with_map : SeenEvent → Parts → Parts
 with_map event parts = record parts { maps = with_map_at event.table_id event.place parts.maps }
@@ -87,18 +88,26 @@ abbrev pub ended_if : Bool → ℕ → Option Refused → Parts → Parts
 ended_if true last refused parts = ended_taken last refused parts
 ended_if false last refused parts = parts
 
+-- A transaction that a position is within is refused for that, whatever else there is.
+abbrev pub ended_unless : Option Refused → SeenEvent → Begun → Parts → Parts
+ended_unless (Some refused) event begun parts = with_refused refused parts
+ended_unless None event begun parts = ended_if (begun.is_taken && event.takes_last) event.place begun.refused parts
+
+abbrev pub ended_open : SeenEvent → Begun → Parts → Parts
+ended_open event begun parts = ended_unless (split_of parts.rules.positions begun) event begun parts
+
 abbrev pub ended_as : SeenEvent → Option Begun → Parts → Parts
 ended_as event None parts = parts
-ended_as event (Some begun) parts = ended_if (begun.is_taken && event.takes_last) event.place begun.refused parts
+ended_as event (Some begun) parts = ended_open event begun parts
 
 abbrev pub ended : SeenEvent → Parts → Parts
 ended event parts = reset (ended_as event parts.begun parts)
 
 abbrev pub cut : Parts → Parts
-cut parts = reset (record parts { refusals = parts.refusals ++ refused_unfinished parts.skips parts.begun })
+cut parts = reset (record parts { refusals = parts.refusals ++ refused_unfinished parts.rules parts.begun })
 
 abbrev pub refused_beside : SeenEvent → Option Reason → Parts → Parts
-refused_beside event reason parts = record parts { refusals = parts.refusals ++ refused_if parts.skips event reason }
+refused_beside event reason parts = record parts { refusals = parts.refusals ++ refused_if parts.rules.skips event reason }
 
 abbrev pub passed_if : Bool → SeenEvent → Option Refusal → Parts → Parts
 passed_if true event refusal parts = refused_beside event event.refusal (refused_beside event (of_transaction refusal) parts)

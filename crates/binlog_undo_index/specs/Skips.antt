@@ -18,7 +18,7 @@ is_event_skipped skips refusals.OldRows = skips.old_rows
 is_event_skipped skips refusals.UnknownEvent = skips.unknown_event
 is_event_skipped skips refusals.Encrypted = false
 
--- Damage, the end of a file within an event, encryption and a description are never skipped.
+-- Damage, the end of a file within an event, encryption, a description and a position within a transaction are never skipped.
 abbrev pub is_skipped : Skips → Reason → Bool
 is_skipped skips (reasons.Transaction refusal) = is_event_skipped skips refusal
 is_skipped skips reasons.NoTableMap = skips.no_table_map
@@ -30,3 +30,4 @@ is_skipped skips reasons.Compressed = skips.compressed
 is_skipped skips reasons.Damaged = false
 is_skipped skips reasons.Tail = false
 is_skipped skips reasons.Description = false
+is_skipped skips (reasons.Straddles end) = false

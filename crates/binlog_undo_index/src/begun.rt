@@ -1,9 +1,10 @@
 //! The transaction that is read.
 ghost use Rattle.std.specs.Prelude.{◌≡◌};
-ghost use Rattle.binlog_undo_index.specs.Groups.{counted, counted_if, of_transaction, open_at, refused_at, unfinished_at};
-ghost use Rattle.binlog_undo_index.specs.Parts.{with_refusals};
+ghost use Rattle.binlog_undo_index.specs.Groups.{counted, counted_if, of_transaction, open_at, refused_at, split_of, unfinished_at, unfinished_of};
+ghost use Rattle.binlog_undo_index.specs.Parts.{begun_behind};
 
 use crate::reason::{Reason, Refused};
+use crate::rules::{Positions, Rules};
 use crate::seen::SeenEvent;
 use crate::skips::Skips;
 use binlog_transactions::Refusal;
@@ -15,6 +16,8 @@ pub(crate) struct Begun {
     pub(crate) index: u64,
     /// The place of its first event.
     pub(crate) place: u64,
+    /// The place behind its last event so far.
+    pub(crate) end: u64,
     /// Whether its first event takes it.
     pub(crate) is_taken: bool,
     /// Why it can't be undone: the first refusal that isn't skipped, or else the first one.
@@ -29,29 +32,53 @@ impl Begun {
         Begun {
             index: event.index,
             place: event.place,
+            end: event.end,
             is_taken: event.takes_first,
             refused: None,
         }
     }
 
-    /// The transaction with the refusals of an event of it.
-    pub(crate) fn with_refusals(
-        self,
-        skips: Skips,
-        event: &SeenEvent,
-        refusal: Option<Refusal>,
-    ) -> Begun
-        ensures { result ≡ with_refusals skips event.now refusal self }
+    /// The transaction behind an event of it, with the refusals of that.
+    pub(crate) fn behind(self, skips: Skips, event: &SeenEvent, refusal: Option<Refusal>) -> Begun
+        ensures { result ≡ begun_behind skips event.now refusal self }
     {
         let found = counted_if(skips, event, of_transaction(refusal), self.refused);
         Begun {
+            end: event.end,
             refused: counted_if(skips, event, event.refusal, found),
             ..self
         }
     }
 
-    /// The refusal that counts where the transaction isn't finished.
-    pub(crate) fn refused_unfinished(self, skips: Skips) -> Option<Refused>
+    /// The refusal of the transaction if one of these positions is within it.
+    pub(crate) fn split(self, positions: Positions) -> Option<Refused>
+        ensures { result ≡ split_of positions self }
+    {
+        if positions.split(self.place, self.end) {
+            Some(Refused {
+                index: self.index,
+                place: self.place,
+                reason: Reason::Straddles(self.end),
+                is_skipped: false,
+            })
+        } else {
+            None
+        }
+    }
+
+    /// The refusal of the transaction where it isn't finished: one of these positions is within it, or it is taken.
+    pub(crate) fn refused_unfinished(self, rules: Rules) -> Option<Refused>
+        ensures { result ≡ unfinished_of rules self }
+    {
+        match self.split(rules.positions) {
+            Some(refused) => Some(refused),
+            None if self.is_taken => self.counted_unfinished(rules.skips),
+            None => None,
+        }
+    }
+
+    // The refusal that counts where the transaction isn't finished.
+    fn counted_unfinished(self, skips: Skips) -> Option<Refused>
         ensures { result ≡ counted self.refused (unfinished_at skips self) }
     {
         let reason = Reason::Transaction(Refusal::Unfinished);

@@ -3,13 +3,13 @@ ghost use Rattle.std.specs.Prelude.{◌≡◌, None, false, OnOk, is_some};
 ghost use Rattle.std.specs.Ordering.{nat_cmp};
 ghost use Rattle.std.specs.BTreeMap.{get};
 ghost use Rattle.binlog_transactions.specs.Pieces.{step};
-ghost use Rattle.binlog_undo_index.specs.Parts.{parts_of, no_parts, reset, with_refused, with_event, with_map, with_change, added, kept_open, ended_taken, ended, cut, refused_beside, passed, noted};
+ghost use Rattle.binlog_undo_index.specs.Parts.{parts_of, no_parts, reset, with_refused, with_event, with_map, with_change, added, kept_open, ended_taken, ended_open, ended, cut, refused_beside, passed, noted};
 
 use crate::begun::{Begun, of_transaction, refused_at};
 use crate::places::{ChangePlace, TransactionPlace};
 use crate::reason::{Reason, Refused};
+use crate::rules::Rules;
 use crate::seen::SeenEvent;
-use crate::skips::Skips;
 use binlog_transactions::{Place, Refusal, Transactions, Turn};
 use std::alloc::{AllocError, Global};
 use std::collections::BTreeMap;
@@ -19,7 +19,7 @@ use std::collections::BTreeMap;
 /// each table.
 #[derive(Drop)]
 pub struct UndoIndex {
-    skips: Skips,
+    rules: Rules,
     automaton: Transactions,
     maps: BTreeMap<u64, u64>,
     begun: Option<Begun>,
@@ -30,13 +30,13 @@ pub struct UndoIndex {
 }
 
 impl UndoIndex {
-    /// Of no events. Transactions that are refused for one of the reasons `skips` alone are left as they are.
-    pub fn new(alloc: Global, skips: Skips) -> UndoIndex
+    /// Of no events.
+    pub fn new(alloc: Global, rules: Rules) -> UndoIndex
         ensures automaton { result.automaton.current ≡ None }
-        ensures parts { parts_of result ≡ no_parts skips }
+        ensures parts { parts_of result ≡ no_parts rules }
     {
         UndoIndex {
-            skips,
+            rules,
             automaton: Transactions::new(),
             maps: BTreeMap::new(alloc),
             begun: None,
@@ -141,7 +141,7 @@ impl UndoIndex {
         self.maps.clear();
     }
 
-    // The refusals of an event of the transaction that is read, which may begin with it.
+    // An event of the transaction that is read, which may begin with it: where it ends, and its refusals.
     fn add_event(&mut self, event: &SeenEvent, refusal: Option<Refusal>)
         ensures parts { parts_of self.new ≡ with_event event.now refusal (parts_of self.old) }
         ensures automaton { self.new.automaton.current ≡ self.old.automaton.current }
@@ -150,7 +150,7 @@ impl UndoIndex {
             Some(begun) => begun,
             None => Begun::at(event),
         };
-        self.begun = Some(begun.with_refusals(self.skips, event, refusal));
+        self.begun = Some(begun.behind(self.rules.skips, event, refusal));
     }
 
     // Keeps the place of a table map.
@@ -215,15 +215,30 @@ impl UndoIndex {
         }
     }
 
+    // Refuses this transaction if a position is within it, or else ends it with this event, if both take it.
+    fn end_open(&mut self, event: &SeenEvent, begun: Begun) -> Result<(), AllocError>
+        ensures parts { OnOk result (parts_of self.new ≡ ended_open event.now begun (parts_of self.old)) }
+        ensures automaton { OnOk result (self.new.automaton.current ≡ self.old.automaton.current) }
+    {
+        match begun.split(self.rules.positions) {
+            Some(refused) => {
+                self.refusals.push(refused)?;
+                Ok(())
+            }
+            None if begun.is_taken && event.takes_last => {
+                self.end_taken(event.place, begun.refused)
+            }
+            None => Ok(()),
+        }
+    }
+
     // The transaction that is read ends with this event.
     fn end(&mut self, event: &SeenEvent) -> Result<(), AllocError>
         ensures parts { OnOk result (parts_of self.new ≡ ended event.now (parts_of self.old)) }
         ensures automaton { OnOk result (self.new.automaton.current ≡ self.old.automaton.current) }
     {
         if let Some(begun) = self.begun {
-            if begun.is_taken && event.takes_last {
-                self.end_taken(event.place, begun.refused)?;
-            }
+            self.end_open(event, begun)?;
         }
         self.reset();
         Ok(())
@@ -235,10 +250,8 @@ impl UndoIndex {
         ensures automaton { OnOk result (self.new.automaton.current ≡ self.old.automaton.current) }
     {
         if let Some(begun) = self.begun {
-            if begun.is_taken {
-                if let Some(refused) = begun.refused_unfinished(self.skips) {
-                    self.refusals.push(refused)?;
-                }
+            if let Some(refused) = begun.refused_unfinished(self.rules) {
+                self.refusals.push(refused)?;
             }
         }
         self.reset();
@@ -251,7 +264,8 @@ impl UndoIndex {
         ensures automaton { OnOk result (self.new.automaton.current ≡ self.old.automaton.current) }
     {
         if let Some(reason) = reason {
-            self.refusals.push(refused_at(self.skips, event, reason))?;
+            self.refusals
+                .push(refused_at(self.rules.skips, event, reason))?;
         }
         Ok(())
     }

@@ -4,14 +4,14 @@ ghost use Rattle.binlog_transactions.specs.Pieces.{told};
 ghost use Rattle.binlog_undo_index.specs.Groups.{told_events, groups_in, open_behind};
 ghost use Rattle.binlog_undo_index.specs.Index.{mark_of, turn_of, parts_for};
 ghost use Rattle.binlog_undo_index.specs.Parts.{no_parts, noted_all};
+ghost use Rattle.binlog_undo_index.specs.declared.rules.Rules.{Rules};
 ghost use Rattle.binlog_undo_index.specs.declared.seen.SeenEvent.{SeenEvent};
-ghost use Rattle.binlog_undo_index.specs.declared.skips.Skips.{Skips};
 
 /// An index that was told of the events of a file, one after the other, has the places of the transactions that are undone and of
 /// their row events, in order, and each refusal; and of the transaction that is read its table maps. What is said of the events are
 /// the turns of their marks, which are those of the transactions of the log by [`binlog_transactions::laws::transactions_are_found`].
 pub fn places_are_kept()
-    ensures kept { (skips : Skips) (events : List SeenEvent)
-        → noted_all None events (no_parts skips) ≡ parts_for skips (groups_in [] (told_events None events)) (open_behind [] (told_events None events)) }
+    ensures kept { (rules : Rules) (events : List SeenEvent)
+        → noted_all None events (no_parts rules) ≡ parts_for rules (groups_in [] (told_events None events)) (open_behind [] (told_events None events)) }
     ensures turns { (events : List SeenEvent) → map turn_of (told_events None events) ≡ told None (map mark_of events) }
 {}

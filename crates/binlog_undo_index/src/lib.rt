@@ -10,11 +10,13 @@ mod index;
 pub mod laws;
 mod places;
 mod reason;
+mod rules;
 mod seen;
 mod skips;
 
 pub use index::UndoIndex;
 pub use places::{ChangePlace, TransactionPlace};
 pub use reason::{Reason, Refused};
+pub use rules::{Positions, Rules};
 pub use seen::SeenEvent;
 pub use skips::Skips;

@@ -24,8 +24,8 @@ pub enum Reason {
     /// The event has partial updates of JSON documents.
     #[error("partial updates of documents")]
     PartialJson,
-    /// The rows are compressed.
-    #[error("the rows are compressed")]
+    /// Compressed rows of more than 1 GiB.
+    #[error("the compressed rows are too long")]
     Compressed,
     /// An event is damaged, or its body can't be read.
     #[error("a damaged event")]
@@ -37,6 +37,9 @@ pub enum Reason {
     /// another form.
     #[error("no format description that can be written")]
     Description,
+    /// A position is within a transaction, which ends in front of this byte of the file.
+    #[error("a position is within the transaction, which ends at byte {0}")]
+    Straddles(u64),
 }
 
 /// A transaction, or a log, that can't be undone.

@@ -10,6 +10,8 @@ pub struct SeenEvent {
     pub index: u64,
     /// Where it begins in its file, in bytes.
     pub place: u64,
+    /// Where it ends in its file: the place of the byte behind it.
+    pub end: u64,
     /// What it is to the transactions of its log.
     pub mark: Mark,
     /// The id of its table, if it is a table map.

@@ -59,7 +59,8 @@ impl Skips {
         }
     }
 
-    /// Whether this reason is skipped. Damage, the end of a file within an event, encryption and a description never are.
+    /// Whether this reason is skipped. Damage, the end of a file within an event, encryption, a description and
+    /// a position within a transaction never are.
     pub fn has(self, reason: Reason) -> bool
         ensures { result ≡ is_skipped self reason }
     {
@@ -71,7 +72,7 @@ impl Skips {
             Reason::Image => self.image,
             Reason::PartialJson => self.partial_json,
             Reason::Compressed => self.compressed,
-            Reason::Damaged | Reason::Tail | Reason::Description => false,
+            Reason::Damaged | Reason::Tail | Reason::Description | Reason::Straddles(_) => false,
         }
     }
 }

@@ -1,8 +1,13 @@
 pub mod Described
+pub mod FileChanges
 pub mod Grown
+pub mod Keys
 pub mod LogChanges
 pub mod Looked
 pub mod Passes
+pub mod Placed
 pub mod ReadEvents
 pub mod Scanned
 pub mod Undone
+pub mod Shown
+pub mod OneTransaction

@@ -11,6 +11,7 @@ use Rattle.binlog_undo.specs.InverseEvents.{GivesInverse}
 use Rattle.binlog_columns.specs.Metadata.{Typed}
 use Rattle.binlog_rows.specs.declared.table_map_event.TableMapEvent.{TableMapEvent}
 use Rattle.binlog_undo.specs.declared.inverse_event.ForeignKeyChecks.{ForeignKeyChecks}
+use Rattle.binlog_undo_log.proofs.Keys.{some_key}
 use Rattle.binlog_undo_index.specs.Groups.{Kept}
 use Rattle.binlog_undo_index.specs.declared.places.ChangePlace.{ChangePlace}
 use Rattle.binlog_undo_log.specs.LogChanges.{LogChange, name_of, HasTableChanges, IsChanged, AreChanged, AreKeptChanges, ArePairChanges, IsBesideRows, LogPiece, beside, pair, IsLogPiece, piece_events, piece_changes, AreLogChanges}
@@ -66,10 +67,12 @@ module _ (is_at : FramesOf) (fde : FormatDescriptionEvent) (checks : ForeignKeyC
       let columns : List Typed = columns_in map.columns.types map.columns.metadata in
       let source : RowsEventData = h.undoes.undoes.rows in
       let rows : UndoesRows checks h.map_event map h.event source events = h.undoes.undoes.undoes in
-      let gives : GivesInverse [] columns checks source (Ok rows.inverse) = rows.undoes.undoes in
+      let by_key = some_key rows.is_maria_log map columns checks source rows.inverse rows.undoes.undoes in
+      let key : List ℕ = by_key.0 in
+      let gives : GivesInverse key columns checks source (Ok rows.inverse) = by_key.1 in
       let undoing : RowsEventData = gives.0 in
-      let found = some_changes (name_of map) [] columns checks source undoing gives.1 in
-      let back : HasTableChanges map undoing (inverse found.0) = inverse_changes (name_of map) [] columns checks source undoing gives.1 found.0 found.1 in (
+      let found = some_changes (name_of map) key columns checks source undoing gives.1 in
+      let back : HasTableChanges map undoing (inverse found.0) = inverse_changes (name_of map) key columns checks source undoing gives.1 found.0 found.1 in (
         found.0,
         record {
           map_event = h.map_event;

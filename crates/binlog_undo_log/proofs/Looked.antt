@@ -16,7 +16,7 @@ use Rattle.binlog_wire.specs.declared.error.Error.{Error}
 use Rattle.binlog_wire.specs.declared.error.Error.TheVariants.{Memory}
 use Rattle.crc32_ieee.specs.Checksums.{IsCrc32}
 use Rattle.binlog_undo_log.specs.Files.{scans, refuses, ScansFile}
-use Rattle.binlog_undo_log.specs.Looking.{AsksFor, IsOldTemporal, LooksAtColumns, LooksUnlessOld, LooksUnlessRefused, LooksAtTable, LooksIfAsked, LooksByPlace, LooksIfAny, LooksAtRows, id_of}
+use Rattle.binlog_undo_log.specs.Looking.{AsksFor, IsUnknownTemporal, LooksAtColumns, LooksUnlessOld, LooksUnlessRefused, LooksAtTable, LooksIfAsked, LooksByPlace, LooksIfAny, LooksAtRows, id_of}
 use Rattle.binlog_undo_log.specs.Scanning.{EndsScan}
 use Rattle.binlog_undo_log.specs.declared.scan.seeing.RowsLook.{RowsLook}
 use Rattle.binlog_undo_log.specs.declared.scan.UndoScan.{UndoScan}
@@ -39,18 +39,18 @@ on_ok (Err error) to h = tt
 
 pub table_if : (answer : Result RowsLook Error) (scan : UndoScan) (event : EventView) (rows : RowsEventData) (map : TableMapEvent) (table_map : ℕ) (types metadata : List ℕ)
     (columns : List Typed) (old : Bool) → types ≡ map.columns.types → metadata ≡ map.columns.metadata → refusal 0 types metadata ≡ None → columns ≡ columns_in types metadata
-    → IsOldTemporal event types old → old ≡ false → IfOk answer (LooksAtColumns scan event rows columns table_map) → IfOk answer (LooksAtTable scan event rows map table_map)
+    → IsUnknownTemporal scan.choice.has_plain_temporal event types old → old ≡ false → IfOk answer (LooksAtColumns scan event rows map columns table_map) → IfOk answer (LooksAtTable scan event rows map table_map)
 table_if (Ok look) scan event rows map table_map types metadata columns old t m none same is off h =
     let taken : refusal 0 map.columns.types map.columns.metadata ≡ None =
     subst (λ (s : List ℕ). refusal 0 s map.columns.metadata ≡ None) t (subst (λ (s : List ℕ). refusal 0 types s ≡ None) m none) in
     let columns_are : columns ≡ columns_in map.columns.types map.columns.metadata =
     subst (λ (s : List ℕ). columns ≡ columns_in s map.columns.metadata) t (subst (λ (s : List ℕ). columns ≡ columns_in types s) m same) in
-    let last : LooksAtColumns scan event rows (columns_in map.columns.types map.columns.metadata) table_map look =
-    subst (λ (l : List Typed). LooksAtColumns scan event rows l table_map look) columns_are h in
+    let last : LooksAtColumns scan event rows map (columns_in map.columns.types map.columns.metadata) table_map look =
+    subst (λ (l : List Typed). LooksAtColumns scan event rows map l table_map look) columns_are h in
     let unless : LooksUnlessRefused None scan event rows map table_map look = (
       old,
-      subst (λ (s : List ℕ). IsOldTemporal event s old) t is,
-      subst (λ (b : Bool). LooksUnlessOld b scan event rows (columns_in map.columns.types map.columns.metadata) table_map look) (sym off) last,
+      subst (λ (s : List ℕ). IsUnknownTemporal scan.choice.has_plain_temporal event s old) t is,
+      subst (λ (b : Bool). LooksUnlessOld b scan event rows map (columns_in map.columns.types map.columns.metadata) table_map look) (sym off) last,
     ) in
     subst (λ (r : Option ColumnError). LooksUnlessRefused r scan event rows map table_map look) (sym taken) unless
 table_if (Err error) scan event rows map table_map types metadata columns old t m none same is off h = tt

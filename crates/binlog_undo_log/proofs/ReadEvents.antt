@@ -1,22 +1,62 @@
 -- What undoes events, by what was read of them.
-use Rattle.std.proofs.Common.{◌≡◌, ℕ, List, Option, Some, Result, Ok, Err, OnOk, IfOk, subst}
+use Rattle.std.proofs.Common.{◌≡◌, inl, inr, ℕ, List, Option, Some, Result, Ok, Err, OnOk, IfOk, subst, sym}
 use Rattle.binlog_event_data.specs.declared.event_data.EventData.{EventData}
+use Rattle.binlog_event_data.specs.declared.event_data.EventData.TheVariants as mysql
+use Rattle.binlog_file.specs.LogData.{ReadsLogData}
+use Rattle.binlog_file.specs.declared.log_data.LogEventData.{LogEventData}
+use Rattle.binlog_file.specs.declared.log_data.LogEventData.TheVariants.{Mysql, Maria}
+use Rattle.binlog_mariadb.specs.declared.compressed_rows.RowsCompressedEvent.{RowsCompressedEvent}
+use Rattle.binlog_mariadb.specs.declared.event_data.MariaEventData.TheVariants as maria
+use Rattle.binlog_rows.specs.declared.rows_event_data.RowsEventData.{RowsEventData}
+use Rattle.binlog_undo_log.specs.Compressed.{IsUncompressed, ReadsUncompressed}
 use Rattle.binlog_event_format.specs.declared.format_description.FormatDescriptionEvent.{FormatDescriptionEvent}
 use Rattle.binlog_events.specs.Events.{EventView, event_at, ReadsEventData}
 use Rattle.binlog_rows.specs.declared.table_map_event.TableMapEvent.{TableMapEvent}
 use Rattle.binlog_undo.specs.declared.inverse_event.ForeignKeyChecks.{ForeignKeyChecks}
 use Rattle.binlog_undo_index.specs.declared.places.ChangePlace.{ChangePlace}
 use Rattle.binlog_undo_writing.specs.declared.events_writer.EventsWriter.{EventsWriter}
-use Rattle.binlog_undo_log.specs.Undoing.{FramesOf, IsEventAt, HasRightChecksum, Writes, UndoesReadRows, UndoesMapped, UndoesReadMap, UndoesEvents, UndoesChange}
+use Rattle.binlog_undo_log.specs.Undoing.{FramesOf, IsEventAt, HasRightChecksum, Writes, UndoesRows, UndoesReadEvent, UndoesBody, UndoesCompressed, UndoesReadRows, UndoesMapped, UndoesReadMap, UndoesEvents, UndoesChange}
 use Rattle.binlog_undo_log.specs.declared.undo_error.UndoLogError.{UndoLogError}
 use Rattle.binlog_wire.specs.declared.error.Error.{Error}
 
 pub mapped_if : (answer : Result (Unit {0}) UndoLogError) (checks : ForeignKeyChecks) (map_event : EventView) (map : TableMapEvent) (event : EventView)
-    (read : Result (Option EventData) Error) (old new : EventsWriter) → ReadsEventData event read → OnOk answer (Writes (UndoesReadRows checks map_event map event read) old new)
+    (read : Result (Option LogEventData) Error) (old new : EventsWriter) → ReadsLogData event read → OnOk answer (Writes (UndoesReadRows checks map_event map event read) old new)
     → OnOk answer (Writes (UndoesMapped checks map_event map event) old new)
 mapped_if (Ok done) checks map_event map event read old new reads h =
-    (h.0, record { rows = h.1.rows; read = subst (λ (r : Result (Option EventData) Error). ReadsEventData event r) h.1.is reads; undoes = h.1.undoes }, h.2)
+    (h.0, record { rows = h.1.rows; read = record { read = read; reads = reads; are = h.1.are }; undoes = h.1.undoes }, h.2)
 mapped_if (Err error) checks map_event map event read old new reads h = tt
+
+-- Of a body that was compressed.
+pub body_if : (answer : Result (Unit {0}) UndoLogError) (checks : ForeignKeyChecks) (map_event : EventView) (map : TableMapEvent) (event : EventView) (body : List ℕ)
+    (read : Result (Option EventData) Error) (old new : EventsWriter) → ReadsUncompressed event body read → OnOk answer (Writes (UndoesReadEvent checks map_event map event read) old new)
+    → OnOk answer (Writes (UndoesBody checks map_event map event body) old new)
+body_if (Ok done) checks map_event map event body read old new reads h =
+    (h.0, record { rows = h.1.rows; read = subst (λ (r : Result (Option EventData) Error). ReadsUncompressed event body r) h.1.is reads; undoes = h.1.undoes }, h.2)
+body_if (Err error) checks map_event map event body read old new reads h = tt
+
+-- Of compressed rows.
+pub compressed_if : (answer : Result (Unit {0}) UndoLogError) (checks : ForeignKeyChecks) (map_event : EventView) (map : TableMapEvent) (event : EventView)
+    (compressed : RowsCompressedEvent) (items body : List ℕ) (old new : EventsWriter) → body ≡ items → IsUncompressed event compressed items
+    → OnOk answer (Writes (UndoesBody checks map_event map event body) old new) → OnOk answer (Writes (UndoesCompressed checks map_event map event compressed) old new)
+compressed_if (Ok done) checks map_event map event compressed items body old new same is h =
+    let is_body : IsUncompressed event compressed body = subst (λ (s : List ℕ). IsUncompressed event compressed s) (sym same) is in
+    (h.0, record { rows = h.1.rows; are = record { body = body; is = is_body; read = h.1.read }; undoes = h.1.undoes }, h.2)
+compressed_if (Err error) checks map_event map event compressed items body old new same is h = tt
+
+-- What was read of an event are compressed rows.
+pub read_compressed_if : (answer : Result (Unit {0}) UndoLogError) (checks : ForeignKeyChecks) (map_event : EventView) (map : TableMapEvent) (event : EventView)
+    (read : Result (Option LogEventData) Error) (compressed : RowsCompressedEvent) (old new : EventsWriter) → read ≡ Ok (Some (Maria (maria.RowsCompressedEvent compressed)))
+    → OnOk answer (Writes (UndoesCompressed checks map_event map event compressed) old new) → OnOk answer (Writes (UndoesReadRows checks map_event map event read) old new)
+read_compressed_if (Ok done) checks map_event map event read compressed old new is h =
+    (h.0, record { rows = h.1.rows; are = inr (compressed, is, h.1.are); undoes = h.1.undoes }, h.2)
+read_compressed_if (Err error) checks map_event map event read compressed old new is h = tt
+
+-- They are rows as they are.
+pub read_rows_if : (answer : Result (Unit {0}) UndoLogError) (checks : ForeignKeyChecks) (map_event : EventView) (map : TableMapEvent) (event : EventView)
+    (read : Result (Option LogEventData) Error) (rows : RowsEventData) (old new : EventsWriter) → read ≡ Ok (Some (Mysql (mysql.RowsEvent rows)))
+    → OnOk answer (Writes (UndoesRows checks map_event map event rows) old new) → OnOk answer (Writes (UndoesReadRows checks map_event map event read) old new)
+read_rows_if (Ok done) checks map_event map event read rows old new is h = (h.0, record { rows = rows; are = inl is; undoes = h.1 }, h.2)
+read_rows_if (Err error) checks map_event map event read rows old new is h = tt
 
 pub events_if : (answer : Result (Unit {0}) UndoLogError) (checks : ForeignKeyChecks) (map_event : EventView) (event : EventView)
     (read : Result (Option EventData) Error) (old new : EventsWriter) → ReadsEventData map_event read → OnOk answer (Writes (UndoesReadMap checks map_event read event) old new)

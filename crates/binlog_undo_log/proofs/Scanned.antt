@@ -18,20 +18,24 @@ use Rattle.binlog_undo_index.specs.declared.places.TransactionPlace.{Transaction
 use Rattle.binlog_undo_index.specs.declared.reason.Reason.{Reason}
 use Rattle.binlog_undo_index.specs.declared.reason.Reason.TheVariants as reasons
 use Rattle.binlog_undo_index.specs.declared.reason.Refused.{Refused as RefusedAt}
+use Rattle.binlog_undo_index.specs.declared.rules.Rules.{Rules}
 use Rattle.binlog_undo_index.specs.declared.seen.SeenEvent.{SeenEvent}
 use Rattle.binlog_undo_index.specs.declared.skips.Skips.{Skips}
-use Rattle.binlog_undo_log.specs.Files.{IsFresh, scans, ScansWhole, AreSeen, groups_of, AreSkipped, IsScanned}
-use Rattle.binlog_undo_log.specs.Scanning.{refused_at, Stops, DescribesBehind, DescribesIf, NotesIn, Notes, NotesMark, NotesIf, ScansEvent, ScansItem, border_at, has_no_tail, EndsWhole, EndsIfWhole, EndsScan}
+use Rattle.binlog_undo_log.specs.Choices.{rules_of}
+use Rattle.binlog_undo_log.specs.Files.{IsFresh, scans, refuses, ScansWhole, AreSeen, groups_of, AreSkipped, IsScanned}
+use Rattle.binlog_undo_log.specs.Scanning.{refused_at, Stops, DescribesBehind, DescribesIf, NotesIn, Notes, NotesMark, NotesIf, ScansEvent, ScansUnless, ScansItem, border_at, has_no_tail, is_past_stop, Closes, EndsIfWhole, EndsScan}
 use Rattle.binlog_undo_log.specs.declared.choice.Choice.{Choice}
 use Rattle.binlog_undo_log.specs.declared.scan.UndoScan.{UndoScan}
 use Rattle.binlog_visits.specs.TableMaps.{maps_behind}
 use Rattle.binlog_visits.specs.Places.{first_place}
-use Rattle.binlog_visits.specs.Visits.{Visits, HasTailAt}
+use Rattle.binlog_visits.specs.Visits.{Visits, VisitsVerifiedLog, HasTailAt}
 use Rattle.binlog_wire.specs.declared.error.Error.{Error}
+use Rattle.crc32_ieee.specs.Checksums.{IsCrc32}
+use Rattle.std.specs.Prelude.{◌||◌}
 
 -- ---- truth values
 
-not_both : (b : Bool) → b ≡ true → b ≡ false → ⊥
+pub not_both : (b : Bool) → b ≡ true → b ≡ false → ⊥
 not_both b is other = cc
 
 one_of : (b : Bool) → (b ≡ true) ⊎ (b ≡ false)
@@ -44,7 +48,7 @@ no_tail (Some tail_len) h = ap (λ (n : ℕ). Some n) (eqb-true tail_len 0 h)
 
 -- ---- a pass that ends
 
-stopped : (index : ℕ) (reason : Reason) (old new : UndoScan) → Stops index reason old new → new.is_stopped ≡ true
+pub stopped : (index : ℕ) (reason : Reason) (old new : UndoScan) → Stops index reason old new → new.is_stopped ≡ true
 stopped index reason old new h = ap (λ (s : UndoScan). s.is_stopped) h.is
 
 last_skipped : (refusals : List RefusedAt) (last : RefusedAt) → AreSkipped (refusals ++ last ∷ []) → last.is_skipped ≡ true
@@ -59,7 +63,7 @@ not_skipped index reason old new h skipped =
     cc
 
 -- An event is noted, or ends the pass.
-noted_or : (mark : Mark) (index : ℕ) (event : EventView) (seen : SeenEvent) (old new : UndoScan) → NotesMark mark index event seen old new
+pub noted_or : (mark : Mark) (index : ℕ) (event : EventView) (seen : SeenEvent) (old new : UndoScan) → NotesMark mark index event seen old new
     → Notes index event seen old new ⊎ Stops index (reasons.Transaction refusals.Encrypted) old new
 noted_or marks.Encryption index event seen old new h = inr h
 noted_or marks.Nothing index event seen old new h = inl h
@@ -94,28 +98,6 @@ notes_fine None index event old new goes h = inr (not_skipped index reasons.Dama
 notes_fine (Some seen) index event old new goes h =
     elim (noted_or seen.mark index event seen old new h)
     [ inl n ↦ note_fine index event seen old new goes n | inr s ↦ inr (not_skipped index (reasons.Transaction refusals.Encrypted) old new s) ]
-
-item_fine : (is : Bool) (maps : TableMaps) (index : ℕ) (item : Result EventView Error) (old new : UndoScan) → old.is_stopped ≡ is → Fine old → ScansItem is maps index item old new
-    → Fine new
-item_fine true maps index item old new goes fine h = subst (λ (s : UndoScan). Fine s) (sym h) fine
-item_fine false maps index (Ok event) old new goes fine h = notes_fine h.0 index event (record old { is_wanted = h.1.wanted }) new goes h.1.notes
-item_fine false maps index (Err error) old new goes fine h = inr (not_skipped index reasons.Damaged old new h)
-
-visits_fine : (maps : TableMaps) (index : ℕ) (items : List (Result EventView Error)) (old new : UndoScan) → Fine old → Visits scans maps index items old new → Fine new
-visits_fine maps index [] old new fine h = subst (λ (s : UndoScan). Fine s) (sym h) fine
-visits_fine maps index (item ∷ items) old new fine h =
-    visits_fine (maps_behind maps item) (index + 1) items h.0 new (item_fine old.is_stopped (maps_behind maps item) index item old h.0 refl fine h.1) h.2
-
-whole_fine : (whole : Bool) (old new : UndoScan) → old.is_stopped ≡ false → EndsIfWhole whole old new → Fine new
-whole_fine true old new goes h = inl (ap (λ (s : UndoScan). s.is_stopped) h.is ∙ goes)
-whole_fine false old new goes h = inr (not_skipped old.items reasons.Tail old new h)
-
-end_fine : (is : Bool) (tail_len : Option ℕ) (old new : UndoScan) → old.is_stopped ≡ is → Fine old → EndsScan is tail_len old new → Fine new
-end_fine true tail_len old new goes fine h = subst (λ (s : UndoScan). Fine s) (sym h) fine
-end_fine false tail_len old new goes fine h = whole_fine (has_no_tail tail_len) old new goes h
-
-goes_on : (scan : UndoScan) → Fine scan → AreSkipped (parts_of scan.index).refusals → scan.is_stopped ≡ false
-goes_on scan fine skipped = elim fine [ inl goes ↦ goes | inr none ↦ absurd (none skipped) ]
 
 -- ---- what the index is told of
 
@@ -167,11 +149,41 @@ event_seen (Some seen) maps index event old new goes h =
     ] in
     record { event = event; first = seen; is = refl; scanned = h; told = told }
 
-item_seen : (is : Bool) (maps : TableMaps) (index : ℕ) (item : Result EventView Error) (old new : UndoScan) → is ≡ false → new.is_stopped ≡ false
-    → ScansItem is maps index item old new → IsOneSeen maps index item old new
-item_seen true maps index item old new was goes h = absurd cc
-item_seen false maps index (Ok event) old new was goes h = event_seen h.0 maps index event old new goes h.1
-item_seen false maps index (Err error) old new was goes h = absurd (not_both new.is_stopped (stopped index reasons.Damaged old new h) goes)
+-- What an item makes of a pass that goes on: it is seen, and the pass goes on; or the pass ends in front of it at the stop position; or
+-- something is refused that isn't skipped.
+abbrev IsAtStop : UndoScan → UndoScan → Type 0
+IsAtStop old new = (is_past_stop old ≡ true) × Closes old new
+
+abbrev IsRefused : UndoScan → Type 0
+IsRefused scan = (scan.is_stopped ≡ true) × (AreSkipped (parts_of scan.index).refusals → ⊥)
+
+abbrev ItemOutcome : TableMaps → ℕ → Result EventView Error → UndoScan → UndoScan → Type 0
+ItemOutcome maps index item old new = (IsOneSeen maps index item old new × (new.is_stopped ≡ false)) ⊎ (IsAtStop old new ⊎ IsRefused new)
+
+refused_of : (index : ℕ) (reason : Reason) (old new : UndoScan) → Stops index reason old new → IsRefused new
+refused_of index reason old new h = (stopped index reason old new h, not_skipped index reason old new h)
+
+event_outcome : (seen : Option SeenEvent) (maps : TableMaps) (index : ℕ) (event : EventView) (old new : UndoScan) → old.is_stopped ≡ false → ScansEvent maps index event seen old new
+    → ItemOutcome maps index (Ok event) old new
+event_outcome seen maps index event old new goes h =
+    elim (one_of new.is_stopped) [
+      | inl stops ↦ elim (notes_fine seen index event (record old { is_wanted = h.wanted }) new goes h.notes) [
+        | inl on ↦ absurd (not_both new.is_stopped stops on)
+        | inr none ↦ inr (inr (stops, none))
+      ]
+      | inr on ↦ inl (event_seen seen maps index event old new on h, on)
+    ]
+
+unless_outcome : (past : Bool) (maps : TableMaps) (index : ℕ) (item : Result EventView Error) (old new : UndoScan) → is_past_stop old ≡ past → old.is_stopped ≡ false
+    → ScansUnless past maps index item old new → ItemOutcome maps index item old new
+unless_outcome true maps index item old new past goes h = inr (inl (past, h))
+unless_outcome false maps index (Ok event) old new past goes h = event_outcome h.0 maps index event old new goes h.1
+unless_outcome false maps index (Err error) old new past goes h = inr (inr (refused_of index reasons.Damaged old new h))
+
+item_outcome : (is : Bool) (maps : TableMaps) (index : ℕ) (item : Result EventView Error) (old new : UndoScan) → old.is_stopped ≡ is → is ≡ false → ScansItem is maps index item old new
+    → ItemOutcome maps index item old new
+item_outcome true maps index item old new was goes h = absurd cc
+item_outcome false maps index item old new was goes h = unless_outcome (is_past_stop old) maps index item old new refl was h
 
 item_stays : (is : Bool) (maps : TableMaps) (index : ℕ) (item : Result EventView Error) (old new : UndoScan) → is ≡ true → ScansItem is maps index item old new → new ≡ old
 item_stays true maps index item old new was h = h
@@ -183,78 +195,138 @@ visits_stay maps index (item ∷ items) old new was h =
     let same : h.0 ≡ old = item_stays old.is_stopped (maps_behind maps item) index item old h.0 was h.1 in
     visits_stay (maps_behind maps item) (index + 1) items h.0 new (ap (λ (s : UndoScan). s.is_stopped) same ∙ was) h.2 ∙ same
 
-went_on : (maps : TableMaps) (index : ℕ) (items : List (Result EventView Error)) (old new : UndoScan) → new.is_stopped ≡ false → Visits scans maps index items old new
-    → old.is_stopped ≡ false
-went_on maps index items old new goes h =
-    elim (one_of old.is_stopped)
-    [ inl was ↦ absurd (not_both new.is_stopped (ap (λ (s : UndoScan). s.is_stopped) (visits_stay maps index items old new was h) ∙ was) goes) | inr was ↦ was ]
+-- These first items are seen behind which the pass ended at the stop position, or all.
+pub record AreFirstSeen (maps : TableMaps) (index : ℕ) (items : List (Result EventView Error)) (old behind : UndoScan) : Type 0 where
+  pub front : List (Result EventView Error)
+  pub rest : List (Result EventView Error)
+  pub split : items ≡ front ++ rest
+  pub seen : List SeenEvent
+  pub each : AreSeen maps index front seen old behind
+  pub told : AreTold old.index seen behind.index
 
 pub record AreAllSeen (maps : TableMaps) (index : ℕ) (items : List (Result EventView Error)) (old new : UndoScan) : Type 0 where
-  pub seen : List SeenEvent
-  pub each : AreSeen maps index items seen old new
-  pub told : AreTold old.index seen new.index
+  pub first : AreFirstSeen maps index items old new
+  pub all : first.rest ≡ []
+  pub goes : new.is_stopped ≡ false
 
-all_seen : (maps : TableMaps) (index : ℕ) (items : List (Result EventView Error)) (old new : UndoScan) → new.is_stopped ≡ false → Visits scans maps index items old new
-    → AreAllSeen maps index items old new
-all_seen maps index [] old new goes h = record { seen = []; each = (refl, h); told = ap (λ (s : UndoScan). s.index) h }
-all_seen maps index (item ∷ items) old new goes h =
+pub record AreSeenToStop (maps : TableMaps) (index : ℕ) (items : List (Result EventView Error)) (old new : UndoScan) : Type 0 where
+  pub behind : UndoScan
+  pub first : AreFirstSeen maps index items old behind
+  pub at : IsAtStop behind new
+
+abbrev Outcome : TableMaps → ℕ → List (Result EventView Error) → UndoScan → UndoScan → Type 0
+Outcome maps index items old new = AreAllSeen maps index items old new ⊎ (AreSeenToStop maps index items old new ⊎ IsRefused new)
+
+abbrev none_seen : (maps : TableMaps) (index : ℕ) (items : List (Result EventView Error)) (scan : UndoScan) → AreFirstSeen maps index items scan scan
+none_seen maps index items scan = record { front = []; rest = items; split = refl; seen = []; each = (refl, refl); told = refl }
+
+abbrev seen_before : (maps : TableMaps) (index : ℕ) (item : Result EventView Error) (items : List (Result EventView Error)) (old mid new : UndoScan)
+    → IsOneSeen (maps_behind maps item) index item old mid → mid.is_stopped ≡ false → AreFirstSeen (maps_behind maps item) (index + 1) items mid new → AreFirstSeen maps index (item ∷ items) old new
+seen_before maps index item items old mid new here goes others = record {
+  front = item ∷ others.front;
+  rest = others.rest;
+  split = ap (λ (all : List (Result EventView Error)). item ∷ all) others.split;
+  seen = here.first ∷ others.seen;
+  each = (here.event, here.first, others.seen, mid, here.is, refl, here.scanned, goes, others.each);
+  told = (mid.index, here.told, others.told);
+}
+
+outcome : (maps : TableMaps) (index : ℕ) (items : List (Result EventView Error)) (old new : UndoScan) → old.is_stopped ≡ false → Visits scans maps index items old new
+    → Outcome maps index items old new
+outcome maps index [] old new goes h = inl (subst (λ (s : UndoScan). AreAllSeen maps index [] old s) (sym h) (record { first = none_seen maps index [] old; all = refl; goes = goes }))
+outcome maps index (item ∷ items) old new goes h =
     let behind : TableMaps = maps_behind maps item in
-    let mid_goes : h.0.is_stopped ≡ false = went_on behind (index + 1) items h.0 new goes h.2 in
-    let old_goes : old.is_stopped ≡ false = went_on maps index (item ∷ items) old new goes h in
-    let here : IsOneSeen behind index item old h.0 = item_seen old.is_stopped behind index item old h.0 old_goes mid_goes h.1 in
-    let others : AreAllSeen behind (index + 1) items h.0 new = all_seen behind (index + 1) items h.0 new goes h.2 in
-    record {
-      seen = here.first ∷ others.seen;
-      each = (here.event, here.first, others.seen, h.0, here.is, refl, here.scanned, others.each);
-      told = (h.0.index, here.told, others.told);
-    }
+    elim (item_outcome old.is_stopped behind index item old h.0 refl goes h.1) [
+      | inl one ↦ elim (outcome behind (index + 1) items h.0 new one.1 h.2) [
+        | inl all ↦ inl (record { first = seen_before maps index item items old h.0 new one.0 one.1 all.first; all = all.all; goes = all.goes })
+        | inr (inl part) ↦ inr (inl (record { behind = part.behind; first = seen_before maps index item items old h.0 part.behind one.0 one.1 part.first; at = part.at }))
+        | inr (inr refused) ↦ inr (inr refused)
+      ]
+      | inr (inl at) ↦ inr (inl (record {
+        behind = old;
+        first = none_seen maps index (item ∷ items) old;
+        at = (at.0, subst (λ (s : UndoScan). Closes old s) (sym (visits_stay behind (index + 1) items h.0 new (ap (λ (s : UndoScan). s.is_stopped) at.1.is) h.2)) at.1);
+      }))
+      | inr (inr refused) ↦ inr (inr (subst (λ (s : UndoScan). IsRefused s) (sym (visits_stay behind (index + 1) items h.0 new refused.0 h.2)) refused))
+    ]
 
 -- ---- the end
 
-pub record IsWholeEnd (tail_len : Option ℕ) (old new : UndoScan) : Type 0 where
-  pub goes : old.is_stopped ≡ false
-  pub ends : EndsWhole old new
-  pub none : tail_len ≡ Some 0
+-- The pass ended behind the last item, or at the stop position.
+pub record IsEnd (tail_len : Option ℕ) (old new : UndoScan) : Type 0 where
+  pub notes : NotesIn (border_at old) old.index new.index
+  pub at : (tail_len ≡ Some 0) ⊎ (is_past_stop old ≡ true)
 
-whole_end : (whole : Bool) (tail_len : Option ℕ) (old new : UndoScan) → has_no_tail tail_len ≡ whole → old.is_stopped ≡ false → new.is_stopped ≡ false → EndsIfWhole whole old new
-    → IsWholeEnd tail_len old new
-whole_end true tail_len old new is was goes h = record { goes = was; ends = h; none = no_tail tail_len is }
-whole_end false tail_len old new is was goes h = absurd (not_both new.is_stopped (stopped old.items reasons.Tail old new h) goes)
+end_at : (whole past : Bool) (tail_len : Option ℕ) (old : UndoScan) → has_no_tail tail_len ≡ whole → is_past_stop old ≡ past → (whole || past) ≡ true
+    → (tail_len ≡ Some 0) ⊎ (is_past_stop old ≡ true)
+end_at true past tail_len old whole is h = inl (no_tail tail_len whole)
+end_at false true tail_len old whole is h = inr is
+end_at false false tail_len old whole is h = absurd cc
 
-end_is : (is : Bool) (tail_len : Option ℕ) (old new : UndoScan) → old.is_stopped ≡ is → new.is_stopped ≡ false → EndsScan is tail_len old new → IsWholeEnd tail_len old new
-end_is true tail_len old new was goes h = absurd (not_both new.is_stopped (ap (λ (s : UndoScan). s.is_stopped) h ∙ was) goes)
-end_is false tail_len old new was goes h = whole_end (has_no_tail tail_len) tail_len old new refl was goes h
+whole_end : (whole : Bool) (tail_len : Option ℕ) (old new : UndoScan) → (has_no_tail tail_len || is_past_stop old) ≡ whole → AreSkipped (parts_of new.index).refusals
+    → EndsIfWhole whole old new → IsEnd tail_len old new
+whole_end true tail_len old new is skipped h = record { notes = h.notes; at = end_at (has_no_tail tail_len) (is_past_stop old) tail_len old refl refl is }
+whole_end false tail_len old new is skipped h = absurd (not_skipped old.items reasons.Tail old new h skipped)
+
+end_is : (is : Bool) (tail_len : Option ℕ) (old new : UndoScan) → is ≡ false → AreSkipped (parts_of new.index).refusals → EndsScan is tail_len old new → IsEnd tail_len old new
+end_is true tail_len old new was skipped h = absurd cc
+end_is false tail_len old new was skipped h = whole_end (has_no_tail tail_len || is_past_stop old) tail_len old new refl skipped h
+
+end_stays : (is : Bool) (tail_len : Option ℕ) (old new : UndoScan) → is ≡ true → EndsScan is tail_len old new → new ≡ old
+end_stays true tail_len old new was h = h
+end_stays false tail_len old new was h = absurd cc
 
 -- ---- the whole file
 
 -- Behind these events the index has what was kept and what was refused of their groups.
-parts_behind : (skips : Skips) (events : List SeenEvent) (start new : UndoIndex) → start.automaton.current ≡ None → parts_of start ≡ no_parts skips → AreTold start events new
-    → parts_of new ≡ parts_for skips (groups_of events) (open_behind [] (told_events None events))
-parts_behind skips events start new first parts h =
+parts_behind : (rules : Rules) (events : List SeenEvent) (start new : UndoIndex) → start.automaton.current ≡ None → parts_of start ≡ no_parts rules → AreTold start events new
+    → parts_of new ≡ parts_for rules (groups_of events) (open_behind [] (told_events None events))
+parts_behind rules events start new first parts h =
     told_parts events start new h ∙ ap (λ (c : Option Transaction). noted_all c events (parts_of start)) first
-    ∙ ap (λ (p : Parts). noted_all None events p) parts ∙ kept_from_first skips events
+    ∙ ap (λ (p : Parts). noted_all None events p) parts ∙ kept_from_first rules events
 
-pub file_scanned : (choice : Choice) (checks : ForeignKeyChecks) (skips : Skips) (bytes : List ℕ) (start scan : UndoScan) → IsFresh choice checks skips start
-    → ScansWhole bytes start scan → AreSkipped (parts_of scan.index).refusals → IsScanned skips bytes start scan
-file_scanned choice checks skips bytes start scan fresh h skipped =
-    let items : List (Result EventView Error) = h.visits.visited.items in
-    let behind : UndoScan = h.between in
-    let fine : Fine behind = visits_fine no_table_maps 0 items start behind (inl fresh.goes_on) h.visits.visited.visited in
-    let goes : scan.is_stopped ≡ false = goes_on scan (end_fine behind.is_stopped h.tail_len behind scan refl fine h.ends) skipped in
-    let end : IsWholeEnd h.tail_len behind scan = end_is behind.is_stopped h.tail_len behind scan refl goes h.ends in
-    let all : AreAllSeen no_table_maps 0 items start behind = all_seen no_table_maps 0 items start behind end.goes h.visits.visited.visited in
-    let events : List SeenEvent = all.seen ++ border_at behind ∷ [] in
-    let parts = parts_behind skips events start.index scan.index fresh.automaton fresh.parts
-    (told_more all.seen (border_at behind) start.index behind.index scan.index all.told end.ends.notes) in
+-- What the law says of a file, where these first items are seen and the pass ends behind them.
+scanned_to : (rules : Rules) (bytes : List ℕ) (start between scan behind : UndoScan) (tail_len : Option ℕ) (h : VisitsVerifiedLog IsCrc32 scans refuses bytes start (Ok tail_len) between)
+    → start.index.automaton.current ≡ None → parts_of start.index ≡ no_parts rules
+    → (first : AreFirstSeen no_table_maps 0 h.visited.items start behind) → ((first.rest ≡ []) × (tail_len ≡ Some 0)) ⊎ (is_past_stop behind ≡ true)
+    → NotesIn (border_at behind) behind.index scan.index → IsScanned rules bytes start scan
+scanned_to rules bytes start between scan behind tail_len h automaton fresh first at notes =
+    let events : List SeenEvent = first.seen ++ border_at behind ∷ [] in
+    let parts = parts_behind rules events start.index scan.index automaton fresh
+    (told_more first.seen (border_at behind) start.index behind.index scan.index first.told notes) in
     record {
-      stream = h.visits.stream;
-      file = h.visits.file;
-      items = items;
-      are = h.visits.visited.are;
-      whole = subst (λ (t : Option ℕ). HasTailAt (first_place h.visits.stream) t) end.none h.visits.visited.tail;
-      seen = all.seen;
+      stream = h.stream;
+      file = h.file;
+      items = h.visited.items;
+      are = h.visited.are;
+      front = first.front;
+      rest = first.rest;
+      split = first.split;
+      seen = first.seen;
       behind = behind;
-      each = all.each;
+      each = first.each;
+      ends = elim at [
+        | inl whole ↦ inl (whole.0, subst (λ (t : Option ℕ). HasTailAt (first_place h.stream) t) whole.1 h.visited.tail)
+        | inr past ↦ inr past
+      ];
       keeps = record { transactions_are = ap (λ (p : Parts). p.transactions) parts; changes_are = ap (λ (p : Parts). p.changes) parts };
       refused = ap (λ (p : Parts). p.refusals) parts;
     }
+
+pub file_scanned : (choice : Choice) (checks : ForeignKeyChecks) (skips : Skips) (bytes : List ℕ) (start scan : UndoScan) → IsFresh choice checks skips start
+    → ScansWhole bytes start scan → AreSkipped (parts_of scan.index).refusals → IsScanned (rules_of choice skips) bytes start scan
+file_scanned choice checks skips bytes start scan fresh h skipped =
+    let rules : Rules = rules_of choice skips in
+    elim (outcome no_table_maps 0 h.visits.visited.items start h.between fresh.goes_on h.visits.visited.visited) [
+      | inl all ↦
+          let end : IsEnd h.tail_len h.between scan = end_is h.between.is_stopped h.tail_len h.between scan all.goes skipped h.ends in
+          scanned_to rules bytes start h.between scan h.between h.tail_len h.visits fresh.automaton fresh.parts all.first
+          (elim end.at [ inl whole ↦ inl (all.all, whole) | inr past ↦ inr past ]) end.notes
+      | inr (inl part) ↦
+          let same : scan ≡ h.between = end_stays h.between.is_stopped h.tail_len h.between scan (ap (λ (s : UndoScan). s.is_stopped) part.at.1.is) h.ends in
+          scanned_to rules bytes start h.between scan part.behind h.tail_len h.visits fresh.automaton fresh.parts part.first (inr part.at.0)
+          (subst (λ (s : UndoScan). NotesIn (border_at part.behind) part.behind.index s.index) (sym same) part.at.1.notes)
+      | inr (inr refused) ↦
+          let same : scan ≡ h.between = end_stays h.between.is_stopped h.tail_len h.between scan refused.0 h.ends in
+          absurd (refused.1 (subst (λ (s : UndoScan). AreSkipped (parts_of s.index).refusals) same skipped))
+    ]

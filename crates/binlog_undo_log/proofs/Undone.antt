@@ -15,7 +15,7 @@ abbrev pub AreAmong : FramesOf → FramesOf → Type 0
 AreAmong others is_at = (place : ℕ) (frame : List ℕ) → others place frame → is_at place frame
 
 module _ (others is_at : FramesOf) (among : AreAmong others is_at) (fde : FormatDescriptionEvent) (checks : ForeignKeyChecks) where
-  event_from : (place : ℕ) (event : EventView) → IsEventAt others fde place event → IsEventAt is_at fde place event
+  pub event_from : (place : ℕ) (event : EventView) → IsEventAt others fde place event → IsEventAt is_at fde place event
   event_from place event h = record { frame = h.frame; at = among place h.frame h.at; is = h.is; right = h.right }
 
   pub change_from : (change : ChangePlace) (events : List Event) → UndoesChange others fde checks change events → UndoesChange is_at fde checks change events

@@ -1,5 +1,5 @@
 -- The description of the log that is written.
-use Rattle.std.specs.Prelude.{◌≡◌, ◌⊎◌, ℕ, ◌+◌, ◌==◌, Bool, false, List, [], ◌∷◌, ◌++◌, Option, Some, None, is_some, option_map}
+use Rattle.std.specs.Prelude.{◌≡◌, ◌⊎◌, ℕ, ◌+◌, ◌==◌, Bool, true, false, List, [], ◌∷◌, ◌++◌, Option, Some, None, is_some, option_map}
 use Rattle.std.specs.Io.KnownBytes.{Appends}
 use Rattle.binlog_consts.specs.declared.event_type.EventType.TheVariants.{FORMAT_DESCRIPTION_EVENT}
 use Rattle.binlog_event_format.specs.FormatDescription.{format_description}
@@ -36,11 +36,14 @@ pub record PushesDescription {W : Type 0} (contents : W → Option (List ℕ)) (
   pub bytes : Appends (contents old.writer) (contents new.writer)
       (event_bytes (is_some d.footer.checksum_alg) old.place (description_heading header) FORMAT_DESCRIPTION_EVENT written)
   pub place : new.place ≡ old.place + event_size (is_some d.footer.checksum_alg) written
+  pub bounds : new.has_bounds ≡ old.has_bounds
 
--- The description is written, and the events behind it are under it.
+-- The description is written, and the events behind it are under it. None is written within the one transaction for all.
 pub record Describes {W : Type 0} (contents : W → Option (List ℕ)) (header : BinlogEventHeader) (d : FormatDescriptionEvent) (old new : UndoOutput W) : Type 0 where
   pub written : PushesDescription contents header d (description_body d) old new
   pub is_under : IsUnder (description_body d) (has_checksums_under d.footer.checksum_alg) new
+  pub bounds : new.has_bounds ≡ old.has_bounds
+  pub apart : old.has_bounds ≡ true
 
 -- So it is, unless the events are under the same one.
 abbrev pub DescribesOnce : {W : Type 0} → (W → Option (List ℕ)) → BinlogEventHeader → FormatDescriptionEvent → UndoOutput W → UndoOutput W → Type 0

@@ -24,11 +24,13 @@ use Rattle.binlog_undo_index.specs.Parts.{parts_of, no_parts}
 use Rattle.binlog_undo_index.specs.declared.places.ChangePlace.{ChangePlace}
 use Rattle.binlog_undo_index.specs.declared.places.TransactionPlace.{TransactionPlace}
 use Rattle.binlog_undo_index.specs.declared.reason.Refused.{Refused as RefusedAt}
+use Rattle.binlog_undo_index.specs.declared.rules.Rules.{Rules}
 use Rattle.binlog_undo_index.specs.declared.seen.SeenEvent.{SeenEvent}
 use Rattle.binlog_undo_index.specs.declared.skips.Skips.{Skips}
 use Rattle.binlog_undo_log.specs.Descriptions.{DescribesOnce}
 use Rattle.binlog_undo_log.specs.Output.{GrowsBy}
-use Rattle.binlog_undo_log.specs.Scanning.{ScansItem, ScansEvent, EndsScan, border_at}
+use Rattle.binlog_undo_log.specs.Choices.{rules_of}
+use Rattle.binlog_undo_log.specs.Scanning.{ScansItem, ScansEvent, EndsScan, border_at, is_past_stop}
 use Rattle.binlog_undo_log.specs.Undoing.{FramesOf, IsEventAt, UndoesAll}
 use Rattle.binlog_undo_log.specs.declared.choice.Choice.{Choice}
 use Rattle.binlog_undo_log.specs.declared.output.UndoOutput.{UndoOutput}
@@ -41,7 +43,7 @@ pub record IsFresh (choice : Choice) (checks : ForeignKeyChecks) (skips : Skips)
   pub choice_is : scan.choice ≡ choice
   pub checks_are : scan.checks ≡ checks
   pub automaton : scan.index.automaton.current ≡ None
-  pub parts : parts_of scan.index ≡ no_parts skips
+  pub parts : parts_of scan.index ≡ no_parts (rules_of choice skips)
   pub place : scan.place ≡ 4
   pub description : scan.description ≡ None
   pub goes_on : scan.is_stopped ≡ false
@@ -69,12 +71,12 @@ ScansFile bytes old (Err error) new = VisitsVerifiedLog IsCrc32 scans refuses by
 
 -- ---- what was scanned
 
--- Each of these items is an event of which this is seen. `maps` are the table maps in front of the first one.
+-- Each of these items is an event of which this is seen, and doesn't end the pass. `maps` are the table maps in front of the first one.
 abbrev pub AreSeen : TableMaps → ℕ → List (Result EventView Error) → List SeenEvent → UndoScan → UndoScan → Type 0
 AreSeen maps index [] seen old new = (seen ≡ []) × (new ≡ old)
 AreSeen maps index (item ∷ items) seen old new =
     (event : EventView) × (first : SeenEvent) × (others : List SeenEvent) × (mid : UndoScan) × (item ≡ Ok event) × (seen ≡ first ∷ others)
-    × ScansEvent (maps_behind maps item) index event (Some first) old mid × AreSeen (maps_behind maps item) (index + 1) items others mid new
+    × ScansEvent (maps_behind maps item) index event (Some first) old mid × (mid.is_stopped ≡ false) × AreSeen (maps_behind maps item) (index + 1) items others mid new
 
 abbrev pub groups_of : List SeenEvent → List Group
 groups_of events = groups_in [] (told_events None events)
@@ -83,19 +85,23 @@ groups_of events = groups_in [] (told_events None events)
 abbrev pub AreSkipped : List RefusedAt → Type 0
 AreSkipped refusals = AllByRecursion (λ refusal. refusal.is_skipped ≡ true) refusals
 
--- All items of the file are events, with nothing behind them. The places that are kept are those of the transactions of the log that
--- are undone, and what is refused is refused of its transactions.
-pub record IsScanned (skips : Skips) (bytes : List ℕ) (start scan : UndoScan) : Type 0 where
+-- All items of the file are events, with nothing behind them; or those in front of the stop position are, and those of a transaction that
+-- begins there. The places that are kept are those of the transactions of these events that are undone, and what is refused is refused
+-- of the transactions.
+pub record IsScanned (rules : Rules) (bytes : List ℕ) (start scan : UndoScan) : Type 0 where
   pub stream : List ℕ
   pub file : bytes ≡ file_header ++ stream
   pub items : List (Result EventView Error)
   pub are : AreVerifiedItems IsCrc32 (default_description Version4) stream items
-  pub whole : HasTailAt (first_place stream) (Some 0)
+  pub front : List (Result EventView Error)
+  pub rest : List (Result EventView Error)
+  pub split : items ≡ front ++ rest
   pub seen : List SeenEvent
   pub behind : UndoScan
-  pub each : AreSeen no_table_maps 0 items seen start behind
-  pub keeps : Keeps (kept_in skips (groups_of (seen ++ border_at behind ∷ []))) (parts_of scan.index).transactions (parts_of scan.index).changes
-  pub refused : (parts_of scan.index).refusals ≡ refused_in skips (groups_of (seen ++ border_at behind ∷ []))
+  pub each : AreSeen no_table_maps 0 front seen start behind
+  pub ends : (rest ≡ []) × HasTailAt (first_place stream) (Some 0) ⊎ (is_past_stop behind ≡ true)
+  pub keeps : Keeps (kept_in rules (groups_of (seen ++ border_at behind ∷ []))) (parts_of scan.index).transactions (parts_of scan.index).changes
+  pub refused : (parts_of scan.index).refusals ≡ refused_in rules (groups_of (seen ++ border_at behind ∷ []))
 
 -- ---- the second pass
 

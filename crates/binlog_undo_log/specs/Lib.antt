@@ -2,9 +2,13 @@ pub mod Choices
 pub mod Descriptions
 pub mod Heads
 pub mod Marks
+pub mod Compressed
+pub mod Keys
 pub mod Undoing
 pub mod Output
 pub mod Looking
 pub mod Scanning
 pub mod Files
 pub mod LogChanges
+pub mod OneTransaction
+pub mod FileChanges

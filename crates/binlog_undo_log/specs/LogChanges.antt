@@ -17,6 +17,7 @@ use Rattle.binlog_undo.specs.InverseEvents.{type_of}
 use Rattle.binlog_undo.specs.RowChanges.{TableRow}
 use Rattle.binlog_undo_index.specs.Groups.{Kept}
 use Rattle.binlog_undo_index.specs.declared.places.ChangePlace.{ChangePlace}
+use Rattle.binlog_undo_log.specs.Compressed.{ReadsRows}
 use Rattle.binlog_undo_log.specs.Undoing.{FramesOf, IsEventAt}
 use Rattle.binlog_undo_writing.specs.Transactions.{Event}
 use Rattle.table_changes.specs.Changes.{Change}
@@ -47,7 +48,7 @@ pub record IsChanged (is_at : FramesOf) (fde : FormatDescriptionEvent) (change :
   pub event : EventView
   pub event_at : IsEventAt is_at fde change.rows event
   pub read : RowsEventData
-  pub event_read : ReadsEventData event (Ok (Some (mysql.RowsEvent read)))
+  pub event_read : ReadsRows event read
   pub are : HasTableChanges map read changes
 
 abbrev pub AreChanged : FramesOf → FormatDescriptionEvent → List ChangePlace → List LogChange → Type 0

@@ -1,5 +1,5 @@
 -- What the first pass sees of rows.
-use Rattle.std.specs.Prelude.{◌≡◌, ◌↔◌, ℕ, ◌==◌, Bool, true, false, ◌&&◌, ◌||◌, not, List, [], ◌∷◌, Option, Some, None, is_some, Result, Ok, Err, take, IsTrue}
+use Rattle.std.specs.Prelude.{◌≡◌, ◌⊎◌, ℕ, ◌==◌, Bool, true, false, ◌&&◌, ◌||◌, not, List, [], ◌∷◌, Option, Some, None, is_some, Result, Ok, Err}
 use Rattle.std.specs.Ordering.{nat_cmp}
 use Rattle.std.specs.BTreeMap.{get}
 use Rattle.std.specs.List.{list_any}
@@ -13,20 +13,28 @@ use Rattle.binlog_filters.specs.Concerns.{is_concerned}
 use Rattle.binlog_filters.specs.Tables.{ReadsConcern}
 use Rattle.binlog_filters.specs.declared.concern.Concern.{Concern}
 use Rattle.binlog_filters.specs.declared.tables.TableFilter.{TableFilter}
-use Rattle.binlog_mariadb.specs.Flavour.{IsMariaVersion}
+use Rattle.binlog_event_data.specs.declared.event_data.EventData.{EventData}
+use Rattle.binlog_event_data.specs.declared.event_data.EventData.TheVariants as mysql
+use Rattle.binlog_mariadb.specs.Compressed.{Denies}
+use Rattle.binlog_mariadb.specs.declared.compressed_rows.RowsCompressedEvent.{RowsCompressedEvent}
+use Rattle.binlog_mariadb.specs.declared.compression_error.CompressionError.{CompressionError}
+use Rattle.binlog_mariadb.specs.declared.compression_error.CompressionError.TheVariants as compression
+use Rattle.binlog_wire.specs.declared.error.Error.{Error}
+use Rattle.binlog_wire.specs.declared.error.Error.TheVariants.{Memory}
 use Rattle.binlog_rows.specs.RowsData.{event_in}
 use Rattle.binlog_rows.specs.declared.rows_event_data.RowsEventData.{RowsEventData}
 use Rattle.binlog_rows.specs.declared.table_map_event.TableMapEvent.{TableMapEvent}
-use Rattle.binlog_undo.specs.InverseEvents.{GivesInverse}
 use Rattle.binlog_undo.specs.declared.inverse_event.InverseEvent.{InverseEvent}
 use Rattle.binlog_undo.specs.declared.undo_error.UndoError.{UndoError}
 use Rattle.binlog_undo.specs.declared.undo_error.UndoError.TheVariants as errors
 use Rattle.binlog_undo_index.specs.declared.places.ChangePlace.{ChangePlace}
 use Rattle.binlog_undo_index.specs.declared.reason.Reason.TheVariants as reasons
+use Rattle.binlog_undo_log.specs.Compressed.{most_bytes, IsUncompressed, ReadsUncompressed}
 use Rattle.binlog_undo_log.specs.Heads.{is_writable, has_rows_length}
+use Rattle.binlog_undo_log.specs.Keys.{IsMariaEvent, GivesByKey}
 use Rattle.binlog_undo_log.specs.declared.choice.Choice.{Choice}
 use Rattle.binlog_undo_log.specs.declared.scan.seeing.RowsLook.{RowsLook}
-use Rattle.binlog_undo_log.specs.declared.scan.seeing.RowsLook.TheVariants.{Left, Undone, Refused}
+use Rattle.binlog_undo_log.specs.declared.scan.seeing.RowsLook.TheVariants.{Left, Undone, Refused, Damaged}
 use Rattle.binlog_undo_log.specs.declared.scan.UndoScan.{UndoScan}
 
 -- ---- tables
@@ -50,7 +58,12 @@ is_old_temporal number = (number == 7) || ((number == 11) || (number == 12))
 -- In a log of MariaDB's one of the columns has such a type: its values have one form or another, and the log doesn't say which.
 abbrev pub IsOldTemporal : EventView → List ℕ → Bool → Type 0
 IsOldTemporal event types old =
-    (maria : Bool) × (IsTrue maria ↔ IsMariaVersion (take 50 event.fde.server_version)) × (old ≡ (maria && list_any is_old_temporal types))
+    (maria : Bool) × IsMariaEvent event maria × (old ≡ (maria && list_any is_old_temporal types))
+
+-- The form of the values isn't known, unless it is said that they have no fractions.
+abbrev pub IsUnknownTemporal : Bool → EventView → List ℕ → Bool → Type 0
+IsUnknownTemporal true event types unknown = unknown ≡ false
+IsUnknownTemporal false event types unknown = IsOldTemporal event types unknown
 
 -- ---- what undoes the rows
 
@@ -67,23 +80,23 @@ LooksAs d place (Err (errors.Event error)) look = look ≡ Refused reasons.Rows
 LooksAs d place (Err (errors.Rows error)) look = look ≡ Refused reasons.Rows
 LooksAs d place (Err errors.Memory) look = ⊥
 
--- Of a table with these columns. No primary key is asked for.
-abbrev pub LooksAtColumns : UndoScan → EventView → RowsEventData → List Typed → (table_map : ℕ) → RowsLook → Type 0
-LooksAtColumns scan event rows columns table_map look =
-    (answer : Result InverseEvent UndoError) × GivesInverse [] columns scan.checks rows answer
+-- Of a table with this map and these columns.
+abbrev pub LooksAtColumns : UndoScan → EventView → RowsEventData → TableMapEvent → List Typed → (table_map : ℕ) → RowsLook → Type 0
+LooksAtColumns scan event rows map columns table_map look =
+    (maria : Bool) × IsMariaEvent event maria × (answer : Result InverseEvent UndoError) × GivesByKey maria map columns scan.checks rows answer
     × LooksAs event.fde (record { table_map = table_map; rows = scan.place }) answer look
 
 -- ---- a row event, one condition after the other
 
-abbrev pub LooksUnlessOld : Bool → UndoScan → EventView → RowsEventData → List Typed → (table_map : ℕ) → RowsLook → Type 0
-LooksUnlessOld true scan event rows columns table_map look = look ≡ Refused reasons.OldTemporal
-LooksUnlessOld false scan event rows columns table_map look = LooksAtColumns scan event rows columns table_map look
+abbrev pub LooksUnlessOld : Bool → UndoScan → EventView → RowsEventData → TableMapEvent → List Typed → (table_map : ℕ) → RowsLook → Type 0
+LooksUnlessOld true scan event rows map columns table_map look = look ≡ Refused reasons.OldTemporal
+LooksUnlessOld false scan event rows map columns table_map look = LooksAtColumns scan event rows map columns table_map look
 
 abbrev pub LooksUnlessRefused : Option ColumnError → UndoScan → EventView → RowsEventData → TableMapEvent → (table_map : ℕ) → RowsLook → Type 0
 LooksUnlessRefused (Some error) scan event rows map table_map look = look ≡ Refused reasons.Rows
 LooksUnlessRefused None scan event rows map table_map look =
-    (old : Bool) × IsOldTemporal event map.columns.types old
-    × LooksUnlessOld old scan event rows (columns_in map.columns.types map.columns.metadata) table_map look
+    (old : Bool) × IsUnknownTemporal scan.choice.has_plain_temporal event map.columns.types old
+    × LooksUnlessOld old scan event rows map (columns_in map.columns.types map.columns.metadata) table_map look
 
 -- Of a table with this map, which is at this place.
 abbrev pub LooksAtTable : UndoScan → EventView → RowsEventData → TableMapEvent → (table_map : ℕ) → RowsLook → Type 0
@@ -121,3 +134,27 @@ LooksIfAny (byte ∷ bytes) scan maps event rows look = LooksByPlace (get nat_cm
 -- What is seen of rows.
 abbrev pub LooksAtRows : UndoScan → TableMaps → EventView → RowsEventData → RowsLook → Type 0
 LooksAtRows scan maps event rows look = LooksIfAny (event_in rows).rows scan maps event rows look
+
+-- ---- compressed rows
+
+-- Of an event that was compressed, of whose body this was read.
+abbrev pub LooksAtRead : UndoScan → TableMaps → EventView → Result (Option EventData) Error → RowsLook → Type 0
+LooksAtRead scan maps event (Ok (Some (mysql.RowsEvent rows))) look = LooksAtRows scan maps event rows look
+LooksAtRead scan maps event (Err Memory) look = ⊥
+LooksAtRead scan maps event read look = look ≡ Damaged
+
+-- Of one that had this body.
+abbrev pub LooksAtBody : UndoScan → TableMaps → EventView → List ℕ → RowsLook → Type 0
+LooksAtBody scan maps event body look = (read : Result (Option EventData) Error) × ReadsUncompressed event body read × LooksAtRead scan maps event read look
+
+-- Of one whose rows aren't given, for this reason: rows of more than 1 GiB are refused, and others can't be read.
+abbrev pub LooksAtDenied : CompressionError → RowsLook → Type 0
+LooksAtDenied compression.TooLong look = look ≡ Refused reasons.Compressed
+LooksAtDenied compression.Memory look = ⊥
+LooksAtDenied error look = look ≡ Damaged
+
+-- What is seen of compressed rows.
+abbrev pub LooksAtCompressed : UndoScan → TableMaps → EventView → RowsCompressedEvent → RowsLook → Type 0
+LooksAtCompressed scan maps event compressed look =
+    ((body : List ℕ) × IsUncompressed event compressed body × LooksAtBody scan maps event body look)
+    ⊎ ((error : CompressionError) × Denies most_bytes error (event_in compressed.event).rows × LooksAtDenied error look)

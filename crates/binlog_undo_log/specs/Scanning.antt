@@ -1,5 +1,5 @@
 -- What the first pass sees of an item, and what it notes.
-use Rattle.std.specs.Prelude.{◌≡◌, ◌↔◌, ℕ, ◌+◌, ◌-◌, ◌^◌, min, ◌==◌, Bool, true, false, not, bit_and, List, [], ◌∷◌, length, Option, Some, None, Result, Ok, Err, take, IsTrue}
+use Rattle.std.specs.Prelude.{◌≡◌, ◌↔◌, ℕ, ◌+◌, ◌-◌, ◌^◌, min, ◌==◌, Bool, true, false, ◌&&◌, ◌||◌, not, bit_and, List, [], ◌∷◌, length, Option, Some, None, is_some, Result, Ok, Err, take, IsTrue}
 use Rattle.binlog_wire.specs.declared.error.Error.{Error}
 use Rattle.binlog_wire.specs.declared.error.Error.TheVariants.{Memory}
 use Rattle.binlog_event_data.specs.declared.event_data.EventData.TheVariants as mysql
@@ -9,9 +9,11 @@ use Rattle.binlog_events.specs.Parts.{is_description}
 use Rattle.binlog_file.specs.LogData.{ReadsLogData}
 use Rattle.binlog_file.specs.TableMapsInForce.{TableMaps}
 use Rattle.binlog_file.specs.declared.log_data.LogEventData.{LogEventData}
-use Rattle.binlog_file.specs.declared.log_data.LogEventData.TheVariants.{Mysql}
+use Rattle.binlog_file.specs.declared.log_data.LogEventData.TheVariants.{Mysql, Maria}
 use Rattle.binlog_filters.specs.Taking.{FollowsEvent}
 use Rattle.binlog_mariadb.specs.Flavour.{IsMariaVersion}
+use Rattle.binlog_mariadb.specs.declared.compressed_rows.RowsCompressedEvent.{RowsCompressedEvent}
+use Rattle.binlog_mariadb.specs.declared.event_data.MariaEventData.TheVariants as maria
 use Rattle.binlog_rows.specs.declared.rows_event_data.RowsEventData.{RowsEventData}
 use Rattle.binlog_transactions.specs.Pieces.{step}
 use Rattle.binlog_transactions.specs.Roles.{role_of}
@@ -28,31 +30,36 @@ use Rattle.binlog_undo_index.specs.declared.reason.Reason.{Reason}
 use Rattle.binlog_undo_index.specs.declared.reason.Reason.TheVariants as reasons
 use Rattle.binlog_undo_index.specs.declared.reason.Refused.{Refused as RefusedAt}
 use Rattle.binlog_undo_index.specs.declared.seen.SeenEvent.{SeenEvent}
-use Rattle.binlog_undo_log.specs.Choices.{takes_first, takes_last}
-use Rattle.binlog_undo_log.specs.Looking.{LooksAtRows}
+use Rattle.binlog_undo_index.specs.Positions.{has_place, is_past}
+use Rattle.binlog_undo_log.specs.Choices.{positions_of, takes_first, takes_last}
+use Rattle.binlog_undo_log.specs.Looking.{LooksAtRows, LooksAtCompressed}
 use Rattle.binlog_undo_log.specs.Marks.{mark_in, table_id_in}
 use Rattle.binlog_undo_log.specs.declared.scan.seeing.RowsLook.{RowsLook}
-use Rattle.binlog_undo_log.specs.declared.scan.seeing.RowsLook.TheVariants.{Left, Undone, Refused}
+use Rattle.binlog_undo_log.specs.declared.scan.seeing.RowsLook.TheVariants.{Left, Undone, Refused, Damaged}
 use Rattle.binlog_undo_log.specs.declared.scan.UndoScan.{UndoScan}
 
 -- ---- rows
-
--- Of an event without rows that can be read.
-abbrev pub look_beside : Role → RowsLook
-look_beside roles.CompressedRows = Refused reasons.Compressed
-look_beside role = Left
 
 abbrev pub rows_of : LogEventData → Option RowsEventData
 rows_of (Mysql (mysql.RowsEvent rows)) = Some rows
 rows_of body = None
 
-abbrev pub LooksAtSome : UndoScan → TableMaps → EventView → Role → Option RowsEventData → RowsLook → Type 0
-LooksAtSome scan maps event role (Some rows) look = LooksAtRows scan maps event rows look
-LooksAtSome scan maps event role None look = look ≡ look_beside role
+abbrev pub compressed_of : LogEventData → Option RowsCompressedEvent
+compressed_of (Maria (maria.RowsCompressedEvent compressed)) = Some compressed
+compressed_of body = None
+
+-- Of an event without rows as they are.
+abbrev pub LooksBeside : UndoScan → TableMaps → EventView → Option RowsCompressedEvent → RowsLook → Type 0
+LooksBeside scan maps event (Some compressed) look = LooksAtCompressed scan maps event compressed look
+LooksBeside scan maps event None look = look ≡ Left
+
+abbrev pub LooksAtSome : UndoScan → TableMaps → EventView → Option RowsEventData → Option RowsCompressedEvent → RowsLook → Type 0
+LooksAtSome scan maps event (Some rows) compressed look = LooksAtRows scan maps event rows look
+LooksAtSome scan maps event None compressed look = LooksBeside scan maps event compressed look
 
 -- What is seen of the rows of an event with this data.
-abbrev pub LooksAtData : UndoScan → TableMaps → EventView → Role → LogEventData → RowsLook → Type 0
-LooksAtData scan maps event role body look = LooksAtSome scan maps event role (rows_of body) look
+abbrev pub LooksAtData : UndoScan → TableMaps → EventView → LogEventData → RowsLook → Type 0
+LooksAtData scan maps event body look = LooksAtSome scan maps event (rows_of body) (compressed_of body) look
 
 abbrev pub is_undone : RowsLook → Bool
 is_undone (Undone change) = true
@@ -66,6 +73,11 @@ abbrev pub refusal_in : RowsLook → Option Reason
 refusal_in (Refused reason) = Some reason
 refusal_in _ = None
 
+-- The mark of an event with this role, this data and these rows; None if it is damaged.
+abbrev pub seen_mark : Role → LogEventData → RowsLook → Option Mark
+seen_mark role body Damaged = None
+seen_mark role body look = mark_in role (is_undone look) body
+
 -- ---- an event
 
 -- The role of an event. The flag 0x80 says that events of a type without a role may be ignored.
@@ -74,16 +86,22 @@ IsRole event role =
     (maria : Bool) × (IsTrue maria ↔ IsMariaVersion (take 50 event.fde.server_version))
     × (role ≡ role_of maria (not (bit_and (header_of event.frame).flags 0x80 == 0)) (header_of event.frame).event_type)
 
--- The event with this index, this mark and these rows.
+-- The place behind an event that begins at the place of the pass.
+abbrev pub place_behind : UndoScan → EventView → ℕ
+place_behind scan event = min (scan.place + length event.frame) (2 ^ 64 - 1)
+
+-- The event with this index, this mark and these rows. The first event of a transaction takes it if it begins between the positions,
+-- too.
 abbrev pub seen_event : UndoScan → ℕ → EventView → Mark → Option ℕ → RowsLook → SeenEvent
 seen_event scan index event mark table_id look = record {
   index = index;
   place = scan.place;
+  end = place_behind scan event;
   mark = mark;
   table_id = table_id;
   change = change_in look;
   refusal = refusal_in look;
-  takes_first = takes_first scan.choice (header_of event.frame) scan.is_wanted;
+  takes_first = has_place (positions_of scan.choice) scan.place && takes_first scan.choice (header_of event.frame) scan.is_wanted;
   takes_last = takes_last scan.choice (header_of event.frame);
 }
 
@@ -105,8 +123,8 @@ seen_as scan index event (Some mark) table_id look = Some (seen_event scan index
 
 abbrev pub SeesData : UndoScan → TableMaps → ℕ → EventView → LogEventData → Option SeenEvent → Type 0
 SeesData scan maps index event body seen =
-    (role : Role) × (look : RowsLook) × IsRole event role × LooksAtData scan maps event role body look
-    × (seen ≡ seen_as scan index event (mark_in role (is_undone look) body) (table_id_in body) look)
+    (role : Role) × (look : RowsLook) × IsRole event role × LooksAtData scan maps event body look
+    × (seen ≡ seen_as scan index event (seen_mark role body look) (table_id_in body) look)
 
 abbrev pub SeesUnread : UndoScan → ℕ → EventView → Bool → Option SeenEvent → Type 0
 SeesUnread scan index event is_known seen =
@@ -182,12 +200,6 @@ pub record ScansEvent (maps : TableMaps) (index : ℕ) (event : EventView) (seen
 abbrev pub ScansSome : TableMaps → ℕ → EventView → UndoScan → UndoScan → Type 0
 ScansSome maps index event old new = (seen : Option SeenEvent) × ScansEvent maps index event seen old new
 
--- An item is looked at, unless the pass has ended.
-abbrev pub ScansItem : Bool → TableMaps → ℕ → Result EventView Error → UndoScan → UndoScan → Type 0
-ScansItem true maps index item old new = new ≡ old
-ScansItem false maps index (Ok event) old new = ScansSome maps index event old new
-ScansItem false maps index (Err error) old new = Stops index reasons.Damaged old new
-
 -- ---- the end of a file
 
 -- What is told of the end.
@@ -195,6 +207,7 @@ abbrev pub border_at : UndoScan → SeenEvent
 border_at scan = record {
   index = scan.items;
   place = scan.place;
+  end = scan.place;
   mark = marks.Border;
   table_id = None;
   change = None;
@@ -212,11 +225,32 @@ pub record EndsWhole (old new : UndoScan) : Type 0 where
   pub notes : NotesIn (border_at old) old.index new.index
   pub is : new ≡ record old { index = new.index }
 
+-- What follows is behind the stop position, and no transaction is read that begins before it.
+abbrev pub is_past_stop : UndoScan → Bool
+is_past_stop scan = is_past (positions_of scan.choice) scan.place && not (is_some scan.index.automaton.current)
+
+-- The pass ends there, as at the end of a file.
+pub record Closes (old new : UndoScan) : Type 0 where
+  pub notes : NotesIn (border_at old) old.index new.index
+  pub is : new ≡ record old { is_stopped = true; index = new.index }
+
 abbrev pub EndsIfWhole : Bool → UndoScan → UndoScan → Type 0
 EndsIfWhole true old new = EndsWhole old new
 EndsIfWhole false old new = Stops old.items reasons.Tail old new
 
--- The pass ends behind the last item of a file.
+-- The pass ends behind the last item of a file. What is behind the stop position is no tail.
 abbrev pub EndsScan : Bool → Option ℕ → UndoScan → UndoScan → Type 0
 EndsScan true tail_len old new = new ≡ old
-EndsScan false tail_len old new = EndsIfWhole (has_no_tail tail_len) old new
+EndsScan false tail_len old new = EndsIfWhole (has_no_tail tail_len || is_past_stop old) old new
+
+-- ---- an item
+
+abbrev pub ScansUnless : Bool → TableMaps → ℕ → Result EventView Error → UndoScan → UndoScan → Type 0
+ScansUnless true maps index item old new = Closes old new
+ScansUnless false maps index (Ok event) old new = ScansSome maps index event old new
+ScansUnless false maps index (Err error) old new = Stops index reasons.Damaged old new
+
+-- An item is looked at, unless the pass has ended, or ends in front of it.
+abbrev pub ScansItem : Bool → TableMaps → ℕ → Result EventView Error → UndoScan → UndoScan → Type 0
+ScansItem true maps index item old new = new ≡ old
+ScansItem false maps index item old new = ScansUnless (is_past_stop old) maps index item old new

@@ -1,8 +1,10 @@
 -- Which events undo those at some places of a file.
-use Rattle.std.specs.Prelude.{◌≡◌, ◌≢◌, ◌⊎◌, ℕ, List, [], ◌∷◌, ◌++◌, length, Option, Some, None, IfSome, Result, Ok}
+use Rattle.std.specs.Prelude.{◌≡◌, ◌≢◌, ◌⊎◌, ℕ, Bool, List, [], ◌∷◌, ◌++◌, length, Option, Some, None, IfSome, Result, Ok}
 use Rattle.binlog_columns.specs.Refusals.{refusal, columns_in}
 use Rattle.binlog_event_data.specs.declared.event_data.EventData.{EventData}
 use Rattle.binlog_event_data.specs.declared.event_data.EventData.TheVariants as mysql
+use Rattle.binlog_file.specs.declared.log_data.LogEventData.{LogEventData}
+use Rattle.binlog_mariadb.specs.declared.compressed_rows.RowsCompressedEvent.{RowsCompressedEvent}
 use Rattle.binlog_wire.specs.declared.error.Error.{Error}
 use Rattle.binlog_event_format.specs.Headers.{header_of}
 use Rattle.binlog_event_format.specs.declared.format_description.FormatDescriptionEvent.{FormatDescriptionEvent}
@@ -15,7 +17,6 @@ use Rattle.crc32_ieee.specs.Crc32.{crc32}
 use Rattle.binlog_rows.specs.RowsData.{event_in}
 use Rattle.binlog_rows.specs.declared.rows_event_data.RowsEventData.{RowsEventData}
 use Rattle.binlog_rows.specs.declared.table_map_event.TableMapEvent.{TableMapEvent}
-use Rattle.binlog_undo.specs.InverseEvents.{GivesInverse}
 use Rattle.binlog_undo.specs.declared.inverse_event.ForeignKeyChecks.{ForeignKeyChecks}
 use Rattle.binlog_undo.specs.declared.inverse_event.InverseEvent.{InverseEvent}
 use Rattle.binlog_undo_index.specs.Groups.{Kept}
@@ -23,6 +24,8 @@ use Rattle.binlog_undo_index.specs.declared.places.ChangePlace.{ChangePlace}
 use Rattle.binlog_undo_index.specs.declared.places.TransactionPlace.{TransactionPlace}
 use Rattle.binlog_consts.specs.declared.event_type.EventType.TheVariants.{QUERY_EVENT, XID_EVENT, TABLE_MAP_EVENT}
 use Rattle.binlog_bodies.specs.declared.events.xid.XidEvent.{XidEvent}
+use Rattle.binlog_undo_log.specs.Keys.{IsMariaEvent, GivesByKey}
+use Rattle.binlog_undo_log.specs.Compressed.{ReadsUncompressed, HasCompressedRows, IsReadAsRows, ReadsRows}
 use Rattle.binlog_undo_writing.specs.Events.{begin_body, xid_body}
 use Rattle.binlog_undo_writing.specs.Headings.{begin_heading, commit_heading, source_heading}
 use Rattle.binlog_undo_writing.specs.Transactions.{Event, AreWritten}
@@ -34,11 +37,11 @@ Writes are old new = (events : List Event) × are events × AreWritten events ol
 
 -- ---- a row event
 
--- The event undoes these rows, of the table of this table map. The primary key isn't asked for.
-pub record UndoesTable (checks : ForeignKeyChecks) (map : TableMapEvent) (rows : RowsEventData) (inverse : InverseEvent) : Type 0 where
+-- The event undoes these rows, of the table of this table map.
+pub record UndoesTable (is_maria_log : Bool) (checks : ForeignKeyChecks) (map : TableMapEvent) (rows : RowsEventData) (inverse : InverseEvent) : Type 0 where
   pub same : map.table.id ≡ (event_in rows).head.table_id
   pub columns : refusal 0 map.columns.types map.columns.metadata ≡ None
-  pub undoes : GivesInverse [] (columns_in map.columns.types map.columns.metadata) checks rows (Ok inverse)
+  pub undoes : GivesByKey is_maria_log map (columns_in map.columns.types map.columns.metadata) checks rows (Ok inverse)
 
 -- What is written for rows: a table map with this header and body, and the event that undoes the rows, which have this header.
 abbrev pub undone_parts : BinlogEventHeader → List ℕ → BinlogEventHeader → InverseEvent → List Event
@@ -52,20 +55,40 @@ undone_events map_event event inverse = undone_parts (header_of map_event.frame)
 
 -- These events undo rows, of the table of this table map.
 pub record UndoesRows (checks : ForeignKeyChecks) (map_event : EventView) (map : TableMapEvent) (event : EventView) (rows : RowsEventData) (events : List Event) : Type 0 where
+  pub is_maria_log : Bool
+  pub maria : IsMariaEvent event is_maria_log
   pub inverse : InverseEvent
-  pub undoes : UndoesTable checks map rows inverse
+  pub undoes : UndoesTable is_maria_log checks map rows inverse
   pub are : events ≡ undone_events map_event event inverse
 
--- What was read of an event are rows of the table of this table map.
-pub record UndoesReadRows (checks : ForeignKeyChecks) (map_event : EventView) (map : TableMapEvent) (event : EventView) (read : Result (Option EventData) Error) (events : List Event) : Type 0 where
+-- What was read of the body of an event that was compressed are rows of the table of this table map.
+pub record UndoesReadEvent (checks : ForeignKeyChecks) (map_event : EventView) (map : TableMapEvent) (event : EventView) (read : Result (Option EventData) Error) (events : List Event) : Type 0 where
   pub rows : RowsEventData
   pub is : read ≡ Ok (Some (mysql.RowsEvent rows))
+  pub undoes : UndoesRows checks map_event map event rows events
+
+-- This body is read so.
+pub record UndoesBody (checks : ForeignKeyChecks) (map_event : EventView) (map : TableMapEvent) (event : EventView) (body : List ℕ) (events : List Event) : Type 0 where
+  pub rows : RowsEventData
+  pub read : ReadsUncompressed event body (Ok (Some (mysql.RowsEvent rows)))
+  pub undoes : UndoesRows checks map_event map event rows events
+
+-- Compressed rows are those of the table of this table map.
+pub record UndoesCompressed (checks : ForeignKeyChecks) (map_event : EventView) (map : TableMapEvent) (event : EventView) (compressed : RowsCompressedEvent) (events : List Event) : Type 0 where
+  pub rows : RowsEventData
+  pub are : HasCompressedRows event compressed rows
+  pub undoes : UndoesRows checks map_event map event rows events
+
+-- What was read of an event are rows of the table of this table map, as they are or compressed.
+pub record UndoesReadRows (checks : ForeignKeyChecks) (map_event : EventView) (map : TableMapEvent) (event : EventView) (read : Result (Option LogEventData) Error) (events : List Event) : Type 0 where
+  pub rows : RowsEventData
+  pub are : IsReadAsRows event read rows
   pub undoes : UndoesRows checks map_event map event rows events
 
 -- An event is read as rows of the table of this table map.
 pub record UndoesMapped (checks : ForeignKeyChecks) (map_event : EventView) (map : TableMapEvent) (event : EventView) (events : List Event) : Type 0 where
   pub rows : RowsEventData
-  pub read : ReadsEventData event (Ok (Some (mysql.RowsEvent rows)))
+  pub read : ReadsRows event rows
   pub undoes : UndoesRows checks map_event map event rows events
 
 -- What was read of an event is a table map, of whose table the other event has rows.

@@ -1,5 +1,5 @@
 //! Laws of the definitions. Each is a function that does nothing and whose contract states the law.
-ghost use Rattle.std.specs.Prelude.{List, ℕ};
+ghost use Rattle.std.specs.Prelude.{List, ℕ, ◌<◌, ◌^◌, length};
 ghost use Rattle.binlog_event_format.specs.declared.format_description.FormatDescriptionEvent.{FormatDescriptionEvent};
 ghost use Rattle.binlog_undo.specs.RowChanges.{TableRow};
 ghost use Rattle.binlog_undo.specs.declared.inverse_event.ForeignKeyChecks.{ForeignKeyChecks};
@@ -9,21 +9,25 @@ ghost use Rattle.binlog_undo_index.specs.Parts.{parts_of};
 ghost use Rattle.binlog_undo_index.specs.declared.places.ChangePlace.{ChangePlace};
 ghost use Rattle.binlog_undo_index.specs.declared.places.TransactionPlace.{TransactionPlace};
 ghost use Rattle.binlog_undo_index.specs.declared.skips.Skips.{Skips};
-ghost use Rattle.binlog_undo_log.specs.Files.{IsFresh, ScansWhole, AreSkipped, IsScanned};
+ghost use Rattle.binlog_undo_log.specs.Choices.{rules_of};
+ghost use Rattle.binlog_undo_log.specs.FileChanges.{AreFramesOf, UndoesFile};
+ghost use Rattle.binlog_undo_log.specs.Files.{IsFresh, ScansWhole, AreSkipped, IsScanned, WritesFile};
 ghost use Rattle.binlog_undo_log.specs.LogChanges.{TableName, LogChange, AreKeptChanges, AreLogChanges};
 ghost use Rattle.binlog_undo_log.specs.Undoing.{UndoesAll, UndoesKept};
 ghost use Rattle.binlog_undo_log.specs.declared.choice.Choice.{Choice};
+ghost use Rattle.binlog_undo_log.specs.declared.output.UndoOutput.{UndoOutput};
 ghost use Rattle.binlog_undo_log.specs.declared.scan.UndoScan.{UndoScan};
 ghost use Rattle.binlog_undo_writing.specs.Transactions.{Event};
 ghost use Rattle.table_changes.specs.Changes.{State, AppliesAll, inverse};
 
 use crate::frames::Frames;
+use binlog_file::WriteCounted;
 
-/// If the first pass over a file refused nothing, unless it is skipped, then all items of the file are events, with nothing behind them,
+/// If the first pass over a file refused nothing, unless it is skipped, then all items of the file, up to the stop position, are events,
 /// and the places that are kept are those of the transactions of the log that are undone.
 pub fn files_are_scanned()
     ensures { (choice : Choice) (checks : ForeignKeyChecks) (skips : Skips) (bytes : List ℕ) (start scan : UndoScan) → IsFresh choice checks skips start
-        → ScansWhole bytes start scan → AreSkipped (parts_of scan.index).refusals → IsScanned skips bytes start scan }
+        → ScansWhole bytes start scan → AreSkipped (parts_of scan.index).refusals → IsScanned (rules_of choice skips) bytes start scan }
 {}
 
 /// The events that undo the places that were kept of some transactions undo these transactions, the last one first.
@@ -38,4 +42,12 @@ pub fn logs_are_undone<F: Frames>()
     ensures changes { (frames : F) (fde : FormatDescriptionEvent) (checks : ForeignKeyChecks) (kept : List Kept) (events : List Event) → UndoesKept (F.is_at frames) fde checks kept events
         → (changes : List LogChange) × AreKeptChanges (F.is_at frames) fde kept changes × AreLogChanges events (inverse changes) }
     ensures back { (changes : List LogChange) (old new : State TableName TableRow) → AppliesAll changes old new → AppliesAll (inverse changes) new old }
+{}
+
+/// Both passes over a file together: if the first one refused nothing, unless it is skipped, and the second one reads the frames of the
+/// same bytes, then all items of the file, up to the stop position, are events at their places, and what is written is the inverse of the changes of its transactions that are undone.
+pub fn files_are_undone<F: Frames, W: WriteCounted>()
+    ensures { (frames : F) (choice : Choice) (checks : ForeignKeyChecks) (skips : Skips) (bytes : List ℕ) (start scan : UndoScan) (old new : UndoOutput W)
+        → length bytes < 2 ^ 64 → AreFramesOf bytes (F.is_at frames) → IsFresh choice checks skips start → ScansWhole bytes start scan → AreSkipped (parts_of scan.index).refusals
+        → WritesFile W.contents (F.is_at frames) scan old new → UndoesFile W.contents (rules_of choice skips) bytes start scan old new }
 {}

@@ -6,6 +6,7 @@
 #![tactic(auto)]
 
 mod choice;
+mod compressed;
 mod description;
 mod events;
 mod files;
@@ -13,7 +14,9 @@ mod frames;
 mod heads;
 pub mod laws;
 mod looking;
+mod one_transaction;
 mod output;
+mod primary_key;
 mod rows;
 mod scan;
 mod undo_error;
@@ -23,6 +26,7 @@ pub use choice::Choice;
 pub use files::{scan_file, write_file};
 pub use frames::{Frames, SeekFrames};
 pub use heads::is_writable;
+pub use one_transaction::{Commit, begin_one};
 pub use output::UndoOutput;
 pub use scan::UndoScan;
 pub use undo_error::UndoLogError;

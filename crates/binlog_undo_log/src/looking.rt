@@ -1,15 +1,16 @@
 //! What is seen of an event by its data.
 ghost use Rattle.std.specs.Prelude.{◌≡◌, MatchOption, Some, None};
 ghost use Rattle.binlog_undo_log.specs.Marks.{table_id_in, mark_in};
-ghost use Rattle.binlog_undo_log.specs.Scanning.{is_undone, rows_of, unread_mark};
+ghost use Rattle.binlog_undo_log.specs.Scanning.{compressed_of, is_undone, rows_of, seen_mark, unread_mark};
 
 use crate::scan::seeing::RowsLook;
 use binlog_file::{EventData, LogEventData, RowsEventData};
+use binlog_mariadb::{MariaEventData, RowsCompressedEvent};
 use binlog_transactions::{Mark, Role, StatementKind};
 
-/// The mark of an event with this role and this data; None if the data isn't that of an event of this role. `is_undone` says whether
-/// its rows are to be undone. A compressed statement is one that can't be undone.
-pub(crate) fn mark_in(role: Role, body: &LogEventData<'_>, is_undone: bool) -> Option<Mark>
+// The mark of an event with this role and this data; None if the data isn't that of an event of this role. `is_undone` says whether its
+// rows are to be undone. A compressed statement is one that can't be undone.
+fn mark_in(role: Role, body: &LogEventData<'_>, is_undone: bool) -> Option<Mark>
     ensures { result ≡ mark_in role is_undone body.now }
 {
     match role {
@@ -19,6 +20,18 @@ pub(crate) fn mark_in(role: Role, body: &LogEventData<'_>, is_undone: bool) -> O
             LogEventData::Mysql(data) => Mark::of_data(data, is_undone),
             LogEventData::Maria(data) => Mark::of_maria_data(data, is_undone),
         },
+    }
+}
+
+/// The mark of an event with this role, this data and these rows; None if it is damaged.
+pub(crate) fn seen_mark(role: Role, body: &LogEventData<'_>, look: RowsLook) -> Option<Mark>
+    ensures { result ≡ seen_mark role body.now look }
+{
+    match look {
+        RowsLook::Damaged => None,
+        RowsLook::Left | RowsLook::Undone(_) | RowsLook::Refused(_) => {
+            mark_in(role, body, look.is_undone())
+        }
     }
 }
 
@@ -42,6 +55,18 @@ pub(crate) fn rows_in<'d, 'a>(body: &'d LogEventData<'a>) -> Option<&'d RowsEven
     }
 }
 
+/// The compressed rows of a row event.
+pub(crate) fn compressed_in<'d, 'a>(
+    body: &'d LogEventData<'a>,
+) -> Option<&'d RowsCompressedEvent<'a>>
+    ensures { MatchOption result (compressed_of body.now ≡ None) (λ compressed. compressed_of body.now ≡ Some compressed.now) }
+{
+    match body {
+        LogEventData::Maria(MariaEventData::RowsCompressedEvent(compressed)) => Some(compressed),
+        _ => None,
+    }
+}
+
 /// The mark of an event of this role without data that can be read; None if the role doesn't say it. If its type is a known one, XIDs, table
 /// maps and GTIDs have to be read.
 pub(crate) fn unread_mark(role: Role, is_known: bool) -> Option<Mark>
@@ -55,13 +80,13 @@ pub(crate) fn unread_mark(role: Role, is_known: bool) -> Option<Mark>
 }
 
 impl RowsLook {
-    /// Whether the rows are to be undone.
-    pub(crate) fn is_undone(self) -> bool
+    // Whether the rows are to be undone.
+    fn is_undone(self) -> bool
         ensures { result ≡ is_undone self }
     {
         match self {
             RowsLook::Undone(_) => true,
-            RowsLook::Left | RowsLook::Refused(_) => false,
+            RowsLook::Left | RowsLook::Refused(_) | RowsLook::Damaged => false,
         }
     }
 }

@@ -2,15 +2,20 @@
 ghost use Rattle.std.specs.Prelude.{◌≡◌, ℕ, List, IfOk, OnOk};
 ghost use Rattle.binlog_event_format.specs.DescriptionRefs.{description_of};
 ghost use Rattle.binlog_events.specs.EventRefs.{view_of};
-ghost use Rattle.binlog_undo_log.specs.Undoing.{Writes, UndoesTable, UndoesRows, UndoesReadRows, UndoesMapped, UndoesReadMap, UndoesEvents, UndoesChange};
+ghost use Rattle.binlog_undo_log.specs.Undoing.{Writes, UndoesTable, UndoesRows, UndoesReadEvent, UndoesBody, UndoesCompressed, UndoesReadRows, UndoesMapped, UndoesReadMap, UndoesEvents, UndoesChange};
 
-use crate::events::event_of;
+use crate::compressed::{read_uncompressed, uncompressed_body};
+use crate::events::{event_of, is_maria_event};
 use crate::frames::Frames;
+use crate::primary_key::undo_by_key;
 use crate::undo_error::UndoLogError;
 use binlog_columns::TableColumns;
 use binlog_event_format::DescriptionRef;
-use binlog_file::{Error, EventData, EventRef, RowsEventData, TableMapEvent};
-use binlog_undo::{ForeignKeyChecks, InverseEvent, UndoError, undo_event};
+use binlog_file::{
+    Error, EventData, EventRef, LogEventData, RowsEventData, TableMapEvent, read_log_data,
+};
+use binlog_mariadb::{CompressionError, MariaEventData, RowsCompressedEvent};
+use binlog_undo::{ForeignKeyChecks, InverseEvent, UndoError};
 use binlog_undo_index::ChangePlace;
 use binlog_undo_writing::{EventsWriter, UndoneChange};
 use std::alloc::Global;
@@ -20,9 +25,10 @@ fn inverse_of(
     alloc: Global,
     map: &TableMapEvent<'_>,
     rows: &RowsEventData<'_>,
+    is_maria_log: bool,
     checks: ForeignKeyChecks,
 ) -> Result<InverseEvent, UndoLogError>
-    ensures { IfOk result (λ inverse. UndoesTable checks map.now rows.now inverse) }
+    ensures { IfOk result (λ inverse. UndoesTable is_maria_log checks map.now rows.now inverse) }
 {
     if map.table_id() != rows.table_id() {
         return Err(UndoLogError::Changed);
@@ -31,7 +37,7 @@ fn inverse_of(
     let Ok(columns) = TableColumns::new(types, map.columns_metadata_raw()) else {
         return Err(UndoLogError::Changed);
     };
-    match undo_event(alloc, rows, columns, &[], checks) {
+    match undo_by_key(alloc, map, rows, columns, is_maria_log, checks) {
         Ok(inverse) => Ok(inverse),
         Err(UndoError::Memory) => Err(UndoLogError::Memory),
         Err(_) => Err(UndoLogError::Changed),
@@ -50,7 +56,7 @@ fn push_rows(
 ) -> Result<(), UndoLogError>
     ensures { OnOk result (Writes (UndoesRows checks (view_of map_event.now) map.now (view_of event.now) rows.now) writer.old writer.new) }
 {
-    let inverse = inverse_of(alloc, map, rows, checks)?;
+    let inverse = inverse_of(alloc, map, rows, is_maria_event(event), checks)?;
     let change = UndoneChange {
         map_header: map_event.header(),
         map_body: map_event.data(),
@@ -61,8 +67,8 @@ fn push_rows(
     Ok(())
 }
 
-// Writes what undoes a row event of which this was read.
-fn push_read_rows(
+// Writes what undoes an event that was compressed, of whose body this was read.
+fn push_read_event(
     alloc: Global,
     map_event: &EventRef<'_>,
     map: &TableMapEvent<'_>,
@@ -71,11 +77,80 @@ fn push_read_rows(
     checks: ForeignKeyChecks,
     writer: &mut EventsWriter,
 ) -> Result<(), UndoLogError>
-    ensures { OnOk result (Writes (UndoesReadRows checks (view_of map_event.now) map.now (view_of event.now) read.now) writer.old writer.new) }
+    ensures { OnOk result (Writes (UndoesReadEvent checks (view_of map_event.now) map.now (view_of event.now) read.now) writer.old writer.new) }
 {
     match read {
         Ok(Some(EventData::RowsEvent(rows))) => {
             push_rows(alloc, map_event, map, event, rows, checks, writer)
+        }
+        Err(Error::Memory) => Err(UndoLogError::Memory),
+        _ => Err(UndoLogError::Changed),
+    }
+}
+
+// Writes what undoes an event that was compressed, and had this body.
+fn push_body(
+    alloc: Global,
+    map_event: &EventRef<'_>,
+    map: &TableMapEvent<'_>,
+    event: &EventRef<'_>,
+    body: &[u8],
+    checks: ForeignKeyChecks,
+    writer: &mut EventsWriter,
+) -> Result<(), UndoLogError>
+    ensures { OnOk result (Writes (UndoesBody checks (view_of map_event.now) map.now (view_of event.now) body.now) writer.old writer.new) }
+{
+    let read = read_uncompressed(alloc, event, body);
+    let answer = push_read_event(alloc, map_event, map, event, &read, checks, writer);
+    drop(read);
+    answer
+}
+
+// Writes what undoes compressed rows.
+fn push_compressed(
+    alloc: Global,
+    map_event: &EventRef<'_>,
+    map: &TableMapEvent<'_>,
+    event: &EventRef<'_>,
+    compressed: &RowsCompressedEvent<'_>,
+    checks: ForeignKeyChecks,
+    writer: &mut EventsWriter,
+) -> Result<(), UndoLogError>
+    ensures { OnOk result (Writes (UndoesCompressed checks (view_of map_event.now) map.now (view_of event.now) compressed.now) writer.old writer.new) }
+{
+    match uncompressed_body(alloc, event, compressed) {
+        Ok(body) => push_body(
+            alloc,
+            map_event,
+            map,
+            event,
+            body.as_slice(),
+            checks,
+            writer,
+        ),
+        Err(CompressionError::Memory) => Err(UndoLogError::Memory),
+        Err(_) => Err(UndoLogError::Changed),
+    }
+}
+
+// Writes what undoes a row event of which this was read.
+fn push_read_rows(
+    alloc: Global,
+    map_event: &EventRef<'_>,
+    map: &TableMapEvent<'_>,
+    event: &EventRef<'_>,
+    read: &Result<Option<LogEventData<'_>>, Error>,
+    checks: ForeignKeyChecks,
+    writer: &mut EventsWriter,
+) -> Result<(), UndoLogError>
+    ensures { OnOk result (Writes (UndoesReadRows checks (view_of map_event.now) map.now (view_of event.now) read.now) writer.old writer.new) }
+{
+    match read {
+        Ok(Some(LogEventData::Mysql(EventData::RowsEvent(rows)))) => {
+            push_rows(alloc, map_event, map, event, rows, checks, writer)
+        }
+        Ok(Some(LogEventData::Maria(MariaEventData::RowsCompressedEvent(compressed)))) => {
+            push_compressed(alloc, map_event, map, event, compressed, checks, writer)
         }
         Err(Error::Memory) => Err(UndoLogError::Memory),
         _ => Err(UndoLogError::Changed),
@@ -93,7 +168,7 @@ fn push_of_table(
 ) -> Result<(), UndoLogError>
     ensures { OnOk result (Writes (UndoesMapped checks (view_of map_event.now) map.now (view_of event.now)) writer.old writer.new) }
 {
-    let read = event.read_data(alloc);
+    let read = read_log_data(alloc, event);
     let answer = push_read_rows(alloc, map_event, map, event, &read, checks, writer);
     drop(read);
     answer

@@ -4,19 +4,20 @@ ghost use Rattle.binlog_wire.specs.declared.error.Error.TheVariants.{Memory};
 ghost use Rattle.binlog_events.specs.EventRefs.{view_of};
 ghost use Rattle.binlog_file.specs.State.{state_of};
 ghost use Rattle.binlog_undo_log.specs.Files.{IsFresh};
-ghost use Rattle.binlog_undo_log.specs.Scanning.{LooksAtData, IsRole, seen_event, SeesData, SeesUnread, SeesRead, Sees, Stops, Describes, DescribesIf, Notes, NotesMark, NotesIf, ScansSome, EndsWhole, EndsScan};
+ghost use Rattle.binlog_undo_log.specs.Scanning.{LooksAtData, IsRole, place_behind, seen_event, SeesData, SeesUnread, SeesRead, Sees, Stops, Describes, DescribesIf, Notes, NotesMark, NotesIf, ScansSome, is_past_stop, Closes, has_no_tail, EndsWhole, EndsScan};
 
+mod compressed_rows;
 pub(crate) mod seeing;
 
 use crate::choice::Choice;
-use crate::looking::{mark_in, rows_in, table_id_in, unread_mark};
+use crate::looking::{compressed_in, rows_in, seen_mark, table_id_in, unread_mark};
 use binlog_file::{
     BinlogFileHeader, Error, EventRef, EventStreamReader, LogEventData, read_log_data,
 };
 use binlog_mariadb::is_maria_log;
 use binlog_transactions::{Mark, Refusal, Role};
 use binlog_undo::ForeignKeyChecks;
-use binlog_undo_index::{Reason, SeenEvent, Skips, UndoIndex};
+use binlog_undo_index::{Reason, Rules, SeenEvent, Skips, UndoIndex};
 use binlog_visits::Visitor;
 use seeing::RowsLook;
 use std::alloc::Global;
@@ -44,11 +45,15 @@ impl UndoScan {
         ensures { IsFresh choice checks skips result }
     {
         let is_wanted = choice.transactions.takes_first();
+        let rules = Rules {
+            skips,
+            positions: choice.positions(),
+        };
         UndoScan {
             alloc,
             choice,
             checks,
-            index: UndoIndex::new(alloc, skips),
+            index: UndoIndex::new(alloc, rules),
             place: BinlogFileHeader::LEN as u64,
             description: None,
             is_stopped: false,
@@ -83,19 +88,25 @@ impl UndoScan {
         &self,
         event: &EventRef<'_>,
         body: &LogEventData<'_>,
-        role: Role,
         reader: &EventStreamReader,
     ) -> Result<RowsLook, Error>
-        ensures ok { IfOk result (LooksAtData self.now (state_of reader.now).table_maps (view_of event.now) role body.now) }
+        ensures ok { IfOk result (LooksAtData self.now (state_of reader.now).table_maps (view_of event.now) body.now) }
         ensures memory { IfErr result (λ e. e ≡ Memory) }
     {
         match rows_in(body) {
             Some(rows) => self.look_at_rows(event, rows, reader),
-            None => match role {
-                Role::CompressedRows => Ok(RowsLook::Refused(Reason::Compressed)),
-                _ => Ok(RowsLook::Left),
+            None => match compressed_in(body) {
+                Some(compressed) => self.look_at_compressed(event, compressed, reader),
+                None => Ok(RowsLook::Left),
             },
         }
+    }
+
+    // The place behind an event that begins at the place of the pass.
+    fn place_behind(&self, event: &EventRef<'_>) -> u64
+        ensures { result ≡ place_behind self.now (view_of event.now) }
+    {
+        self.place.saturating_add(event.frame().len() as u64)
     }
 
     // The event with this index, this mark and these rows.
@@ -111,23 +122,25 @@ impl UndoScan {
     {
         let header = event.header();
         let (change, refusal) = match look {
-            RowsLook::Left => (None, None),
+            RowsLook::Left | RowsLook::Damaged => (None, None),
             RowsLook::Undone(change) => (Some(change), None),
             RowsLook::Refused(reason) => (None, Some(reason)),
         };
         SeenEvent {
             index,
             place: self.place,
+            end: self.place_behind(event),
             mark,
             table_id,
             change,
             refusal,
-            takes_first: self.choice.takes_first(&header, self.is_wanted),
+            takes_first: self.choice.positions().has(self.place)
+                && self.choice.takes_first(&header, self.is_wanted),
             takes_last: self.choice.takes_last(&header),
         }
     }
 
-    // What is seen of an event with this data; None if the data isn't that of an event of its type.
+    // What is seen of an event with this data; None if the data isn't that of an event of its type, or compressed rows can't be read.
     fn see_data(
         &self,
         index: u64,
@@ -138,9 +151,8 @@ impl UndoScan {
         ensures ok { IfOk result (SeesData self.now (state_of reader.now).table_maps index (view_of event.now) body.now) }
         ensures memory { IfErr result (λ e. e ≡ Memory) }
     {
-        let role = role_of(event);
-        let look = self.look_at_data(event, body, role, reader)?;
-        match mark_in(role, body, look.is_undone()) {
+        let look = self.look_at_data(event, body, reader)?;
+        match seen_mark(role_of(event), body, look) {
             Some(mark) => Ok(Some(self.seen(index, event, mark, table_id_in(body), look))),
             None => Ok(None),
         }
@@ -230,7 +242,7 @@ impl UndoScan {
     {
         self.index.note(seen)?;
         self.describe_if(event.is_description(), index)?;
-        self.place = self.place.saturating_add(event.frame().len() as u64);
+        self.place = self.place_behind(event);
         self.items = index.saturating_add(1);
         Ok(())
     }
@@ -287,6 +299,7 @@ impl UndoScan {
         let border = SeenEvent {
             index: self.items,
             place: self.place,
+            end: self.place,
             mark: Mark::Border,
             table_id: None,
             change: None,
@@ -296,6 +309,22 @@ impl UndoScan {
         };
         self.index.note(&border)?;
         Ok(())
+    }
+
+    // Whether what follows is behind the stop position, and no transaction is read that begins before it.
+    fn is_past_stop(&self) -> bool
+        ensures { result ≡ is_past_stop self.now }
+    {
+        self.choice.positions().is_past(self.place) && !self.index.is_within()
+    }
+
+    // The pass ends at the stop position as at the end of a file: nothing that follows is looked at.
+    fn close(&mut self) -> Result<(), Error>
+        ensures ok { OnOk result (Closes self.old self.new) }
+        ensures memory { IfErr result (λ e. e ≡ Memory) }
+    {
+        self.is_stopped = true;
+        self.end_whole()
     }
 
     /// Behind the last item of a file, behind which this is the length of the tail.
@@ -310,10 +339,20 @@ impl UndoScan {
         if self.is_stopped {
             return Ok(());
         }
-        match tail_len {
-            Some(0) => self.end_whole(),
-            _ => self.stop(self.items, Reason::Tail),
+        if has_no_tail(tail_len) || self.is_past_stop() {
+            return self.end_whole();
         }
+        self.stop(self.items, Reason::Tail)
+    }
+}
+
+// Whether nothing is behind the last item of a file.
+fn has_no_tail(tail_len: Option<usize>) -> bool
+    ensures { result ≡ has_no_tail tail_len }
+{
+    match tail_len {
+        Some(tail_len) => tail_len == 0,
+        None => false,
     }
 }
 
@@ -348,6 +387,9 @@ impl Visitor for UndoScan {
         if self.is_stopped {
             return Ok(());
         }
+        if self.is_past_stop() {
+            return self.close();
+        }
         self.scan_event(index, event, reader)
     }
 
@@ -359,6 +401,9 @@ impl Visitor for UndoScan {
     ) -> Result<(), Error> {
         if self.is_stopped {
             return Ok(());
+        }
+        if self.is_past_stop() {
+            return self.close();
         }
         self.stop(index, Reason::Damaged)
     }

@@ -20,6 +20,9 @@ pub enum UndoLogError {
     /// An event would have more than 4,294,967,295 bytes, or the log more than 2^64 - 1.
     #[error("an event is too long")]
     TooLong,
+    /// All that is undone is to be one transaction, and the logs have different format descriptions.
+    #[error("another format description than that of the transaction's first events")]
+    Description,
     /// Memory was refused.
     #[error("memory was refused")]
     Memory,

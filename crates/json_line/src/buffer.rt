@@ -7,7 +7,7 @@ ghost use Rattle.json_line.specs.Moments.{date_text, time_text, date_time_text};
 
 use crate::moment::{DateParts, TimeParts};
 use crate::place::{
-    place_byte, place_bytes, place_comma, place_hexadecimal, place_minus, place_number,
+    place_byte, place_bytes, place_comma, place_hexadecimal, place_minus, place_number, place_short,
 };
 use crate::place_moment::{place_date, place_time};
 use std::alloc::{AllocError, Global};
@@ -153,6 +153,34 @@ impl Buffer {
     {
         self.reserve(text.len() + 1)?;
         self.put(after_value, text);
+        Ok(())
+    }
+
+    #[inline(always)]
+    fn put_short(&mut self, after_value: bool, bytes: &[u8], len: usize)
+        requires { (len ≤ 32) × (32 ≤ length bytes.now) × (33 ≤ self.old.room) }
+        ensures { self.new.text ≡ self.old.text ++ (comma after_value ++ take len bytes.now) }
+    {
+        let memory = self.bytes.as_mut_slice();
+        let at = place_comma(memory, self.len, after_value);
+        self.len = place_short(memory, at, bytes, len);
+    }
+
+    /// Writes a comma if wanted, and the bytes that are written in another buffer.
+    // Most are short, and then are copied with some behind them.
+    #[inline(always)]
+    pub(crate) fn add_written(
+        &mut self,
+        after_value: bool,
+        other: &Buffer,
+    ) -> Result<(), AllocError>
+        ensures { Puts result self.old self.new (comma after_value ++ other.now.text) }
+    {
+        if other.len > 32 || other.bytes.len() < 32 {
+            return self.add(after_value, other.written());
+        }
+        self.reserve(33)?;
+        self.put_short(after_value, &other.bytes, other.len);
         Ok(())
     }
 
@@ -313,7 +341,7 @@ impl Buffer {
     }
 
     /// Writes a comma if wanted, and a date in quotation marks.
-    #[inline]
+    #[inline(always)]
     pub(crate) fn add_date(&mut self, after_value: bool, date: &DateParts) -> Result<(), AllocError>
         ensures { Puts result self.old self.new (comma after_value ++ 34 ∷ (date_text date.now.year date.now.month date.now.day ++ 34 ∷ [])) }
     {
@@ -337,7 +365,7 @@ impl Buffer {
     }
 
     /// Writes a comma if wanted, and a time in quotation marks.
-    #[inline]
+    #[inline(always)]
     pub(crate) fn add_time(
         &mut self,
         after_value: bool,
@@ -367,7 +395,7 @@ impl Buffer {
     }
 
     /// Writes a comma if wanted, and a date and a time in quotation marks.
-    #[inline]
+    #[inline(always)]
     pub(crate) fn add_date_time(
         &mut self,
         after_value: bool,

@@ -7,6 +7,8 @@
 mod buffer;
 mod decimal;
 mod line;
+mod line_members;
+mod line_texts;
 mod moment;
 mod place;
 mod place_moment;

@@ -24,11 +24,11 @@ use uuid::Uuid;
 /// A line of JSON, in memory that is reused for the next line. Contracts see it as the list of its tokens.
 #[derive(Drop)]
 pub struct Line {
-    alloc: Global,
-    text: Buffer,
-    after_value: bool,
+    pub(crate) alloc: Global,
+    pub(crate) text: Buffer,
+    pub(crate) after_value: bool,
     token: Vec<u8>,
-    characters: String,
+    pub(crate) characters: String,
 }
 
 /// A place in a line: behind the tokens that were written when it was marked.
@@ -248,7 +248,7 @@ impl Line {
         ensures added { Adds result self.old self.new printed.now }
         ensures unchanged { OnErr result (self.new ≡ self.old) }
     {
-        self.text.add(self.after_value, printed.text.written())?;
+        self.text.add_written(self.after_value, &printed.text)?;
         self.after_value = false;
         Ok(())
     }
@@ -298,7 +298,7 @@ impl Line {
     }
 
     #[inline(always)]
-    fn string_as_it_is(&mut self, text: &[u8]) -> Result<(), AllocError>
+    pub(crate) fn string_as_it_is(&mut self, text: &[u8]) -> Result<(), AllocError>
         requires { (escape text.now ≡ text.now) × IsUtf8 text.now }
         ensures added { Adds result self.old self.new (tokens.string text.now ∷ []) }
         ensures unchanged { OnErr result (self.new ≡ self.old) }
@@ -310,7 +310,7 @@ impl Line {
 
     // Through the general token writer.
     #[inline(never)]
-    fn escaped_string(&mut self, text: &str) -> Result<(), AllocError>
+    pub(crate) fn escaped_string(&mut self, text: &str) -> Result<(), AllocError>
         ensures added { Adds result self.old self.new (tokens.string text.now ∷ []) }
         ensures unchanged { OnErr result (self.new ≡ self.old) }
     {
@@ -345,7 +345,7 @@ impl Line {
     }
 
     /// Writes a date as a string: `2026-11-25`. The year has four digits or more, the other parts two or more.
-    #[inline]
+    #[inline(always)]
     pub fn date(&mut self, date: &DateParts) -> Result<(), AllocError>
         ensures added { Adds result self.old self.new (tokens.string (date_text date.now.year date.now.month date.now.day) ∷ []) }
         ensures unchanged { OnErr result (self.new ≡ self.old) }
@@ -361,7 +361,7 @@ impl Line {
 
     /// Writes a time as a string, with a minus sign if it is negative: `-06:30:00.000250`. The parts have two digits or more,
     /// the fraction as many as [`TimeParts::digits`] says.
-    #[inline]
+    #[inline(always)]
     pub fn time(&mut self, is_negative: bool, time: &TimeParts) -> Result<(), AllocError>
         ensures added { Adds result self.old self.new (tokens.string (time_text is_negative time.now.hour time.now.minute time.now.second time.now.digits time.now.microseconds) ∷ []) }
         ensures unchanged { OnErr result (self.new ≡ self.old) }
@@ -377,7 +377,7 @@ impl Line {
 
     /// Writes a date and a time as a string: `2026-11-25 06:30:00.000250`, their parts as [`Line::date`] and [`Line::time`] write
     /// them.
-    #[inline]
+    #[inline(always)]
     pub fn date_time(&mut self, date: &DateParts, time: &TimeParts) -> Result<(), AllocError>
         ensures added { Adds result self.old self.new (tokens.string (date_time_text date.now.year date.now.month date.now.day time.now.hour time.now.minute time.now.second time.now.digits time.now.microseconds) ∷ []) }
         ensures unchanged { OnErr result (self.new ≡ self.old) }
@@ -415,209 +415,5 @@ impl Line {
         self.text.add_hexadecimal(self.after_value, bytes)?;
         self.after_value = true;
         Ok(())
-    }
-
-    /// Writes a string if the bytes are UTF-8, else an object with their hexadecimal digits: `{"hex":"ff"}`.
-    #[inline(always)]
-    pub fn text(&mut self, text: &[u8]) -> Result<(), AllocError>
-        ensures { Adds result self.old self.new (text_value text.now) }
-    {
-        if is_plain(text) {
-            return self.string_as_it_is(text);
-        }
-        self.other_text(text)
-    }
-
-    // A text that isn't ASCII, or needs an escape.
-    #[inline(never)]
-    fn other_text(&mut self, text: &[u8]) -> Result<(), AllocError>
-        ensures { Adds result self.old self.new (text_value text.now) }
-    {
-        match str::from_utf8(text) {
-            Ok(text) => self.escaped_string(text),
-            Err(_) => self.bytes_in_object(text),
-        }
-    }
-
-    #[cold]
-    fn bytes_in_object(&mut self, bytes: &[u8]) -> Result<(), AllocError>
-        ensures { Adds result self.old self.new (hex_value bytes.now) }
-    {
-        self.begin_object()?;
-        self.key("hex")?;
-        self.bytes(bytes)?;
-        self.end_object()
-    }
-
-    /// Writes a text in a character set: a string of its characters; an object with the hexadecimal digits of all bytes, as
-    /// [`Line::text`] writes it, if they are no text in the set, or the set isn't decoded ([`CharacterSet::decode`]).
-    #[inline]
-    pub fn text_in(&mut self, set: CharacterSet, text: &[u8]) -> Result<(), AllocError>
-        ensures { Adds result self.old self.new (text_value_in set text.now) }
-    {
-        if set.keeps_ascii() && is_plain(text) {
-            return self.string_as_it_is(text);
-        }
-        self.other_text_in(set, text)
-    }
-
-    // A text that isn't ASCII, or needs an escape.
-    #[inline(never)]
-    fn other_text_in(&mut self, set: CharacterSet, text: &[u8]) -> Result<(), AllocError>
-        ensures { Adds result self.old self.new (text_value_in set text.now) }
-    {
-        match set.decode(text) {
-            Some(characters) => self.characters(&characters),
-            None => self.bytes_in_object(text),
-        }
-    }
-
-    /// Writes a text in the character set that is stated, as [`Line::text_in`] does. Where none is stated, or it is
-    /// [`CharacterSet::Binary`], the text is written as by [`Line::text`].
-    #[inline]
-    #[tactic(auto, using(crate::proofs::StatedTexts::other_text))]
-    pub fn text_in_stated(
-        &mut self,
-        set: Option<CharacterSet>,
-        text: &[u8],
-    ) -> Result<(), AllocError>
-        ensures { Adds result self.old self.new (text_value_in_stated set text.now) }
-    {
-        match set {
-            None | Some(CharacterSet::Binary) => self.text(text),
-            Some(set) => self.text_in(set, text),
-        }
-    }
-
-    /// Writes a string of these characters, escaped where needed.
-    pub fn characters(&mut self, characters: &Characters<'_>) -> Result<(), AllocError>
-        ensures added { Adds result self.old self.new (tokens.string (encode_utf8_all characters.now) ∷ []) }
-        ensures unchanged { OnErr result (self.new ≡ self.old) }
-    {
-        match characters.as_str() {
-            Some(text) => self.escaped_string(text),
-            None => self.encoded_characters(characters),
-        }
-    }
-
-    // Through reused memory for the characters as UTF-8.
-    fn encoded_characters(&mut self, characters: &Characters<'_>) -> Result<(), AllocError>
-        ensures added { Adds result self.old self.new (tokens.string (encode_utf8_all characters.now) ∷ []) }
-        ensures unchanged { OnErr result (self.new ≡ self.old) }
-    {
-        let mut text = mem::replace(&mut self.characters, String::new(self.alloc));
-        text.clear();
-        write!(text, "{characters}")?;
-        let written = self.string(text.as_str());
-        self.characters = text;
-        written
-    }
-
-    /// Writes a UUID as a string, in lower case with hyphens.
-    pub fn uuid(&mut self, bytes: [u8; 16]) -> Result<(), AllocError>
-        ensures added { Adds result self.old self.new (uuid_value bytes) }
-        ensures unchanged { OnErr result (self.new ≡ self.old) }
-    {
-        let mut buffer = Uuid::encode_buffer();
-        let text = Uuid::from_bytes(bytes)
-            .hyphenated()
-            .encode_lower(&mut buffer);
-        self.string(text)
-    }
-
-    /// Writes a byte as a number, or `null`.
-    #[inline]
-    pub fn byte_or_null(&mut self, number: Option<u8>) -> Result<(), AllocError>
-        ensures added { Adds result self.old self.new (or_null number_value number) }
-        ensures unchanged { OnErr result (self.new ≡ self.old) }
-    {
-        match number {
-            Some(number) => self.number(u64::from(number)),
-            None => self.null(),
-        }
-    }
-
-    /// Writes four bytes as a string of hexadecimal digits, or `null`.
-    #[inline]
-    pub fn checksum_or_null(&mut self, checksum: Option<[u8; 4]>) -> Result<(), AllocError>
-        ensures added { Adds result self.old self.new (or_null bytes_value checksum) }
-        ensures unchanged { OnErr result (self.new ≡ self.old) }
-    {
-        match checksum {
-            Some(checksum) => self.bytes(&checksum),
-            None => self.null(),
-        }
-    }
-
-    /// Begins an object with a key and the name of its value: `{"key":"Flags2","value":`. The key must need no escape.
-    #[inline(always)]
-    pub fn begin_entry(&mut self, key: &str) -> Result<(), AllocError>
-        requires { IsPlainText key.now }
-        ensures added { Adds result self.old self.new (tokens.begin_object ∷ tokens.key (codes "key") ∷ tokens.string key.now ∷ tokens.key (codes "value") ∷ []) }
-        ensures unchanged { OnErr result (self.new ≡ self.old) }
-    {
-        self.text.add_between(
-            self.after_value,
-            b"{\"key\":\"",
-            key.as_bytes(),
-            b"\",\"value\":",
-        )?;
-        self.after_value = false;
-        Ok(())
-    }
-
-    /// Writes a member of an object with a number. The name must need no escape, as in the members below.
-    #[inline(always)]
-    pub fn number_member(&mut self, name: &str, number: u64) -> Result<(), AllocError>
-        requires { IsPlainText name.now }
-        ensures added { Adds result self.old self.new (member name.now (number_value number)) }
-        ensures unchanged { OnErr result (self.new ≡ self.old) }
-    {
-        self.text
-            .add_named_number(self.after_value, name.as_bytes(), number)?;
-        self.after_value = true;
-        Ok(())
-    }
-
-    /// Writes a member of an object with a text, as [`Line::text`] writes it.
-    #[inline(always)]
-    pub fn text_member(&mut self, name: &str, text: &[u8]) -> Result<(), AllocError>
-        requires { IsPlainText name.now }
-        ensures { Adds result self.old self.new (member name.now (text_value text.now)) }
-    {
-        self.key(name)?;
-        self.text(text)
-    }
-
-    /// Writes a member of an object with bytes as hexadecimal digits.
-    #[inline(always)]
-    pub fn bytes_member(&mut self, name: &str, bytes: &[u8]) -> Result<(), AllocError>
-        requires { IsPlainText name.now }
-        ensures { Adds result self.old self.new (member name.now (bytes_value bytes.now)) }
-    {
-        self.key(name)?;
-        self.bytes(bytes)
-    }
-
-    /// Writes a member of an object with bytes as hexadecimal digits; nothing if there are none.
-    #[inline(always)]
-    pub fn bytes_member_if_any(&mut self, name: &str, bytes: &[u8]) -> Result<(), AllocError>
-        requires { IsPlainText name.now }
-        ensures { Adds result self.old self.new (bytes_member_if_any name.now bytes.now) }
-    {
-        if bytes.is_empty() {
-            return Ok(());
-        }
-        self.rare_bytes_member(name, bytes)
-    }
-
-    // A member that few objects have.
-    #[cold]
-    #[inline(never)]
-    fn rare_bytes_member(&mut self, name: &str, bytes: &[u8]) -> Result<(), AllocError>
-        requires { IsPlainText name.now }
-        ensures { Adds result self.old self.new (member name.now (bytes_value bytes.now)) }
-    {
-        self.bytes_member(name, bytes)
     }
 }

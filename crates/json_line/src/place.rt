@@ -67,6 +67,17 @@ fn place_ends<const N: usize>(memory: &mut [u8], at: usize, bytes: &[u8]) -> usi
     place_front::<N>(memory, at + last, &bytes[last..])
 }
 
+/// Writes the first `len` bytes, at most 32, of as many.
+// All 32 are stored, and those that are wanted are counted.
+#[inline(always)]
+pub(crate) fn place_short(memory: &mut [u8], at: usize, bytes: &[u8], len: usize) -> usize
+    requires { (len ≤ 32) × (32 ≤ length bytes.now) × (at + 32 ≤ length memory.old) }
+    ensures { Placed memory.old memory.new at (take len bytes.now) result }
+{
+    place_front::<32>(memory, at, bytes);
+    at + len
+}
+
 /// Writes 32 or more bytes.
 #[inline(always)]
 fn place_long(memory: &mut [u8], at: usize, bytes: &[u8]) -> usize

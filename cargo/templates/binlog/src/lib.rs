@@ -144,7 +144,7 @@ pub mod undo {
     pub use crate::binlog_transactions::{GtidMark, Mark, Place, Refusal, Role, RowsMark, StatementKind, Transactions, Turn};
     pub use crate::binlog_transactions::Unsupported;
     pub use crate::binlog_undo::{ForeignKeyChecks, InverseEvent, UndoError, UndoneRows, undo_event, undo_rows};
-    pub use crate::binlog_undo_index::{ChangePlace, Reason, Refused, SeenEvent, Skips, TransactionPlace, UndoIndex};
+    pub use crate::binlog_undo_index::{ChangePlace, Positions, Reason, Refused, Rules, SeenEvent, Skips, TransactionPlace, UndoIndex};
     pub use crate::binlog_undo_writing::{EventsWriter, Heading, UndoneChange, WriteError};
 }
 

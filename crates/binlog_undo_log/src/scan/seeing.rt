@@ -6,16 +6,17 @@ ghost use Rattle.binlog_event_format.specs.DescriptionRefs.{description_of};
 ghost use Rattle.binlog_wire.specs.declared.error.Error.TheVariants.{Memory};
 ghost use Rattle.binlog_events.specs.EventRefs.{view_of};
 ghost use Rattle.binlog_file.specs.State.{state_of};
-ghost use Rattle.binlog_undo_log.specs.Looking.{NamesTable, AsksFor, is_old_temporal, IsOldTemporal, LooksAs, LooksAtColumns, LooksAtTable, LooksAtChosen, LooksAtRows};
+ghost use Rattle.binlog_undo_log.specs.Looking.{NamesTable, AsksFor, is_old_temporal, IsOldTemporal, IsUnknownTemporal, LooksAs, LooksAtColumns, LooksAtTable, LooksAtChosen, LooksAtRows};
 
+use crate::events::is_maria_event;
 use crate::heads::{has_rows_length, is_writable};
+use crate::primary_key::undo_by_key;
 use crate::scan::UndoScan;
 use binlog_columns::TableColumns;
 use binlog_event_format::DescriptionRef;
 use binlog_file::{Error, EventRef, EventStreamReader, RowsEventData, TableMapEvent};
 use binlog_filters::TableFilter;
-use binlog_mariadb::is_maria_log;
-use binlog_undo::{InverseEvent, UndoError, undo_event};
+use binlog_undo::{InverseEvent, UndoError};
 use binlog_undo_index::{ChangePlace, Reason};
 
 /// What is seen of a row event.
@@ -27,6 +28,8 @@ pub(crate) enum RowsLook {
     Undone(ChangePlace),
     /// It can't be undone.
     Refused(Reason),
+    /// It can't be read.
+    Damaged,
 }
 
 // Whether one of these types is TIMESTAMP, TIME or DATETIME without a statement of its fractions.
@@ -47,7 +50,17 @@ fn has_old_temporal(types: &[u8]) -> bool
 fn is_old_temporal(event: &EventRef<'_>, types: &[u8]) -> bool
     ensures { IsOldTemporal (view_of event.now) types.now result }
 {
-    is_maria_log(&event.fde()) && has_old_temporal(types)
+    is_maria_event(event) && has_old_temporal(types)
+}
+
+// Whether it isn't known which form values of these types have. `is_plain` says that they have no fractions.
+fn is_unknown_temporal(is_plain: bool, event: &EventRef<'_>, types: &[u8]) -> bool
+    ensures { IsUnknownTemporal is_plain (view_of event.now) types.now result }
+{
+    if is_plain {
+        return false;
+    }
+    is_old_temporal(event, types)
 }
 
 // What is seen of rows at these places, of which this undoes them.
@@ -105,22 +118,24 @@ impl UndoScan {
         Ok(is_within && !is_without)
     }
 
-    // What is seen of rows of a table with these columns, whose map is at this place.
+    // What is seen of rows of a table with this map and these columns; the map is at this place.
     fn look_at_columns(
         &self,
         event: &EventRef<'_>,
         rows: &RowsEventData<'_>,
+        map: &TableMapEvent<'_>,
         columns: TableColumns<'_>,
         table_map: u64,
     ) -> Result<RowsLook, Error>
-        ensures ok { IfOk result (LooksAtColumns self.now (view_of event.now) rows.now (columns_of columns.entry) table_map) }
+        ensures ok { IfOk result (LooksAtColumns self.now (view_of event.now) rows.now map.now (columns_of columns.entry) table_map) }
         ensures memory { IfErr result (λ e. e ≡ Memory) }
     {
         let place = ChangePlace {
             table_map,
             rows: self.place,
         };
-        let undone = undo_event(self.alloc, rows, columns, &[], self.checks);
+        let is_maria_log = is_maria_event(event);
+        let undone = undo_by_key(self.alloc, map, rows, columns, is_maria_log, self.checks);
         let look = look_of(event.fde(), &undone, place);
         drop(undone);
         look
@@ -141,10 +156,10 @@ impl UndoScan {
         match TableColumns::new(types, map.columns_metadata_raw()) {
             Err(_) => Ok(RowsLook::Refused(Reason::Rows)),
             Ok(columns) => {
-                if is_old_temporal(event, types) {
+                if is_unknown_temporal(self.choice.has_plain_temporal, event, types) {
                     Ok(RowsLook::Refused(Reason::OldTemporal))
                 } else {
-                    self.look_at_columns(event, rows, columns, table_map)
+                    self.look_at_columns(event, rows, map, columns, table_map)
                 }
             }
         }

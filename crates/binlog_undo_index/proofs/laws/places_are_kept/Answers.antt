@@ -4,6 +4,6 @@ use Rattle.binlog_undo_index.proofs.laws.places_are_kept.Goals as goal
 
 pub returns : goal.returns
 returns c = record {
-  kept = λ skips events. kept_from_first skips events;
+  kept = λ rules events. kept_from_first rules events;
   turns = λ events. turns_are_told None events;
 }

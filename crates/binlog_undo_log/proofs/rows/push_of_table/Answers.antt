@@ -4,5 +4,5 @@ use Rattle.binlog_undo_log.proofs.rows.push_of_table.Goals as goal
 
 pub returns : goal.returns
 returns c =
-    mapped_if c.push_read_rows-answer.result c.args.checks (view_of c.args.map_event.now) c.args.map.now (view_of c.args.event.now) c.read_data-read.result c.args.writer.now
-    c.push_read_rows-answer.new.writer c.read_data-read.ensures c.push_read_rows-answer.ensures
+    mapped_if c.push_read_rows-answer.result c.args.checks (view_of c.args.map_event.now) c.args.map.now (view_of c.args.event.now) c.read_log_data-read.result c.args.writer.now
+    c.push_read_rows-answer.new.writer c.read_log_data-read.ensures c.push_read_rows-answer.ensures

@@ -14,7 +14,7 @@ returns c =
     let map_header : BinlogEventHeader = header_of (view_of c.args.map_event.now).frame in
     let map_body : List ℕ = data_of (view_of c.args.map_event.now).fde.footer (view_of c.args.map_event.now).frame in (
       undone_events (view_of c.args.map_event.now) (view_of c.args.event.now) inverse,
-      record { inverse = inverse; undoes = c.in_ok-inverse.ensures; are = refl },
+      record { is_maria_log = c.is_maria_event.result; maria = c.is_maria_event.ensures; inverse = inverse; undoes = c.in_ok-inverse.ensures; are = refl },
       subst (λ (h : BinlogEventHeader). AreWritten (undone_parts map_header map_body h inverse) c.args.writer.now c.push_change.new.self) c.header-2.ensures
           (subst (λ (s : List ℕ). AreWritten (undone_parts map_header s c.header-2.result inverse) c.args.writer.now c.push_change.new.self) c.data.ensures
           (subst (λ (h : BinlogEventHeader). AreWritten (undone_parts h c.data.result.now c.header-2.result inverse) c.args.writer.now c.push_change.new.self) c.header.ensures

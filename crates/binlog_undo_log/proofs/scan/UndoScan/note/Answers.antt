@@ -6,12 +6,11 @@ use Rattle.binlog_undo_log.proofs.scan.UndoScan.note.Goals as goal
 pub returns-clause-ok : goal.returns-clause-ok
 returns-clause-ok c =
     let between : UndoScan = c.describe_if.new.self in
-    let place = c.saturating_add-self.ensures ∙ ap (λ (f : List ℕ). min (between.place + length f) 18446744073709551615) c.frame.ensures.value in
     record {
       told = c.note.new.self;
       notes = record { parts = c.in_ok-note.ensures.parts; automaton = c.in_ok-note.ensures.automaton };
       between = between;
       describes = subst (λ (is : Bool). DescribesIf is c.args.index (record c.args.self.now { index = c.note.new.self }) between) c.is_description.ensures c.in_ok-describe_if.ensures.ok;
-      is = ap (λ (p : ℕ). let s : UndoScan = record between { place = p; items = c.saturating_add-self-2.result } in s) place
-          ∙ ap (λ (i : ℕ). let s : UndoScan = record between { place = min (between.place + length c.args.event.now.frame.now) 18446744073709551615; items = i } in s) c.saturating_add-self-2.ensures;
+      is = ap (λ (p : ℕ). let s : UndoScan = record between { place = p; items = c.saturating_add-self.result } in s) c.place_behind-self.ensures
+          ∙ ap (λ (i : ℕ). let s : UndoScan = record between { place = min (between.place + length c.args.event.now.frame.now) 18446744073709551615; items = i } in s) c.saturating_add-self.ensures;
     }
