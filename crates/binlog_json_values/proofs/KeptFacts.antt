@@ -13,11 +13,11 @@ use Rattle.binlog_json_values.specs.Kept.{AreNamed}
 use Rattle.binlog_json_values.specs.Keys.{IsPrinted, ArePrinted}
 use Rattle.binlog_json_values.specs.Parts.{Part, exactly, Shows}
 use Rattle.binlog_json_values.specs.Rows.{column_name, first_document, first_parts, members_from, image_parts, image_member, before_or_none, row_parts, item_parts, rows_parts}
-use Rattle.binlog_json_values.specs.Written.{ShowsRows}
+use Rattle.binlog_json_values.specs.Written.{ShowsRows, ShowsKeptRows}
 
 -- ---- names
 
-column_of : (found : Option ColumnFacts) (facts : Facts) → option_map facts_of found ≡ Some facts → (column : ColumnFacts) × (found ≡ Some column) × (facts_of column ≡ facts)
+pub column_of : (found : Option ColumnFacts) (facts : Facts) → option_map facts_of found ≡ Some facts → (column : ColumnFacts) × (found ≡ Some column) × (facts_of column ≡ facts)
 column_of None facts is = absurd cc
 column_of (Some column) facts is = (column, refl, cc)
 
@@ -75,3 +75,9 @@ pub shown_by_facts : {E : Type 0} (result : Result Bool E) (a b : List ColumnFac
 shown_by_facts (Ok all_read) a b rows old new same shows =
     record { items = shows.items; are = shows.are; read = shows.read; shown = subst (Shows old new) (rows_same a b shows.items same) shows.shown }
 shown_by_facts (Err e) a b rows old new same shows = shows
+
+-- They are rows of columns with the facts that are kept.
+pub shown_by_kept : {E : Type 0} (result : Result Bool E) (columns : List ColumnFacts) (kept : List Facts) (rows : Rows) (old new : List Token) → map facts_of columns ≡ kept
+    → IfOk result (λ all_read. ShowsRows columns rows all_read old new) → IfOk result (λ all_read. ShowsKeptRows kept rows all_read old new)
+shown_by_kept (Ok all_read) columns kept rows old new same shows = record { columns = columns; are = same; shown = shows }
+shown_by_kept (Err e) columns kept rows old new same shows = shows

@@ -20,7 +20,7 @@ ghost use Rattle.binlog_json_values.specs.Documents.{diff_list_parts};
 ghost use Rattle.binlog_json_values.specs.Values.{value_parts};
 ghost use Rattle.binlog_json_values.specs.Parts.{Writes, exactly};
 ghost use Rattle.binlog_json_values.specs.Rows.{column_name, cell_parts, first_parts, image_parts, image_member, before_or_none, row_parts};
-ghost use Rattle.binlog_json_values.specs.Written.{HasImages, ShowsRows};
+ghost use Rattle.binlog_json_values.specs.Written.{HasImages, ShowsRows, ShowsKeptRows};
 
 use crate::before::next_document;
 use crate::kept_columns::KeptColumns;
@@ -215,7 +215,8 @@ impl ValueWriter {
         rows: Rows<'_>,
     ) -> Result<bool, AllocError>
         requires { HasImages images.before images.after rows }
-        ensures { (facts : List ColumnFacts) → kept_facts columns.now ≡ map facts_of facts → IsBytes rows.entry.rest.now → IfOk result (λ all_read. ShowsRows facts rows.entry all_read line.old line.new) }
+        ensures by_any_facts { (facts : List ColumnFacts) → kept_facts columns.now ≡ map facts_of facts → IsBytes rows.entry.rest.now → IfOk result (λ all_read. ShowsRows facts rows.entry all_read line.old line.new) }
+        ensures by_facts { IsBytes rows.entry.rest.now → IfOk result (λ all_read. ShowsKeptRows (kept_facts columns.now) rows.entry all_read line.old line.new) }
     {
         let facts = self.facts(columns)?;
         self.write_named_rows(line, &facts, &columns.keys.lines, images, rows)

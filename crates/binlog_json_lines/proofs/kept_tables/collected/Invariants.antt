@@ -1,5 +1,5 @@
 use Rattle.std.proofs.Common.{◌≡◌}
-use Rattle.binlog_json_lines.proofs.row_members.collected.Given as goal
+use Rattle.binlog_json_lines.proofs.kept_tables.collected.Given as goal
 
 -- The columns so far.
 abbrev pub invariant-columns : goal.invariant-columns
