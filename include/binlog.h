@@ -10,8 +10,8 @@
  *                    items[i].position, items[i].event_type, items[i].data_size);
  *
  * C11 and C++. No function keeps anything between calls, or reads anything but what it is passed, so calls in different
- * threads are independent of each other. Those that write lines of JSON or read files of columns alone allocate memory, by malloc
- * and realloc, and free it before they return.
+ * threads are independent of each other. Those that write lines of JSON, read files of columns or decompress payloads alone allocate
+ * memory, by malloc and realloc, and free it before they return.
  *
  * The library is proved to be defined for all contents of the log, the cursor, the items and the buffers. The caller has
  * to ensure: each pointer and its length are memory of that length; it doesn't change during the call; the log, the columns, the
@@ -38,12 +38,27 @@ enum {
     BINLOG_TOO_SHORT_FOR_CHECKSUM = 4, /* an item: its event has fewer bytes after its header than the checksum has */
     BINLOG_END_OF_BODY = 5,            /* an item: a description, a rotate or a table map that ends within a field */
     BINLOG_INVALID_DATA = 6,           /* an item: one of these with a value that isn't allowed */
-    BINLOG_MEMORY = 12,                /* lines of JSON, files of columns: there is no memory for a line, or for the tables */
+    BINLOG_MEMORY = 12,                /* lines of JSON, files of columns, payloads: there is no memory for a line, or for the tables */
     BINLOG_CHECKSUM_MISMATCH = 17,     /* an item of binlog_next_verified: its checksum isn't that of its bytes */
     BINLOG_INVALID_CURSOR = 100,       /* binlog_next, binlog_next_verified: the cursor isn't a place of this log */
-    BINLOG_INVALID_ITEM = 101,         /* lines of JSON: the item isn't one of this log */
+    BINLOG_INVALID_ITEM = 101,         /* lines of JSON, payloads: the item isn't one of this log */
     BINLOG_INVALID_TABLE_MAP = 102,    /* lines of JSON, binlog_columns_contradiction: a table map isn't one of this log */
-    BINLOG_INVALID_COLUMNS = 103       /* files of columns: the text isn't that of one */
+    BINLOG_INVALID_COLUMNS = 103,      /* files of columns: the text isn't that of one */
+    /* The next ones are those of binlog_payload_log. */
+    BINLOG_NO_PAYLOAD = 104,           /* the item isn't a compressed transaction */
+    BINLOG_EVENT_TRUNCATED = 105,      /* its data end within a field */
+    BINLOG_LENENC = 106,               /* a number of its data has no length */
+    BINLOG_FIELD_TWICE = 107,          /* a field of its data is given twice */
+    BINLOG_FIELD_LENGTH = 108,         /* a field of its data has a wrong length */
+    BINLOG_KIND = 109,                 /* the compression type isn't known */
+    BINLOG_NO_FIELD = 110,             /* its data have no payload size, or no compression type */
+    BINLOG_PAYLOAD_SIZE = 111,         /* the payload hasn't the size that is stated */
+    BINLOG_LIMIT = 112,                /* the content is longer than 1 GiB */
+    BINLOG_UNCOMPRESSED_SIZE = 113,    /* the content hasn't the size that is stated */
+    BINLOG_ZSTD = 114,                 /* the payload can't be decompressed */
+    BINLOG_INNER_TRUNCATED = 115,      /* the content ends within an event */
+    BINLOG_INNER_SIZE = 116,           /* an event of the content states a size below 19 */
+    BINLOG_TYPE = 117                  /* the content has a description, or another compressed transaction */
 };
 
 /* A place in a log: three numbers, without padding. It can be copied, stored and sent, and used with the same log, or
@@ -174,6 +189,32 @@ size_t binlog_json(const uint8_t *log, size_t size, const binlog_item *item, con
 size_t binlog_json_lines(const uint8_t *log, size_t size, const binlog_item *items, size_t count,
                          const binlog_item *table_maps, size_t map_count, uint64_t index, char *text, size_t room,
                          size_t *lines, uint8_t *error);
+
+/* ---- compressed transactions
+ *
+ * With binlog_transaction_compression=ON a server writes a transaction as one event of type 40, whose payload has the transaction's
+ * events, compressed. They are seen as a log of their own. */
+
+/* Writes the events inside a compressed transaction as a log, if there is room for all of it, and returns its length; otherwise nothing
+ * is written, and a call with as much room writes it. The log is the file header, the format description in force for the item, with
+ * the checksum algorithm 0 (OFF), and the events as they are in the payload. All calls take it as any other log: binlog_open,
+ * binlog_next for its items, the first of which is the description, and binlog_json for their lines. Their table maps, and those
+ * outside, don't concern each other. In a log without a description there is none in this one.
+ *
+ * The item is one that binlog_next or binlog_next_verified gave for this log, or for this log before it grew at its end. The error is 0,
+ * or the first of these; nothing is written then, and 0 is returned:
+ *
+ * BINLOG_INVALID_ITEM: as binlog_json has it.
+ * BINLOG_NO_PAYLOAD: the item has an error, or another type than 40.
+ * BINLOG_EVENT_TRUNCATED to BINLOG_PAYLOAD_SIZE: the data aren't those of a compressed transaction.
+ * BINLOG_LIMIT, BINLOG_UNCOMPRESSED_SIZE, BINLOG_ZSTD: the payload has no content of at most 2^30 bytes and of the size that is stated.
+ * BINLOG_INNER_TRUNCATED, BINLOG_INNER_SIZE, BINLOG_TYPE: the content isn't whole events that a content may hold.
+ * BINLOG_MEMORY: an allocation failed. The content is in memory of the call's own, too.
+ *
+ *     size_t length = binlog_payload_log(log, size, &items[i], NULL, 0, &error);
+ *     if (error == BINLOG_OK && (inner = malloc(length)) != NULL)
+ *         binlog_payload_log(log, size, &items[i], inner, length, &error); */
+size_t binlog_payload_log(const uint8_t *log, size_t size, const binlog_item *item, uint8_t *inner, size_t room, uint8_t *error);
 
 /* ---- files of columns
  *

@@ -10,7 +10,9 @@ the checksums by itself, bit by bit. A third program calls the library with 10,0
 make over each of some logs. A C program and a C++ one print the lines of JSON of all these logs: they have to be those of the
 built `binlog json`; another C program asks for those of 10,000 items that it changed over each of some logs, and one refuses
 each of their allocations in turn. A C program prints the lines of random logs with files of columns, and which columns contradict
-these: they have to be those of a model of both, and the faults of files that can't be read those that are worked by hand. Then the tests of the Python package run over the shared library, which is made of the static one. At last what bin/install and bin/package
+these: they have to be those of a model of both, and the faults of files that can't be read those that are worked by hand. Another one
+prints the lines of the events inside compressed transactions, or why they are refused, as the built `binlog json` does, with each
+allocation refused in turn. Then the tests of the Python package run over the shared library, which is made of the static one. At last what bin/install and bin/package
 make of the library: a C program is built against each by pkg-config and lists the sample, and Python lists it by the package
 that is installed. Without pkg-config the flags are written out; without dpkg-deb there is no package; a line says so.
 
@@ -22,6 +24,7 @@ last line is `N passed, M failed`; the exit status is 1 if something failed.
 """
 
 import os
+import random
 import re
 import shutil
 import struct
@@ -33,6 +36,7 @@ from pathlib import Path
 
 import declared_columns
 import encoded_logs
+import payload_lines
 import programs
 import prover
 import results
@@ -53,6 +57,10 @@ SANITIZERS = ["-fsanitize=address,undefined", "-fno-sanitize-recover=all"]
 DAMAGED_CURSORS = 10_000
 DAMAGED_ITEMS = 10_000
 COLUMNS = 400
+PAYLOADS = 400
+# The numbers of errors of payloads, by the names that `binlog json` has for them; `Event` is the number of the event's error.
+PAYLOAD_ERRORS = ["EventTruncated", "Lenenc", "FieldTwice", "FieldLength", "Kind", "NoField", "PayloadSize", "Limit", "UncompressedSize"]
+PAYLOAD_ERRORS = {name: 105 + place for place, name in enumerate([*PAYLOAD_ERRORS, "Zstd", "InnerTruncated", "InnerSize", "Type"])}
 # The kinds of faults of a file of columns, by the messages of the program.
 FAULTS = {
     "no line with the names of the six columns": (1, "no line with the names of the six columns"),
@@ -184,6 +192,7 @@ def json_failures(folder, names, contents, flags, statuses):
         if shutil.which("c++"):
             found = listings(build(folder, "json_cpp", "json.cpp"), contents)
             yield from listing_failures("C++, JSON", found, names, wanted)
+        yield from payload_failures(folder, flags)
     else:
         print("no program binlog: no line of JSON is compared")
     found = listings(checked, contents, "verified")
@@ -212,6 +221,43 @@ def columns_failures(folder, flags):
         wanted = f"fault {line} {column} {FAULTS[fault][0]} {FAULTS[fault][1]}\n"
         yield None if output.decode() == wanted else f"C, columns, {text!r}: {output.decode()}, not {wanted}"
     yield None if found else "C, columns: a file with a fault"
+
+
+def payload_logs():
+    """Logs with compressed transactions: one for each refusal, and random ones."""
+    outside = payload_lines.XID
+    for body, _ in payload_lines.refused():
+        yield payload_lines.log_of([outside, (payload_lines.PAYLOAD, body), outside])
+    chance = random.Random(40)
+    yield from (payload_lines.random_log(chance) for _ in range(PAYLOADS))
+
+
+def wanted_payloads(content):
+    """What tests/c/payloads.c prints of a log: the lines of the events inside by `binlog json`, or the refusal alone."""
+    lines = {}
+    for line in programs.run(JSON, content)[0].splitlines(keepends=True):
+        if found := re.fullmatch(rb'{"index":(\d+),"part":(\d+),(.*)\n', line):
+            index, number, rest = found.groups()
+            refusal = re.match(rb'"error":"(\w+)"(?:,"number":(\d+))?', rest)
+            parts = lines.setdefault(index, [])
+            if refusal is None:
+                parts.append(b'%s {"index":%s,%s\n' % (index, number, rest))
+            elif refusal[1] == b"Event":
+                parts.append(b'%s {"index":%s,"error":%s}\n' % (index, number, refusal[2]))
+            else:
+                lines[index] = [b"%s refused %d %s\n" % (index, PAYLOAD_ERRORS[refusal[1].decode()], refusal[1])]
+    return b"".join(part for parts in lines.values() for part in parts)
+
+
+def payload_failures(folder, flags):
+    """For each log, None or what is wrong with the events inside its compressed transactions."""
+    program = build(folder, "payloads", "payloads.c", [*flags, "-Wl,--wrap=malloc,--wrap=realloc"])
+    logs = list(payload_logs())
+    names = [f"log {number}" for number in range(len(logs))]
+    with ThreadPoolExecutor(PROCESSES_AT_A_TIME) as pool:
+        wanted = [(lines, 0) for lines in pool.map(wanted_payloads, logs)]
+    yield from listing_failures("C, payloads", listings(program, logs), names, wanted)
+    yield from listing_failures("C, payloads, refused memory", listings(program, logs[:40], "memory"), names, wanted[:40])
 
 
 def split_contradictions(output):

@@ -75,6 +75,7 @@ def _load() -> ctypes.CDLL:
         "json_lines": (size, [*log, *items, *items, index, *text, count, error]),
         "json_with_columns": (size, [*log, item, *items, *columns, index, *text, error]),
         "json_lines_with_columns": (size, [*log, *items, *items, *columns, index, *text, count, error]),
+        "payload_log": (size, [*log, item, *text, error]),
         "columns_check": (byte, [*columns, fault]),
         "columns_contradiction": (size, [*log, item, *columns, error]),
         "columns_fault_text": (size, [ctypes.c_uint64, *name]),

@@ -22,6 +22,8 @@ _BATCH = 512
 
 # How many bytes a line has room for at first.
 _LINE = 4096
+# And the events inside a compressed transaction.
+_PAYLOAD = 1 << 16
 
 # How many bytes the lines of a call have room for.
 _LINES = 1 << 18
@@ -248,6 +250,17 @@ class Event(_Item, Content):
             self._members = json.loads(self.line())
         return self._members.get(name)
 
+    def payload_log(self) -> Optional["Log"]:
+        """The events inside a compressed transaction as a log of their own, which the library decompresses; None where this is no event
+        with a payload. Its first item is the description in force for this event, if there is one. Its files of columns are those
+        of this log.
+
+        Raises LogError where the payload is refused, or isn't whole events: its number is one of 105 to 117.
+        """
+        if self.event_type != EventType.TRANSACTION_PAYLOAD_EVENT:
+            return None
+        return self._log._inside(self._fields)
+
     def payload_events(self, program: Optional[Union[str, "os.PathLike[str]"]] = None) -> Iterator[PayloadEvent]:
         """The events inside a compressed transaction, in order; none where this is no event with a payload. Their rows are those of the
         table maps inside, and of the log's files of columns.
@@ -352,6 +365,21 @@ class Log:
             if error.value:
                 raise LogError(error.value, fields[0])
         return ctypes.string_at(text, size)
+
+    def _inside(self, fields: tuple) -> "Log":
+        """The log of the events inside a compressed transaction."""
+        item, error = ITEM.pack(*fields), ctypes.c_uint8()
+        room, size = 0, _PAYLOAD
+        while room < size:
+            room = size
+            content = ctypes.create_string_buffer(room)
+            size = LIBRARY.binlog_payload_log(self._at, self._size, item, content, room, error)
+            if error.value:
+                raise LogError(error.value, fields[0])
+        inside = Log(ctypes.string_at(content, size))
+        if self._columns is not None:
+            inside._columns = _TableColumns(inside, self._columns._declared)
+        return inside
 
     def _alone(self, event: Event) -> bytes:
         """A log of an event alone, behind the description under which it stands."""

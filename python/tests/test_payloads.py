@@ -66,11 +66,40 @@ class Payloads(unittest.TestCase):
                 self.assertEqual([event.part for event in inside], list(range(len(INSIDE))))
                 self.assertEqual({event.position for event in inside}, {events[2].position})
 
+    def test_the_log_of_the_events_inside(self):
+        outside = [seen(event) for event in binlog.Log(payload_lines.log_of(INSIDE))][1:]
+        for has_checksums in (False, True):
+            content = payload_lines.log_of([XID, payload(INSIDE), XID, payload(INSIDE[:1])], has_checksums)
+            logs = [event.payload_log() for event in binlog.Log(content)]
+            with self.subTest(has_checksums):
+                self.assertEqual([log is None for log in logs], [True, True, False, True, False])
+                self.assertEqual([seen(event) for event in logs[2]][1:], outside)
+                self.assertEqual([event.event_type for event in logs[4]], [15, INSIDE[0][0]])
+                self.assertEqual((logs[2].rest, logs[4].rest), (0, 0))
+
+    def test_a_long_payload(self):
+        events = INSIDE * 2_000
+        *_, event = binlog.Log(payload_lines.log_of([payload(events)]))
+        self.assertEqual([inside.event_type for inside in event.payload_log()][1:], [kind for kind, _ in events])
+
+    def test_payloads_without_a_log(self):
+        for body, errors in payload_lines.refused():
+            *_, event = binlog.Log(payload_lines.log_of([(PAYLOAD, body)]))
+            refusals = [error for error in errors if error not in (None, "Event")]
+            with self.subTest(errors):
+                if not refusals:
+                    self.assertEqual(sum(1 for _ in event.payload_log().items()), 1 + len(errors))
+                    continue
+                with self.assertRaises(binlog.LogError) as raised:
+                    event.payload_log()
+                self.assertEqual((raised.exception.name, raised.exception.position), (refusals[0], event.position))
+
     def test_a_log_without_a_description(self):
         content = payload_lines.log_of([payload(INSIDE)])
         begin = content.index(bytes([PAYLOAD]), 100) - 4
         (event,) = binlog.Log(content[:4] + content[begin:])
         self.assertEqual([inside.event_type for inside in self.inside(event)], [kind for kind, _ in INSIDE])
+        self.assertEqual([inside.event_type for inside in event.payload_log()], [kind for kind, _ in INSIDE])
 
     def test_refusals(self):
         for body, errors in payload_lines.refused():
@@ -95,6 +124,9 @@ class Payloads(unittest.TestCase):
         *_, event = binlog.Log(content, columns=io.BytesIO(test_columns.FILE))
         self.assertEqual([inside.event_type for inside in self.inside(event)], [19, 30])
         self.assertEqual(self.columns.read_bytes(), test_columns.FILE)
+        (outside,) = (event.rows for event in binlog.Log(payload_lines.log_of([test_columns.TABLE, test_columns.ROW]), columns=io.BytesIO(test_columns.FILE)) if event.event_type == 30)
+        *_, row = event.payload_log()
+        self.assertEqual(row.rows, outside)
 
     def test_the_program(self):
         *_, event = binlog.Log(payload_lines.log_of([payload(INSIDE)]))

@@ -5,5 +5,3 @@ pub mod Kept
 pub mod MariaNames
 pub mod Answered
 pub mod PartOutput
-pub mod KeptTables
-pub mod Images

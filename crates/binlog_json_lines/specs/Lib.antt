@@ -3,9 +3,6 @@ pub mod RowEvents
 pub mod Refusals
 pub mod Options
 pub mod RowMembers
-pub mod Stated
-pub mod KeptTables
-pub mod KeptRows
 pub mod Lines
 pub mod Output
 pub mod Contradicted

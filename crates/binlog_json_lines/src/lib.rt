@@ -7,7 +7,6 @@
 #![tactic(auto)]
 
 mod event_members;
-mod kept_tables;
 pub mod laws;
 mod lines;
 mod options;

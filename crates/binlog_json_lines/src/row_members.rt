@@ -11,14 +11,11 @@ ghost use Rattle.binlog_columns.specs.Columns.{typed_of};
 ghost use Rattle.binlog_columns.specs.Refusals.{refusal};
 ghost use Rattle.binlog_columns.specs.TableColumns.{columns_of};
 ghost use Rattle.binlog_images.specs.Events.{mapped_columns};
-ghost use Rattle.binlog_json_values.specs.Written.{HasImages};
-ghost use Rattle.binlog_rows.specs.declared.table_map_event.TableMapEvent.{TableMapEvent};
 ghost use Rattle.binlog_json_lines.specs.RowMembers.{name_of, nothing_shown, unmapped_members, rows_error, map_for, ShowsStatedRows, AreRowsMembers, AreEventMembers, AreBodyMembers, AreMembers};
 ghost use Rattle.binlog_json_lines.specs.Refusals.{metadata_member, refusal_value};
 ghost use Rattle.binlog_json_lines.specs.RowEvents.{rows_in};
 ghost use Rattle.binlog_json_bodies.specs.Shown.{ShowsBy};
 
-use crate::kept_tables::{KeptTable, KeptTables, collected};
 use crate::refusals::{write_metadata_refusal, write_refusal};
 use crate::row_events::is_row_event;
 use binlog_columns::{Column, TableColumns};
@@ -26,7 +23,7 @@ use binlog_declared_columns::table_facts;
 use binlog_event_data::EventData;
 use binlog_events::EventRef;
 use binlog_images::{Rows, RowsEventError, RowsEventExt};
-use binlog_json_values::{RowImages, ValueWriter};
+use binlog_json_values::ValueWriter;
 use binlog_mariadb::is_maria_log;
 use binlog_optional_metadata::{OptionalMetadataError, TableMapColumns};
 use binlog_rows::{RowsEventData, TableMapEvent};
@@ -60,7 +57,6 @@ impl ShownRows {
 pub struct RowsWriter {
     values: ValueWriter,
     name: Vec<u8>,
-    tables: KeptTables,
 }
 
 // Writes the members of an event without a table map in force.
@@ -116,23 +112,30 @@ fn write_refused(line: &mut Line, error: &RowsEventError) -> Result<ShownRows, A
     Ok(ShownRows::nothing())
 }
 
-impl RowsWriter {
-    ghost use Rattle.binlog_json_lines.specs.KeptTables.{IsOf};
-    ghost use Rattle.binlog_json_lines.specs.KeptRows.{ShowsKept};
+// The columns, in memory, where each row is read by them.
+fn collected(alloc: Global, columns: TableColumns<'_>) -> Result<Vec<Column>, AllocError>
+    ensures { IfOk result (λ kept. map typed_of kept.items ≡ columns_of columns.entry) }
+{
+    let mut kept = Vec::with_capacity(alloc, columns.num_columns())?;
+    'columns: for column in columns {
+        kept.push(column).map_err(AllocError::from)?;
+    }
+    Ok(kept)
+}
 
+impl RowsWriter {
     /// A writer. Nothing is allocated.
     pub fn new(alloc: Global) -> Self {
         RowsWriter {
             values: ValueWriter::new(alloc),
             name: Vec::new(alloc),
-            tables: KeptTables::new(alloc),
         }
     }
 
     /// Writes the members `table` and `rows` of a row event, and between them `metadata` where a field of the table map's
     /// optional metadata is refused; nothing for an event of another type, or one whose data isn't that of a row event. The
     /// table map is the one in force for the event's table id; one of another table id counts as none. The memory that is
-    /// taken is that of a value's text, and of columns and their facts, which are kept for at most 16 tables.
+    /// taken is that of a value's text, and of the table's columns and their facts.
     ///
     /// What the table map doesn't state of columns is what these files declare of them, unless the table contradicts that. The result
     /// says whether `rows` has all rows of the event, and which column contradicts the files.
@@ -244,9 +247,6 @@ impl RowsWriter {
         if table_id != table_map.table_id() {
             return write_refused(line, &RowsEventError::NoTableMap(table_id));
         }
-        if files.is_empty() {
-            return self.write_stated_rows(line, alloc, body, table_map, is_maria_log);
-        }
         match table_map.table_columns() {
             Ok(columns) => {
                 let columns = collected(alloc, columns)?;
@@ -254,73 +254,6 @@ impl RowsWriter {
             }
             Err(error) => write_refused(line, &RowsEventError::Columns(error)),
         }
-    }
-
-    // Writes the same, of an event of the table of this table map, where no file declares columns: what the table map states is kept
-    // for the table's next event.
-    fn write_stated_rows(
-        &mut self,
-        line: &mut Line,
-        alloc: Global,
-        body: &RowsEventData<'_>,
-        table_map: &TableMapEvent<'_>,
-        is_maria_log: bool,
-    ) -> Result<ShownRows, AllocError>
-        requires { (event_in body.now).head.table_id ≡ table_map.now.table.id }
-        ensures { ShowsBy result line.old line.new (AreRowsMembers [] is_maria_log body.now table_map.now (rows_error table_map.now body.now)) }
-    {
-        match self.tables.take(alloc, table_map, is_maria_log)? {
-            Ok(table) => {
-                let written = self.write_kept_table(line, body, &table)?;
-                self.tables.put(body.table_id(), table)?;
-                Ok(written)
-            }
-            Err(error) => write_refused(line, &RowsEventError::Columns(error)),
-        }
-    }
-
-    // Writes the same, of an event of a table that is kept.
-    fn write_kept_table(
-        &mut self,
-        line: &mut Line,
-        body: &RowsEventData<'_>,
-        table: &KeptTable,
-    ) -> Result<ShownRows, AllocError>
-        ensures { (is_maria_log : Bool) (of : TableMapEvent) → IsOf table.now is_maria_log of → (event_in body.now).head.table_id ≡ of.table.id
-            → ShowsBy result line.old line.new (AreRowsMembers [] is_maria_log body.now of (rows_error of body.now)) }
-    {
-        are_bytes(body.rows_data());
-        are_bytes(table.optional_metadata_raw());
-        let images = RowImages {
-            before: body.columns_before_image().is_some(),
-            after: body.columns_after_image().is_some(),
-        };
-        match body.rows_of_table(TableColumns::known(&table.columns)) {
-            Ok(rows) => self.write_kept_rows(line, images, rows, table),
-            Err(error) => write_refused(line, &error),
-        }
-    }
-
-    // Writes what is refused of the metadata of a table that is kept, and the rows into which the bytes of an event split.
-    fn write_kept_rows(
-        &mut self,
-        line: &mut Line,
-        images: RowImages,
-        rows: Rows<'_>,
-        table: &KeptTable,
-    ) -> Result<ShownRows, AllocError>
-        requires { HasImages images.before images.after rows }
-        ensures { IsBytes rows.entry.rest.now → IfOk result (λ shown. (shown.contradiction ≡ None) × ShowsKept table.now rows.entry shown.all_read line.old line.new) }
-    {
-        write_metadata(line, &table.refused)?;
-        line.key("rows")?;
-        let all_read = self
-            .values
-            .write_kept_rows(line, &table.known, images, rows)?;
-        Ok(ShownRows {
-            all_read,
-            contradiction: None,
-        })
     }
 
     // Writes the same, of an event of the table of this table map, which has these columns.

@@ -7,6 +7,7 @@ use Rattle.binlog_cli.specs.declared.exit_status.Status.{Status}
 use Rattle.binlog_cli.specs.declared.exit_status.Status.TheVariants.{Fine, NotOpened, Damaged, Failed, Usage}
 use Rattle.binlog_undo_command.specs.LogPlaces.{place_at}
 use Rattle.binlog_undo_command.specs.Scanned.{AreUndoneFrom, HasRefusedFrom, IsRefused, IsUndone}
+use Rattle.binlog_undo_command.specs.declared.log_place.LogPlace.{LogPlace}
 use Rattle.binlog_undo_command.specs.declared.scanning.ScannedLog.{ScannedLog}
 use Rattle.binlog_undo_log.specs.Files.{ScansWhole}
 use Rattle.binlog_undo_log.specs.declared.scan.UndoScan.{UndoScan}
@@ -77,12 +78,13 @@ module _ (bytes : List ℕ → Option (List ℕ)) (found : Found) where
       omega (arith, length-map (take i names) (λ (name : Bor (List ℕ)). name.now), long)
 
   -- One more log is scanned, in which nothing is refused.
-  pub undone_next : (names : List (Bor (List ℕ))) (i : ℕ) (none : Bor (List ℕ)) (logs new : List ScannedLog) (scan : UndoScan) → i < length names
-      → AreUndoneFrom bytes found (length names) 0 (texts_of (take i names)) logs → IsUndone found (place_at (length names) i) (bytes (get_or names i none).now) scan
+  pub undone_next : (names : List (Bor (List ℕ))) (i : ℕ) (none : Bor (List ℕ)) (logs new : List ScannedLog) (scan : UndoScan) (place : LogPlace) → i < length names
+      → place ≡ place_at (length names) i → AreUndoneFrom bytes found (length names) 0 (texts_of (take i names)) logs → IsUndone found place (bytes (get_or names i none).now) scan
       → new ≡ logs ++ record { name = get_or names i none; scan = scan } ∷ [] → AreUndoneFrom bytes found (length names) 0 (texts_of (take (i + 1) names)) new
-  undone_next names i none logs new scan within are is more =
+  undone_next names i none logs new scan place within placed are is more =
       rw more (subst (λ (texts : List (List ℕ)). AreUndoneFrom bytes found (length names) 0 texts (logs ++ record { name = get_or names i none; scan = scan } ∷ [])) (sym (texts_more names i none within))
-      (undone_more (length names) 0 i (texts_of (take i names)) logs (get_or names i none).now (record { name = get_or names i none; scan = scan }) are refl (texts_length names i within) is))
+      (undone_more (length names) 0 i (texts_of (take i names)) logs (get_or names i none).now (record { name = get_or names i none; scan = scan }) are refl (texts_length names i within)
+      (subst (λ (p : LogPlace). IsUndone found p (bytes (get_or names i none).now) scan) placed is)))
 
   refused_more : (count index : ℕ) (names : List (List ℕ)) (name : List ℕ) → HasRefusedFrom bytes found count index names → HasRefusedFrom bytes found count index (names ++ name ∷ [])
   refused_more count index [] name has = absurd has
@@ -104,8 +106,9 @@ module _ (bytes : List ℕ → Option (List ℕ)) (found : Found) where
       (refused_more (length names) 0 (texts_of (take i names)) (get_or names i no_name).now has)
 
   -- Something is refused in one more log.
-  pub refused_here : (names : List (Bor (List ℕ))) (i : ℕ) (none : Bor (List ℕ)) → i < length names → IsRefused found (place_at (length names) i) (bytes (get_or names i none).now)
-      → HasRefusedFrom bytes found (length names) 0 (texts_of (take (i + 1) names))
-  refused_here names i none within is =
+  pub refused_here : (names : List (Bor (List ℕ))) (i : ℕ) (none : Bor (List ℕ)) (place : LogPlace) → i < length names → place ≡ place_at (length names) i
+      → IsRefused found place (bytes (get_or names i none).now) → HasRefusedFrom bytes found (length names) 0 (texts_of (take (i + 1) names))
+  refused_here names i none place within placed is =
       subst (λ (texts : List (List ℕ)). HasRefusedFrom bytes found (length names) 0 texts) (sym (texts_more names i none within))
-      (refused_last (length names) 0 i (texts_of (take i names)) (get_or names i none).now (texts_length names i within) is)
+      (refused_last (length names) 0 i (texts_of (take i names)) (get_or names i none).now (texts_length names i within)
+      (subst (λ (p : LogPlace). IsRefused found p (bytes (get_or names i none).now)) placed is))

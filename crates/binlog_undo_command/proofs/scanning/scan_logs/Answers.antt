@@ -1,10 +1,8 @@
-use Rattle.std.proofs.Common.{◌≡◌, ◌+◌, arith, inl, inr, ◌∙◌, ap, subst, length}
+use Rattle.std.proofs.Common.{◌≡◌, ◌+◌, arith, inl, inr, ◌∙◌, ap, length}
 use Rattle.clap.specs.Matches.{found_of}
 use Rattle.binlog_cli.specs.declared.exit_status.Status.TheVariants.{Damaged, Usage}
 use Rattle.binlog_undo_command.proofs.Scans.{undone_next, refused_next, refused_here, not_fine, which_is}
 use Rattle.binlog_undo_command.specs.LogPlaces.{place_at}
-use Rattle.binlog_undo_command.specs.Scanned.{IsRefused, IsUndone}
-use Rattle.binlog_undo_command.specs.declared.log_place.LogPlace.{LogPlace}
 use Rattle.binlog_undo_command.proofs.scanning.scan_logs.Goals as goal
 use Rattle.binlog_undo_command.proofs.scanning.scan_logs.Goals.{in-Ok+else-is_err, in-Err}
 
@@ -17,8 +15,8 @@ loop-name-preserved g c =
     elim c.match-scan_log.branch [
       | in-Ok+else-is_err w ↦ rw (w.scanned-is, w.worst-is) (record {
         at = omega (arith, c.loop-name.invariant.at);
-        undone = λ fine. undone_next bytes found c.args.names.now c.loop-name.name-index _ c.loop-name.scanned.items w.push.new.self.items w.in-Ok.scan c.loop-name-test.true (c.loop-name.invariant.undone fine)
-            (subst (λ (p : LogPlace). IsUndone found p _ w.in-Ok.scan) place w.in-Ok.ensures.ok) (rw (w.is_err.ensures.negation, w.if-is_err.false) at w.push.ensures.items);
+        undone = λ fine. undone_next bytes found c.args.names.now c.loop-name.name-index _ c.loop-name.scanned.items w.push.new.self.items w.in-Ok.scan c.at-place.result c.loop-name-test.true place
+            (c.loop-name.invariant.undone fine) w.in-Ok.ensures.ok (rw (w.is_err.ensures.negation, w.if-is_err.false) at w.push.ensures.items);
         refused = λ damaged. refused_next bytes found c.args.names.now c.loop-name.name-index c.loop-name-test.true (c.loop-name.invariant.refused damaged);
         usage = c.loop-name.invariant.usage;
       })
@@ -27,8 +25,8 @@ loop-name-preserved g c =
         undone = λ fine. elim (not_fine c.loop-name.worst w.in-Err.status w.in-Err.ensures.err (rw w.worse-worst.ensures at fine)) [ ];
         refused = λ damaged. elim (which_is c.loop-name.worst w.in-Err.status Damaged (rw w.worse-worst.ensures at damaged)) [
           | inl is ↦ refused_next bytes found c.args.names.now c.loop-name.name-index c.loop-name-test.true (c.loop-name.invariant.refused is)
-          | inr is ↦ refused_here bytes found c.args.names.now c.loop-name.name-index _ c.loop-name-test.true
-              (subst (λ (p : LogPlace). IsRefused found p _) place (w.in-Err.ensures.refused is))
+          | inr is ↦ refused_here bytes found c.args.names.now c.loop-name.name-index _ c.at-place.result c.loop-name-test.true place
+              (w.in-Err.ensures.refused is)
         ];
         usage = λ usage. elim (which_is c.loop-name.worst w.in-Err.status Usage (rw w.worse-worst.ensures at usage)) [
           | inl is ↦ c.loop-name.invariant.usage is

@@ -1,6 +1,0 @@
-use Rattle.std.proofs.Common.{◌≡◌}
-use Rattle.binlog_json_lines.proofs.kept_tables.collected.Given as goal
-
--- The columns so far.
-abbrev pub invariant-columns : goal.invariant-columns
-invariant-columns l = l.kept.items ≡ l.yielded

@@ -1,0 +1,2 @@
+pub mod WholeContents
+pub mod WrittenLogs
