@@ -42,6 +42,7 @@ LIBRARY = [
 ]
 TOOLS = [
     "binlog_rotation",
+    "binlog_following",
     "binlog_visits",
     "binlog_payload_visits",
     "binlog_payload_checks",

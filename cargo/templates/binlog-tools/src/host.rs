@@ -2,7 +2,6 @@
 //! sources have for them.
 use binlog::Error;
 use std::fmt;
-use std::fs::File;
 use std::io;
 use std::io::{Read, Seek, Stderr, StdinLock, Stdout, Write};
 use std::time::Duration;
@@ -37,12 +36,9 @@ pub trait Input {
 pub trait OpenFile {
     /// Waits until all of it is on its device.
     fn sync_all(&self) -> io::Result<()>;
-}
 
-impl OpenFile for File {
-    fn sync_all(&self) -> io::Result<()> {
-        File::sync_all(self)
-    }
+    /// Cuts it off behind so many bytes, or appends zeros.
+    fn set_len(&self, len: u64) -> io::Result<()>;
 }
 
 /// Has files.
@@ -58,6 +54,9 @@ pub trait Files {
 
     /// The same, but refuses a name that a file has.
     fn create_new(&self, name: &str) -> io::Result<Self::File>;
+
+    /// Opens the file of a name in this way.
+    fn open_file(&self, options: &std::fs::OpenOptions, name: &str) -> io::Result<Self::File>;
 
     /// Whether a file has a name.
     fn exists(&self, name: &str) -> io::Result<bool>;
@@ -144,18 +143,22 @@ impl Input for Host {
 }
 
 impl Files for Host {
-    type File = File;
+    type File = fs::File;
 
-    fn open(&self, name: &str) -> io::Result<File> {
-        File::open(name)
+    fn open(&self, name: &str) -> io::Result<fs::File> {
+        std::fs::File::open(name).map(fs::File)
     }
 
-    fn create(&self, name: &str) -> io::Result<File> {
-        File::create(name)
+    fn create(&self, name: &str) -> io::Result<fs::File> {
+        std::fs::File::create(name).map(fs::File)
     }
 
-    fn create_new(&self, name: &str) -> io::Result<File> {
-        File::create_new(name)
+    fn create_new(&self, name: &str) -> io::Result<fs::File> {
+        std::fs::File::create_new(name).map(fs::File)
+    }
+
+    fn open_file(&self, options: &std::fs::OpenOptions, name: &str) -> io::Result<fs::File> {
+        options.open(name).map(fs::File)
     }
 
     fn exists(&self, name: &str) -> io::Result<bool> {
@@ -222,18 +225,79 @@ pub mod env {
 
 /// Files by their names.
 pub mod fs {
-    use super::Files;
-    use std::fs::Metadata;
+    use super::{Files, OpenFile};
+    use std::fs::{Metadata, TryLockError};
     use std::io;
+    use std::io::{Read, Seek, SeekFrom, Write};
 
-    /// A file that is made.
+    /// An open file.
     #[derive(Debug)]
-    pub enum File {}
+    pub struct File(pub(super) std::fs::File);
 
     impl File {
         /// Makes a file, and refuses a name that one has.
         pub fn create_new<R: Files>(rt: &R, name: &str) -> io::Result<R::File> {
             rt.create_new(name)
+        }
+
+        /// Locks the file against all others that do, for as long as it is open.
+        pub fn try_lock(&self) -> Result<(), TryLockError> {
+            self.0.try_lock()
+        }
+    }
+
+    impl OpenFile for File {
+        fn sync_all(&self) -> io::Result<()> {
+            self.0.sync_all()
+        }
+
+        fn set_len(&self, len: u64) -> io::Result<()> {
+            self.0.set_len(len)
+        }
+    }
+
+    impl Read for File {
+        fn read(&mut self, buf: &mut [u8]) -> io::Result<usize> {
+            self.0.read(buf)
+        }
+    }
+
+    impl Write for File {
+        fn write(&mut self, buf: &[u8]) -> io::Result<usize> {
+            self.0.write(buf)
+        }
+
+        fn flush(&mut self) -> io::Result<()> {
+            self.0.flush()
+        }
+    }
+
+    impl Seek for File {
+        fn seek(&mut self, to: SeekFrom) -> io::Result<u64> {
+            self.0.seek(to)
+        }
+    }
+
+    /// In which way a file is opened.
+    #[derive(Debug)]
+    pub struct OpenOptions(std::fs::OpenOptions);
+
+    #[allow(clippy::new_without_default)]
+    impl OpenOptions {
+        /// In none yet.
+        pub fn new() -> OpenOptions {
+            OpenOptions(std::fs::OpenOptions::new())
+        }
+
+        /// For writing, or not.
+        pub fn write(&mut self, is_written: bool) -> &mut OpenOptions {
+            self.0.write(is_written);
+            self
+        }
+
+        /// Opens the file of a name.
+        pub fn open<R: Files>(&self, rt: &R, name: &str) -> io::Result<R::File> {
+            rt.open_file(&self.0, name)
         }
     }
 

@@ -9,6 +9,8 @@ pub mod binlog_cli;
 pub mod binlog_commands;
 pub mod binlog_event_types;
 pub mod binlog_filters;
+#[doc(hidden)]
+pub mod binlog_following;
 pub mod binlog_gtid_listing;
 // Of some functions a contract alone reads a parameter.
 #[allow(unused_variables)]

@@ -1,0 +1,125 @@
+//! What is asked of a machine where a log is followed.
+ghost use Rattle.std.specs.Prelude.{◌≡◌, ◌==◌, ◌&&◌, ℕ, List, [], ◌++◌, take, IfOk, OnErr};
+ghost use Rattle.std.specs.Io.{ReadsAtMost};
+ghost use Rattle.binlog_following.specs.Files.{named_file};
+
+use crate::waits::{Missing, Waits};
+use binlog_rotation::{Checkpoint, NamedFile};
+use std::alloc::{AllocError, Global};
+use std::os::unix::fs::MetadataExt;
+use std::rt::Files;
+use std::time::Clock;
+use std::{fs, io};
+
+/// The length of a binlog file's header in bytes.
+const FILE_HEADER_LEN: u64 = 4;
+
+/// Where a file begins of which nothing was read.
+pub const NEW_FILE: Checkpoint = Checkpoint {
+    position: 0,
+    crc32: 0,
+};
+
+/// Which file there is under a name.
+#[derive(Clone, Copy, Debug, PartialEq, Eq)]
+pub struct FileId {
+    /// Its device.
+    pub device: u64,
+    /// Its inode.
+    pub inode: u64,
+    /// How many bytes it has.
+    pub len: u64,
+}
+
+impl FileId {
+    /// Whether both are one file.
+    pub fn is_same(self, other: FileId) -> bool
+        ensures { result ≡ (self.device == other.device && self.inode == other.inode) }
+    {
+        self.device == other.device && self.inode == other.inode
+    }
+}
+
+/// Which file has this name; None if none has, or it can't be told.
+pub fn file_id<R: Files>(rt: &R, name: &str) -> Option<FileId> {
+    match fs::metadata(rt, name) {
+        Ok(metadata) => Some(FileId {
+            device: metadata.dev(),
+            inode: metadata.ino(),
+            len: metadata.len(),
+        }),
+        Err(_) => None,
+    }
+}
+
+// What has the name of a file that is read, where `opened` had that name as it was opened, and `named` has it now.
+pub(crate) fn named_file(opened: Option<FileId>, named: Option<FileId>) -> NamedFile
+    ensures { result ≡ named_file opened named }
+{
+    match (opened, named) {
+        (_, None) => NamedFile::Gone,
+        (Some(opened), Some(named)) if opened.is_same(named) => NamedFile::Same(named.len),
+        (_, Some(_)) => NamedFile::Other,
+    }
+}
+
+/// An open file of a log, which may grow while it is read.
+pub trait OpenLog {
+    /// These bytes were read of it so far.
+    ghost has_given: { Self → List ℕ → Type 0 };
+
+    /// Reads some of the next bytes; none where none are there yet.
+    ///
+    /// # Errors
+    ///
+    /// Those of reading a file. Nothing is read then.
+    fn read_log(&mut self, buf: &mut [u8]) -> io::Result<usize>
+        ensures bound { ReadsAtMost result buf.new }
+        ensures gives { IfOk result (λ count. (log : List ℕ) → has_given self.old log → has_given self.new (log ++ take count buf.new)) }
+        ensures err { OnErr result ((log : List ℕ) → has_given self.old log → has_given self.new log) };
+}
+
+/// The files of a log that is followed, and its state.
+pub trait LogFiles {
+    /// An open file.
+    type Log: OpenLog + Drop;
+
+    /// Opens a file of a log at its start.
+    ///
+    /// # Errors
+    ///
+    /// Those of opening a file.
+    fn open_log(&self, path: &str) -> io::Result<Self::Log>
+        ensures { IfOk result (λ opened. Self.Log.has_given opened []) };
+
+    /// Which file has this name; None if none has.
+    fn named(&self, path: &str) -> Option<FileId>;
+
+    /// Whether there is a state that says where to go on.
+    fn has_state(&self) -> bool;
+
+    /// The path of the file with which following a log begins, and where in it: what the state says, in the folder of this name; else
+    /// this name. The only error is that memory runs out.
+    fn start(&self, alloc: Global, name: &str) -> Result<(String, Checkpoint), AllocError>;
+
+    /// Writes where to go on: in the file of this path, from this place on. Without a state nothing is written.
+    ///
+    /// # Errors
+    ///
+    /// Those of writing files. The state is then the one before, or this one.
+    fn save(&self, path: &str, checkpoint: Checkpoint) -> io::Result<()>;
+}
+
+/// Waits until a file is there with as many bytes as were read of it before, at least a file header. After ten seconds there is a message.
+pub fn wait_for<S: LogFiles, R: Clock + Eprint>(rt: &R, files: &S, path: &str, start: Checkpoint) {
+    let mut waits = Waits::new();
+    'looks: for _ in 0..u64::MAX {
+        match files.named(path) {
+            Some(file) if file.len >= start.position.max(FILE_HEADER_LEN) => return,
+            Some(_) if start.position > FILE_HEADER_LEN => {
+                waits.wait(rt, path, Some(Missing::Front));
+            }
+            _ => waits.wait(rt, path, Some(Missing::File)),
+        }
+    }
+}
