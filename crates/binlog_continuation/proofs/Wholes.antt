@@ -73,6 +73,6 @@ none_of_maria before (g ∷ gs) new same =
     let some = some_by g (last_of gs (origin_of g)) (own_sequence g) in
     let last : last_of (g ∷ gs) (origin_of g) ≡ Some some.0 = some.1 in
     let all : last_of before (origin_of g) ≡ Some some.0 =
-      sym (same (origin_of g)) ∙ last-append before (g ∷ gs) (origin_of g) ∙ ap (λ (r : Option ℕ). option_or r (last_of before (origin_of g))) last in
+    sym (same (origin_of g)) ∙ last-append before (g ∷ gs) (origin_of g) ∙ ap (λ (r : Option ℕ). option_or r (last_of before (origin_of g))) last in
     let less : some.0 < some.0 = newer_last before (g ∷ gs) (origin_of g) some.0 some.0 new all last in
     absurd (omega arith)

@@ -54,8 +54,7 @@ impl GtidMarks {
                 || number == EventType::PREVIOUS_GTIDS_EVENT as u8,
             has_gtid_list: self.has_gtid_list || is_gtid_list(event),
             has_gtid: self.has_gtid || is_gtid(number),
-            has_anonymous: self.has_anonymous
-                || number == EventType::ANONYMOUS_GTID_EVENT as u8,
+            has_anonymous: self.has_anonymous || number == EventType::ANONYMOUS_GTID_EVENT as u8,
             has_errors: self.has_errors,
         }
     }

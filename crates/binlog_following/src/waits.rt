@@ -44,8 +44,10 @@ impl Missing {
         match self {
             Missing::Name => "the file isn't there",
             Missing::Front => "the file is shorter than what was read of it before",
-            Missing::GtidList => "the next file is there, but no list of GTIDs tells whether this one is whole",
-            Missing::Transactions => "transactions that are in the next file's list of GTIDs aren't there yet",
+            Missing::GtidList =>
+                "the next file is there, but no list of GTIDs tells whether this one is whole",
+            Missing::Transactions =>
+                "transactions that are in the next file's list of GTIDs aren't there yet",
             Missing::Rest => "the rest of a transaction isn't there yet",
             Missing::File => "the next file isn't there yet",
         }
@@ -100,7 +102,9 @@ impl Waits {
     {
         match behind {
             FileBehind::Absent => self.looks % LOOKS_A_SECOND == 0,
-            FileBehind::Unlisted | FileBehind::Differs | FileBehind::GoesOn => self.looks % LOOKS_A_MINUTE == 0,
+            FileBehind::Unlisted | FileBehind::Differs | FileBehind::GoesOn => self.looks
+                % LOOKS_A_MINUTE
+                == 0,
         }
     }
 
