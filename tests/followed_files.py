@@ -73,10 +73,12 @@ def log(*events):
 
 
 def placed(content):
-    """A log without checksums whose events state where they end."""
+    """A log whose events state where they end; of these, only the description has a checksum."""
     frames, _ = listing_model.split(content[len(encoded_logs.FILE_HEADER) :])
     ends = accumulate(map(len, frames), initial=len(encoded_logs.FILE_HEADER))
-    return log(*(frame[:13] + end.to_bytes(4, "little") + frame[17:] for frame, end in zip(frames, list(ends)[1:])))
+    description, *others = (frame[:13] + end.to_bytes(4, "little") + frame[17:] for frame, end in zip(frames, list(ends)[1:]))
+    front = description[: -samples.CHECKSUM_LENGTH]
+    return log(front + samples.crc32(front), *others)
 
 
 class Followed:
