@@ -7,7 +7,7 @@ use crate::file_gtids::FileGtids;
 use binlog_gtid_listing::LogGtids;
 
 /// What the list of GTIDs of a file says of the file before it.
-#[derive(Clone, Copy, Debug, PartialEq, Eq)]
+#[derive(Clone, Copy)]
 pub enum Continuation {
     /// Nothing. One of them has no list, or an event that can't be read; or the file before has an anonymous transaction, or is one of
     /// MySQL's with no transaction: a server with `gtid_mode=OFF` writes empty lists.

@@ -9,7 +9,7 @@ use binlog_file::EventRef;
 use binlog_mariadb::MariaEventType;
 
 /// What the events of a file tell of its lists of GTIDs and of its transactions.
-#[derive(Clone, Copy, Debug, PartialEq, Eq)]
+#[derive(Clone, Copy)]
 pub struct GtidMarks {
     /// Whether there is a PREVIOUS_GTIDS event, MySQL's list.
     pub has_previous_gtids: bool,

@@ -3,7 +3,7 @@ ghost use Rattle.std.specs.Prelude.{◌≡◌};
 ghost use Rattle.binlog_following.specs.Files.{is_going_on};
 
 /// What the file with the next number is, where a file ends with no ROTATE or STOP event, as after a crash of the server.
-#[derive(Clone, Copy, Debug, PartialEq, Eq)]
+#[derive(Clone, Copy, PartialEq, Eq)]
 pub enum FileBehind {
     /// There is none yet.
     Absent,
