@@ -45,7 +45,7 @@ fn list_of<R: Files + AllocGlobal>(rt: &R, path: &str) -> Option<FileGtids<Count
     let mut input = Counted::new(Retrying::new(file));
     match visit_counted(rt.alloc(), &mut input, &mut list) {
         // A transaction came, in front of which there is a list, or none.
-        Err(Error::Writer) => Some(list),
+        Err(Error::WrongEventType(_)) => Some(list),
         Ok(_) if list.marks.has_list() => Some(list),
         Ok(_) | Err(_) => None,
     }

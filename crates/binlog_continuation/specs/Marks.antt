@@ -1,7 +1,7 @@
 -- What the events of a file tell of its lists of GTIDs and of its transactions.
-use Rattle.std.specs.Prelude.{◌≡◌, ◌⊎◌, ℕ, ◌==◌, Bool, true, false, ◌&&◌, ◌||◌, List, take, Option, Result, Ok, Err, if◌then◌else◌}
+use Rattle.std.specs.Prelude.{◌≡◌, ◌⊎◌, ℕ, ◌==◌, Bool, true, false, ◌&&◌, ◌||◌, List, take, Option, Result, Ok, Err}
 use Rattle.binlog_wire.specs.declared.error.Error.{Error}
-use Rattle.binlog_wire.specs.declared.error.Error.TheVariants.{Writer}
+use Rattle.binlog_wire.specs.declared.error.Error.TheVariants.{WrongEventType}
 use Rattle.binlog_event_format.specs.Headers.{header_of}
 use Rattle.binlog_events.specs.Events.{EventView}
 use Rattle.binlog_event_types.specs.MariaVersions.{is_maria}
@@ -39,10 +39,10 @@ marks_behind (Err error) marks = record marks { has_errors = true }
 
 -- ---- visits
 
--- An event behind the list at the front.
-abbrev pub is_behind_list : Result EventView Error → Bool
-is_behind_list (Ok event) = if is_front (header_of event.frame).event_type then false else true
-is_behind_list (Err error) = false
+-- An event behind the list at the front is refused.
+abbrev pub IsBehindList : Result EventView Error → Error → Type 0
+IsBehindList (Ok event) error = (is_front (header_of event.frame).event_type ≡ false) × (error ≡ WrongEventType (header_of event.frame).event_type)
+IsBehindList (Err fault) error = ⊥
 
 module _ {W : Type 0} (contents : W → Option (List ℕ)) where
   -- The GTIDs of the item are added, and what it tells is noted.
@@ -55,4 +55,4 @@ module _ {W : Type 0} (contents : W → Option (List ℕ)) where
   abbrev pub RefusesNoted : (index : ℕ) (item : Result EventView Error) (old : FileGtids W) (error : Error) (new : FileGtids W) → Type 0
   RefusesNoted index item old error new =
       RefusesCollected index item (collected contents old.collector) error (collected contents new.collector)
-      ⊎ ((old.is_list ≡ true) × (is_behind_list item ≡ true) × (error ≡ Writer) × (new ≡ old))
+      ⊎ ((old.is_list ≡ true) × IsBehindList item error × (new ≡ old))

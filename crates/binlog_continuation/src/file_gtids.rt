@@ -48,7 +48,7 @@ impl<W> FileGtids<W> {
 }
 
 /// A visit adds the GTIDs of the item, and notes what it tells. Where only the list is wanted, the visit of the first other event is
-/// refused with [`Error::Writer`]; else it is refused as by a [`GtidCollector`].
+/// refused with [`Error::WrongEventType`]; else it is refused as by a [`GtidCollector`].
 impl<W: WriteCounted> Visitor for FileGtids<W> {
     ghost use Rattle.binlog_continuation.specs.Marks.{Notes, RefusesNoted};
 
@@ -62,8 +62,9 @@ impl<W: WriteCounted> Visitor for FileGtids<W> {
         event: &EventRef<'_>,
         reader: &EventStreamReader,
     ) -> Result<(), Error> {
-        if self.is_list && !is_front(event.header().event_type_raw()) {
-            return Err(Error::Writer);
+        let number = event.header().event_type_raw();
+        if self.is_list && !is_front(number) {
+            return Err(Error::WrongEventType(number));
         }
         self.collector.visit_event(index, event, reader)?;
         self.marks = self.marks.behind(event);
