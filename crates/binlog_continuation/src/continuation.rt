@@ -1,10 +1,13 @@
 //! What the list of GTIDs of a file says of the file before it.
-ghost use Rattle.std.specs.Prelude.{◌≡◌, ◌↔◌, ⊥, IsTrue, false};
+ghost use Rattle.std.specs.Prelude.{◌≡◌, ◌↔◌, ⊥, ℕ, IsTrue, false};
+ghost use Rattle.binlog_gtid_sets.specs.GtidGroups.{Pair, is_tracked};
 ghost use Rattle.binlog_continuation.specs.Continuations.{HaveSame, is_read, is_told};
 ghost use Rattle.binlog_continuation.specs.declared.continuation.Continuation.TheVariants.{Unlisted, Differs, GoesOn};
 
 use crate::file_gtids::FileGtids;
+use binlog_file::GtidTracker;
 use binlog_gtid_listing::LogGtids;
+use binlog_maria_gtids::MariaGtidTracker;
 
 /// What the list of GTIDs of a file says of the file before it.
 #[derive(Clone, Copy)]
@@ -56,7 +59,19 @@ fn is_read<W>(file: &FileGtids<W>) -> bool
 fn have_same(first: &LogGtids, second: &LogGtids) -> bool
     ensures { IsTrue result ↔ HaveSame first.now second.now }
 {
-    first.mysql.is_subset(&second.mysql)
-        && second.mysql.is_subset(&first.mysql)
-        && first.maria.entries() == second.maria.entries()
+    is_same_set(&first.mysql, &second.mysql) && is_same_list(&first.maria, &second.maria)
+}
+
+// Whether both sets have the same GTIDs.
+fn is_same_set(first: &GtidTracker, second: &GtidTracker) -> bool
+    ensures { IsTrue result ↔ ((pair : Pair) (n : ℕ) → is_tracked first.now pair n ≡ is_tracked second.now pair n) }
+{
+    first.is_subset(second) && second.is_subset(first)
+}
+
+// Whether the last GTIDs of each domain and server are the same.
+fn is_same_list(first: &MariaGtidTracker, second: &MariaGtidTracker) -> bool
+    ensures { IsTrue result ↔ (first.now ≡ second.now) }
+{
+    first.entries() == second.entries()
 }
