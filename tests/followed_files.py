@@ -37,7 +37,9 @@ from maria_daemon import PRINTER, LeftOut, Server, is_within, program_in
 
 PROCESSES_AT_A_TIME = 12
 # How long a line may take, and how long nothing may come where nothing is wanted, in seconds.
-PATIENCE, QUIET = 30, 0.7
+PATIENCE, QUIET = 60, 0.7
+# How long it takes a run that waits for its turn to look at a file, in seconds.
+LOOK = 2
 MODELS = {"list": listing_model, "json": json_model}
 
 ARTIFICIAL = 0x20
@@ -272,7 +274,7 @@ def late(program, folder):
     yield run.wrong_lines(lines_of(first))
     yield None if not run.messages else f"messages {run.messages!r}"
     message = rb"binlog: log\.000002: .*isn't there yet\n"
-    yield run.message(message, 20)
+    yield run.message(message, PATIENCE)
     (folder / "log.000002").write_bytes(second[:3])
     yield run.wrong_quiet()
     (folder / "log.000002").write_bytes(second[:30])
@@ -367,7 +369,7 @@ def transactions(program, folder):
             file.write(whole[place : place + 1])
             time.sleep(0.02)
         yield run.wrong_quiet()
-        yield run.message(rb"binlog: log\.000001: the rest of a transaction isn't there yet\n", 20)
+        yield run.message(rb"binlog: log\.000001: the rest of a transaction isn't there yet\n", PATIENCE)
         file.write(whole[-1:])
     yield run.wrong_lines(lines_of(front + whole)[len(lines_of(front)) :])
     run.end()
@@ -393,7 +395,7 @@ def begun_again(program, folder):
         yield run.wrong_lines(lines_of(front)[len(lines_of(front[: -len(rest)])) :])
     yield None if not run.messages else f"messages {run.messages!r}"
     (folder / "log.000001").unlink()
-    yield run.message(rb"binlog: log\.000001: the file isn't there\n", 20)
+    yield run.message(rb"binlog: log\.000001: the file isn't there\n", PATIENCE)
     (folder / "log.000001").write_bytes(front + rest)
     yield run.wrong_lines(lines_of(front + rest)[len(lines_of(front)) :])
     run.end()
@@ -410,7 +412,7 @@ def other_log(program, folder):
             (folder / "log.000001").unlink()
         else:
             (folder / "log.000001").write_bytes(b"")
-            time.sleep(0.5)
+            time.sleep(LOOK)
         (folder / "log.000001").write_bytes(second)
         yield run.ended(1, rb"binlog: log\.000001: behind byte %d: the file has another log[^\n]*\n" % len(first))
         yield None if run.lines.empty() else "a line of another log"
@@ -479,7 +481,7 @@ def other_lists(program, folder):
         (folder / "log.000002").write_bytes(second)
         run = followed(program, folder, "log.000001")
         yield run.wrong_lines(lines_of(first))
-        yield run.message(rb"binlog: log\.000001: %s[^\n]*\n" % message, 20)
+        yield run.message(rb"binlog: log\.000001: %s[^\n]*\n" % message, PATIENCE)
         with open(folder / "log.000001", "ab") as file:
             file.write(more)
         yield run.wrong_lines(lines_of(first + more)[len(lines_of(first)) :], lines_of(second))
