@@ -1,5 +1,6 @@
 #!/usr/bin/env python3
-"""Follows logs from file to file: `binlog list --follow` and `binlog json --follow` go on to the next file at a ROTATE and a STOP.
+"""Follows logs from file to file: `binlog list --follow` and `binlog json --follow` go on to the next file at a ROTATE and a STOP, wait
+for the rest of what is begun, end at damage, and go on from a state file.
 
 Usage: followed_files.py FLAG
 
@@ -20,6 +21,7 @@ import time
 from concurrent.futures import ThreadPoolExecutor
 from itertools import chain
 from pathlib import Path
+from random import Random
 
 import compact_model
 import encoded_events
@@ -47,6 +49,13 @@ def rotate(name, behind=b"", **header):
     return samples.frame(samples.ROTATE, (4).to_bytes(8, "little") + name + behind, **header)
 
 
+def sealed(event):
+    """An event that ends with its checksum."""
+    front = bytearray(event + bytes(samples.CHECKSUM_LENGTH))
+    front[9:13] = len(front).to_bytes(4, "little")
+    return bytes(front[: -samples.CHECKSUM_LENGTH]) + samples.crc32(bytes(front[: -samples.CHECKSUM_LENGTH]))
+
+
 def description(algorithm):
     """A format description that states this checksum algorithm."""
     event = encoded_logs.described("", encoded_logs.POST_HEADER_LENGTHS, algorithm=algorithm).event
@@ -54,6 +63,8 @@ def description(algorithm):
 
 
 PLAIN, CHECKSUMMED = description(0), description(1)
+SEALED_XID = sealed(XID)
+BEGIN = samples.frame(samples.QUERY, samples.query_body(b"shop", b"BEGIN"))
 
 
 def log(*events):
@@ -164,9 +175,9 @@ def rotations(program, folder):
 
 def checksums(program, folder):
     """The four bytes of a checksum aren't of the name, by the description of the file; the algorithm may change."""
-    first = log(CHECKSUMMED, XID, rotate(b"log.000002", b"\1\2\3\4"))
+    first = log(CHECKSUMMED, SEALED_XID, sealed(rotate(b"log.000002")))
     yield from going_on(first, log(PLAIN, XID), program, folder)
-    yield from going_on(log(PLAIN, CHECKSUMMED, PLAIN, rotate(b"log.000002")), log(CHECKSUMMED), program, folder)
+    yield from going_on(log(PLAIN, CHECKSUMMED, PLAIN, rotate(b"log.000002")), log(PLAIN), program, folder)
 
 
 def prefixes(program, folder):
@@ -209,7 +220,7 @@ def stays(program, folder):
 
 def byte_by_byte(program, folder):
     """Two files that come byte by byte, the second one late."""
-    first, second = log(CHECKSUMMED, XID, rotate(b"log.000002", b"abcd")), log(PLAIN, XID, STOP)
+    first, second = log(CHECKSUMMED, SEALED_XID, sealed(rotate(b"log.000002"))), log(PLAIN, XID, STOP)
     third = log(PLAIN)
     (folder / "log.000001").touch()
     run = followed(program, folder, "log.000001")
@@ -227,8 +238,8 @@ def cut_at(cut):
     """A ROTATE of which so many bytes are there at first, and the next file already."""
 
     def scene(program, folder):
-        whole = rotate(b"log.000002", b"abcd")
-        front = log(CHECKSUMMED, XID)
+        whole = sealed(rotate(b"log.000002"))
+        front = log(CHECKSUMMED, SEALED_XID)
         first, second = front + whole, log(PLAIN, XID)
         (folder / "log.000001").write_bytes(front + whole[:cut])
         (folder / "log.000002").write_bytes(second)
@@ -280,13 +291,21 @@ def refused(program, folder):
 
 
 def damages(program, folder):
-    """A message has the name and the index of the file that is read; an event without a size ends all, and the status is kept."""
-    damaged = samples.frame(16, b"")[:9] + (5).to_bytes(4, "little") + bytes(6)
-    (folder / "log.000001").write_bytes(log(PLAIN, XID, XID, rotate(b"log.000002")))
-    (folder / "log.000002").write_bytes(log(PLAIN, damaged))
-    run = followed(program, folder, "log.000001")
-    place = len(log(PLAIN))
-    yield run.ended(2, rb"binlog: log\.000002: event 1 at byte %d: an event states the size 5[^\n]*\n" % place)
+    """Damage ends all, with a message that has the file and the place; nothing of its transaction is printed."""
+    sizeless = samples.frame(16, b"")[:9] + (5).to_bytes(4, "little") + bytes(6)
+    first = log(PLAIN, XID, XID, rotate(b"log.000002"))
+    (folder / "log.000001").write_bytes(first)
+    for front, damaged, message in (
+        (log(PLAIN, XID), sizeless, rb"an event states the size 5"),
+        (log(CHECKSUMMED, SEALED_XID), SEALED_XID[:-1] + b"?", rb"the checksum of an event"),
+        (log(PLAIN, XID), samples.frame(16, bytes(8), log_pos=4711), rb"an event states that it ends at byte 4711"),
+    ):
+        (folder / "log.000002").write_bytes(front + damaged + XID)
+        run = followed(program, folder, "log.000001")
+        yield run.ended(2, rb"binlog: log\.000002: behind byte %d: %s[^\n]*\n" % (len(front), message))
+        lines = lines_of(first) + lines_of(front)
+        yield None if run.next_lines(lines.count(b"\n")) == lines else f"other lines before {message!r}"
+        yield None if run.lines.empty() else f"a line behind {message!r}"
 
 
 def several(program, folder):
@@ -325,6 +344,191 @@ def compact_rows(program, folder):
     yield run.wrong_lines(*(compact_model.expected(content, name)[0] for name, content in contents.items()))
     run.end()
     yield None if not run.messages else f"messages {run.messages!r}"
+
+
+def transactions(program, folder):
+    """No event of a transaction has a line before the last byte of it is there."""
+    front, whole = log(PLAIN, XID), BEGIN + samples.frame(samples.QUERY, samples.query_body(b"shop", b"DELETE")) + XID
+    (folder / "log.000001").write_bytes(front)
+    run = followed(program, folder, "log.000001")
+    yield run.wrong_lines(lines_of(front))
+    with open(folder / "log.000001", "ab", buffering=0) as file:
+        for place in range(len(whole) - 1):
+            file.write(whole[place : place + 1])
+            time.sleep(0.02)
+        yield run.wrong_quiet()
+        yield run.message(rb"binlog: log\.000001: the rest of a transaction isn't there yet\n", 20)
+        file.write(whole[-1:])
+    yield run.wrong_lines(lines_of(front + whole)[len(lines_of(front)) :])
+    run.end()
+
+
+def begun_again(program, folder):
+    """A file that is emptied and written again with the same bytes, in place or under its name, gives no line again."""
+    front, rest = log(CHECKSUMMED, SEALED_XID), SEALED_XID
+    (folder / "log.000001").write_bytes(front)
+    run = followed(program, folder, "log.000001")
+    yield run.wrong_lines(lines_of(front))
+    for count in range(1, 4):
+        is_replaced = count == 2
+        if is_replaced:
+            (folder / "log.000001").unlink()
+        with open(folder / "log.000001", "wb", buffering=0) as file:
+            for place in range(0, len(front), 31):
+                file.write(front[place : place + 31])
+                time.sleep(0.03)
+            yield run.wrong_quiet()
+            file.write(rest)
+        front += rest
+        yield run.wrong_lines(lines_of(front)[len(lines_of(front[: -len(rest)])) :])
+    yield None if not run.messages else f"messages {run.messages!r}"
+    (folder / "log.000001").unlink()
+    yield run.message(rb"binlog: log\.000001: the file isn't there\n", 20)
+    (folder / "log.000001").write_bytes(front + rest)
+    yield run.wrong_lines(lines_of(front + rest)[len(lines_of(front)) :])
+    run.end()
+
+
+def other_log(program, folder):
+    """Another log in the place of one that was read ends all."""
+    first, second = log(PLAIN, XID, XID), log(PLAIN, XID, samples.frame(16, (8).to_bytes(8, "little")), XID)
+    for is_replaced in (False, True):
+        (folder / "log.000001").write_bytes(first)
+        run = followed(program, folder, "log.000001")
+        yield run.wrong_lines(lines_of(first))
+        if is_replaced:
+            (folder / "log.000001").unlink()
+        else:
+            (folder / "log.000001").write_bytes(b"")
+            time.sleep(0.5)
+        (folder / "log.000001").write_bytes(second)
+        yield run.ended(1, rb"binlog: log\.000001: behind byte %d: the file has another log[^\n]*\n" % len(first))
+        yield None if run.lines.empty() else "a line of another log"
+
+
+def zeros(program, folder):
+    """Zeros in the place of an event aren't one yet."""
+    front = log(CHECKSUMMED, SEALED_XID)
+    for count in (1, 18, 19, 100):
+        (folder / "log.000001").write_bytes(front + bytes(count))
+        run = followed(program, folder, "log.000001")
+        yield run.wrong_lines(lines_of(front))
+        with open(folder / "log.000001", "r+b") as file:
+            file.seek(len(front))
+            file.write(SEALED_XID + bytes(max(0, count - len(SEALED_XID))))
+        yield run.wrong_lines(lines_of(front + SEALED_XID)[len(lines_of(front)) :])
+        run.end()
+
+
+# ---- states
+
+
+def with_state(program, folder, output, *words, command="json"):
+    """A run with the state file `state`, whose lines are appended to a file."""
+    with open(folder / output, "ab") as lines:
+        return subprocess.Popen(
+            [program, command, "--follow", "--state", "state", *words], cwd=folder, stdout=lines, stderr=subprocess.PIPE
+        )
+
+
+def killed_runs(command):
+    """Runs that are killed and started again while files grow, rotate and go: each line is in the output once."""
+
+    def scene(program, folder):
+        random = Random(7)
+        contents = [log(CHECKSUMMED, *[SEALED_XID] * 9, sealed(rotate(b"log.%06d" % (number + 1)))) for number in range(1, 6)]
+        names = [f"log.{number:06}" for number in range(1, 6)]
+        (folder / names[0]).touch()
+        run = with_state(program, folder, "lines", names[0], command=command)
+        for name, content in zip(names, contents):
+            with open(folder / name, "ab", buffering=0) as file:
+                place = 0
+                while place < len(content):
+                    count = random.randint(1, 200)
+                    file.write(content[place : place + count])
+                    place += count
+                    if random.random() < 0.5:
+                        time.sleep(random.random() * 0.15)
+                        run.kill()
+                        run.wait()
+                        if random.random() < 0.5:
+                            with open(folder / "lines", "ab") as lines:
+                                lines.write(b'{"cut')
+                        run = with_state(program, folder, "lines", names[0], command=command)
+            if name == names[2]:
+                yield None if is_within(PATIENCE, lambda: b"000004" in (folder / "state").read_bytes()) else "no state of the fourth file"
+                (folder / names[0]).unlink()
+        wanted = b"".join(lines_of(content, command) for content in contents)
+        is_written = is_within(PATIENCE, lambda: (folder / "lines").read_bytes() == wanted)
+        run.kill()
+        yield None if is_written else f"other lines: {(folder / 'lines').read_bytes()[-300:]!r}, {run.stderr.read()!r}"
+
+    return scene
+
+
+def killed_at_once(program, folder):
+    """Runs that are killed while they write their first lines, into one file and then into another one: each line is there once."""
+    content = log(PLAIN, *[XID] * 40_000)
+    (folder / "log.000001").write_bytes(content)
+    wanted = lines_of(content)
+    for output in ("lines", "others"):
+        for part in (1, 100_000):
+            run = with_state(program, folder, output, "log.000001", command="list")
+            yield None if is_within(PATIENCE, lambda: (folder / output).stat().st_size >= part) else "no lines"
+            run.kill()
+            run.wait()
+        written = (folder / output).read_bytes()
+        yield None if len(written) < len(wanted) and wanted.startswith(written) else f"all lines before a kill, or other ones: {len(written)}"
+        run = with_state(program, folder, output, "log.000001", command="list")
+        is_written = is_within(PATIENCE, lambda: (folder / output).stat().st_size >= len(wanted))
+        time.sleep(QUIET)
+        run.kill()
+        run.wait()
+        yield None if is_written and (folder / output).read_bytes() == wanted else f"other lines in {output}"
+        # The other file has the lines from the middle on.
+        content = log(PLAIN, *[XID] * 80_000)
+        wanted = lines_of(content)[len(wanted) :]
+        (folder / "log.000001").write_bytes(content)
+
+
+def repeated(program, folder):
+    """Into a pipe the lines since the last state come again, and none is left out."""
+    content = log(PLAIN, *[XID] * 20)
+    (folder / "log.000001").write_bytes(content)
+    lines = lines_of(content).splitlines(True)
+    run = followed(program, folder, "--state", "state", "log.000001")
+    yield run.wrong_lines(*lines)
+    run.end()
+    state = (folder / "state").read_bytes()
+    yield None if b"position %d\n" % len(content) in state and b"inode 0\n" in state else f"the state is {state!r}"
+    run = followed(program, folder, "--state", "state", "log.000001")
+    yield run.wrong_quiet()
+    with open(folder / "log.000001", "ab") as file:
+        file.write(XID)
+    yield run.wrong_lines(lines_of(content + XID)[len(b"".join(lines)) :])
+    run.end()
+
+
+def states(program, folder):
+    """A state that can't be read, that of another log, and a second run with the same one, are refused; nothing is changed then."""
+    content = log(PLAIN, XID)
+    (folder / "log.000001").write_bytes(content)
+    run = followed(program, folder, "--state", "state", "log.000001")
+    yield run.wrong_lines(lines_of(content))
+    yield followed(program, folder, "--state", "state", "log.000001").ended(3, rb"binlog: state: another process [^\n]*\n")
+    run.end()
+    good = (folder / "state").read_bytes()
+    for bad in (b"", b"x", good[:-1], good.replace(b"position ", b"position 0"), good.replace(b" 1\n", b" 2\n", 1), bytes(2000)):
+        (folder / "state").write_bytes(bad)
+        yield followed(program, folder, "--state", "state", "log.000001").ended(3, rb"binlog: state: it isn't a state of this program\n")
+        yield None if (folder / "state").read_bytes() == bad else "the state is changed"
+    (folder / "state").write_bytes(good)
+    (folder / "log.000001").write_bytes(log(PLAIN, samples.frame(16, bytes(8))))
+    yield followed(program, folder, "--state", "state", "log.000001").ended(1, rb"binlog: log\.000001: behind byte 0: the file has another log[^\n]*\n")
+    yield None if (folder / "state").read_bytes() == good else "the state of another log is changed"
+    for words in (("--state", "state", "log.000001", "log.000001"), ("--state", "state", "-")):
+        yield followed(program, folder, *words).ended(64, rb"binlog: --state is [^\n]*\n")
+    yield Followed(program, folder, "list", "--state", "state", "log.000001").ended(64, rb"binlog: --state is [^\n]*\n")
 
 
 # ---- a mirror of a server's log
@@ -384,7 +588,8 @@ def mirrored(program, folder):
 
 
 SCENES = [mirrored, late, byte_by_byte, rotations, checksums, prefixes, stops, stays, refused, damages, several, filters, compact_rows]
-SCENES += [cut_at(cut) for cut in range(len(rotate(b"log.000002", b"abcd")))]
+SCENES += [transactions, begun_again, other_log, zeros, killed_runs("list"), killed_runs("json"), killed_at_once, repeated, states]
+SCENES += [cut_at(cut) for cut in range(len(sealed(rotate(b"log.000002"))))]
 
 
 def results_of(program, scene):

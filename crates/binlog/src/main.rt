@@ -2,7 +2,7 @@
 #![tactic(auto)]
 
 ghost use Rattle.std.specs.Prelude.{◌≡◌};
-ghost use Rattle.binlog_cli.specs.declared.exit_status.Status.TheVariants.{Usage};
+ghost use Rattle.binlog_cli.specs.declared.exit_status.Status.TheVariants.{Usage, Failed};
 ghost use Rattle.clap.specs.Values.{kind_of};
 ghost use Rattle.binlog.specs.Ends.{EndsRefused, EndsUnread, status_of};
 ghost use Rattle.binlog.specs.Requests.{IsNoCommand};
@@ -25,12 +25,14 @@ mod type_statistics;
 mod verifying;
 
 use binlog_cli::{Status, out_of_memory};
+use binlog_following::{StateFile, StateFileError};
 use binlog_undo_command::{command, run_undo};
 use clap::ArgMatches;
 use clap::error::ErrorKind;
 use inputs::HostInputs;
 use request::{Request, Terminals};
 use std::env::Env;
+use std::fs::File;
 use std::io::IsTerminal;
 use std::process::ExitCode;
 use std::rt::Files;
@@ -38,7 +40,7 @@ use std::time::Clock;
 use std::{env, io};
 
 // Runs the command that the words of the command line name.
-fn run<R: Files + Env + Clock + Input + Print + Eprint + AllocGlobal>(
+fn run<R: Files<File = File> + Env + Clock + Input + Print + Eprint + AllocGlobal>(
     rt: &R,
     terminals: Terminals,
 ) -> Status {
@@ -64,7 +66,7 @@ fn unread<E: Eprint>(rt: &E, error: &io::Error) -> Status
 }
 
 // Runs the command that these words name. They outlive all that the command reads of them.
-fn run_words<'a, R: Files + Clock + Input + Print + Eprint + AllocGlobal>(
+fn run_words<'a, R: Files<File = File> + Clock + Input + Print + Eprint + AllocGlobal>(
     rt: &'a R,
     words: &'a [String],
     terminals: Terminals,
@@ -97,7 +99,7 @@ fn refused<R: Print + Eprint>(rt: &R, error: &clap::Error) -> Status
 }
 
 // Runs a command, and answers its status, also if it can't begin.
-fn run_command<'a, R: Files + Clock + Input + Print + Eprint + AllocGlobal>(
+fn run_command<'a, R: Files<File = File> + Clock + Input + Print + Eprint + AllocGlobal>(
     rt: &'a R,
     name: &str,
     matches: &ArgMatches<'a>,
@@ -106,7 +108,11 @@ fn run_command<'a, R: Files + Clock + Input + Print + Eprint + AllocGlobal>(
     ensures other { IsNoCommand name.now → result ≡ Usage }
 {
     let request = Request::new(name, matches, terminals);
-    let (inputs, output) = (HostInputs::new(rt), io::writer(rt));
+    let state = match state_of(rt, &request) {
+        Ok(state) => state,
+        Err(status) => return status,
+    };
+    let (inputs, output) = (HostInputs::new(rt, state), io::writer(rt));
     match name {
         "list" => status_of(commands::list(rt, &inputs, &request, output)),
         "json" if request.is_compact => {
@@ -122,6 +128,43 @@ fn run_command<'a, R: Files + Clock + Input + Print + Eprint + AllocGlobal>(
         "undo" => run_undo(rt, matches, output),
         _ => Status::Usage,
     }
+}
+
+// The state file that is asked for, if one is. It is that of one log that is followed.
+fn state_of<'a, R: Files<File = File> + Eprint + AllocGlobal>(
+    rt: &'a R,
+    request: &Request<'_, 'a>,
+) -> Result<Option<StateFile<'a, R>>, Status> {
+    let Some(path) = request.state else {
+        return Ok(None);
+    };
+    if !request.reading.is_followed || request.files.len() != 1 || request.files[0] == "-" {
+        let _ = eprintln!(rt; "binlog: --state is for --follow with one file");
+        return Err(Status::Usage);
+    }
+    match StateFile::open(rt, path, request.is_synced) {
+        Ok(state) => Ok(Some(state)),
+        Err(error) => Err(no_state(rt, path, &error)),
+    }
+}
+
+// The message if following can't begin with a state file.
+fn no_state<E: Eprint>(rt: &E, path: &str, error: &StateFileError) -> Status
+    ensures { result ≡ Failed }
+{
+    let _ = match error {
+        StateFileError::Locked => {
+            eprintln!(rt; "binlog: {path}: another process follows a log with this state")
+        }
+        StateFileError::Lock(error) => eprintln!(rt; "binlog: {path}.lock: {error}"),
+        StateFileError::Reader(error) => eprintln!(rt; "binlog: {path}: {error}"),
+        StateFileError::Text(error) => eprintln!(rt; "binlog: {path}: {error}"),
+        StateFileError::Output(error) => {
+            eprintln!(rt; "binlog: the output can't be cut back: {error}")
+        }
+        StateFileError::Memory => return out_of_memory(rt),
+    };
+    Status::Failed
 }
 
 // The status of a command that ended, or of one that can't begin.
