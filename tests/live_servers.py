@@ -1,0 +1,470 @@
+#!/usr/bin/env python3
+"""Follows the logs of servers under load, behind mirrors: what is built of the lines is what the servers have.
+
+Usage: live_servers.py [--seed N] [--rounds N] FLAG
+
+FLAG is one of `programs.py`. A server, of MariaDB and of MySQL, has a random load: two clients with transactions that are committed or rolled
+back, and with definitions of tables. Its log rotates by its size and by FLUSH BINARY LOGS. A mirror writes the log's files into a
+folder, and `binlog json --compact --follow --state` follows them into one file of lines. Both are killed at random moments and begun again; the
+server is shut down, and killed, and started again. N rounds of load (2 if not given) are in front of each of these and behind them. Then a
+test each: that the mirror's files are the server's; that the lines are those of the model, each once; that each row that is changed or
+deleted is the one that was there; that each table has the rows that the server selects; and that nothing was said but what was waited for.
+
+Then a mirror on a small file system has no room for some events, and has it again for later ones: `binlog` ends with status 2 and
+the place in front of the missing bytes, and has printed what is in front of it; with the mirror begun again it goes on. Where no file system can be
+mounted, a line says so.
+
+Where there is no server (`maria_daemon.py` and `mysql_daemon.py` say where they come from) a line says so. The last line is `N passed, M
+failed`; the exit status is 1 if something failed.
+"""
+
+import argparse
+import json
+import os
+import random
+import re
+import shutil
+import subprocess
+import sys
+import tempfile
+import time
+from concurrent.futures import ThreadPoolExecutor
+from contextlib import contextmanager
+from functools import cache
+from itertools import chain
+from pathlib import Path
+
+import compact_model
+import listing_model
+import programs
+import results
+from maria_daemon import LeftOut, is_within
+from mirrors import Maria, Mirror, Mysql, bytes_of
+
+OPTIONS = ["--binlog-row-metadata=FULL", "--max-binlog-size=65536", "--innodb-lock-wait-timeout=1", "--lock-wait-timeout=2"]
+PATIENCE = 60
+TRANSACTIONS_OF_A_ROUND = 60
+# What is said where something is missing for ten seconds.
+WAITING = rb"(binlog: [^:\n]*: (the (next file|file|rest of a transaction) isn't there( yet)?|the file is shorter than [^\n]*)\n)*"
+
+
+# ---- the load
+
+TABLES = ("orders", "items")
+COLUMNS = "id int primary key, amount bigint, name varchar(60), price decimal(12,3), at datetime(3), note mediumtext"
+NAMES = ("'caf\u00e9'", "'\U0001f600'", "'a\\\\b\"c'", "''", "null", "'two\\nlines'")
+SCHEMA = f"""
+create database shop character set utf8mb4;
+use shop;
+{"".join(f"create table {table} ({COLUMNS});" for table in TABLES)}
+"""
+
+
+class Client:
+    """A client's statements. Its ids and the tables that it makes are its own; the tables of all, and their rows, aren't."""
+
+    def __init__(self, chance, number):
+        self.chance, self.number = chance, number
+        self.ids, self.names, self.made, self.columns = number * 1_000_000, 0, [], []
+
+    def statements(self, count):
+        """As many transactions, statements alone, or definitions."""
+        ways = [self.transaction] * 6 + [self.change] * 3 + [self.definition]
+        parts = (f"{self.chance.choice(ways)()}\ndo sleep({self.chance.random() * 0.03:.3f});" for _ in range(count))
+        return ("use shop;\n" + "\n".join(parts) + "\n").encode()
+
+    def transaction(self):
+        changes = " ".join(self.change() for _ in range(self.chance.randint(1, 4)))
+        return f"begin; {changes} {self.chance.choice(('commit', 'commit', 'rollback'))};"
+
+    def change(self):
+        table, way = self.chance.choice((*TABLES, *TABLES, *self.made)), self.chance.random()
+        if way < 0.5:
+            rows = ", ".join(self.row() for _ in range(self.chance.randint(1, 3)))
+            return f"insert into {table} (id, amount, name, price, at, note) values {rows};"
+        where = f"where id % {self.chance.randint(5, 9)} = 0 order by id limit {self.chance.randint(1, 4)}"
+        if way < 0.85:
+            return f"update {table} set name = {self.chance.choice(NAMES)}, amount = {self.amount()} {where};"
+        return f"delete from {table} {where};"
+
+    def row(self):
+        self.ids += 1
+        price = self.chance.randrange(-(10**11), 10**11) / 1000
+        at = f"2026-11-{self.chance.randint(1, 28):02} 01:02:03.{self.chance.randrange(1000):03}"
+        # Some events are longer than the mirror's buffer.
+        note = f"repeat('x', {self.chance.choice((0, 1, 10, 10, 30, 100, 300, 6000))})"
+        return f"({self.ids}, {self.amount()}, {self.chance.choice(NAMES)}, {price:.3f}, '{at}', {note})"
+
+    def amount(self):
+        return self.chance.choice(("null", str(self.chance.randrange(-(2**63), 2**63))))
+
+    def definition(self):
+        self.names += 1
+        way, name = self.chance.random(), f"{self.number}_{self.names}"
+        if way < 0.4:
+            self.made.append(f"made_{name}")
+            return f"create table made_{name} ({COLUMNS}); insert into made_{name} (id, name) values (1, 'first');"
+        if way < 0.6 and self.made:
+            return f"drop table {self.made.pop(self.chance.randrange(len(self.made)))};"
+        table = self.chance.choice(TABLES)
+        if way < 0.8 and self.columns:
+            return self.columns.pop()
+        self.columns.append(f"alter table {table} drop column more_{name};")
+        return f"alter table {table} add column more_{name} varchar(20); update {table} set more_{name} = 'more' where id % 3 = 0 limit 3;"
+
+
+# ---- what is followed
+
+
+class Follower:
+    """Runs of `binlog json --compact --follow --state` in a folder of log files. Their lines go to one file."""
+
+    def __init__(self, program, logs, folder):
+        folder.mkdir()
+        self.program, self.logs = program, logs
+        self.lines, self.messages, self.states = folder / "lines", folder / "messages", folder
+        self.running, self.first, self.wrong = None, None, []
+
+    def __enter__(self):
+        return self
+
+    def __exit__(self, *raised):
+        self.kill()
+
+    def begin(self, first=None):
+        """Begins with a file, or goes on by its state."""
+        self.first = first or self.first
+        words = [self.program, "json", "--compact", "--follow", "--state", self.states / f"state-{self.first}", self.first]
+        with open(self.lines, "ab") as lines, open(self.messages, "ab") as messages:
+            self.running = subprocess.Popen(words, cwd=self.logs, stdin=subprocess.DEVNULL, stdout=lines, stderr=messages)
+
+    def kill(self):
+        if self.running is None:
+            return
+        if self.running.poll() is not None:
+            self.wrong.append(f"it ended by itself with status {self.running.returncode}")
+        self.running.kill()
+        self.running.wait()
+        self.running = None
+
+    def wrong_lines(self, wanted):
+        """None if these come to be the lines, else what is wrong."""
+        if is_within(PATIENCE, lambda: self.lines.stat().st_size >= len(wanted)) and self.lines.read_bytes() == wanted:
+            return None
+        return f"other lines: {difference(self.lines.read_bytes(), wanted)}; it said {self.messages.read_bytes()[-300:]!r}"
+
+
+def difference(found, wanted):
+    pairs = zip(found.splitlines(True), wanted.splitlines(True))
+    for place, (line, wanted_line) in enumerate(pairs):
+        if line != wanted_line:
+            return f"line {place} is {line[:200]!r}, not {wanted_line[:200]!r}"
+    return f"{len(found)} bytes, not {len(wanted)}"
+
+
+def whole_length(content):
+    """The length of a log up to the end of its last whole transaction, or of an event that is in none."""
+    frames, _ = listing_model.split(content[len(listing_model.FILE_HEADER) :])
+    end = place = len(listing_model.FILE_HEADER)
+    is_open = False
+    for frame in frames:
+        place += len(frame)
+        kind = listing_model.type_number(frame)
+        is_open = kind in BEGINNINGS or (is_open and not ends_transaction(kind, frame))
+        end = end if is_open else place
+    return end
+
+
+# A GTID of MySQL's, with and without a tag, none, and one of MariaDB's.
+BEGINNINGS = (33, 42, 34, 162)
+QUERY, XID = 2, 16
+
+
+def ends_transaction(kind, frame):
+    """Whether an event is the last one of the load's transactions: a definition, or an XID."""
+    return kind == XID or (kind == QUERY and b"\0BEGIN" not in frame)
+
+
+@cache
+def lines_of(name, content):
+    """The lines of the whole transactions of a file of this name and content."""
+    return compact_model.expected(content[: whole_length(content)], name)[0]
+
+
+def lines_of_all(logs):
+    return b"".join(lines_of(log.name, log.read_bytes()) for log in logs)
+
+
+# ---- what the server has
+
+
+class Tables:
+    """The rows of tables by their ids, as the lines up to here leave them."""
+
+    def __init__(self):
+        self.rows = {}
+
+    def apply(self, line):
+        """None, or how the row isn't the one that was there."""
+        rows, before, after = self.rows.setdefault(line["table"], {}), line.get("before"), line.get("after")
+        was = rows.pop(before["id"], None) if before else None
+        is_right = before is None or (was is not None and all(was.get(name) == value for name, value in before.items()))
+        if after:
+            is_right = is_right and after["id"] not in rows
+            rows[after["id"]] = after
+        return None if is_right else f"{line} finds {was}"
+
+
+def selected(kind, server, query):
+    finished = subprocess.run(kind.client(server), input=query.encode(), stdout=subprocess.PIPE, check=True)
+    return [line.split("\t") for line in finished.stdout.decode().splitlines()]
+
+
+def table_failures(kind, server, tables):
+    """For each table of the server, None or how the rows of the lines are other ones."""
+    columns = {}
+    query = "select table_name, column_name from information_schema.columns where table_schema = 'shop' order by 1, ordinal_position"
+    for table, column in selected(kind, server, query):
+        columns.setdefault(table, []).append(column)
+    for table, names in columns.items():
+        texts = ", ".join(f"ifnull(concat('=', hex(cast({name} as char character set utf8mb4))), '-')" for name in names)
+        rows = selected(kind, server, f"select {texts} from shop.{table}")
+        wanted = {row[0]: row for row in rows}
+        found = {row[0]: row for row in ([digits(was.get(name)) for name in names] for was in tables.rows.get(table, {}).values())}
+        yield None if found == wanted else f"{table}: {len(found)} rows {one_of(found, wanted)}, and the server has {len(wanted)} {one_of(wanted, found)}"
+    yield None if len(columns) >= len(TABLES) else f"only the tables {list(columns)}"
+
+
+def digits(value):
+    return "-" if value is None else "=" + str(value).encode().hex().upper()
+
+
+def one_of(some, others):
+    return next((row for key, row in some.items() if others.get(key) != row), None)
+
+
+# ---- a server, its mirror and what follows it
+
+
+class Scene:
+    """A server under load, a mirror, and a follower of the mirror's files."""
+
+    def __init__(self, kind, server, mirror, follower, chance):
+        self.kind, self.server, self.mirror, self.follower, self.chance = kind, server, mirror, follower, chance
+        self.clients = [Client(random.Random(chance.random()), number) for number in (1, 2)]
+        self.rounds = 0
+
+    def run(self, statements):
+        self.server.run(statements.encode())
+
+    @contextmanager
+    def load(self, count=TRANSACTIONS_OF_A_ROUND):
+        """Two clients that run statements; they are ended at the end of the `with`."""
+        sessions = []
+        for client in self.clients:
+            with tempfile.TemporaryFile() as statements:
+                statements.write(client.statements(count))
+                statements.seek(0)
+                how = {"stdin": statements, "stdout": subprocess.DEVNULL, "stderr": subprocess.DEVNULL}
+                sessions.append(subprocess.Popen(self.kind.client(self.server), **how))
+        try:
+            yield sessions
+        finally:
+            for session in sessions:
+                session.kill()
+                session.wait()
+
+    def disturbed_rounds(self, rounds):
+        """Load, while the mirror and the follower are killed and begun again, and the log is rotated."""
+        for _ in range(rounds):
+            with self.load() as sessions:
+                while any(session.poll() is None for session in sessions):
+                    time.sleep(self.chance.uniform(0.02, 0.3))
+                    self.disturb()
+
+    def disturb(self):
+        self.mirror.keep()
+        way = self.chance.random()
+        if way < 0.5:
+            self.follower.kill()
+            self.follower.begin()
+        elif way < 0.6:
+            self.mirror.kill()
+            self.mirror.begin()
+        elif way < 0.75:
+            self.run("flush binary logs;")
+
+    def wrong_lines(self):
+        """None if the follower comes to have all lines of the mirror's files."""
+        if not self.mirror.is_whole():
+            return "the mirror lacks bytes"
+        return self.mirror.other_bytes() or self.follower.wrong_lines(lines_of_all(self.mirror.logs()))
+
+    def shut_down(self):
+        self.server.stop()
+        self.server.restart()
+
+    def crash(self):
+        """Kills the server under load, and starts it again. Its file then ends with neither a ROTATE nor a STOP: the follower has to
+        be begun again with the next one."""
+        with self.load():
+            time.sleep(self.chance.uniform(0.3, 0.8))
+            self.server.kill()
+            crashed = self.server.logs()[-1].name
+        self.server.restart()
+        if not self.mirror.is_whole():
+            return "the mirror lacks bytes behind a crash"
+        logs = self.mirror.logs()
+        behind = next(place for place, log in enumerate(logs) if log.name > crashed)
+        wrong = self.follower.wrong_lines(lines_of_all(logs[:behind]))
+        self.follower.kill()
+        self.follower.begin(logs[behind].name)
+        return wrong
+
+
+def followed(program, kind, folder, seed, rounds):
+    """For each test of a server, None or what is wrong."""
+    chance = random.Random(f"{kind.name} {seed}")
+    with kind.server(folder / "server", *OPTIONS) as server:
+        server.run(SCHEMA.encode())
+        with Mirror(kind, server, folder / "mirror") as mirror, Follower(program, mirror.folder, folder / "followed") as follower:
+            scene = Scene(kind, server, mirror, follower, chance)
+            yield None if mirror.has_begun() else "no mirror"
+            follower.begin(mirror.logs()[0].name)
+            yield from load_failures(scene, rounds)
+            yield from (None, *follower.wrong)
+            said = follower.messages.read_bytes()
+            yield None if re.fullmatch(WAITING, said) else f"it said {said[-500:]!r}"
+        try:
+            with small_disk(folder / "disk") as disk:
+                yield from full_disk_failures(program, kind, server, folder, disk)
+        except LeftOut as reason:
+            print(f"{reason}: no full one is followed")
+
+
+def load_failures(scene, rounds):
+    scene.disturbed_rounds(rounds)
+    scene.shut_down()
+    scene.disturbed_rounds(rounds)
+    yield scene.crash()
+    scene.disturbed_rounds(rounds)
+    yield scene.wrong_lines()
+    tables = Tables()
+    for line in map(json.loads, scene.follower.lines.read_bytes().splitlines()):
+        yield tables.apply(line)
+    yield from table_failures(scene.kind, scene.server, tables)
+
+
+# ---- a full disk
+
+SIZE_OF_DISK, ROOM = 1 << 20, 8192
+SECONDS_OF_A_FULL_DISK = 1
+ROW = "insert into shop.orders (id, name, note) values ({}, 'on a full disk', repeat('y', {}));\n"
+
+
+@contextmanager
+def small_disk(folder):
+    """A file system with little room."""
+    folder.mkdir()
+    command = ["mount", "-t", "tmpfs", "-o", f"size={SIZE_OF_DISK}", "tmpfs", folder]
+    if shutil.which(command[0]) is None or subprocess.run(command, capture_output=True).returncode != 0:
+        raise LeftOut("no small file system can be mounted")
+    try:
+        yield folder
+    finally:
+        subprocess.run(["umount", folder], check=True)
+
+
+def fill(path):
+    """Fills a file system by a file, but for some room."""
+    with open(path, "wb", buffering=0) as file:
+        try:
+            while True:
+                file.write(bytes(4096))
+        except OSError:
+            file.truncate(file.tell() - ROOM)
+
+
+def rows(first, count):
+    """Statements that insert rows. No event of these is as long as a mirror's buffer."""
+    return "".join(ROW.format(number, number % 7 * 100) for number in range(first, first + count)).encode()
+
+
+def full_disk_failures(program, kind, server, folder, disk):
+    """A mirror that has no room for a while: for each test of what follows it, None or what is wrong."""
+    server.run(b"set global max_binlog_size = 1073741824; flush binary logs;")
+    (*_, source) = server.logs()
+    with Mirror(kind, server, disk / "mirror", source.name) as mirror, Follower(program, mirror.folder, folder / "full") as follower:
+        mirrored = mirror.folder / source.name
+        yield None if mirror.has_begun() else "no mirror on a small disk"
+        follower.begin(source.name)
+        fill(disk / "filler")
+        server.run(rows(10_000_000, 60))
+        is_full = is_within(PATIENCE, lambda: os.statvfs(disk).f_bavail == 0)
+        is_ended = mirror.running.poll() is not None
+        time.sleep(SECONDS_OF_A_FULL_DISK)
+        (disk / "filler").unlink()
+        server.run(rows(20_000_000, 30))
+        yield None if is_full and not is_ended else "the disk isn't full, or the mirror has ended"
+        yield from missing_bytes_failures(follower, source, mirrored)
+        yield mended_failure(mirror, follower, source)
+
+
+def missing_bytes_failures(follower, source, mirrored):
+    """What is printed of a file that lacks bytes in the middle, and where it ends."""
+    try:
+        status = follower.running.wait(PATIENCE)
+    except subprocess.TimeoutExpired:
+        status = None
+    follower.running = None
+    content = source.read_bytes()
+    whole = whole_length(content[: common_length(bytes_of(source), bytes_of(mirrored))])
+    wanted = lines_of(source.name, content[:whole])
+    said = follower.messages.read_bytes()
+    pattern = WAITING + rb"binlog: %s: behind byte %d: [^\n]+\n" % (re.escape(source.name.encode()), whole)
+    yield None if status == listing_model.STATUS_ERRORS else f"missing bytes have the status {status}"
+    yield None if re.fullmatch(pattern, said) else f"of bytes that are missing behind byte {whole} it said {said!r}"
+    yield follower.wrong_lines(wanted)
+
+
+def mended_failure(mirror, follower, source):
+    """None if a mirror that is begun again has all, and the lines go on, else what is wrong."""
+    mirror.kill()
+    mirror.begin()
+    if not mirror.is_whole():
+        return "the mirror lacks bytes"
+    follower.begin()
+    return follower.wrong_lines(lines_of(source.name, source.read_bytes()))
+
+
+def common_length(one, other):
+    """How many bytes in front are the same."""
+    places = (place for place, pair in enumerate(zip(one, other)) if pair[0] != pair[1])
+    return next(places, min(len(one), len(other)))
+
+
+def server_failures(program, made, seed, rounds):
+    """For each test of a kind of server, None or what is wrong. Without a server a line says so."""
+    with tempfile.TemporaryDirectory() as name:
+        try:
+            kind = made(Path(name))
+            return [wrong and f"{kind.name}: {wrong}" for wrong in followed(program, kind, Path(name), seed, rounds)]
+        except LeftOut as reason:
+            print(f"{reason}: no log of it is followed")
+            return []
+
+
+def main():
+    parser = argparse.ArgumentParser(description="Follows the logs of servers under load.")
+    programs.add_flags(parser)
+    parser.add_argument("--seed", type=int, default=1)
+    parser.add_argument("--rounds", type=int, default=2)
+    arguments = programs.parsed(parser, "binlog")
+    (program,) = arguments.build.command("binlog")
+    with ThreadPoolExecutor() as pool:
+        tests = [pool.submit(server_failures, program, made, arguments.seed, arguments.rounds) for made in (Maria, Mysql)]
+        return results.report(chain.from_iterable(test.result() for test in tests))
+
+
+if __name__ == "__main__":
+    sys.exit(main())
