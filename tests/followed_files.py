@@ -19,7 +19,7 @@ import tempfile
 import threading
 import time
 from concurrent.futures import ThreadPoolExecutor
-from itertools import chain
+from itertools import accumulate, chain
 from pathlib import Path
 from random import Random
 
@@ -38,6 +38,8 @@ PROCESSES_AT_A_TIME = 12
 # How long a line may take, and how long nothing may come where nothing is wanted, in seconds.
 PATIENCE, QUIET = 30, 0.7
 MODELS = {"list": listing_model, "json": json_model}
+# More events than have lines before a run is killed.
+EVENTS_TO_KILL = 400_000
 
 ARTIFICIAL = 0x20
 STOP = samples.frame(3, b"")
@@ -69,6 +71,13 @@ BEGIN = samples.frame(samples.QUERY, samples.query_body(b"shop", b"BEGIN"))
 
 def log(*events):
     return encoded_logs.FILE_HEADER + b"".join(events)
+
+
+def placed(content):
+    """A log without checksums whose events state where they end."""
+    frames, _ = listing_model.split(content[len(encoded_logs.FILE_HEADER) :])
+    ends = accumulate(map(len, frames), initial=len(encoded_logs.FILE_HEADER))
+    return log(*(frame[:13] + end.to_bytes(4, "little") + frame[17:] for frame, end in zip(frames, list(ends)[1:])))
 
 
 class Followed:
@@ -336,7 +345,7 @@ def filters(program, folder):
 
 def compact_rows(program, folder):
     """A line of a row has the name of its file."""
-    rows, _ = row_lines.sample()
+    rows = placed(row_lines.sample()[0])
     contents = {"log.000001": rows + rotate(b"log.000002"), "log.000002": rows + STOP, "log.000003": rows}
     for name, content in contents.items():
         (folder / name).write_bytes(content)
@@ -468,7 +477,7 @@ def killed_runs(command):
 
 def killed_at_once(program, folder):
     """Runs that are killed while they write their first lines, into one file and then into another one: each line is there once."""
-    content = log(PLAIN, *[XID] * 40_000)
+    content = log(PLAIN, *[XID] * EVENTS_TO_KILL)
     (folder / "log.000001").write_bytes(content)
     wanted = lines_of(content)
     for output in ("lines", "others"):
@@ -486,7 +495,7 @@ def killed_at_once(program, folder):
         run.wait()
         yield None if is_written and (folder / output).read_bytes() == wanted else f"other lines in {output}"
         # The other file has the lines from the middle on.
-        content = log(PLAIN, *[XID] * 80_000)
+        content = log(PLAIN, *[XID] * 2 * EVENTS_TO_KILL)
         wanted = lines_of(content)[len(wanted) :]
         (folder / "log.000001").write_bytes(content)
 

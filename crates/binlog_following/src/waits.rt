@@ -15,6 +15,9 @@ const LOOKS: u64 = 200;
 /// How many looks there are in a second.
 const LOOKS_A_SECOND: u64 = 20;
 
+/// The time before a file with a fault is read again, in milliseconds.
+const DOUBT: u64 = 1_000;
+
 /// What is missing, where it is waited for.
 #[derive(Clone, Copy, Debug, PartialEq, Eq)]
 pub(crate) enum Missing {
@@ -86,4 +89,9 @@ impl Waits {
             }
         }
     }
+}
+
+/// Waits until bytes of a file are there that were written behind later ones.
+pub(crate) fn wait_for_order<R: Clock>(rt: &R) {
+    thread::sleep(rt, Duration::from_millis(DOUBT));
 }
