@@ -9,7 +9,7 @@ import maria_daemon
 import mysql_daemon
 from maria_daemon import is_within
 
-SECONDS_TO_MIRROR, SECONDS_TO_SETTLE = 60, 1
+SECONDS_TO_MIRROR, SECONDS_TO_SETTLE = 60, 2
 # An id that no server has: of two connections with one id a server ends the older one.
 ID = 4711
 # In each file, the byte of the description's flags that says whether a server has the file open.

@@ -34,6 +34,7 @@ from row_lines import DELETE, UPDATE, WRITE
 FIRST, SECOND = "log.000001", "log.000002"
 # How long nothing may come where nothing is wanted, and between two pieces of a file, in seconds.
 QUIET, PIECE = 0.3, 0.01
+BYTES_BETWEEN_CUTS = 11
 OTHER_LOG = rb"binlog: log\.000001: behind byte %d: the file has another log[^\n]*\n"
 
 
@@ -79,6 +80,10 @@ class Files:
         second = made("26 22:05:01", 42)
         second.transaction("27 03:12:09", 43, changes(ORDERS, DELETE, (2, text)))
         self.first, self.second = first.content, second.content
+
+    def whole(self, cut):
+        """Up to where there are whole transactions, of so many bytes behind the first one."""
+        return self.front if cut < self.next else self.next
 
     def lines(self, length=None):
         """The lines of the first file up to this length, or of both files."""
@@ -159,7 +164,7 @@ def written(path, content, mode="wb"):
 
 def cut_at(files, cut, program, folder):
     """The first file is cut at this byte, the second one is there. The run is killed, and begun again when the file is whole."""
-    whole = files.front if cut < files.next else files.next
+    whole = files.whole(cut)
     written(folder / FIRST, files.first[:cut])
     written(folder / SECOND, files.second)
     with Run(program, folder) as run:
@@ -300,6 +305,19 @@ def preallocated(files, program, folder):
             yield run.wrong(files.lines())
 
 
+def late_bytes(files, cut, program, folder):
+    """Zeros are behind this byte, up to the end of the file, for a moment: where two mirrors write one file, bytes may come before those in
+    front of them."""
+    written(folder / FIRST, files.first[:cut] + bytes(len(files.first) - cut))
+    written(folder / SECOND, files.second)
+    with Run(program, folder) as run:
+        yield comes_to(folder, files.whole(cut))
+        with open(folder / FIRST, "r+b", buffering=0) as file:
+            file.seek(cut)
+            file.write(files.first[cut:])
+        yield wrong_lines(folder, files.lines()) or run.wrong_end()
+
+
 def events_from(content, place):
     while place < len(content):
         event = content[place : place + int.from_bytes(content[place + 9 : place + 13], "little")]
@@ -322,6 +340,8 @@ def scenes(files, other):
         yield named(scene, files, other)
     for cut in range(files.front, len(files.first)):
         yield named(cut_at, files, cut)
+    for cut in range(files.front, len(files.first), BYTES_BETWEEN_CUTS):
+        yield named(late_bytes, files, cut)
     for cut in (0, 3, 4, 5, 100, files.front - 1, files.front, files.front + 1, files.next):
         yield named(made_again_to, files, cut)
 
