@@ -22,7 +22,7 @@ from pathlib import Path
 from arguments import arguments
 from make_binlogs import TABLE_MAP, XID, event
 from make_row_logs import MARIA_GTID, maria_start
-from measure_undo import STMT_END, WRITE_ROWS_V1, make_row_log, print_table
+from measure_undo import STMT_END, WRITE_ROWS_V1, make_row_log, print_table, start
 
 HERE = Path(__file__).resolve().parent
 COUNTS = {1: 200, 10_000: 50}
@@ -60,7 +60,7 @@ def new_state(folder):
 def latencies(program, folder, count, has_state):
     """The seconds between the write of each transaction and its last line."""
     log, found = folder / "following.000001", []
-    log.write_bytes(maria_start())
+    log.write_bytes(start(maria_start(), has_checksums=False))
     run = following(program, log, new_state(folder) if has_state else None)
     chance = random.Random("following")
     try:
@@ -110,9 +110,9 @@ def rest_row(program, log, name, state):
     run = following(program, log, state)
     reader = subprocess.Popen(["cat"], stdin=run.stdout, stdout=subprocess.DEVNULL)
     settle(run)
-    before, start = processor_seconds(run), time.monotonic()
+    before, begin = processor_seconds(run), time.monotonic()
     time.sleep(SECONDS_OF_REST)
-    share = (processor_seconds(run) - before) / (time.monotonic() - start)
+    share = (processor_seconds(run) - before) / (time.monotonic() - begin)
     run.kill()
     run.wait()
     reader.wait()
