@@ -563,7 +563,10 @@ def mirrored(program, folder):
                 time.sleep(0.3)
             for session in sessions:
                 server.finish(session)
-            yield None if mirror.is_whole() else "the mirror lacks bytes"
+            yield None if mirror.is_whole() else "the mirror's files aren't the server's"
+            # The server writes BINLOG_CHECKPOINT events behind others.
+            server.stop()
+            mirror.running.wait()
             contents = [log.read_bytes() for log in mirror.logs()]
             yield None if len(contents) > ROTATIONS else f"only {len(contents)} files"
             for command, run in runs.items():

@@ -20,7 +20,6 @@ failed`; the exit status is 1 if something failed.
 
 import argparse
 import json
-import os
 import random
 import re
 import shutil
@@ -38,14 +37,12 @@ import compact_model
 import listing_model
 import programs
 import results
+from follower import PATIENCE, WAITING, Follower
 from maria_daemon import LeftOut, is_within
 from mirrors import Maria, Mirror, Mysql, bytes_of
 
 OPTIONS = ["--binlog-row-metadata=FULL", "--max-binlog-size=65536", "--innodb-lock-wait-timeout=1", "--lock-wait-timeout=2"]
-PATIENCE = 60
 TRANSACTIONS_OF_A_ROUND = 60
-# What is said where something is missing for ten seconds.
-WAITING = rb"(binlog: [^:\n]*: (the (next file|file|rest of a transaction) isn't there( yet)?|the file is shorter than [^\n]*)\n)*"
 
 
 # ---- the load
@@ -114,53 +111,6 @@ class Client:
 
 
 # ---- what is followed
-
-
-class Follower:
-    """Runs of `binlog json --compact --follow --state` in a folder of log files. Their lines go to one file."""
-
-    def __init__(self, program, logs, folder):
-        folder.mkdir()
-        self.program, self.logs = program, logs
-        self.lines, self.messages, self.states = folder / "lines", folder / "messages", folder
-        self.running, self.first, self.wrong = None, None, []
-
-    def __enter__(self):
-        return self
-
-    def __exit__(self, *raised):
-        self.kill()
-
-    def begin(self, first=None):
-        """Begins with a file, or goes on by its state."""
-        self.first = first or self.first
-        words = [self.program, "json", "--compact", "--follow", "--state", self.states / f"state-{self.first}", self.first]
-        with open(self.lines, "ab") as lines, open(self.messages, "ab") as messages:
-            self.running = subprocess.Popen(words, cwd=self.logs, stdin=subprocess.DEVNULL, stdout=lines, stderr=messages)
-
-    def kill(self):
-        if self.running is None:
-            return
-        if self.running.poll() is not None:
-            self.wrong.append(f"it ended by itself with status {self.running.returncode}")
-        self.running.kill()
-        self.running.wait()
-        self.running = None
-
-    def wrong_lines(self, wanted):
-        """None if these come to be the lines, else what is wrong."""
-        if is_within(PATIENCE, lambda: self.lines.stat().st_size >= len(wanted)) and self.lines.read_bytes() == wanted:
-            return None
-        return f"other lines: {difference(self.lines.read_bytes(), wanted)}; it said {self.messages.read_bytes()[-300:]!r}"
-
-
-def difference(found, wanted):
-    pairs = zip(found.splitlines(True), wanted.splitlines(True))
-    for place, (line, wanted_line) in enumerate(pairs):
-        if line != wanted_line:
-            return f"line {place} is {line[:200]!r}, not {wanted_line[:200]!r}"
-    return f"{len(found)} bytes, not {len(wanted)}"
-
 
 def whole_length(content):
     """The length of a log up to the end of its last whole transaction, or of an event that is in none."""
@@ -252,10 +202,6 @@ class Scene:
     def __init__(self, kind, server, mirror, follower, chance):
         self.kind, self.server, self.mirror, self.follower, self.chance = kind, server, mirror, follower, chance
         self.clients = [Client(random.Random(chance.random()), number) for number in (1, 2)]
-        self.rounds = 0
-
-    def run(self, statements):
-        self.server.run(statements.encode())
 
     @contextmanager
     def load(self, count=TRANSACTIONS_OF_A_ROUND):
@@ -292,13 +238,13 @@ class Scene:
             self.mirror.kill()
             self.mirror.begin()
         elif way < 0.75:
-            self.run("flush binary logs;")
+            self.server.run(b"flush binary logs;")
 
     def wrong_lines(self):
         """None if the follower comes to have all lines of the mirror's files."""
         if not self.mirror.is_whole():
-            return "the mirror lacks bytes"
-        return self.mirror.other_bytes() or self.follower.wrong_lines(lines_of_all(self.mirror.logs()))
+            return "the mirror's files aren't the server's"
+        return self.follower.wrong_lines(lines_of_all(self.mirror.logs()))
 
     def shut_down(self):
         self.server.stop()
@@ -313,7 +259,7 @@ class Scene:
             crashed = self.server.logs()[-1].name
         self.server.restart()
         if not self.mirror.is_whole():
-            return "the mirror lacks bytes behind a crash"
+            return "the mirror's files aren't the server's behind a crash"
         logs = self.mirror.logs()
         behind = next(place for place, log in enumerate(logs) if log.name > crashed)
         wrong = self.follower.wrong_lines(lines_of_all(logs[:behind]))
@@ -332,9 +278,8 @@ def followed(program, kind, folder, seed, rounds):
             yield None if mirror.has_begun() else "no mirror"
             follower.begin(mirror.logs()[0].name)
             yield from load_failures(scene, rounds)
-            yield from (None, *follower.wrong)
-            said = follower.messages.read_bytes()
-            yield None if re.fullmatch(WAITING, said) else f"it said {said[-500:]!r}"
+            yield from (None, *follower.wrong_ends)
+            yield None if re.fullmatch(WAITING, follower.said()) else f"it said {follower.said()[-500:]!r}"
         try:
             with small_disk(folder / "disk") as disk:
                 yield from full_disk_failures(program, kind, server, folder, disk)
@@ -358,7 +303,6 @@ def load_failures(scene, rounds):
 # ---- a full disk
 
 SIZE_OF_DISK, ROOM = 1 << 20, 8192
-SECONDS_OF_A_FULL_DISK = 1
 ROW = "insert into shop.orders (id, name, note) values ({}, 'on a full disk', repeat('y', {}));\n"
 
 
@@ -394,47 +338,42 @@ def full_disk_failures(program, kind, server, folder, disk):
     """A mirror that has no room for a while: for each test of what follows it, None or what is wrong."""
     server.run(b"set global max_binlog_size = 1073741824; flush binary logs;")
     (*_, source) = server.logs()
-    with Mirror(kind, server, disk / "mirror", source.name) as mirror, Follower(program, mirror.folder, folder / "full") as follower:
-        mirrored = mirror.folder / source.name
+    with Mirror(kind, server, disk / "mirror", source.name) as mirror, Follower(program, mirror.folder, folder / "full", "--sync") as follower:
         yield None if mirror.has_begun() else "no mirror on a small disk"
         follower.begin(source.name)
         fill(disk / "filler")
         server.run(rows(10_000_000, 60))
-        is_full = is_within(PATIENCE, lambda: os.statvfs(disk).f_bavail == 0)
-        is_ended = mirror.running.poll() is not None
-        time.sleep(SECONDS_OF_A_FULL_DISK)
+        has_tried = is_within(PATIENCE, lambda: mirror.has_ended() or mirror.writes() >= number_of_events(source))
+        yield None if has_tried and not mirror.has_ended() else "the mirror hasn't tried to write all events"
         (disk / "filler").unlink()
         server.run(rows(20_000_000, 30))
-        yield None if is_full and not is_ended else "the disk isn't full, or the mirror has ended"
-        yield from missing_bytes_failures(follower, source, mirrored)
-        yield mended_failure(mirror, follower, source)
+        yield from missing_bytes_failures(follower, source, mirror.folder / source.name)
+        mirror.kill()
+        mirror.begin()
+        yield None if mirror.is_whole() else "the mirror's file isn't the server's"
+        follower.begin()
+        yield follower.wrong_lines(lines_of(source.name, source.read_bytes()))
 
 
 def missing_bytes_failures(follower, source, mirrored):
-    """What is printed of a file that lacks bytes in the middle, and where it ends."""
+    """What is printed of a file that lacks bytes in the middle, and how it ends."""
     try:
-        status = follower.running.wait(PATIENCE)
+        status = follower.process.wait(PATIENCE)
     except subprocess.TimeoutExpired:
-        status = None
-    follower.running = None
+        yield "missing bytes aren't found"
+        return
+    follower.process = None
     content = source.read_bytes()
     whole = whole_length(content[: common_length(bytes_of(source), bytes_of(mirrored))])
-    wanted = lines_of(source.name, content[:whole])
-    said = follower.messages.read_bytes()
     pattern = WAITING + rb"binlog: %s: behind byte %d: [^\n]+\n" % (re.escape(source.name.encode()), whole)
     yield None if status == listing_model.STATUS_ERRORS else f"missing bytes have the status {status}"
-    yield None if re.fullmatch(pattern, said) else f"of bytes that are missing behind byte {whole} it said {said!r}"
-    yield follower.wrong_lines(wanted)
+    yield None if re.fullmatch(pattern, follower.said()) else f"of bytes that are missing behind byte {whole} it said {follower.said()!r}"
+    yield follower.wrong_lines(lines_of(source.name, content[:whole]))
 
 
-def mended_failure(mirror, follower, source):
-    """None if a mirror that is begun again has all, and the lines go on, else what is wrong."""
-    mirror.kill()
-    mirror.begin()
-    if not mirror.is_whole():
-        return "the mirror lacks bytes"
-    follower.begin()
-    return follower.wrong_lines(lines_of(source.name, source.read_bytes()))
+def number_of_events(log):
+    frames, _ = listing_model.split(log.read_bytes()[len(listing_model.FILE_HEADER) :])
+    return len(frames)
 
 
 def common_length(one, other):

@@ -1,15 +1,16 @@
 """Servers of both kinds whose logs are mirrored, and their mirrors: programs of the servers that write the files of a running server's
 log into a folder, as they grow."""
 
+import re
 import subprocess
-import time
+from pathlib import Path
 
 import listing_model
 import maria_daemon
 import mysql_daemon
 from maria_daemon import is_within
 
-SECONDS_TO_MIRROR, SECONDS_TO_SETTLE = 60, 2
+SECONDS_TO_MIRROR = 300
 # An id that no server has: of two connections with one id a server ends the older one.
 ID = 4711
 # In each file, the byte of the description's flags that says whether a server has the file open.
@@ -106,8 +107,15 @@ class Mirror:
 
     def keep(self):
         """Begins a mirror again that has ended by itself."""
-        if self.running.poll() is not None:
+        if self.has_ended():
             self.begin()
+
+    def has_ended(self):
+        return self.running.poll() is not None
+
+    def writes(self):
+        """How often the mirror has written, or tried to."""
+        return int(re.search(r"^syscw: (\d+)$", Path(f"/proc/{self.running.pid}/io").read_text(), re.MULTILINE)[1])
 
     def kill(self):
         self.running.kill()
@@ -125,26 +133,19 @@ class Mirror:
         return is_within(SECONDS_TO_MIRROR, lambda: any(log.stat().st_size for log in self.folder.iterdir()))
 
     def is_whole(self):
-        """Whether the mirror comes to have all bytes of the server's log."""
-        return is_within(SECONDS_TO_MIRROR, self.is_settled)
+        """Whether the mirror's files come to be the server's."""
+        return is_within(SECONDS_TO_MIRROR, self.has_all_bytes)
 
-    def is_settled(self):
-        """Whether the mirror has all events, and the log has stopped growing: some time behind a rotation MariaDB writes a
-        BINLOG_CHECKPOINT event."""
+    def has_all_bytes(self):
+        """Whether all files are the server's, but for the byte that says whether it has them open, and the beginning of an event that a
+        crash left at the end of a file before the last one."""
         self.keep()
-        before = sizes(self.sources())
-        if before != sizes(self.logs()):
-            return False
-        time.sleep(SECONDS_TO_SETTLE)
-        return before == sizes(self.sources()) == sizes(self.logs())
-
-    def other_bytes(self):
-        """None if all files are the server's, but for the byte that says whether it has them open; else which one isn't."""
         for log in self.sources():
-            content = bytes_of(log)[: size_of_events(log)]
-            if content != bytes_of(self.folder / log.name):
-                return f"the mirror of {log.name} has other bytes"
-        return None
+            mirrored = self.folder / log.name
+            content, found = bytes_of(log), bytes_of(mirrored) if mirrored.exists() else b""
+            if found != content and (log == self.sources()[-1] or found != content[: size_of_events(log)]):
+                return False
+        return True
 
 
 def bytes_of(log):
@@ -152,10 +153,6 @@ def bytes_of(log):
     content = bytearray(log.read_bytes())
     content[IN_USE : IN_USE + 1] = bytes(1)
     return bytes(content)
-
-
-def sizes(logs):
-    return {log.name: size_of_events(log) for log in logs}
 
 
 def size_of_events(log):

@@ -12,13 +12,13 @@ those of the model. The last line is `N passed, M failed`; the exit status is 1 
 
 import argparse
 import os
-import re
-import subprocess
 import sys
+import tempfile
 import time
 from concurrent.futures import ThreadPoolExecutor
 from functools import partial
 from itertools import chain
+from pathlib import Path
 
 import compact_model
 import encoded_events as encode
@@ -26,15 +26,17 @@ import programs
 import recipes
 import results
 import samples
-from followed_files import PATIENCE, PROCESSES_AT_A_TIME, results_of
-from maria_daemon import is_within
+from follower import Follower
 from recipes import CUSTOMERS, ORDERS, changes
 from row_lines import DELETE, UPDATE, WRITE
 
 FIRST, SECOND = "log.000001", "log.000002"
 # How long nothing may come where nothing is wanted, and between two pieces of a file, in seconds.
-QUIET, PIECE = 0.3, 0.01
-BYTES_BETWEEN_CUTS = 11
+QUIET, PIECE = 0.3, 0.005
+PROCESSES_AT_A_TIME = 12
+BYTES_BETWEEN_CUTS, BYTES_BETWEEN_KILLS = 11, 17
+# A fault ends the program if it is still there behind this time.
+SECONDS_OF_DOUBT = 1
 OTHER_LOG = rb"binlog: log\.000001: behind byte %d: the file has another log[^\n]*\n"
 
 
@@ -91,67 +93,7 @@ class Files:
         return lines if length else lines + compact_model.expected(self.second, SECOND)[0]
 
 
-# ---- runs
-
-
-class Run:
-    """A run of `binlog json --compact --follow --state` in a folder, which goes on from the one before it. Its lines go to a file."""
-
-    def __init__(self, program, folder, *words):
-        self.folder = folder
-        with open(folder / "lines", "ab") as lines:
-            words = [program, "json", "--compact", "--follow", "--state", "state", *words, FIRST]
-            self.running = subprocess.Popen(words, cwd=folder, stdout=lines, stderr=subprocess.PIPE)
-
-    def __enter__(self):
-        return self
-
-    def __exit__(self, *raised):
-        self.running.kill()
-        self.running.communicate()
-
-    def wrong(self, wanted):
-        """None if all these lines come to be there, and no more, else what is wrong."""
-        return wrong_lines(self.folder, wanted) or wrong_quiet(self.folder, wanted) or self.wrong_end()
-
-    def wrong_end(self):
-        return None if self.running.poll() is None else f"ended with {self.running.returncode}: {self.running.stderr.read()!r}"
-
-    def stopped(self, status, pattern):
-        """None if it ends by itself with this status and message, else what is wrong."""
-        try:
-            found = self.running.wait(PATIENCE)
-        except subprocess.TimeoutExpired:
-            return "it doesn't end"
-        said = self.running.stderr.read()
-        return None if found == status and re.fullmatch(pattern, said) else f"status {found}, messages {said!r}"
-
-
-def wrong_lines(folder, wanted):
-    """None if these lines come to be there, else what is there."""
-    path = folder / "lines"
-    if is_within(PATIENCE, lambda: path.stat().st_size >= len(wanted)) and path.read_bytes() == wanted:
-        return None
-    return f"the lines are {path.read_bytes()[-300:]!r}, not {wanted[-300:]!r}"
-
-
-def wrong_quiet(folder, wanted):
-    """None if no more lines come."""
-    time.sleep(QUIET)
-    found = (folder / "lines").read_bytes()
-    return None if found == wanted else f"lines that aren't wanted: {found[len(wanted):]!r}"
-
-
-def position(folder):
-    """The position in the state; None if there is no state."""
-    state = folder / "state"
-    found = re.search(r"^position (\d+)$", state.read_text(), re.MULTILINE) if state.exists() else None
-    return found and int(found[1])
-
-
-def comes_to(folder, length):
-    """None if the state comes to have this position."""
-    return None if is_within(PATIENCE, lambda: position(folder) == length) else f"the state has {position(folder)}, not {length}"
+# ---- scenes: each is given a log and a follower, whose folder of log files is empty, and yields what is wrong, or None
 
 
 def written(path, content, mode="wb"):
@@ -159,163 +101,172 @@ def written(path, content, mode="wb"):
         file.write(content)
 
 
-# ---- scenes: each is given the program and a folder, and yields what is wrong, or None
+def write_front(files, follower, length=None):
+    """Writes the first file, up to this length."""
+    written(follower.logs / FIRST, files.first[:length])
 
 
-def cut_at(files, cut, program, folder):
+def write_rest(files, follower, length):
+    """Writes the rest of the first file behind this length, and the second file."""
+    written(follower.logs / FIRST, files.first[length:], "ab")
+    written(follower.logs / SECOND, files.second)
+
+
+def cut_at(files, cut, follower):
     """The first file is cut at this byte, the second one is there. The run is killed, and begun again when the file is whole."""
-    whole = files.whole(cut)
-    written(folder / FIRST, files.first[:cut])
-    written(folder / SECOND, files.second)
-    with Run(program, folder) as run:
-        yield comes_to(folder, whole)
-        yield wrong_lines(folder, files.lines(whole)) or run.wrong_end()
-    written(folder / FIRST, files.first[cut:], "ab")
-    with Run(program, folder) as run:
-        yield wrong_lines(folder, files.lines()) or run.wrong_end()
+    write_front(files, follower, cut)
+    written(follower.logs / SECOND, files.second)
+    with follower.run(FIRST):
+        yield follower.wrong_place(FIRST, files.whole(cut))
+        yield follower.wrong_lines(files.lines(files.whole(cut))) or follower.wrong_end()
+    write_rest(files, follower, cut)
+    with follower.run():
+        yield follower.wrong_lines(files.lines()) or follower.wrong_end()
 
 
-def made_again_to(files, cut, program, folder):
+def made_again_to(files, cut, follower):
     """While no run is there the first file is made again, up to this byte. Then it becomes whole."""
-    written(folder / FIRST, files.first[: files.front])
-    with Run(program, folder):
-        yield comes_to(folder, files.front)
-    (folder / FIRST).unlink()
-    written(folder / FIRST, files.first[:cut])
-    written(folder / SECOND, files.second)
-    with Run(program, folder) as run:
-        time.sleep(QUIET)
-        yield wrong_lines(folder, files.lines(files.front))
-        written(folder / FIRST, files.first[cut:], "ab")
-        yield wrong_lines(folder, files.lines()) or run.wrong_end()
+    write_front(files, follower, files.front)
+    with follower.run(FIRST):
+        yield follower.wrong_place(FIRST, files.front)
+    (follower.logs / FIRST).unlink()
+    write_front(files, follower, cut)
+    with follower.run():
+        yield wrong_quiet(follower, files.lines(min(max(cut, files.front), files.next)))
+        write_rest(files, follower, cut)
+        yield follower.wrong_lines(files.lines()) or follower.wrong_end()
 
 
-def byte_by_byte(files, program, folder):
-    """Both files come byte by byte; the run is killed at every 17th one."""
-    for name in (FIRST, SECOND):
-        (folder / name).touch()
-    (folder / SECOND).unlink()
-    run = Run(program, folder)
+def wrong_quiet(follower, wanted):
+    """None if no lines come but these, of which the last ones may be missing yet."""
+    time.sleep(QUIET)
+    found = follower.lines.read_bytes()
+    return None if wanted.startswith(found) else f"lines that aren't wanted: {found[-300:]!r}"
+
+
+def byte_by_byte(files, follower):
+    """Both files come byte by byte; the run is killed now and then."""
+    (follower.logs / FIRST).touch()
+    follower.begin(FIRST)
     for name, content in ((FIRST, files.first), (SECOND, files.second)):
-        with open(folder / name, "ab", buffering=0) as file:
+        with open(follower.logs / name, "ab", buffering=0) as file:
             for place in range(len(content)):
                 file.write(content[place : place + 1])
                 time.sleep(PIECE)
-                if place % 17 == 16:
-                    yield run.wrong_end()
-                    run.__exit__()
-                    run = Run(program, folder)
-    with run:
-        yield run.wrong(files.lines())
+                if place % BYTES_BETWEEN_KILLS == 0:
+                    follower.kill()
+                    follower.begin()
+    yield follower.wrong_lines(files.lines())
+    yield wrong_quiet(follower, files.lines())
+    follower.kill()
+    yield from (None, *follower.wrong_ends)
 
 
-def removed(files, program, folder):
+def removed(files, follower):
     """A file is removed as soon as its ROTATE is there: the rest of it is read."""
-    written(folder / FIRST, files.first[: files.front])
-    with Run(program, folder) as run:
-        yield comes_to(folder, files.front)
-        with open(folder / FIRST, "ab", buffering=0) as file:
-            file.write(files.first[files.front :])
-            (folder / FIRST).unlink()
-        written(folder / SECOND, files.second)
-        yield run.wrong(files.lines())
+    write_front(files, follower, files.front)
+    with follower.run(FIRST):
+        yield follower.wrong_place(FIRST, files.front)
+        write_rest(files, follower, files.front)
+        (follower.logs / FIRST).unlink()
+        yield follower.wrong_lines(files.lines()) or follower.wrong_end()
 
 
-def renamed(files, program, folder):
-    """A file gets another name, and another one with the same bytes and more gets its name, in one step."""
-    written(folder / FIRST, files.first[: files.front])
-    with Run(program, folder) as run:
-        yield comes_to(folder, files.front)
-        written(folder / "draft", files.first[: files.next])
-        os.rename(folder / "draft", folder / FIRST)
-        yield run.wrong(files.lines(files.next))
-        os.rename(folder / FIRST, folder / "old")
-        written(folder / FIRST, files.first)
-        written(folder / SECOND, files.second)
-        yield run.wrong(files.lines())
+def renamed(files, follower):
+    """Another file with the same bytes and more gets the name, in one step or behind a moment in which there is none."""
+    write_front(files, follower, files.front)
+    with follower.run(FIRST):
+        yield follower.wrong_place(FIRST, files.front)
+        written(follower.logs / "draft", files.first[: files.next])
+        os.rename(follower.logs / "draft", follower.logs / FIRST)
+        yield follower.wrong_lines(files.lines(files.next))
+        os.rename(follower.logs / FIRST, follower.logs / "old")
+        write_rest(files, follower, 0)
+        yield follower.wrong_lines(files.lines()) or follower.wrong_end()
 
 
-def removed_behind(files, program, folder):
+def removed_behind(files, follower):
     """Between two runs the first file is removed, behind its ROTATE: the state has the second one, which isn't there yet."""
-    written(folder / FIRST, files.first)
-    with Run(program, folder):
-        yield None if is_within(PATIENCE, lambda: position(folder) == 0) else "the state isn't that of the second file"
-    (folder / FIRST).unlink()
-    with Run(program, folder) as run:
-        time.sleep(QUIET)
-        written(folder / SECOND, files.second[:3])
-        time.sleep(QUIET)
-        written(folder / SECOND, files.second[3:], "ab")
-        yield run.wrong(files.lines())
+    write_front(files, follower)
+    with follower.run(FIRST):
+        yield follower.wrong_place(SECOND, 0)
+    (follower.logs / FIRST).unlink()
+    with follower.run():
+        yield wrong_quiet(follower, files.lines(files.next))
+        written(follower.logs / SECOND, files.second[:3])
+        yield wrong_quiet(follower, files.lines(files.next))
+        written(follower.logs / SECOND, files.second[3:], "ab")
+        yield follower.wrong_lines(files.lines()) or follower.wrong_end()
 
 
-def made_again_at_once(files, program, folder):
-    """A file is emptied and has more bytes than before at once, without a moment in which it is shorter."""
-    written(folder / FIRST, files.first[: files.front])
-    with Run(program, folder) as run:
-        yield comes_to(folder, files.front)
-        written(folder / FIRST, files.first[: files.next])
-        yield run.wrong(files.lines(files.next))
-        written(folder / FIRST, files.first)
-        written(folder / SECOND, files.second)
-        yield run.wrong(files.lines())
+def made_again_at_once(files, follower):
+    """A file is emptied and has more bytes than before at once, perhaps without a look at which it is shorter."""
+    write_front(files, follower, files.front)
+    with follower.run(FIRST):
+        yield follower.wrong_place(FIRST, files.front)
+        write_front(files, follower, files.next)
+        yield follower.wrong_lines(files.lines(files.next))
+        write_front(files, follower)
+        written(follower.logs / SECOND, files.second)
+        yield follower.wrong_lines(files.lines()) or follower.wrong_end()
 
 
-def another_at_once(files, other, program, folder):
+def another_at_once(files, other, follower):
     """The same, with the bytes of another log whose events have the same places: nothing of it is printed."""
-    written(folder / FIRST, files.first[: files.front])
-    with Run(program, folder) as run:
-        yield comes_to(folder, files.front)
-        written(folder / FIRST, other.first)
-        yield run.stopped(1, OTHER_LOG % files.front)
-        yield wrong_quiet(folder, files.lines(files.front))
+    write_front(files, follower, files.front)
+    with follower.run(FIRST):
+        yield follower.wrong_place(FIRST, files.front)
+        write_front(other, follower)
+        yield follower.stopped(1, OTHER_LOG % files.front)
+    yield follower.wrong_lines(files.lines(files.front))
 
 
-def another_between(files, other, program, folder):
+def another_between(files, other, follower):
     """Between two runs another log comes in the place of the file, whose events have the same places."""
-    written(folder / FIRST, files.first[: files.front])
-    with Run(program, folder):
-        yield comes_to(folder, files.front)
-    state = (folder / "state").read_bytes()
-    written(folder / FIRST, other.first)
-    with Run(program, folder) as run:
-        yield run.stopped(1, OTHER_LOG % files.front)
-    yield wrong_quiet(folder, files.lines(files.front))
-    yield None if (folder / "state").read_bytes() == state else "the state is changed"
+    write_front(files, follower, files.front)
+    with follower.run(FIRST):
+        yield follower.wrong_place(FIRST, files.front)
+    state = follower.state().read_bytes()
+    write_front(other, follower)
+    with follower.run():
+        yield follower.stopped(1, OTHER_LOG % files.front)
+    yield follower.wrong_lines(files.lines(files.front))
+    yield None if follower.state().read_bytes() == state else "the state is changed"
 
 
-def preallocated(files, program, folder):
-    """A file has zeros behind its end, in which its bytes are written, at once or in pieces, and the zeros behind it go."""
-    size = len(files.first)
-    for step in (size, 200, 50):
-        for name in ("lines", "state", SECOND):
-            (folder / name).unlink(missing_ok=True)
-        written(folder / FIRST, files.first[: files.front] + bytes(size))
-        with Run(program, folder) as run:
-            yield comes_to(folder, files.front)
-            with open(folder / FIRST, "r+b", buffering=0) as file:
-                place = files.front
-                for event in events_from(files.first, place):
-                    file.seek(place)
-                    file.write(event)
-                    place += len(event)
-                    time.sleep(0 if step == size else PIECE * step / 10)
-                file.truncate(size)
-            written(folder / SECOND, files.second)
-            yield run.wrong(files.lines())
+def preallocated(files, follower):
+    """A file has zeros behind its end, in which its events are written; at last the zeros behind it go."""
+    written(follower.logs / FIRST, files.first[: files.front] + bytes(len(files.first)))
+    with follower.run(FIRST):
+        yield follower.wrong_place(FIRST, files.front)
+        with open(follower.logs / FIRST, "r+b", buffering=0) as file:
+            file.seek(files.front)
+            for event in events_from(files.first, files.front):
+                file.write(event)
+                time.sleep(PIECE * 10)
+            file.truncate()
+        written(follower.logs / SECOND, files.second)
+        yield follower.wrong_lines(files.lines()) or follower.wrong_end()
 
 
-def late_bytes(files, cut, program, folder):
+def late_bytes(files, cut, follower):
     """Zeros are behind this byte, up to the end of the file, for a moment: where two mirrors write one file, bytes may come before those in
-    front of them."""
-    written(folder / FIRST, files.first[:cut] + bytes(len(files.first) - cut))
-    written(folder / SECOND, files.second)
-    with Run(program, folder) as run:
-        yield comes_to(folder, files.whole(cut))
-        with open(folder / FIRST, "r+b", buffering=0) as file:
+    front of them. Damage that is there for a second ends the run; then it goes on by its state."""
+    written(follower.logs / FIRST, files.first[:cut] + bytes(len(files.first) - cut))
+    written(follower.logs / SECOND, files.second)
+    begin = time.monotonic()
+    with follower.run(FIRST):
+        yield follower.wrong_place(FIRST, files.whole(cut))
+        with open(follower.logs / FIRST, "r+b", buffering=0) as file:
             file.seek(cut)
             file.write(files.first[cut:])
-        yield wrong_lines(folder, files.lines()) or run.wrong_end()
+        is_late = time.monotonic() - begin > SECONDS_OF_DOUBT
+        wrong = follower.wrong_lines(files.lines())
+        if not (wrong and is_late):
+            yield wrong or follower.wrong_end()
+            return
+    with follower.run():
+        yield follower.wrong_lines(files.lines()) or follower.wrong_end()
 
 
 def events_from(content, place):
@@ -325,16 +276,8 @@ def events_from(content, place):
         place += len(event)
 
 
-def synced(files, program, folder):
-    """With --sync the same lines come."""
-    written(folder / FIRST, files.first)
-    written(folder / SECOND, files.second)
-    with Run(program, folder, "--sync") as run:
-        yield run.wrong(files.lines())
-
-
 def scenes(files, other):
-    for scene in (byte_by_byte, removed, renamed, removed_behind, made_again_at_once, preallocated, synced):
+    for scene in (byte_by_byte, removed, renamed, removed_behind, made_again_at_once, preallocated):
         yield named(scene, files)
     for scene in (another_at_once, another_between):
         yield named(scene, files, other)
@@ -356,6 +299,12 @@ def all_scenes():
     for made in (MysqlLog, MariaLog):
         # The events of both logs have the same places.
         yield from scenes(Files(made, b"cocoa"), Files(made, b"spice"))
+
+
+def results_of(program, scene):
+    """For each test of a scene, None or what is wrong."""
+    with tempfile.TemporaryDirectory() as name, Follower(program, Path(name), Path(name) / "runs") as follower:
+        return [wrong and f"{scene.__name__}: {wrong}" for wrong in scene(follower)]
 
 
 def main():
