@@ -13,6 +13,7 @@ status is 1 if something failed.
 import argparse
 import queue
 import re
+import signal
 import subprocess
 import sys
 import tempfile
@@ -39,8 +40,6 @@ PROCESSES_AT_A_TIME = 12
 # How long a line may take, and how long nothing may come where nothing is wanted, in seconds.
 PATIENCE, QUIET = 30, 0.7
 MODELS = {"list": listing_model, "json": json_model}
-# More events than have lines before a run is killed.
-EVENTS_TO_KILL = 400_000
 
 ARTIFICIAL = 0x20
 STOP = samples.frame(3, b"")
@@ -75,10 +74,12 @@ def log(*events):
 
 
 def placed(content):
-    """A log without checksums whose events state where they end."""
+    """A log whose events state where they end; of these, only the description has a checksum."""
     frames, _ = listing_model.split(content[len(encoded_logs.FILE_HEADER) :])
     ends = accumulate(map(len, frames), initial=len(encoded_logs.FILE_HEADER))
-    return log(*(frame[:13] + end.to_bytes(4, "little") + frame[17:] for frame, end in zip(frames, list(ends)[1:])))
+    description, *others = (frame[:13] + end.to_bytes(4, "little") + frame[17:] for frame, end in zip(frames, list(ends)[1:]))
+    front = description[: -samples.CHECKSUM_LENGTH]
+    return log(front + samples.crc32(front), *others)
 
 
 class Followed:
@@ -433,11 +434,12 @@ def zeros(program, folder):
 # ---- states
 
 
-def with_state(program, folder, output, *words, command="json"):
-    """A run with the state file `state`, whose lines are appended to a file."""
+def with_state(program, folder, output, *words, command="json", limit=None):
+    """A run with the state file `state`, whose lines are appended to a file. With a limit it is killed where the file would be longer."""
+    limited = () if limit is None else ("prlimit", f"--fsize={limit}", "--core=0")
     with open(folder / output, "ab") as lines:
         return subprocess.Popen(
-            [program, command, "--follow", "--state", "state", *words], cwd=folder, stdout=lines, stderr=subprocess.PIPE
+            [*limited, program, command, "--follow", "--state", "state", *words], cwd=folder, stdout=lines, stderr=subprocess.PIPE
         )
 
 
@@ -478,17 +480,14 @@ def killed_runs(command):
 
 def killed_at_once(program, folder):
     """Runs that are killed while they write their first lines, into one file and then into another one: each line is there once."""
-    content = log(PLAIN, *[XID] * EVENTS_TO_KILL)
+    content = log(PLAIN, *[XID] * 20_000)
     (folder / "log.000001").write_bytes(content)
     wanted = lines_of(content)
     for output in ("lines", "others"):
-        for part in (1, 100_000):
-            run = with_state(program, folder, output, "log.000001", command="list")
-            yield None if is_within(PATIENCE, lambda: (folder / output).stat().st_size >= part) else "no lines"
-            run.kill()
-            run.wait()
-        written = (folder / output).read_bytes()
-        yield None if len(written) < len(wanted) and wanted.startswith(written) else f"all lines before a kill, or other ones: {len(written)}"
+        for limit in (1_000, 100_000):
+            run = with_state(program, folder, output, "log.000001", command="list", limit=limit)
+            yield None if run.wait(PATIENCE) == -signal.SIGXFSZ else "it isn't killed"
+            yield None if (folder / output).read_bytes() == wanted[:limit] else f"other lines before a kill at {limit} bytes"
         run = with_state(program, folder, output, "log.000001", command="list")
         is_written = is_within(PATIENCE, lambda: (folder / output).stat().st_size >= len(wanted))
         time.sleep(QUIET)
@@ -496,7 +495,7 @@ def killed_at_once(program, folder):
         run.wait()
         yield None if is_written and (folder / output).read_bytes() == wanted else f"other lines in {output}"
         # The other file has the lines from the middle on.
-        content = log(PLAIN, *[XID] * 2 * EVENTS_TO_KILL)
+        content = log(PLAIN, *[XID] * 40_000)
         wanted = lines_of(content)[len(wanted) :]
         (folder / "log.000001").write_bytes(content)
 

@@ -33,7 +33,7 @@ use inputs::HostInputs;
 use request::{Request, Terminals};
 use std::env::Env;
 use std::fs::File;
-use std::io::IsTerminal;
+use std::io::{IsTerminal, Write};
 use std::process::ExitCode;
 use std::rt::Files;
 use std::time::Clock;
@@ -108,17 +108,10 @@ fn run_command<'a, R: Files<File = File> + Clock + Input + Print + Eprint + Allo
     ensures other { IsNoCommand name.now → result ≡ Usage }
 {
     let request = Request::new(name, matches, terminals);
-    let state = match state_of(rt, &request) {
-        Ok(state) => state,
-        Err(status) => return status,
-    };
-    let (inputs, output) = (HostInputs::new(rt, state), io::writer(rt));
+    let (inputs, output) = (HostInputs::new(rt, None), io::writer(rt));
     match name {
-        "list" => status_of(commands::list(rt, &inputs, &request, output)),
-        "json" if request.is_compact => {
-            status_of(changes::changes(rt, &inputs, &request, output))
-        }
-        "json" => status_of(commands::json(rt, &inputs, &request, output)),
+        "list" => run_lines(rt, name, &request, output),
+        "json" => run_lines(rt, name, &request, output),
         "gtids" => status_of(gtids::gtids(rt, &inputs, &request, output)),
         "verify" => status_of(verifying::verify(rt, &inputs, &request, output)),
         "stats" => status_of(statistics::stats(rt, &inputs, &request, output)),
@@ -127,6 +120,27 @@ fn run_command<'a, R: Files<File = File> + Clock + Input + Print + Eprint + Allo
         },
         "undo" => run_undo(rt, matches, output),
         _ => Status::Usage,
+    }
+}
+
+// Runs `list` or `json`, which may follow a log and go on where a state says.
+fn run_lines<'a, R: Files<File = File> + Clock + Input + Eprint + AllocGlobal, W: Write + Drop>(
+    rt: &'a R,
+    name: &str,
+    request: &Request<'_, 'a>,
+    output: W,
+) -> Status {
+    let state = match state_of(rt, request) {
+        Ok(state) => state,
+        Err(status) => return status,
+    };
+    let inputs = HostInputs::new(rt, state);
+    if name == "list" {
+        status_of(commands::list(rt, &inputs, request, output))
+    } else if request.is_compact {
+        status_of(changes::changes(rt, &inputs, request, output))
+    } else {
+        status_of(commands::json(rt, &inputs, request, output))
     }
 }
 

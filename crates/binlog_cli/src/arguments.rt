@@ -164,7 +164,7 @@ fn with_state<'a>(alloc: Global, command: Command<'a>) -> Result<Command<'a>, Al
     command
         .arg(
             text(alloc, "state").value_name("STATE").help(
-                "With --follow: the file that has where to go on, behind the lines that are written",
+                "With --follow: goes on where the file STATE says, and keeps there how far it is",
             ),
         )?
         .arg(
