@@ -6,7 +6,7 @@ Usage: live_servers.py [--seed N] [--rounds N] FLAG
 FLAG is one of `programs.py`. A server, of MariaDB and of MySQL, has a random load: two clients with transactions that are committed or rolled
 back, and with definitions of tables. Its log rotates by its size and by FLUSH BINARY LOGS. A mirror writes the log's files into a
 folder, and `binlog json --compact --follow --state` follows them into one file of lines. Both are killed at random moments and begun again; the
-server is shut down, and killed, and started again. N rounds of load (2 if not given) are in front of each of these and behind them. Then a
+server is shut down, and killed, and started again. N rounds of load (1 if not given) are in front of each of these and behind them. Then a
 test each: that the mirror's files are the server's; that the lines are those of the model, each once; that each row that is changed or
 deleted is the one that was there; that each table has the rows that the server selects; and that nothing was said but what was waited for.
 
@@ -42,7 +42,7 @@ from maria_daemon import LeftOut, is_within
 from mirrors import Maria, Mirror, Mysql, bytes_of
 
 OPTIONS = ["--binlog-row-metadata=FULL", "--max-binlog-size=65536", "--innodb-lock-wait-timeout=1", "--lock-wait-timeout=2"]
-TRANSACTIONS_OF_A_ROUND = 60
+TRANSACTIONS_OF_A_ROUND = 80
 
 
 # ---- the load
@@ -397,7 +397,7 @@ def main():
     parser = argparse.ArgumentParser(description="Follows the logs of servers under load.")
     programs.add_flags(parser)
     parser.add_argument("--seed", type=int, default=1)
-    parser.add_argument("--rounds", type=int, default=2)
+    parser.add_argument("--rounds", type=int, default=1)
     arguments = programs.parsed(parser, "binlog")
     (program,) = arguments.build.command("binlog")
     with ThreadPoolExecutor() as pool:

@@ -2,12 +2,12 @@
 """Follows files that are cut, rotated, removed, made again and preallocated at the worst moments, with kills in between: each line of a
 whole transaction is printed once.
 
-Usage: raced_files.py FLAG
+Usage: raced_files.py [--every N] FLAG
 
 FLAG is one of `programs.py`: it says which `binlog` is run. The files have transactions of rows as MySQL and as MariaDB write them, with
-checksums, and are written by hand. A transaction and the ROTATE behind it are cut at each byte, and the run is killed there; its files are
-removed, renamed, emptied and written again, with the same bytes and with other ones, while it runs and while it doesn't. The lines are
-those of the model. The last line is `N passed, M failed`; the exit status is 1 if something failed.
+checksums, and are written by hand. A transaction and the ROTATE behind it are cut at each byte, or at one in N, and the run is killed there;
+its files are removed, renamed, emptied and written again, with the same bytes and with other ones, while it runs and while it doesn't. The lines
+are those of the model. The last line is `N passed, M failed`; the exit status is 1 if something failed.
 """
 
 import argparse
@@ -276,14 +276,14 @@ def events_from(content, place):
         place += len(event)
 
 
-def scenes(files, other):
+def scenes(files, other, step):
     for scene in (byte_by_byte, removed, renamed, removed_behind, made_again_at_once, preallocated):
         yield named(scene, files)
     for scene in (another_at_once, another_between):
         yield named(scene, files, other)
-    for cut in range(files.front, len(files.first)):
+    for cut in range(files.front, len(files.first), step):
         yield named(cut_at, files, cut)
-    for cut in range(files.front, len(files.first), BYTES_BETWEEN_CUTS):
+    for cut in range(files.front, len(files.first), BYTES_BETWEEN_CUTS * step):
         yield named(late_bytes, files, cut)
     for cut in (0, 3, 4, 5, 100, files.front - 1, files.front, files.front + 1, files.next):
         yield named(made_again_to, files, cut)
@@ -295,10 +295,10 @@ def named(scene, files, behind=None):
     return made
 
 
-def all_scenes():
+def all_scenes(step):
     for made in (MysqlLog, MariaLog):
         # The events of both logs have the same places.
-        yield from scenes(Files(made, b"cocoa"), Files(made, b"spice"))
+        yield from scenes(Files(made, b"cocoa"), Files(made, b"spice"), step)
 
 
 def results_of(program, scene):
@@ -310,9 +310,11 @@ def results_of(program, scene):
 def main():
     parser = argparse.ArgumentParser(description="Follows files that are cut, removed and made again.")
     programs.add_flags(parser)
-    (program,) = programs.parsed(parser, "binlog").build.command("binlog")
+    parser.add_argument("--every", type=int, default=1, metavar="N", help="one cut in so many")
+    arguments = programs.parsed(parser, "binlog")
+    (program,) = arguments.build.command("binlog")
     with ThreadPoolExecutor(PROCESSES_AT_A_TIME) as pool:
-        return results.report(chain.from_iterable(pool.map(lambda scene: results_of(program, scene), all_scenes())))
+        return results.report(chain.from_iterable(pool.map(partial(results_of, program), all_scenes(arguments.every))))
 
 
 if __name__ == "__main__":
