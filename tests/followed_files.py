@@ -38,7 +38,9 @@ from mirrors import Maria, Mirror
 
 PROCESSES_AT_A_TIME = 12
 # How long a line may take, and how long nothing may come where nothing is wanted, in seconds.
-PATIENCE, QUIET = 30, 0.7
+PATIENCE, QUIET = 60, 0.7
+# How long it takes a run that waits for its turn to look at a file, in seconds.
+LOOK = 2
 MODELS = {"list": listing_model, "json": json_model}
 
 ARTIFICIAL = 0x20
@@ -273,7 +275,7 @@ def late(program, folder):
     yield run.wrong_lines(lines_of(first))
     yield None if not run.messages else f"messages {run.messages!r}"
     message = rb"binlog: log\.000002: .*isn't there yet\n"
-    yield run.message(message, 20)
+    yield run.message(message, PATIENCE)
     (folder / "log.000002").write_bytes(second[:3])
     yield run.wrong_quiet()
     (folder / "log.000002").write_bytes(second[:30])
@@ -368,7 +370,7 @@ def transactions(program, folder):
             file.write(whole[place : place + 1])
             time.sleep(0.02)
         yield run.wrong_quiet()
-        yield run.message(rb"binlog: log\.000001: the rest of a transaction isn't there yet\n", 20)
+        yield run.message(rb"binlog: log\.000001: the rest of a transaction isn't there yet\n", PATIENCE)
         file.write(whole[-1:])
     yield run.wrong_lines(lines_of(front + whole)[len(lines_of(front)) :])
     run.end()
@@ -394,7 +396,7 @@ def begun_again(program, folder):
         yield run.wrong_lines(lines_of(front)[len(lines_of(front[: -len(rest)])) :])
     yield None if not run.messages else f"messages {run.messages!r}"
     (folder / "log.000001").unlink()
-    yield run.message(rb"binlog: log\.000001: the file isn't there\n", 20)
+    yield run.message(rb"binlog: log\.000001: the file isn't there\n", PATIENCE)
     (folder / "log.000001").write_bytes(front + rest)
     yield run.wrong_lines(lines_of(front + rest)[len(lines_of(front)) :])
     run.end()
@@ -411,7 +413,7 @@ def other_log(program, folder):
             (folder / "log.000001").unlink()
         else:
             (folder / "log.000001").write_bytes(b"")
-            time.sleep(0.5)
+            time.sleep(LOOK)
         (folder / "log.000001").write_bytes(second)
         yield run.ended(1, rb"binlog: log\.000001: behind byte %d: the file has another log[^\n]*\n" % len(first))
         yield None if run.lines.empty() else "a line of another log"
@@ -429,6 +431,77 @@ def zeros(program, folder):
             file.write(SEALED_XID + bytes(max(0, count - len(SEALED_XID))))
         yield run.wrong_lines(lines_of(front + SEALED_XID)[len(lines_of(front)) :])
         run.end()
+
+
+# ---- lists of GTIDs, where a file ends with neither a ROTATE nor a STOP
+
+
+def maria_file(known, *numbers):
+    """A file of MariaDB's: a list with the last number of domain 0 and server 7, and transactions with these numbers."""
+    transactions = (samples.maria_gtid(0, 7, number, flags=0) + XID for number in numbers)
+    return log(samples.maria_start(), samples.maria_gtid_list((0, 7, known)), *transactions)
+
+
+def mysql_file(known, *numbers, type_number=samples.GTID):
+    """A file of MySQL's: a set of the numbers up to this one, and transactions with these; anonymous ones for type 34."""
+    before = samples.previous((samples.SOURCE, [(1, known + 1)])) if known else samples.previous()
+    transactions = (samples.gtid(number, type_number=type_number) + BEGIN + XID for number in numbers)
+    return log(samples.description(samples.MYSQL, algorithm=samples.OFF), before, *transactions)
+
+
+def crashes(program, folder):
+    """A file whose GTIDs are those in the next file's list is whole; what is behind its last transaction has no line, and one message."""
+    for first, second, rest in (
+        (maria_file(4, 5, 6), maria_file(6, 7), b""),
+        (maria_file(4, 5, 6), maria_file(6, 7), samples.maria_gtid(0, 7, 7, flags=0) + BEGIN),
+        (maria_file(4), maria_file(4, 5), samples.maria_gtid(0, 7, 5, flags=0)[:20]),
+        (mysql_file(3, 4, 5), mysql_file(5, 6), b""),
+        (mysql_file(3, 4, 5), mysql_file(5, 6), XID[:20]),
+    ):
+        (folder / "log.000001").write_bytes(first + rest)
+        (folder / "log.000002").write_bytes(second)
+        run = followed(program, folder, "log.000001")
+        yield run.wrong_lines(lines_of(first), lines_of(second))
+        run.end()
+        message = rb"binlog: log\.000001: what is behind byte %d is left out[^\n]*\n" % len(first) if rest else b""
+        yield run.message(message, 0)
+
+
+def other_lists(program, folder):
+    """A next file whose list has more, or which says nothing, is waited for with a message; a ROTATE leads on, or the transactions."""
+    anonymous = {"type_number": samples.ANONYMOUS_GTID}
+    differs, unlisted = rb"transactions that are in the next file's list", rb"the next file is there, but no list"
+    for first, second, more, message in (
+        (maria_file(4, 5), maria_file(6, 7), samples.maria_gtid(0, 7, 6, flags=0) + XID, differs),
+        (mysql_file(3, 4), mysql_file(5, 6), samples.gtid(5) + BEGIN + XID, differs),
+        (mysql_file(0, 1, **anonymous), mysql_file(0, 2, **anonymous), rotate(b"log.000002"), unlisted),
+        (mysql_file(0), mysql_file(0, 2, **anonymous), rotate(b"log.000002"), unlisted),
+        (log(PLAIN, XID), log(PLAIN, XID), STOP, unlisted),
+    ):
+        (folder / "log.000001").write_bytes(first)
+        (folder / "log.000002").write_bytes(second)
+        run = followed(program, folder, "log.000001")
+        yield run.wrong_lines(lines_of(first))
+        yield run.message(rb"binlog: log\.000001: %s[^\n]*\n" % message, PATIENCE)
+        with open(folder / "log.000001", "ab") as file:
+            file.write(more)
+        yield run.wrong_lines(lines_of(first + more)[len(lines_of(first)) :], lines_of(second))
+        run.end()
+
+
+def late_lists(program, folder):
+    """A next file without its list yet is none."""
+    first, second = maria_file(4, 5), maria_file(5, 6)
+    (folder / "log.000001").write_bytes(first)
+    run = followed(program, folder, "log.000001")
+    yield run.wrong_lines(lines_of(first))
+    for count in (2, 60, len(maria_file(5)) - 1):
+        (folder / "log.000002").write_bytes(second[:count])
+        yield run.wrong_quiet()
+    (folder / "log.000002").write_bytes(second)
+    yield run.wrong_lines(lines_of(second))
+    run.end()
+    yield None if not run.messages else f"messages {run.messages!r}"
 
 
 # ---- states
@@ -575,7 +648,7 @@ def mirrored(program, folder):
 
 
 SCENES = [mirrored, late, byte_by_byte, rotations, checksums, prefixes, stops, stays, refused, damages, several, filters, compact_rows]
-SCENES += [transactions, begun_again, other_log, zeros, killed_runs("list"), killed_runs("json"), killed_at_once, repeated, states]
+SCENES += [crashes, other_lists, late_lists, transactions, begun_again, other_log, zeros, killed_runs("list"), killed_runs("json"), killed_at_once, repeated, states]
 SCENES += [cut_at(cut) for cut in range(len(sealed(rotate(b"log.000002"))))]
 
 

@@ -4,6 +4,10 @@ use Rattle.std.specs.Global.{Global}
 use Rattle.binlog_cli.specs.Statuses.{worse}
 use Rattle.binlog_cli.specs.declared.exit_status.Status.{Status}
 use Rattle.binlog_cli.specs.declared.exit_status.Status.TheVariants.{NotOpened, Damaged, Failed}
+use Rattle.binlog_continuation.specs.declared.continuation.Continuation.{Continuation}
+use Rattle.binlog_continuation.specs.declared.continuation.Continuation.TheVariants as continuations
+use Rattle.binlog_following.specs.declared.file_behind.FileBehind.{FileBehind}
+use Rattle.binlog_following.specs.declared.file_behind.FileBehind.TheVariants as files
 use Rattle.binlog_rotation.specs.declared.error.NextFileError.{NextFileError}
 use Rattle.binlog_rotation.specs.declared.error.NextFileError.TheVariants.{Empty, Folder, InvalidByte, NotUtf8, NoNumber, Memory}
 use Rattle.binlog_rotation.specs.declared.fault.LogFault.{LogFault}
@@ -34,3 +38,9 @@ behind_whole (Err error) status = (worse status (status_of_next error), None)
 abbrev pub behind_file : Option (LogFault × ℕ) → Result (Option (String Global)) NextFileError → Status → Status × Option (String Global)
 behind_file (Some fault) next status = (worse status (status_of_fault fault.0), None)
 behind_file None next status = behind_whole next status
+
+-- What the file behind another one is, by what its list of GTIDs says of that.
+abbrev pub behind_of : Continuation → FileBehind
+behind_of continuations.Unlisted = files.Unlisted
+behind_of continuations.Differs = files.Differs
+behind_of continuations.GoesOn = files.GoesOn

@@ -1,7 +1,8 @@
 //! Where the files of a command come from.
 ghost use Rattle.std.specs.Prelude.{◌≡◌, ℕ, List, Option, None, IfOk, ⊤};
 
-use binlog_following::{FileId, LogFiles, NEW_FILE, OpenLog, StateFile, file_id};
+use crate::file_behind::file_behind;
+use binlog_following::{FileBehind, FileId, LogFiles, NEW_FILE, OpenLog, StateFile, file_id};
 use binlog_rotation::Checkpoint;
 use std::alloc::{AllocError, Global};
 use std::fs::File;
@@ -77,6 +78,10 @@ impl<'a, R: Files<File = File> + Input + AllocGlobal> LogFiles for HostInputs<'a
 
     fn named(&self, path: &str) -> Option<FileId> {
         file_id(self.rt, path)
+    }
+
+    fn behind(&self, path: &str, whole: Checkpoint) -> FileBehind {
+        file_behind(self.rt, path, whole.position)
     }
 
     fn has_state(&self) -> bool {

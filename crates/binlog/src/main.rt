@@ -11,6 +11,7 @@ mod changes;
 mod columns;
 mod commands;
 mod copying;
+mod file_behind;
 mod files;
 mod following;
 mod gtids;
