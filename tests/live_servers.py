@@ -112,6 +112,11 @@ class Client:
 
 # ---- what is followed
 
+# A GTID of MySQL's, with and without a tag, none, and one of MariaDB's.
+BEGINNINGS = (33, 42, 34, 162)
+QUERY, XID = 2, 16
+
+
 def whole_length(content):
     """The length of a log up to the end of its last whole transaction, or of an event that is in none."""
     frames, _ = listing_model.split(content[len(listing_model.FILE_HEADER) :])
@@ -125,9 +130,11 @@ def whole_length(content):
     return end
 
 
-# A GTID of MySQL's, with and without a tag, none, and one of MariaDB's.
-BEGINNINGS = (33, 42, 34, 162)
-QUERY, XID = 2, 16
+def has_transactions(log):
+    """Whether a file has a whole transaction."""
+    content = log.read_bytes()
+    frames, _ = listing_model.split(content[len(listing_model.FILE_HEADER) : whole_length(content)])
+    return any(listing_model.type_number(frame) in BEGINNINGS for frame in frames)
 
 
 def ends_transaction(kind, frame):
@@ -251,8 +258,8 @@ class Scene:
         self.server.restart()
 
     def crash(self):
-        """Kills the server under load, and starts it again. Its file then ends with neither a ROTATE nor a STOP: the follower has to
-        be begun again with the next one."""
+        """Kills the server under load, and starts it again. Its last file then ends with neither a ROTATE nor a STOP. None if it is gone on
+        behind it, else what is wrong."""
         with self.load():
             time.sleep(self.chance.uniform(0.3, 0.8))
             self.server.kill()
@@ -260,11 +267,17 @@ class Scene:
         self.server.restart()
         if not self.mirror.is_whole():
             return "the mirror's files aren't the server's behind a crash"
-        logs = self.mirror.logs()
-        behind = next(place for place, log in enumerate(logs) if log.name > crashed)
-        wrong = self.follower.wrong_lines(lines_of_all(logs[:behind]))
+        if self.kind.tells_of_none or has_transactions(self.mirror.folder / crashed):
+            goes_on = is_within(PATIENCE, lambda: self.follower.place()[0] > crashed)
+            return None if goes_on else f"it doesn't go on behind a crash: {self.follower.said()[-300:]!r}"
+        return self.begin_behind(crashed)
+
+    def begin_behind(self, crashed):
+        """Begins with the file behind one of which no list tells that it is whole. None if that was read, else what is wrong."""
+        before = [log for log in self.mirror.logs() if log.name <= crashed]
+        wrong = self.follower.wrong_lines(lines_of_all(before))
         self.follower.kill()
-        self.follower.begin(logs[behind].name)
+        self.follower.begin(self.mirror.logs()[len(before)].name)
         return wrong
 
 

@@ -21,6 +21,8 @@ class Maria:
     """MariaDB's servers and mirrors."""
 
     name = "MariaDB"
+    # Whether the list in a file tells that the file before it is whole, if that has no transaction.
+    tells_of_none = True
     options = ["--server-id=7", "--binlog-format=ROW", "--binlog-checksum=CRC32"]
 
     def __init__(self, folder):
@@ -42,6 +44,7 @@ class Mysql:
     """MySQL's servers and mirrors."""
 
     name = "MySQL"
+    tells_of_none = False
 
     def __init__(self, folder):
         self.programs, self.data = mysql_daemon.unpacked()

@@ -211,16 +211,6 @@ def made_again_at_once(files, follower):
         yield follower.wrong_lines(files.lines()) or follower.wrong_end()
 
 
-def another_at_once(files, other, follower):
-    """The same, with the bytes of another log whose events have the same places: nothing of it is printed."""
-    write_front(files, follower, files.front)
-    with follower.run(FIRST):
-        yield follower.wrong_place(FIRST, files.front)
-        write_front(other, follower)
-        yield follower.stopped(1, OTHER_LOG % files.front)
-    yield follower.wrong_lines(files.lines(files.front))
-
-
 def another_between(files, other, follower):
     """Between two runs another log comes in the place of the file, whose events have the same places."""
     write_front(files, follower, files.front)
@@ -279,8 +269,7 @@ def events_from(content, place):
 def scenes(files, other, step):
     for scene in (byte_by_byte, removed, renamed, removed_behind, made_again_at_once, preallocated):
         yield named(scene, files)
-    for scene in (another_at_once, another_between):
-        yield named(scene, files, other)
+    yield named(another_between, files, other)
     for cut in range(files.front, len(files.first), step):
         yield named(cut_at, files, cut)
     for cut in range(files.front, len(files.first), BYTES_BETWEEN_CUTS * step):
