@@ -7,8 +7,9 @@ FLAG is one of `programs.py`. A server, of MariaDB and of MySQL, has a random lo
 back, and with definitions of tables. Its log rotates by its size and by FLUSH BINARY LOGS. A mirror writes the log's files into a
 folder, and `binlog json --compact --follow --state` follows them into one file of lines. Both are killed at random moments and begun again; the
 server is shut down, and killed, and started again. N rounds of load (1 if not given) are in front of each of these and behind them. Then a
-test each: that the mirror's files are the server's; that the lines are those of the model, each once; that each row that is changed or
-deleted is the one that was there; that each table has the rows that the server selects; and that nothing was said but what was waited for.
+test each: that it goes on behind the kill of the server; that the mirror's files are the server's; that the lines are those of the model,
+each once; that each row that is changed or deleted is the one that was there; that each table has the rows that the server selects; and that
+nothing was said but what was waited for.
 
 Then a mirror on a small file system has no room for some events, and has it again for later ones: `binlog` ends with status 2 and
 the place in front of the missing bytes, and has printed what is in front of it; with the mirror begun again it goes on. Where no file system can be
@@ -245,7 +246,12 @@ class Scene:
             self.mirror.kill()
             self.mirror.begin()
         elif way < 0.75:
-            self.server.run(b"flush binary logs;")
+            self.rotate()
+
+    def rotate(self):
+        """Asks for a new file of the log."""
+        words = self.kind.client(self.server)
+        subprocess.run(words, input=b"flush binary logs;", stdout=subprocess.DEVNULL, stderr=subprocess.DEVNULL)
 
     def wrong_lines(self):
         """None if the follower comes to have all lines of the mirror's files."""
