@@ -33,7 +33,8 @@ import programs
 import results
 import row_lines
 import samples
-from maria_daemon import PRINTER, LeftOut, Server, is_within, program_in
+from maria_daemon import LeftOut, is_within
+from mirrors import Maria, Mirror
 
 PROCESSES_AT_A_TIME = 12
 # How long a line may take, and how long nothing may come where nothing is wanted, in seconds.
@@ -615,40 +616,18 @@ def states(program, folder):
 # ---- a mirror of a server's log
 
 ROTATIONS = 6
-SECONDS_TO_MIRROR, SECONDS_TO_SETTLE = 60, 3
 LOAD = b"insert into t (name) select repeat('x', 300) from three; update t set name = 'y' where id % 7 = 0;\n"
-
-
-def mirror_of(server, folder):
-    folder.mkdir()
-    words = [PRINTER, "--no-defaults", "--read-from-remote-server", "--raw", "--stop-never", "--stop-never-slave-server-id=4711"]
-    words += [f"--socket={server.socket}", "--user=root", f"--result-file={folder}/", server.logs()[0].name]
-    return subprocess.Popen(words, stdout=subprocess.DEVNULL, stderr=subprocess.DEVNULL)
-
-
-def sizes(logs):
-    return {log.name: log.stat().st_size for log in logs}
-
-
-def is_mirrored(server, folder):
-    """Whether the mirror has all bytes of the server's log, and that has stopped growing: some time behind a rotation comes a
-    BINLOG_CHECKPOINT event."""
-    before = sizes(server.logs())
-    time.sleep(SECONDS_TO_SETTLE)
-    return before == sizes(server.logs()) == sizes(folder.iterdir())
 
 
 def mirrored(program, folder):
     """The lines of a mirror's files, in order, while the server rotates under load."""
-    daemon = program_in(folder / "unpacked")
-    with Server(daemon, folder / "server", ["--server-id=7", "--binlog-format=ROW", "--binlog-checksum=CRC32"]) as server:
+    kind = Maria(folder)
+    with kind.server(folder / "server") as server:
         server.run(b"create database shop; create table shop.t (id int auto_increment primary key, name text);")
         server.run(b"create view shop.three as select 1 union all select 2 union all select 3;")
-        mirror = mirror_of(server, folder / "mirror")
-        try:
-            begun = is_within(SECONDS_TO_MIRROR, (folder / "mirror" / server.logs()[0].name).exists)
-            yield None if begun else "no mirror"
-            runs = {command: followed(program, folder / "mirror", server.logs()[0].name, command=command) for command in MODELS}
+        with Mirror(kind, server, folder / "mirror") as mirror:
+            yield None if mirror.has_begun() else "no mirror"
+            runs = {command: followed(program, mirror.folder, server.logs()[0].name, command=command) for command in MODELS}
             sessions = [server.start(b"use shop;\n" + LOAD * 20) for _ in range(3)]
             for number in range(ROTATIONS):
                 algorithm = b"NONE" if number % 2 else b"CRC32"
@@ -656,16 +635,16 @@ def mirrored(program, folder):
                 time.sleep(0.3)
             for session in sessions:
                 server.finish(session)
-            yield None if is_within(SECONDS_TO_MIRROR, lambda: is_mirrored(server, folder / "mirror")) else "the mirror lacks bytes"
-            contents = [(folder / "mirror" / log.name).read_bytes() for log in server.logs()]
+            yield None if mirror.is_whole() else "the mirror's files aren't the server's"
+            # The server writes BINLOG_CHECKPOINT events behind others.
+            server.stop()
+            mirror.running.wait()
+            contents = [log.read_bytes() for log in mirror.logs()]
             yield None if len(contents) > ROTATIONS else f"only {len(contents)} files"
             for command, run in runs.items():
                 yield run.wrong_lines(*(lines_of(content, command) for content in contents))
                 run.end()
                 yield None if not run.messages else f"{command}: messages {run.messages!r}"
-        finally:
-            mirror.kill()
-            mirror.wait()
 
 
 SCENES = [mirrored, late, byte_by_byte, rotations, checksums, prefixes, stops, stays, refused, damages, several, filters, compact_rows]
