@@ -75,6 +75,7 @@ def undo(
     stop_position: Optional[int] = None,
     plain_old_temporal: bool = False,
     foreign_key_checks: bool = True,
+    one_transaction: bool = False,
     program: Optional[Path] = None,
 ) -> Undone:
     """Writes a log that undoes the changes of rows of logs; without `out` it only counts them.
@@ -88,6 +89,7 @@ def undo(
     start_position, stop_position: transactions that begin at this byte of the first log or behind it, and before this byte of the last one.
     plain_old_temporal: whether columns of MariaDB's old types of dates and times have no fractions.
     foreign_key_checks: whether the server checks foreign keys while the log is applied.
+    one_transaction: whether all that is undone is one transaction.
     program: the program `binlog`; if not given, the one that the variable BINLOG_PROGRAM names, or the one that the system finds.
 
     Raises UndoRefused where something can't be undone, FileExistsError if there is a file `out`, and ProgramError where the program isn't
@@ -108,6 +110,7 @@ def undo(
     words += [str(word) for option, value in stated.items() if value is not None for word in (option, value)]
     words += ["--plain-old-temporal"] if plain_old_temporal else []
     words += [] if foreign_key_checks else ["--no-foreign-key-checks"]
+    words += ["--one-transaction"] if one_transaction else []
     if out is not None and os.path.exists(out):
         raise FileExistsError(f"{os.fspath(out)}: there is a file of this name")
     words += ["--dry-run"] if out is None else ["--output", _argument(out)]
