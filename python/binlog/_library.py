@@ -15,8 +15,9 @@ FILE = "libbinlog.so"
 ITEM = struct.Struct("=4Q4IHBB4s2I")
 
 
-# The number of the error of a text that isn't that of a file of columns.
+# The number of the error of a text that isn't that of a file of columns, and of logs that can't be undone.
 INVALID_COLUMNS = 103
+REFUSED = 119
 
 
 class CursorStruct(ctypes.Structure):
@@ -26,6 +27,40 @@ class CursorStruct(ctypes.Structure):
         ("position", ctypes.c_uint64),
         ("description", ctypes.c_uint64),
         ("ended", ctypes.c_uint64),
+    ]
+
+
+class UndoOptionsStruct(ctypes.Structure):
+    """binlog_undo_options"""
+
+    _fields_ = [
+        ("start_position", ctypes.c_uint64),
+        ("stop_position", ctypes.c_uint64),
+        ("skip", ctypes.c_uint64),
+        ("flags", ctypes.c_uint64),
+    ]
+
+
+class RefusalStruct(ctypes.Structure):
+    """binlog_refusal"""
+
+    _fields_ = [
+        ("log", ctypes.c_uint64),
+        ("index", ctypes.c_uint64),
+        ("position", ctypes.c_uint64),
+        ("end", ctypes.c_uint64),
+        ("reason", ctypes.c_uint32),
+        ("is_skipped", ctypes.c_uint32),
+    ]
+
+
+class UndoneStruct(ctypes.Structure):
+    """binlog_undone"""
+
+    _fields_ = [
+        ("transactions", ctypes.c_uint64),
+        ("row_events", ctypes.c_uint64),
+        ("refusals", ctypes.c_uint64),
     ]
 
 
@@ -63,6 +98,8 @@ def _load() -> ctypes.CDLL:
     items = columns = name = [ctypes.c_char_p, size]
     item = ctypes.c_char_p
     cursor, fault = ctypes.POINTER(CursorStruct), ctypes.POINTER(ColumnsFaultStruct)
+    sizes = refusals = [ctypes.c_void_p, size]
+    options, undone = ctypes.POINTER(UndoOptionsStruct), ctypes.POINTER(UndoneStruct)
     error, count = ctypes.POINTER(byte), ctypes.POINTER(size)
     # The result and the parameters of each function.
     functions = {
@@ -79,6 +116,9 @@ def _load() -> ctypes.CDLL:
         "columns_check": (byte, [*columns, fault]),
         "columns_contradiction": (size, [*log, item, *columns, error]),
         "columns_fault_text": (size, [ctypes.c_uint64, *name]),
+        "undo": (size, [*log, *sizes, options, *columns, *columns, *refusals, undone, *text, error]),
+        "undo_reason_name": (size, [ctypes.c_uint32, *name]),
+        "undo_reason_text": (size, [ctypes.c_uint32, *name]),
         "error_name": (size, [byte, *name]),
         "error_text": (size, [byte, *name]),
     }
@@ -121,6 +161,16 @@ def error_name(error: int) -> str:
 def columns_fault_text(kind: int) -> str:
     """What is wrong in a text of a file of columns, by the kind of the fault; empty where none has the number."""
     return _written(LIBRARY.binlog_columns_fault_text, kind)
+
+
+def undo_reason_name(reason: int) -> str:
+    """The name of a reason why something can't be undone, by its number; empty where no reason has it."""
+    return _written(LIBRARY.binlog_undo_reason_name, reason)
+
+
+def undo_reason_text(reason: int) -> str:
+    """What such a reason means; empty where no reason has the number."""
+    return _written(LIBRARY.binlog_undo_reason_text, reason)
 
 
 def error_text(error: int) -> str:
