@@ -315,14 +315,6 @@ size_t binlog_undo(const uint8_t *logs, size_t size, const uint64_t *sizes, size
                    const char *tables, size_t tables_size, const char *excluded, size_t excluded_size, binlog_refusal *refusals,
                    size_t refusal_room, binlog_undone *undone, uint8_t *out, size_t room, uint8_t *error);
 
-/* Writes the name of a reason, "Statement" for BINLOG_UNDO_STATEMENT, with a zero after it, as binlog_error_name writes its name. It has
- * at most 12 bytes. */
-size_t binlog_undo_reason_name(uint32_t reason, char *text, size_t room);
-
-/* Writes what a reason means, in one line of English with a zero after it, as binlog_error_name writes its name. A text has at most 100
- * bytes. */
-size_t binlog_undo_reason_text(uint32_t reason, char *text, size_t room);
-
 /* ---- files of columns
  *
  * By default servers don't log the names, signs, members and character sets of columns. A file of columns has them: the answer of

@@ -117,8 +117,6 @@ def _load() -> ctypes.CDLL:
         "columns_contradiction": (size, [*log, item, *columns, error]),
         "columns_fault_text": (size, [ctypes.c_uint64, *name]),
         "undo": (size, [*log, *sizes, options, *columns, *columns, *refusals, undone, *text, error]),
-        "undo_reason_name": (size, [ctypes.c_uint32, *name]),
-        "undo_reason_text": (size, [ctypes.c_uint32, *name]),
         "error_name": (size, [byte, *name]),
         "error_text": (size, [byte, *name]),
     }
@@ -161,16 +159,6 @@ def error_name(error: int) -> str:
 def columns_fault_text(kind: int) -> str:
     """What is wrong in a text of a file of columns, by the kind of the fault; empty where none has the number."""
     return _written(LIBRARY.binlog_columns_fault_text, kind)
-
-
-def undo_reason_name(reason: int) -> str:
-    """The name of a reason why something can't be undone, by its number; empty where no reason has it."""
-    return _written(LIBRARY.binlog_undo_reason_name, reason)
-
-
-def undo_reason_text(reason: int) -> str:
-    """What such a reason means; empty where no reason has the number."""
-    return _written(LIBRARY.binlog_undo_reason_text, reason)
 
 
 def error_text(error: int) -> str:

@@ -3,16 +3,39 @@
 import ctypes
 from collections.abc import Iterable, Sequence
 from dataclasses import dataclass
-from functools import cache
 from typing import Optional, Union
 
 from ._errors import BinlogError, InvalidLog
-from ._library import LIBRARY, REFUSED, RefusalStruct, UndoneStruct, UndoOptionsStruct, undo_reason_name, undo_reason_text
+from ._library import LIBRARY, REFUSED, RefusalStruct, UndoneStruct, UndoOptionsStruct
 from ._refusals import Refusal, UndoRefused
 
-# The numbers of reasons, and the flags of include/binlog.h.
-_REASONS = range(1, 21)
-_STRADDLES = 20
+# The names of the reasons of include/binlog.h, from the number 1 on, and what they mean, as the program says it.
+_REASONS = (
+    ("Unfinished", "the transaction isn't finished"),
+    ("Statement", "a statement can't be undone"),
+    ("LoadData", "a file was loaded by a statement"),
+    ("Xa", "a part of an XA transaction"),
+    ("Rollback", "changes were rolled back"),
+    ("Incident", "an incident"),
+    ("Payload", "the events of the transaction are within one event"),
+    ("OldRows", "row events of a version before 5.1.16"),
+    ("UnknownEvent", "an event of an unknown type"),
+    ("Encrypted", "encrypted events"),
+    ("NoTableMap", "the rows have no table map in their transaction"),
+    ("Rows", "the rows can't be read"),
+    ("OldTemporal", "a column of a date or time whose form isn't in the log"),
+    ("Image", "the images of the rows lack columns"),
+    ("PartialJson", "partial updates of documents"),
+    ("Compressed", "the compressed rows are too long"),
+    ("Damaged", "a damaged event"),
+    ("Tail", "the file ends within an event"),
+    ("Description", "no format description that can be written"),
+    ("Straddles", "a position is within the transaction, which ends at byte {end}"),
+)
+_NUMBERS = {name: number for number, (name, _) in enumerate(_REASONS, 1)}
+_KEPT = ("Encrypted", "Damaged", "Tail", "Description", "Straddles")
+
+# The flags.
 _NO_FOREIGN_KEY_CHECKS, _ONE_TRANSACTION, _PLAIN_OLD_TEMPORAL = 1, 2, 4
 _TO_END = 2**64 - 1
 
@@ -35,18 +58,12 @@ class UndoLog:
     skipped: tuple[Refusal, ...] = ()
 
 
-@cache
-def _numbers() -> dict[str, int]:
-    """The numbers of the reasons by their names."""
-    return {undo_reason_name(number): number for number in _REASONS}
-
-
 def _skip(reasons: Iterable[str]) -> int:
     bits = 0
     for reason in reasons:
-        if reason not in _numbers():
+        if reason not in _NUMBERS or reason in _KEPT:
             raise ValueError(f"{reason!r} is no reason that can be skipped")
-        bits |= 1 << _numbers()[reason]
+        bits |= 1 << _NUMBERS[reason]
     return bits
 
 
@@ -62,10 +79,8 @@ def _tables(names: Iterable[str]) -> bytes:
 
 
 def _refusal(one: RefusalStruct, names: Sequence[str]) -> Refusal:
-    text = undo_reason_text(one.reason)
-    if one.reason == _STRADDLES:
-        text += f", which ends at byte {one.end}"
-    return Refusal(names[one.log], one.index, one.position, undo_reason_name(one.reason), text, bool(one.is_skipped))
+    name, text = _REASONS[one.reason - 1]
+    return Refusal(names[one.log], one.index, one.position, name, text.format(end=one.end), bool(one.is_skipped))
 
 
 class _Call:

@@ -1,0 +1,8 @@
+mod Counts
+mod Failures
+mod LogsWritten
+mod Refused
+mod Scans
+mod Splitting
+mod TableNames
+mod UndoneLogs

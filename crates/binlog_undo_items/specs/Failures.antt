@@ -1,5 +1,5 @@
 -- Why no log is written that undoes others.
-use Rattle.std.specs.Prelude.{ℕ}
+use Rattle.std.specs.Prelude.{ℕ, Bool, true, false}
 use Rattle.binlog_undo_items.specs.declared.failure.UndoFailure.{UndoFailure}
 use Rattle.binlog_undo_items.specs.declared.failure.UndoFailure.TheVariants as failures
 use Rattle.binlog_undo_log.specs.declared.undo_error.UndoLogError.{UndoLogError}
@@ -24,3 +24,11 @@ failure_of errors.Writer = failures.Memory
 failure_of errors.TooLong = failures.TooLong
 failure_of errors.Description = failures.Description
 failure_of errors.Memory = failures.Memory
+
+-- It comes where nothing is refused, but the log isn't made.
+abbrev pub is_late : UndoFailure → Bool
+is_late failures.TooLong = true
+is_late failures.Memory = true
+is_late failures.Description = true
+is_late failures.Changed = true
+is_late failure = false

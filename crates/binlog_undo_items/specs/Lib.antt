@@ -1,7 +1,6 @@
 pub mod Failures
 pub mod Logs
 pub mod Options
-pub mod Reasons
 pub mod Refusals
 pub mod Scanned
 pub mod Tables

@@ -11,7 +11,6 @@ use Rattle.binlog_undo_items.specs.declared.scanning.ScannedLog.{ScannedLog}
 use Rattle.binlog_undo_items.specs.declared.undoing.BinlogUndone.{BinlogUndone}
 use Rattle.binlog_undo_log.specs.Files.{AreSkipped}
 
-
 -- The place behind a transaction that a position is within; 0 for any other reason.
 abbrev pub end_of : Reason → ℕ
 end_of (reasons.Straddles end) = end

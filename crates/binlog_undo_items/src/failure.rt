@@ -6,7 +6,7 @@ use binlog_undo_log::UndoLogError;
 use std::alloc::AllocError;
 
 /// Why no log is written that undoes others.
-#[derive(Clone, Copy, Debug, PartialEq, Eq)]
+#[derive(Clone, Copy)]
 pub enum UndoFailure {
     /// A log has fewer than four bytes.
     EndOfInput,

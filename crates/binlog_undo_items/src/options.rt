@@ -19,7 +19,7 @@ const PLAIN_OLD_TEMPORAL: u64 = 4;
 
 /// What is asked of the log that undoes others: numbers alone.
 #[repr(C)]
-#[derive(Clone, Copy, Debug, PartialEq, Eq)]
+#[derive(Clone, Copy)]
 pub struct BinlogUndoOptions {
     /// Transactions are undone that begin at this byte of the first log or behind it.
     pub start_position: u64,

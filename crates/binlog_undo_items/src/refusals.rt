@@ -6,14 +6,14 @@ ghost use Rattle.binlog_undo_items.specs.Options.{reason_number};
 ghost use Rattle.binlog_undo_items.specs.Refusals.{AddsRefusals, AreAllSkipped, end_of, fill, refusal_of, refusals_of};
 ghost use Rattle.binlog_undo_log.specs.Files.{AreSkipped};
 
-use binlog_transactions::Refusal;
 use crate::scanning::ScannedLog;
+use binlog_transactions::Refusal;
 use binlog_undo_index::{Reason, Refused};
 use std::alloc::{AllocError, Global};
 
 /// A transaction, or a log, that can't be undone.
 #[repr(C)]
-#[derive(Clone, Copy, Debug, PartialEq, Eq)]
+#[derive(Clone, Copy)]
 pub struct BinlogRefusal {
     /// The number of the log, from 0.
     pub log: u64,

@@ -3,7 +3,7 @@
 use crate::options::BinlogUndoOptions;
 
 /// The logs that are undone, and what is asked of the log that undoes them.
-#[derive(Clone, Copy, Debug)]
+#[derive(Clone, Copy)]
 pub struct UndoRequest<'a> {
     /// The logs, one behind the other.
     pub logs: &'a [u8],

@@ -1,6 +1,6 @@
 //! The first pass over logs in memory.
 ghost use Rattle.std.specs.Prelude.{◌≡◌, map, length, IfOk, IfErr, OnOk};
-ghost use Rattle.binlog_undo_items.specs.Scanned.{AreScanned, HasNoTable, IsNoLog, IsNoRequest, IsNoScan, ScansRequest, StatesChoice, StatesScan};
+ghost use Rattle.binlog_undo_items.specs.Scanned.{AreScanned, HasNoTable, IsNoLog, IsNoRequest, IsNoScan, ScansRequest, StatesChoice, StatesScan, start_if, stop_if};
 ghost use Rattle.binlog_undo_log.specs.Files.{ScansWhole};
 
 use crate::failure::UndoFailure;
@@ -11,6 +11,20 @@ use binlog_file::{Error, SliceReader};
 use binlog_filters::Filter;
 use binlog_undo_log::{Choice, UndoScan, scan_file};
 use std::alloc::Global;
+
+// The position at which the transactions begin that are undone, of the first log.
+fn start_if(is_first: bool, position: u64) -> u64
+    ensures { result ≡ start_if is_first position }
+{
+    if is_first { position } else { 0 }
+}
+
+// The position in front of which they begin, of the last log.
+fn stop_if(is_last: bool, position: u64) -> Option<u64>
+    ensures { result ≡ stop_if is_last position }
+{
+    if is_last { Some(position) } else { None }
+}
 
 // Which transactions and tables of a log are undone. The start position is one of the first log, and the stop position of the last one.
 fn choice(
@@ -23,12 +37,8 @@ fn choice(
     ensures err { IfErr result (HasNoTable request.now) }
 {
     let mut transactions = Filter::new(alloc);
-    if is_first {
-        transactions.start_position = request.options.start_position;
-    }
-    if is_last {
-        transactions.stop_position = Some(request.options.stop_position);
-    }
+    transactions.start_position = start_if(is_first, request.options.start_position);
+    transactions.stop_position = stop_if(is_last, request.options.stop_position);
     let tables = table_filter(alloc, request.tables)?;
     let excluded = table_filter(alloc, request.excluded)?;
     Ok(Choice {

@@ -50,11 +50,7 @@ fn table_patterns(alloc: Global, text: &[u8]) -> Result<Vec<TablePattern>, UndoF
 }
 
 // The pattern of a table with these names.
-fn table_pattern(
-    alloc: Global,
-    database: &[u8],
-    table: &[u8],
-) -> Result<TablePattern, AllocError>
+fn table_pattern(alloc: Global, database: &[u8], table: &[u8]) -> Result<TablePattern, AllocError>
     ensures database { IfOk result (λ pattern. pattern.database.bytes.items ≡ database.now) }
     ensures table { IfOk result (λ pattern. pattern.table.bytes.items ≡ table.now) }
 {

@@ -15,7 +15,7 @@ use std::alloc::Global;
 
 /// What is undone: counts alone.
 #[repr(C)]
-#[derive(Clone, Copy, Debug, PartialEq, Eq)]
+#[derive(Clone, Copy)]
 pub struct BinlogUndone {
     /// How many transactions are undone.
     pub transactions: u64,

@@ -1,5 +1,6 @@
 //! The second pass over logs in memory.
-ghost use Rattle.std.specs.Prelude.{◌≡◌, IfOk, MatchOption, OnOk};
+ghost use Rattle.std.specs.Prelude.{◌≡◌, true, IfErr, IfOk, MatchOption, OnOk};
+ghost use Rattle.binlog_undo_items.specs.Failures.{is_late};
 ghost use Rattle.binlog_undo_items.specs.Options.{is_one};
 ghost use Rattle.binlog_undo_items.specs.Written.{AreAllKept, IsLastUndone, MakesLog, WritesAs, WritesAsOne, WritesLogs, WritesOne};
 
@@ -99,7 +100,8 @@ pub(crate) fn make_log(
     options: &BinlogUndoOptions,
     logs: &[ScannedLog<'_>],
 ) -> Result<Vec<u8>, UndoFailure>
-    ensures { IfOk result (λ log. MakesLog ⟦<Counted<Vec<u8>> as WriteCounted>⟧.contents options.now logs.now log.items) }
+    ensures ok { IfOk result (λ log. MakesLog ⟦<Counted<Vec<u8>> as WriteCounted>⟧.contents options.now logs.now log.items) }
+    ensures err { IfErr result (λ failure. is_late failure ≡ true) }
 {
     let header = Vec::from_slice(alloc, &BinlogFileHeader::VALUE)?;
     let mut output = UndoOutput {
