@@ -1,8 +1,8 @@
 mod Counts
 mod Failures
+mod FirstLogs
 mod LogsWritten
 mod Refused
 mod Scans
-mod Splitting
 mod TableNames
 mod UndoneLogs

@@ -1,7 +1,10 @@
 -- What undoes logs is written from the last one to the first.
-use Rattle.std.proofs.Common.{◌≡◌, ℕ, suc, zero, ◌<◌, arith, List, [], ◌∷◌, ◌++◌, length, drop, get_or, Option, refl, sym, ◌∙◌, ap, subst, append_assoc}
-use Rattle.std.specs.List.{AllByRecursion}
-use Rattle.binlog_undo_items.specs.Written.{AreAllKept, IsKept, IsLastUndone, WritesLogs, WritesOne}
+use Rattle.std.proofs.Common.{◌≡◌, ◌≢◌, ℕ, suc, zero, ◌<◌, arith, Bool, true, false, List, [], ◌∷◌, ◌++◌, length, take, drop, get_or, Option, refl, sym, ◌∙◌, ap, subst}
+use Rattle.std.specs.Prelude.{◌==◌}
+use Rattle.binlog_undo_index.specs.Parts.{parts_of}
+use Rattle.binlog_undo_index.specs.declared.index.UndoIndex.{UndoIndex}
+use Rattle.binlog_undo_index.specs.declared.places.TransactionPlace.{TransactionPlace}
+use Rattle.binlog_undo_items.specs.Written.{AreAllKept, IsLastUndone, WritesLogs, WritesOne}
 use Rattle.binlog_undo_items.specs.declared.scanning.ScannedLog.{ScannedLog}
 use Rattle.binlog_undo_log.specs.declared.output.UndoOutput.{UndoOutput}
 
@@ -25,29 +28,38 @@ module _ {W : Type 0} (contents : W → Option (List ℕ)) where
 
 -- ---- the last log of which something is undone
 
--- Behind these logs nothing is undone.
-pub record AreLeft (logs left : List ScannedLog) : Type 0 where
-  pub behind : List ScannedLog
-  pub are : logs ≡ left ++ behind
-  pub kept : AreAllKept behind
+none_in : (transactions : List TransactionPlace) (none : Bool) → none ≡ (length transactions == 0) → none ≡ true → transactions ≡ []
+none_in [] none is yes = refl
+none_in (transaction ∷ transactions) none is yes = absurd cc
 
-pub left_next : (logs left front : List ScannedLog) (log : ScannedLog) → AreLeft logs left → left ≡ front ++ log ∷ [] → IsKept log → AreLeft logs front
-left_next logs left front log h split is =
-    record {
-      behind = log ∷ h.behind;
-      are = h.are ∙ ap (λ (s : List ScannedLog). s ++ h.behind) split ∙ append_assoc front (log ∷ []) h.behind;
-      kept = (is, h.kept);
-    }
+some_in : (transactions : List TransactionPlace) (none : Bool) → none ≡ (length transactions == 0) → none ≡ false → transactions ≢ []
+some_in [] none is no = λ _. absurd cc
+some_in (transaction ∷ transactions) none is no = λ e. absurd cc
 
-pub last_found : (logs left front : List ScannedLog) (log : ScannedLog) → AreLeft logs left → left ≡ front ++ log ∷ [] → (IsKept log → ⊥) → IsLastUndone logs log
-last_found logs left front log h split some =
-    record {
-      front = front;
-      behind = h.behind;
-      are = h.are ∙ ap (λ (s : List ScannedLog). s ++ h.behind) split ∙ append_assoc front (log ∷ []) h.behind;
-      kept = h.kept;
-      undone = some;
-    }
+parts_at : (logs : List ScannedLog) (i : ℕ) (none : ScannedLog) → i < length logs → logs ≡ take i logs ++ get_or logs i none ∷ drop (suc i) logs
+parts_at [] i none within = absurd (omega (arith, within))
+parts_at (log ∷ logs) zero none within = refl
+parts_at (log ∷ logs) (suc i) none within = ap (λ (s : List ScannedLog). log ∷ s) (parts_at logs i none (omega (arith, within)))
 
-pub all_kept : (logs left : List ScannedLog) → AreLeft logs left → left ≡ [] → AreAllKept logs
-all_kept logs left h none = subst AreAllKept (sym (h.are ∙ ap (λ (s : List ScannedLog). s ++ h.behind) none)) h.kept
+module _ (logs : List ScannedLog) (n i : ℕ) (none log : ScannedLog) (next : suc i ≡ n) (within : i < length logs) (is : log ≡ get_or logs i none) (transactions : List TransactionPlace) (index : UndoIndex)
+    (of : transactions ≡ (parts_of index).transactions) (at : index ≡ log.scan.index) (kept : AreAllKept (drop n logs)) where
+  own : transactions ≡ (parts_of (get_or logs i none).scan.index).transactions
+  own = of ∙ ap (λ (x : UndoIndex). (parts_of x).transactions) at ∙ ap (λ (x : ScannedLog). (parts_of x.scan.index).transactions) is
+
+  behind : AreAllKept (drop (suc i) logs)
+  behind = subst (λ (k : ℕ). AreAllKept (drop k logs)) (sym next) kept
+
+  -- Nothing of one more log is undone.
+  pub kept_next : (empty : Bool) → empty ≡ (length transactions == 0) → empty ≡ true → AreAllKept (drop i logs)
+  kept_next empty e yes = subst AreAllKept (sym (drop_at logs i none within)) (sym own ∙ none_in transactions empty e yes, behind)
+
+  -- Something of this log is undone.
+  pub last_found : (empty : Bool) → empty ≡ (length transactions == 0) → empty ≡ false → IsLastUndone logs log
+  last_found empty e no =
+      subst (IsLastUndone logs) (sym is) (record {
+        front = take i logs;
+        behind = drop (suc i) logs;
+        are = parts_at logs i none within;
+        kept = behind;
+        undone = λ none_left. some_in transactions empty e no (own ∙ none_left);
+      })

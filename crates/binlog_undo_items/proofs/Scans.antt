@@ -1,7 +1,7 @@
 -- The first pass over logs, one after the other.
 use Rattle.std.proofs.Common.{◌≡◌, ◌⊎◌, inl, inr, ℕ, zero, suc, ◌+◌, ◌<◌, arith, Bool, true, false, Bor, List, [], ◌∷◌, ◌++◌, length, map, take, get_or, Result, Ok, Err, refl, sym, ◌∙◌, ap, subst}
 use Rattle.std.specs.Prelude.{◌≤◌, ◌≢◌, ◌==◌}
-use Rattle.std.proofs.lemmas.List.{map-append, take_more}
+use Rattle.std.proofs.lemmas.List.{length-append, map-append, take_more}
 use Rattle.binlog_events.specs.FileHeader.{file_header}
 use Rattle.binlog_file.specs.State.{Handles}
 use Rattle.binlog_undo_items.specs.Scanned.{AreScannedFrom, HasNoLog, IsNoLog, IsScannedAs}
@@ -65,3 +65,6 @@ pub none_at : (logs : List (Bor (List ℕ))) (i : ℕ) (none : Bor (List ℕ)) (
 none_at [] i none failure within is = absurd (omega (arith, within))
 none_at (log ∷ logs) zero none failure within is = inl is
 none_at (log ∷ logs) (suc i) none failure within is = inr (none_at logs i none failure (omega (arith, within)) is)
+
+pub counted_next : (scanned new : List ScannedLog) (log : ScannedLog) (n : ℕ) → length scanned ≡ n → new ≡ scanned ++ log ∷ [] → length new ≡ n + 1
+counted_next scanned new log n counted more = omega (arith, ap (λ (all : List ScannedLog). length all) more, length-append scanned (log ∷ []), counted)

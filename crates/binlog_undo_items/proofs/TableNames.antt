@@ -65,3 +65,9 @@ shorter text database table rest is =
     let first : length text ≡ length database + length (0 ∷ is.behind) = ap length is.first.is ∙ length-append database (0 ∷ is.behind) in
     let second : length is.behind ≡ length table + length (0 ∷ rest) = ap length is.second.is ∙ length-append table (0 ∷ rest) in
     omega (arith, first, second)
+
+-- One more pattern, with these names.
+pub pattern_next : (text mid rest database table : List ℕ) (patterns new : List TablePattern) (pattern : TablePattern) → AreTablesAt text (map names_in patterns) mid
+    → IsTableAt mid database table rest → pattern.database.bytes.items ≡ database → pattern.table.bytes.items ≡ table → new ≡ patterns ++ pattern ∷ [] → AreTablesAt text (map names_in new) rest
+pattern_next text mid rest database table patterns new pattern are one named called more =
+    rw more (pattern_more text mid rest patterns pattern are (rw (named, called) one))

@@ -117,11 +117,9 @@ pub(crate) fn refusals_of(
 {
     let mut all = Vec::new(alloc);
     let mut number = 0u64;
-    let mut left = logs;
-    'logs: while let Some((log, others)) = left.split_first() {
+    for log in logs {
         add_refusals(number, log.scan.index().refusals(), &mut all)?;
         number += 1;
-        left = others;
     }
     Ok(all)
 }
@@ -146,12 +144,10 @@ pub(crate) fn are_all_skipped(logs: &[ScannedLog<'_>]) -> bool
     ensures skipped { result ≡ true → AreAllSkipped logs.now }
     ensures refused { result ≡ false → ¬ (AreAllSkipped logs.now) }
 {
-    let mut left = logs;
-    'logs: while let Some((log, others)) = left.split_first() {
+    for log in logs {
         if !are_skipped(log.scan.index().refusals()) {
             return false;
         }
-        left = others;
     }
     true
 }

@@ -44,12 +44,12 @@ fn write_logs<W: WriteCounted>(
 fn last_undone<'d, 'a>(logs: &'d [ScannedLog<'a>]) -> Option<&'d ScannedLog<'a>>
     ensures { MatchOption result (AreAllKept logs.now) (λ log. IsLastUndone logs.now log.now) }
 {
-    let mut left = logs;
-    'logs: while let Some((log, front)) = left.split_last() {
-        if !log.scan.index().transactions().is_empty() {
-            return Some(log);
+    let mut left = logs.len();
+    'logs: while left > 0 {
+        left -= 1;
+        if !logs[left].scan.index().transactions().is_empty() {
+            return Some(&logs[left]);
         }
-        left = front;
     }
     None
 }

@@ -1,13 +1,10 @@
-use Rattle.std.proofs.Common.{◌≡◌, ◌+◌, ◌++◌, length}
-use Rattle.binlog_undo_items.specs.Refusals.{refusals_from, refusals_of}
+use Rattle.std.proofs.Common.{◌≡◌, take}
+use Rattle.binlog_undo_items.specs.Refusals.{refusals_of}
 use Rattle.binlog_undo_items.proofs.refusals.refusals_of.Given as goal
 
--- Those of the logs so far, and those of the logs that are left.
-abbrev pub invariant-logs : goal.invariant-logs
-invariant-logs l = record {
-  all : l.all.items ++ refusals_from l.number l.left ≡ refusals_of l.logs;
-  counted : l.number + length l.left ≡ length l.logs;
+-- Those of the logs so far.
+abbrev pub invariant-loop-log : goal.invariant-loop-log
+invariant-loop-log l = record {
+  counted : l.number ≡ l.log-index;
+  all : l.all.items ≡ refusals_of (take l.log-index l.logs);
 }
-
-abbrev pub decreases-logs : goal.decreases-logs
-decreases-logs l = length l.left

@@ -1,5 +1,5 @@
 use Rattle.std.proofs.Common.{length, map}
-use Rattle.binlog_undo_items.proofs.Splitting.{AreFirst}
+use Rattle.binlog_undo_items.proofs.FirstLogs.{AreFirst}
 use Rattle.binlog_undo_items.proofs.splitting.split_logs.Given as goal
 
 -- The logs so far are at the front.

@@ -1,5 +1,6 @@
 -- Logs at the front of bytes.
-use Rattle.std.proofs.Common.{◌≡◌, ◌≢◌, ℕ, ◌+◌, ◌<◌, arith, List, [], ◌∷◌, ◌++◌, length, map, refl, sym, ◌∙◌, ap, append_assoc, append-nil}
+use Rattle.std.proofs.Common.{◌≡◌, ◌≢◌, ℕ, ◌+◌, ◌<◌, arith, Bool, false, List, [], ◌∷◌, ◌++◌, length, map, refl, sym, ◌∙◌, ap, append_assoc, append-nil}
+use Rattle.std.specs.Prelude.{◌==◌}
 use Rattle.std.proofs.lemmas.Grind.{flat_map-append}
 use Rattle.std.proofs.lemmas.List.{length-append, map-append, nil_from_length}
 use Rattle.binlog_undo_items.specs.Logs.{joined, sizes_of, AreLogs}
@@ -69,3 +70,7 @@ too_long bytes sizes front rest size others h short =
 pub more_bytes : (bytes sizes : List ℕ) (front : List (List ℕ)) (rest left : List ℕ) → AreFirst bytes sizes front rest left → left ≡ [] → rest ≢ [] → (logs : List (List ℕ)) → AreLogs bytes sizes logs → ⊥
 more_bytes bytes sizes front rest left h none some =
     no_logs bytes sizes front rest left h (λ (same : length rest ≡ total left). some (nil_from_length rest (same ∙ ap total none ∙ total_none)))
+
+pub some_bytes : (rest : List ℕ) (none : Bool) → none ≡ (length rest == 0) → none ≡ false → rest ≢ []
+some_bytes [] none is isnt = λ _. absurd cc
+some_bytes (byte ∷ rest) none is isnt = λ e. absurd cc
