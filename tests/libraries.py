@@ -298,8 +298,9 @@ def random_undo(seed):
         model.take(number, content, start if number == 0 else 0, stop if number == len(contents) - 1 else None)
     stated = {"tables": table_names(chosen), "excluded": table_names(excluded), "flags": PLAIN_OLD_TEMPORAL * is_plain}
     case = undo_parts(contents, start, TO_END if stop is None else stop, **stated)
-    lines = [refusal_line(*one) for one in model.refused] + [f"counts {model.transactions()} {model.changes()}\n"]
-    lines.append("error 119 Refused\n" if model.refused else f"log {model.written().hex()}\n")
+    lines = [refusal_line(*one) for one in model.refused]
+    written = f"counts {model.transactions()} {model.changes()}\nlog {model.written().hex()}\n"
+    lines.append("error 119 Refused\n" if model.refused else written)
     return case, "".join(lines).encode()
 
 
@@ -335,7 +336,7 @@ def single_undos():
     refused = undo_command.log_of([*rows, (*statement, (0, 1, 0))], 1, "8.0.36")
     index, place = len(rows) + 1, len(log)
     said = f"refusal 0 {index} {place} 0 2 {{}}\n"
-    yield "a statement", undo_parts([refused]), said.format(0).encode() + counts + b"error 119 Refused\n"
+    yield "a statement", undo_parts([refused]), said.format(0).encode() + b"error 119 Refused\n"
     yield "a statement, skipped", undo_parts([refused], skip=1 << 2), said.format(1).encode() + counts + whole
     other = undo_command.log_of(rows, 0, "8.0.36")
     yield "two descriptions", undo_parts([log, other], flags=ONE_TRANSACTION), None

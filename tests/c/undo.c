@@ -1,7 +1,7 @@
 /* Undoes logs. Of each case on standard input there are five parts, which logs.h reads: five numbers of 8 little-endian bytes, the members
  * of the options and how many logs there are; the names of tables; those of tables that are left out; the sizes of the logs; and the logs.
- * Prints a line for each refusal, `refusal LOG INDEX POSITION END REASON SKIPPED`; `counts TRANSACTIONS ROW_EVENTS`; the log in
- * hexadecimal digits, `log FE62..`, or its error, `error NUMBER NAME`; and `status 0`. Checks that the log is written if there is room for
+ * Prints a line for each refusal, `refusal LOG INDEX POSITION END REASON SKIPPED`; `counts TRANSACTIONS ROW_EVENTS` and the log in
+ * hexadecimal digits, `log FE62..`, or the error, `error NUMBER NAME`; and `status 0`. Checks that the log is written if there is room for
  * it, that nothing is if there is room for one byte less, and that nothing changes with an error. With an argument, `memory`, each
  * allocation of a call is refused in turn. Built with --wrap=malloc and --wrap=realloc. */
 #define _DEFAULT_SOURCE
@@ -103,7 +103,6 @@ static void print_refusals(const answer *found) {
         printf("refusal %" PRIu64 " %" PRIu64 " %" PRIu64 " %" PRIu64 " %" PRIu32 " %" PRIu32 "\n", one->log, one->index, one->position,
                one->end, one->reason, one->is_skipped);
     }
-    printf("counts %" PRIu64 " %" PRIu64 "\n", found->undone.transactions, found->undone.row_events);
 }
 
 /* With room for one refusal less the others are the same. */
@@ -130,7 +129,7 @@ static void print_log(const undo_case *one, size_t length) {
     require(out[0] == 0xa5 && out[length - 2] == 0xa5, "without room nothing is written");
     require(call(one, &found, REFUSALS, out, length) == length && found.error == BINLOG_OK, "with just the room it is written");
     require(out[0] == 0xfe && out[length] == 0xa5, "and nothing behind it");
-    printf("log ");
+    printf("counts %" PRIu64 " %" PRIu64 "\nlog ", found.undone.transactions, found.undone.row_events);
     for (size_t i = 0; i < length; i++) {
         printf("%02x", out[i]);
     }
