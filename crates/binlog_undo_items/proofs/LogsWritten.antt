@@ -29,37 +29,42 @@ module _ {W : Type 0} (contents : W → Option (List ℕ)) where
 -- ---- the last log of which something is undone
 
 none_in : (transactions : List TransactionPlace) (none : Bool) → none ≡ (length transactions == 0) → none ≡ true → transactions ≡ []
-none_in [] none is yes = refl
-none_in (transaction ∷ transactions) none is yes = absurd cc
+none_in [] none is so = refl
+none_in (transaction ∷ transactions) none is so = absurd cc
 
 some_in : (transactions : List TransactionPlace) (none : Bool) → none ≡ (length transactions == 0) → none ≡ false → transactions ≢ []
-some_in [] none is no = λ _. absurd cc
-some_in (transaction ∷ transactions) none is no = λ e. absurd cc
+some_in [] none is isnt = λ _. absurd cc
+some_in (transaction ∷ transactions) none is isnt = λ e. absurd cc
 
 parts_at : (logs : List ScannedLog) (i : ℕ) (none : ScannedLog) → i < length logs → logs ≡ take i logs ++ get_or logs i none ∷ drop (suc i) logs
 parts_at [] i none within = absurd (omega (arith, within))
 parts_at (log ∷ logs) zero none within = refl
 parts_at (log ∷ logs) (suc i) none within = ap (λ (s : List ScannedLog). log ∷ s) (parts_at logs i none (omega (arith, within)))
 
-module _ (logs : List ScannedLog) (n i : ℕ) (none log : ScannedLog) (next : suc i ≡ n) (within : i < length logs) (is : log ≡ get_or logs i none) (transactions : List TransactionPlace) (index : UndoIndex)
-    (of : transactions ≡ (parts_of index).transactions) (at : index ≡ log.scan.index) (kept : AreAllKept (drop n logs)) where
+same_at : (logs : List ScannedLog) (i : ℕ) (none other : ScannedLog) → i < length logs → get_or logs i none ≡ get_or logs i other
+same_at [] i none other within = absurd (omega (arith, within))
+same_at (log ∷ logs) zero none other within = refl
+same_at (log ∷ logs) (suc i) none other within = same_at logs i none other (omega (arith, within))
+
+module _ (logs : List ScannedLog) (n i : ℕ) (none : ScannedLog) (next : suc i ≡ n) (within : i < length logs) (transactions : List TransactionPlace) (index : UndoIndex)
+    (of : transactions ≡ (parts_of index).transactions) (at : index ≡ (get_or logs i none).scan.index) (kept : AreAllKept (drop n logs)) where
   own : transactions ≡ (parts_of (get_or logs i none).scan.index).transactions
-  own = of ∙ ap (λ (x : UndoIndex). (parts_of x).transactions) at ∙ ap (λ (x : ScannedLog). (parts_of x.scan.index).transactions) is
+  own = of ∙ ap (λ (x : UndoIndex). (parts_of x).transactions) at
 
   behind : AreAllKept (drop (suc i) logs)
   behind = subst (λ (k : ℕ). AreAllKept (drop k logs)) (sym next) kept
 
   -- Nothing of one more log is undone.
   pub kept_next : (empty : Bool) → empty ≡ (length transactions == 0) → empty ≡ true → AreAllKept (drop i logs)
-  kept_next empty e yes = subst AreAllKept (sym (drop_at logs i none within)) (sym own ∙ none_in transactions empty e yes, behind)
+  kept_next empty e so = subst AreAllKept (sym (drop_at logs i none within)) (sym own ∙ none_in transactions empty e so, behind)
 
   -- Something of this log is undone.
-  pub last_found : (empty : Bool) → empty ≡ (length transactions == 0) → empty ≡ false → IsLastUndone logs log
-  last_found empty e no =
-      subst (IsLastUndone logs) (sym is) (record {
+  pub last_found : (empty : Bool) (log other : ScannedLog) → empty ≡ (length transactions == 0) → empty ≡ false → log ≡ get_or logs i other → IsLastUndone logs log
+  last_found empty log other e isnt is =
+      subst (IsLastUndone logs) (same_at logs i none other within ∙ sym is) (record {
         front = take i logs;
         behind = drop (suc i) logs;
         are = parts_at logs i none within;
         kept = behind;
-        undone = λ none_left. some_in transactions empty e no (own ∙ none_left);
+        undone = λ none_left. some_in transactions empty e isnt (own ∙ none_left);
       })

@@ -3,7 +3,6 @@ use Rattle.std.proofs.Common.{◌≡◌, ◌⊎◌, inl, inr, ℕ, zero, suc, �
 use Rattle.std.specs.Prelude.{◌≤◌, ◌≢◌, ◌==◌}
 use Rattle.std.proofs.lemmas.List.{length-append, map-append, take_more}
 use Rattle.binlog_events.specs.FileHeader.{file_header}
-use Rattle.binlog_file.specs.State.{Handles}
 use Rattle.binlog_undo_items.specs.Scanned.{AreScannedFrom, HasNoLog, IsNoLog, IsScannedAs}
 use Rattle.binlog_undo_items.specs.declared.failure.UndoFailure.{UndoFailure}
 use Rattle.binlog_undo_items.specs.declared.request.UndoRequest.{UndoRequest}

@@ -78,7 +78,7 @@ fn write_undo<W: WriteCounted>(
     logs: &[ScannedLog<'_>],
     output: &mut UndoOutput<W>,
 ) -> Result<(), UndoLogError>
-    ensures { OnOk result (WritesAs (is_one options.now) W.contents logs.now output.old output.new) }
+    ensures { OnOk result (WritesAs W.contents (is_one options.now) logs.now output.old output.new) }
 {
     if options.is_one() {
         write_as_one(alloc, logs, output)
