@@ -4,9 +4,11 @@ use Rattle.binlog_undo_items.specs.Failures.{failure_of, is_late}
 use Rattle.binlog_undo_items.specs.Logs.{AreLogs, IsNoSplit}
 use Rattle.binlog_undo_items.specs.Scanned.{HasNoLog, HasNoTable, IsNoLog, IsNoRequest, IsNoScan, ScansRequest}
 use Rattle.binlog_undo_items.specs.Tables.{IsNoTables}
-use Rattle.binlog_undo_items.specs.Undoing.{FailsUntold, IsNotMade}
+use Rattle.binlog_undo_items.specs.Undoing.{FailsUntold, IsFailure, IsNotMade}
 use Rattle.binlog_undo_items.specs.declared.failure.UndoFailure.{UndoFailure}
 use Rattle.binlog_undo_items.specs.declared.failure.UndoFailure.TheVariants as failures
+use Rattle.binlog_undo_items.specs.declared.refusals.BinlogRefusal.{BinlogRefusal}
+use Rattle.binlog_undo_items.specs.declared.undoing.BinlogUndone.{BinlogUndone}
 use Rattle.binlog_undo_items.specs.declared.request.UndoRequest.{UndoRequest}
 use Rattle.binlog_undo_log.specs.declared.undo_error.UndoLogError.{UndoLogError}
 use Rattle.binlog_undo_log.specs.declared.undo_error.UndoLogError.TheVariants as errors
@@ -104,3 +106,14 @@ untold_late request failures.Refused e h = absurd cc
 untold_late request failures.Description e h = h
 untold_late request failures.TooLong e h = h
 untold_late request failures.Changed e h = h
+
+-- Nothing is told then.
+pub early_failure : (request : UndoRequest) (failure : UndoFailure) (refusals : List BinlogRefusal) (undone : BinlogUndone) → IsNoRequest request failure → IsFailure request failure refusals refusals undone undone
+early_failure request failures.Options refusals undone h = record { fails = h; refusals = refl; undone = refl }
+early_failure request failures.EndOfInput refusals undone h = record { fails = h; refusals = refl; undone = refl }
+early_failure request failures.InvalidFileHeader refusals undone h = record { fails = h; refusals = refl; undone = refl }
+early_failure request failures.Memory refusals undone h = record { fails = tt; refusals = refl; undone = refl }
+early_failure request failures.Refused refusals undone h = absurd (early_is_untold request h)
+early_failure request failures.Description refusals undone h = record { fails = untold_request request failures.Description h; refusals = refl; undone = refl }
+early_failure request failures.TooLong refusals undone h = record { fails = untold_request request failures.TooLong h; refusals = refl; undone = refl }
+early_failure request failures.Changed refusals undone h = record { fails = untold_request request failures.Changed h; refusals = refl; undone = refl }

@@ -1,6 +1,7 @@
 -- What undoes logs is written from the last one to the first.
 use Rattle.std.proofs.Common.{◌≡◌, ◌≢◌, ℕ, suc, zero, ◌<◌, arith, Bool, true, false, List, [], ◌∷◌, ◌++◌, length, take, drop, get_or, Option, refl, sym, ◌∙◌, ap, subst}
 use Rattle.std.specs.Prelude.{◌==◌}
+use Rattle.std.proofs.lemmas.List.{nil_from_length}
 use Rattle.binlog_undo_index.specs.Parts.{parts_of}
 use Rattle.binlog_undo_index.specs.declared.index.UndoIndex.{UndoIndex}
 use Rattle.binlog_undo_index.specs.declared.places.TransactionPlace.{TransactionPlace}
@@ -29,8 +30,7 @@ module _ {W : Type 0} (contents : W → Option (List ℕ)) where
 -- ---- the last log of which something is undone
 
 none_in : (transactions : List TransactionPlace) (none : Bool) → none ≡ (length transactions == 0) → none ≡ true → transactions ≡ []
-none_in [] none is so = refl
-none_in (transaction ∷ transactions) none is so = absurd cc
+none_in transactions none is so = nil_from_length transactions (grind (arith, is, so))
 
 some_in : (transactions : List TransactionPlace) (none : Bool) → none ≡ (length transactions == 0) → none ≡ false → transactions ≢ []
 some_in [] none is isnt = λ _. absurd cc
