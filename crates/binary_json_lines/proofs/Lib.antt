@@ -3,6 +3,7 @@ pub mod Lines
 pub mod NumberTexts
 pub mod DoubleLemmas
 pub mod PartLemmas
+pub mod Begun
 pub mod Every
 pub mod TextTests
 pub mod Trees

@@ -1,9 +1,7 @@
 -- Parts that are written one after the other.
 use Rattle.std.proofs.Common.{◌≡◌, ℕ, Result, Ok, Err, OnOk, List, [], ◌∷◌, ◌++◌, refl, sym, ap, subst, ◌∙◌, append_assoc, append-nil}
-use Rattle.std.specs.Prelude.{Some, None, IsUtf8}
-use Rattle.json.specs.Token.{Token, key, string}
-use Rattle.json_line.specs.Tokens.{text_value}
-use Rattle.json_line.proofs.Texts.{text_is_string}
+use Rattle.std.specs.Prelude.{Some, None}
+use Rattle.json.specs.Token.{Token, key}
 use Rattle.binary_json.specs.Values.{Json, Entries, no_entries, entry, values, members}
 use Rattle.binary_json_lines.specs.Parts.{Part, exactly, AreParts, Shows}
 use Rattle.binary_json_lines.specs.Documents.{value_parts, elements_parts, members_parts}
@@ -25,10 +23,6 @@ shows_both old mid new a b x y = record {
 -- One token.
 pub shows_token : (old new : List Token) (token : Token) → new ≡ old ++ token ∷ [] → Shows old new (exactly token ∷ [])
 shows_token old new token is = record { tokens = token ∷ []; are = (refl, tt); is = is }
-
-pub token_written : {A E : Type 0} (result : Result A E) (old new : List Token) (token : Token) → OnOk result (new ≡ old ++ token ∷ []) → OnOk result (Shows old new (exactly token ∷ []))
-token_written (Ok x) old new token is = shows_token old new token is
-token_written (Err e) old new token is = is
 
 -- The parts of lists of values and of members.
 abbrev pub all_values : List Json → List Part
@@ -68,19 +62,13 @@ one_more first old mid new part left rest all is before shown = record {
   parts = append_assoc before.done part rest ∙ ap (λ (l : List Part). before.done ++ l) (sym is) ∙ before.parts;
 }
 
-pub ended : {A E : Type 0} (result : Result A E) (first last : Token) (old mid new : List Token) (left all : List Part) → left ≡ [] → ShowsSome first old mid left all
-    → OnOk result (new ≡ mid ++ last ∷ []) → OnOk result (Shows old new (exactly first ∷ (all ++ exactly last ∷ [])))
-ended (Ok x) first last old mid new left all none before is =
+pub ended : (first last : Token) (old mid new : List Token) (left all : List Part) → left ≡ [] → ShowsSome first old mid left all → new ≡ mid ++ last ∷ []
+    → Shows old new (exactly first ∷ (all ++ exactly last ∷ []))
+ended first last old mid new left all none before is =
     let shown = shows_both old mid new (exactly first ∷ before.done) (exactly last ∷ []) before.shown (shows_token mid new last is) in
     let same : before.done ≡ all = sym (append-nil before.done) ∙ ap (λ (l : List Part). before.done ++ l) (sym none) ∙ before.parts in
     subst (λ (l : List Part). Shows old new (exactly first ∷ (l ++ exactly last ∷ []))) same shown
-ended (Err e) first last old mid new left all none before is = is
 
 -- A key and a value.
 pub key_then_value : (old mid new : List Token) (k : List ℕ) (v : List Part) → mid ≡ old ++ key k ∷ [] → Shows mid new v → Shows old new (exactly (key k) ∷ v)
 key_then_value old mid new k v is shown = shows_both old mid new (exactly (key k) ∷ []) v (shows_token old mid (key k) is) shown
-
--- A string that is UTF-8.
-pub text_written : {A E : Type 0} (result : Result A E) (old new : List Token) (text : List ℕ) → IsUtf8 text → OnOk result (new ≡ old ++ text_value text) → OnOk result (Shows old new (exactly (string text) ∷ []))
-text_written (Ok x) old new text is shown = shows_token old new (string text) (rw (text_is_string text is) at shown)
-text_written (Err e) old new text is shown = shown

@@ -1,10 +1,11 @@
 -- Documents as JSON.
-use Rattle.std.specs.Prelude.{List, [], ◌∷◌, ◌++◌, Some, None, decimal}
+use Rattle.std.specs.Prelude.{◌≡◌, Bool, true, false, List, [], ◌∷◌, ◌++◌, Some, None, decimal}
 use Rattle.std.specs.Fmt.{signed_decimal}
-use Rattle.json.specs.Token.{begin_object, end_object, begin_array, end_array, key as key_token, string as string_token, number, boolean as boolean_token, null as null_token}
+use Rattle.json.specs.Token.{Token, begin_object, end_object, begin_array, end_array, key as key_token, string as string_token, number, boolean as boolean_token, null as null_token}
 use Rattle.binary_json.specs.Values.{Scalar, null, boolean, int16, uint16, int32, uint32, int64, uint64, double, string, opaque, Json, scalar, array, object, Entries, no_entries, entry}
+use Rattle.binary_json_lines.specs.HasText.{HasText}
 use Rattle.binary_json_lines.specs.Opaques.{opaque_token}
-use Rattle.binary_json_lines.specs.Parts.{Part, exactly, reading_back}
+use Rattle.binary_json_lines.specs.Parts.{Part, exactly, reading_back, Shows}
 
 -- A value that holds no others. Integers have all their digits, whatever the width of their type.
 abbrev pub scalar_part : Scalar → Part
@@ -35,3 +36,15 @@ abbrev mutual
   members_parts no_entries = []
   members_parts (entry None v es) = members_parts es
   members_parts (entry (Some key) v es) = (exactly (key_token key) ∷ value_parts v) ++ members_parts es
+
+-- ---- values that may have no text
+
+-- The answer says whether the value has a text. The text is appended, or else nothing or tokens that are no value.
+abbrev pub BeginsText : Bool → Json → List Token → List Token → Type 0
+BeginsText true v old new = HasText v × Shows old new (value_parts v)
+BeginsText false v old new = (HasText v → ⊥) × ((tokens : List Token) × (new ≡ old ++ tokens))
+
+-- The same, but else nothing is appended.
+abbrev pub WritesIfText : Bool → Json → List Token → List Token → Type 0
+WritesIfText true v old new = HasText v × Shows old new (value_parts v)
+WritesIfText false v old new = (HasText v → ⊥) × (new ≡ old)

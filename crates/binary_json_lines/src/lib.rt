@@ -11,5 +11,5 @@ mod texts;
 mod times;
 
 pub use diffs::{diffs_have_text, write_diffs};
-pub use documents::{write_document, write_value};
+pub use documents::{write_document, write_document_if_text, write_value_if_text};
 pub use texts::{has_text, value_has_text};

@@ -41,6 +41,7 @@ fn list<'a>(alloc: Global) -> Result<Command<'a>, AllocError> {
              binlog list --start-position 4711 --stop-position 9000 mysql-bin.000007",
         )
         .arg(follow(alloc))?;
+    let command = with_state(alloc, command)?;
     with_filters(alloc, with_files(alloc, command)?)
 }
 
@@ -57,6 +58,7 @@ fn json<'a>(alloc: Global) -> Result<Command<'a>, AllocError> {
              binlog json --follow --type QUERY mysql-bin.000008 | jq -r .data.query",
         )
         .arg(follow(alloc))?;
+    let command = with_state(alloc, command)?;
     let command = with_row_options(alloc, command)?;
     with_filters(alloc, with_files(alloc, command)?)
 }
@@ -155,6 +157,22 @@ fn follow<'a>(alloc: Global) -> Arg<'a> {
         .long("follow")
         .action(ArgAction::SetTrue)
         .help("Waits at the end of the last file for more events, as tail -f does")
+}
+
+// The command with the options for where following goes on.
+fn with_state<'a>(alloc: Global, command: Command<'a>) -> Result<Command<'a>, AllocError> {
+    command
+        .arg(
+            text(alloc, "state").value_name("STATE").help(
+                "With --follow: goes on where the file STATE says, and keeps there how far it is",
+            ),
+        )?
+        .arg(
+            Arg::new(alloc, "sync")
+                .long("sync")
+                .action(ArgAction::SetTrue)
+                .help("With --state: waits until lines and state are on their devices"),
+        )
 }
 
 // The option to say what is counted together.

@@ -11,7 +11,8 @@ ghost use Rattle.json_line.specs.Tokens.{Adds, text_value, number_value, bytes_v
 ghost use Rattle.binlog_json_bodies.specs.ClientSets.{collation_in, client_collation};
 ghost use Rattle.binlog_json_bodies.specs.StatusVars.{entry, variable_object, status_vars_value, status_vars_members};
 
-use binlog_file::{NullBytes, RawBytes, StatusVar, StatusVarVal, StatusVarsIterator};
+use binlog_file::{NullBytes, RawBytes, StatusVar, StatusVarKey, StatusVarVal, StatusVarsIterator};
+use byteorder::{ByteOrder, LittleEndian};
 use json_line::Line;
 use std::alloc::{AllocError, Global};
 
@@ -60,8 +61,40 @@ fn write_variables(line: &mut Line, alloc: Global, text: &[u8]) -> Result<Found,
 }
 
 // Writes a variable. It fails if the allocation for its value fails. The result is the number of the client's collation,
-// if this is the variable that states it.
+// if this is the variable that states it. Those that most statements have are written by their keys, which is cheaper than
+// filling a `StatusVarVal`.
+#[inline(always)]
 fn write_variable(
+    line: &mut Line,
+    alloc: Global,
+    variable: &StatusVar<'_>,
+) -> Result<Option<u16>, AllocError>
+    ensures object { Adds result line.old line.new (variable_object (variable_of variable.now)) }
+    ensures client { IfOk result (λ collation. collation ≡ collation_in (variable_of variable.now)) }
+{
+    let raw = variable.raw();
+    match variable.key() {
+        StatusVarKey::Flags2 => {
+            write_number(line, "Flags2", u64::from(LittleEndian::read_u32(raw)))?;
+            Ok(None)
+        }
+        StatusVarKey::SqlMode => {
+            write_number(line, "SqlMode", LittleEndian::read_u64(raw))?;
+            Ok(None)
+        }
+        StatusVarKey::Charset => {
+            let client = LittleEndian::read_u16(raw);
+            let connection = LittleEndian::read_u16(&raw[2..]);
+            write_charset(line, client, connection, LittleEndian::read_u16(&raw[4..]))?;
+            Ok(Some(client))
+        }
+        _ => write_parsed(line, alloc, variable),
+    }
+}
+
+// Writes a variable with any key.
+#[inline(never)]
+fn write_parsed(
     line: &mut Line,
     alloc: Global,
     variable: &StatusVar<'_>,

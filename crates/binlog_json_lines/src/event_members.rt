@@ -11,6 +11,7 @@ use json_line::Line;
 use std::alloc::{AllocError, Global};
 
 /// Writes the object of an event.
+#[inline(always)]
 pub(crate) fn write_event(
     line: &mut Line,
     alloc: Global,
@@ -26,6 +27,7 @@ pub(crate) fn write_event(
 }
 
 // Writes the members of the object of an event.
+#[inline(always)]
 fn write_event_members(
     line: &mut Line,
     alloc: Global,
@@ -44,6 +46,7 @@ fn write_event_members(
 /// # Errors
 ///
 /// [`AllocError`] if an allocation fails. Some members may then have been written.
+#[inline(always)]
 pub(crate) fn write_event_head(
     line: &mut Line,
     index: u64,
@@ -60,6 +63,7 @@ pub(crate) fn write_event_head(
 /// # Errors
 ///
 /// [`AllocError`] if an allocation fails. Some members may then have been written.
+#[inline(always)]
 pub(crate) fn write_event_fields(line: &mut Line, event: &EventRef<'_>) -> Result<(), AllocError>
     ensures { Adds result line.old line.new (event_fields (view_of event.now)) }
 {
@@ -71,6 +75,7 @@ pub(crate) fn write_event_fields(line: &mut Line, event: &EventRef<'_>) -> Resul
 }
 
 // Writes the stored checksum.
+#[inline(always)]
 #[tactic(auto, using(std::proofs::Common::append_assoc), unfolding(crate::specs::ItemLines::checksum_member))]
 fn write_checksum(line: &mut Line, event: &EventRef<'_>) -> Result<(), AllocError>
     ensures { Adds result line.old line.new (checksum_member (view_of event.now)) }
@@ -86,6 +91,7 @@ fn write_checksum(line: &mut Line, event: &EventRef<'_>) -> Result<(), AllocErro
 /// # Errors
 ///
 /// [`AllocError`] if an allocation fails. Some tokens may then have been written.
+#[inline(always)]
 pub(crate) fn write_data_member(
     line: &mut Line,
     alloc: Global,
@@ -103,6 +109,7 @@ pub(crate) fn write_data_member(
 }
 
 // Writes the raw type and the type's name.
+#[inline(always)]
 #[tactic(auto, using(std::proofs::Common::append_assoc), unfolding(crate::specs::ItemLines::type_members))]
 fn write_type(line: &mut Line, header: &BinlogEventHeader) -> Result<(), AllocError>
     ensures { Adds result line.old line.new (type_members header.now.event_type) }
@@ -118,6 +125,7 @@ fn write_type(line: &mut Line, header: &BinlogEventHeader) -> Result<(), AllocEr
 /// # Errors
 ///
 /// [`AllocError`] if an allocation fails.
+#[inline(always)]
 pub(crate) fn write_header(line: &mut Line, header: &BinlogEventHeader) -> Result<(), AllocError>
     ensures { Adds result line.old line.new (header_members header.now) }
 {

@@ -65,6 +65,7 @@ impl JsonLines {
     /// # Errors
     ///
     /// [`Error::Memory`] if an allocation fails.
+    #[inline(always)]
     pub fn event_line(
         &mut self,
         alloc: Global,
@@ -238,6 +239,7 @@ impl JsonLines {
     }
 
     // The line of an event of one of MariaDB's own types.
+    #[inline(never)]
     fn own_line(
         &mut self,
         alloc: Global,
@@ -262,6 +264,7 @@ impl JsonLines {
     }
 
     // The line of any other event.
+    #[inline(always)]
     fn other_line(
         &mut self,
         alloc: Global,
@@ -278,6 +281,7 @@ impl JsonLines {
 }
 
 // The type of an event if it is one of MariaDB's own in a log that MariaDB wrote.
+#[inline(always)]
 fn own_type(event: &EventRef<'_>) -> Option<MariaEventType>
     ensures { MatchOption result (IsOther (view_of event.now))
         (λ type. IsOfMaria (view_of event.now) × (maria_event_type_of (header_of (view_of event.now).frame).event_type ≡ Ok type)) }

@@ -1,5 +1,5 @@
 -- Documents of JSON columns and lists of diffs as tokens.
-use Rattle.std.specs.Prelude.{ℕ, ◌&&◌, Bool, List, [], ◌∷◌, ◌++◌, codes, map, length, is_none, nat_le, Option, None, Some, if◌then◌else◌}
+use Rattle.std.specs.Prelude.{◌≡◌, ℕ, ◌&&◌, Bool, true, false, List, [], ◌∷◌, ◌++◌, codes, map, length, is_none, nat_le, Option, None, Some, if◌then◌else◌}
 use Rattle.std.specs.Option.{option_and_then}
 use Rattle.json.specs.Token.{Token, begin_object, end_object, key}
 use Rattle.json_line.specs.Tokens.{bytes_value, member, object}
@@ -12,7 +12,7 @@ use Rattle.binary_json_lines.specs.HasText.{has_text}
 use Rattle.binary_json_lines.specs.Parts as documents
 use Rattle.binary_json_lines.specs.Documents.{value_parts}
 use Rattle.binary_json_lines.specs.Diffs.{items_have_text, diffs_parts}
-use Rattle.binlog_json_values.specs.Parts.{Part, exactly, in_document, exact}
+use Rattle.binlog_json_values.specs.Parts.{Part, exactly, in_document, exact, Shows}
 
 -- An object with one member, the hexadecimal digits of bytes that aren't decoded.
 abbrev pub encoded_value : List ℕ → List ℕ → List Token
@@ -34,6 +34,11 @@ shown_parts v = decoded_parts (codes "json") (value_parts v)
 -- grammar's to say (`documents_are_shown` and `other_bytes_are_digits`).
 unfoldable pub json_parts : List ℕ → List Part
 json_parts s = if is_text_document s then shown_parts (document_value s) else exact (encoded_value (codes "jsonb") s)
+
+-- The value is appended if the bytes are a document that has a text, and the answer is true. Else nothing is.
+abbrev pub ShowsIfText : Bool → List ℕ → List Token → List Token → Type 0
+ShowsIfText true s old new = (is_text_document s ≡ true) × Shows old new (shown_parts (document_value s))
+ShowsIfText false s old new = (is_text_document s ≡ false) × (new ≡ old)
 
 -- ---- lists of diffs
 

@@ -1,20 +1,20 @@
 //! Documents of JSON columns and lists of diffs as JSON.
 
-ghost use Rattle.std.specs.Prelude.{◌≡◌, Some, option_map, option_copied, IfOk, IfSome, IfNone};
+ghost use Rattle.std.specs.Prelude.{◌≡◌, Some, option_map, option_copied, IfOk};
 ghost use Rattle.std.specs.Bool.{OnTrue, OnFalse};
 ghost use Rattle.json_line.specs.Lines.{IsPlainText};
 ghost use Rattle.json_line.specs.Tokens.{Adds};
 ghost use Rattle.binary_json.specs.Values.{Json};
-ghost use Rattle.binary_json.specs.Grammar.{IsDocument};
-ghost use Rattle.binary_json.specs.Views.{document_json};
 ghost use Rattle.binary_json_lines.specs.HasText.{HasText};
 ghost use Rattle.binlog_json_values.specs.Parts.{Writes};
 ghost use Rattle.binary_json_writing.specs.Owned.{owned_value};
 ghost use Rattle.binary_json_writing.specs.Applied.{IsMemory};
-ghost use Rattle.binlog_json_values.specs.Documents.{encoded_value, shown_parts, json_parts, diffs_value, are_few, document_after, after_member, diff_list_parts};
+ghost use Rattle.binlog_json_values.specs.Documents.{encoded_value, json_parts, ShowsIfText, diffs_value, are_few, document_after, after_member, diff_list_parts};
 
 use binary_json::{Document, JsonDiffs};
-use binary_json_lines::{diffs_have_text, has_text, write_diffs, write_document};
+use binary_json_lines::{
+    diffs_have_text, has_text, write_diffs, write_document, write_document_if_text,
+};
 use binary_json_writing::{
     JsonApplyError, JsonChangeError, JsonPathError, JsonWriteError, OwnedDocument, apply,
 };
@@ -34,36 +34,23 @@ pub(crate) fn write_encoded(line: &mut Line, name: &str, bytes: &[u8]) -> Result
     line.end_object()
 }
 
-/// Writes an object with one member: the value of a document that has a text.
-fn write_shown(
-    line: &mut Line,
-    memory: &mut String,
-    document: &Document<'_>,
-) -> Result<(), AllocError>
-    requires { HasText (document_json document.now) }
-    ensures { Writes result line.old line.new (shown_parts (document_json document.now)) }
+/// Writes an object with one member, the value of the document in the bytes, if they are one that has a text. Answers whether they are;
+/// if not, the line stays as it was.
+fn write_shown(line: &mut Line, memory: &mut String, bytes: &[u8]) -> Result<bool, AllocError>
+    ensures { IfOk result (λ is_shown. ShowsIfText is_shown bytes.now line.old line.new) }
 {
+    let Ok(document) = Document::read(bytes) else {
+        return Ok(false);
+    };
+    let start = line.mark();
     line.begin_object()?;
     line.key("json")?;
-    write_document(line, memory, document)?;
-    line.end_object()
-}
-
-/// The document of the bytes, if they are one that has a text.
-fn text_document(bytes: &[u8]) -> Option<Document<'_>>
-    ensures found { IfSome result (λ d. IsDocument bytes.now (document_json d) × HasText (document_json d)) }
-    ensures none { IfNone result ((v : Json) → IsDocument bytes.now v → HasText v → ⊥) }
-{
-    match Document::read(bytes) {
-        Ok(document) => {
-            if has_text(&document) {
-                Some(document)
-            } else {
-                None
-            }
-        }
-        Err(_) => None,
+    if !write_document_if_text(line, memory, &document)? {
+        line.cut(start);
+        return Ok(false);
     }
+    line.end_object()?;
+    Ok(true)
 }
 
 /// Writes the bytes of a JSON column: an object with the value, if they are a document that has a text, or else with their
@@ -75,10 +62,10 @@ pub(crate) fn write_json(
 ) -> Result<(), AllocError>
     ensures { Writes result line.old line.new (json_parts bytes.now) }
 {
-    match text_document(bytes) {
-        Some(document) => write_shown(line, memory, &document),
-        None => write_encoded(line, "jsonb", bytes),
+    if write_shown(line, memory, bytes)? {
+        return Ok(());
     }
+    write_encoded(line, "jsonb", bytes)
 }
 
 /// Writes the diffs of a list, if the bytes are such a list, and it has a text, or else the hexadecimal digits of the bytes.

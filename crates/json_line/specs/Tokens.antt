@@ -1,5 +1,5 @@
 -- The parts of a line as tokens of JSON.
-use Rattle.std.specs.Prelude.{◌≡◌, ℕ, List, [], ◌∷◌, ◌++◌, length, cond, nat_eq, codes, decimal, Option, Some, None, Result, OnOk}
+use Rattle.std.specs.Prelude.{◌≡◌, ℕ, Bool, true, false, List, [], ◌∷◌, ◌++◌, length, cond, nat_eq, codes, decimal, IsUtf8, Option, Some, None, Result, OnOk}
 use Rattle.std.specs.Str.Lossy.{utf8_valid_len}
 use Rattle.character_sets.specs.declared.character_set.CharacterSet.{CharacterSet}
 use Rattle.character_sets.specs.declared.character_set.CharacterSet.TheVariants.{Binary}
@@ -11,6 +11,11 @@ use Rattle.json.specs.Token.{Token, begin_object, end_object, begin_array, end_a
 -- These tokens are appended, unless an allocation fails.
 abbrev pub Adds : {A E : Type 0} → Result A E → List Token → List Token → List Token → Type 0
 Adds result old new tokens = OnOk result (new ≡ old ++ tokens)
+
+-- The token is appended if the text is UTF-8, and the answer is true. Else nothing is.
+abbrev pub AddsIfUtf8 : Bool → List ℕ → Token → List Token → List Token → Type 0
+AddsIfUtf8 true text token old new = IsUtf8 text × (new ≡ old ++ token ∷ [])
+AddsIfUtf8 false text token old new = (IsUtf8 text → ⊥) × (new ≡ old)
 
 -- ---- values
 

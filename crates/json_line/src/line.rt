@@ -211,25 +211,25 @@ impl Line {
         ensures unchanged { OnErr result (self.new ≡ self.old) }
     {
         if is_plain(name.as_bytes()) {
-            return self.key_as_it_is(name);
+            return self.key_as_it_is(name.as_bytes());
         }
         self.key_with_escapes(name)
     }
 
     #[inline(always)]
-    fn key_as_it_is(&mut self, name: &str) -> Result<(), AllocError>
-        requires { escape name.now ≡ name.now }
+    pub(crate) fn key_as_it_is(&mut self, name: &[u8]) -> Result<(), AllocError>
+        requires { (escape name.now ≡ name.now) × IsUtf8 name.now }
         ensures added { Adds result self.old self.new (tokens.key name.now ∷ []) }
         ensures unchanged { OnErr result (self.new ≡ self.old) }
     {
-        self.text.add_name(self.after_value, name.as_bytes())?;
+        self.text.add_name(self.after_value, name)?;
         self.after_value = false;
         Ok(())
     }
 
     // Through the general token writer.
     #[inline(never)]
-    fn key_with_escapes(&mut self, name: &str) -> Result<(), AllocError>
+    pub(crate) fn key_with_escapes(&mut self, name: &str) -> Result<(), AllocError>
         ensures added { Adds result self.old self.new (tokens.key name.now ∷ []) }
         ensures unchanged { OnErr result (self.new ≡ self.old) }
     {

@@ -1,7 +1,7 @@
 //! Texts in a line of JSON.
-ghost use Rattle.std.specs.Prelude.{◌≡◌, ◌∷◌, [], encode_utf8_all, OnErr};
+ghost use Rattle.std.specs.Prelude.{◌≡◌, ◌∷◌, [], encode_utf8_all, IfOk, OnErr};
 ghost use Rattle.json.specs.Token as tokens;
-ghost use Rattle.json_line.specs.Tokens.{Adds, text_value, text_value_in, text_value_in_stated, hex_value};
+ghost use Rattle.json_line.specs.Tokens.{Adds, AddsIfUtf8, text_value, text_value_in, text_value_in_stated, hex_value};
 
 use crate::line::Line;
 use crate::plain::is_plain;
@@ -42,6 +42,63 @@ impl Line {
         self.key("hex")?;
         self.bytes(bytes)?;
         self.end_object()
+    }
+
+    /// Writes a string, escaped where needed, if the bytes are UTF-8, else nothing. Answers whether they are.
+    #[inline(always)]
+    pub fn string_if_utf8(&mut self, text: &[u8]) -> Result<bool, AllocError>
+        ensures added { IfOk result (λ is_utf8. AddsIfUtf8 is_utf8 text.now (tokens.string text.now) self.old self.new) }
+        ensures unchanged { OnErr result (self.new ≡ self.old) }
+    {
+        if is_plain(text) {
+            self.string_as_it_is(text)?;
+            return Ok(true);
+        }
+        self.other_string_if_utf8(text)
+    }
+
+    // A text that isn't ASCII, or needs an escape.
+    #[inline(never)]
+    fn other_string_if_utf8(&mut self, text: &[u8]) -> Result<bool, AllocError>
+        ensures added { IfOk result (λ is_utf8. AddsIfUtf8 is_utf8 text.now (tokens.string text.now) self.old self.new) }
+        ensures unchanged { OnErr result (self.new ≡ self.old) }
+    {
+        match str::from_utf8(text) {
+            Ok(text) => {
+                self.escaped_string(text)?;
+                Ok(true)
+            }
+            Err(_) => Ok(false),
+        }
+    }
+
+    /// Writes the name of a member and a colon, escaped where needed, if the bytes are UTF-8, else nothing. Answers whether
+    /// they are.
+    #[inline(always)]
+    pub fn key_if_utf8(&mut self, name: &[u8]) -> Result<bool, AllocError>
+        ensures added { IfOk result (λ is_utf8. AddsIfUtf8 is_utf8 name.now (tokens.key name.now) self.old self.new) }
+        ensures unchanged { OnErr result (self.new ≡ self.old) }
+    {
+        if is_plain(name) {
+            self.key_as_it_is(name)?;
+            return Ok(true);
+        }
+        self.other_key_if_utf8(name)
+    }
+
+    // A name that isn't ASCII, or needs an escape.
+    #[inline(never)]
+    fn other_key_if_utf8(&mut self, name: &[u8]) -> Result<bool, AllocError>
+        ensures added { IfOk result (λ is_utf8. AddsIfUtf8 is_utf8 name.now (tokens.key name.now) self.old self.new) }
+        ensures unchanged { OnErr result (self.new ≡ self.old) }
+    {
+        match str::from_utf8(name) {
+            Ok(name) => {
+                self.key_with_escapes(name)?;
+                Ok(true)
+            }
+            Err(_) => Ok(false),
+        }
     }
 
     /// Writes a text in a character set: a string of its characters; an object with the hexadecimal digits of all bytes, as

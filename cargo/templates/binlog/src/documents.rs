@@ -1,6 +1,6 @@
 //! The documents of JSON columns as the crate `serde_json` has them, and the other way. By hand, with the feature `serde_json`.
 use crate::binary_json::{Document, Value};
-use crate::binary_json_lines::{value_has_text, write_value};
+use crate::binary_json_lines::write_value_if_text;
 use crate::binary_json_writing::{ArrayBuilder, JsonWriteError, ObjectBuilder, OwnedDocument};
 use crate::json_line::Line;
 use crate::memory::AllocError;
@@ -45,11 +45,10 @@ impl TryFrom<&Value<'_>> for serde_json::Value {
     type Error = DocumentError;
 
     fn try_from(value: &Value<'_>) -> Result<Self, DocumentError> {
-        if !value_has_text(value) {
+        let mut line = Line::new();
+        if !write_value_if_text(&mut line, &mut String::new(), value)? {
             return Err(DocumentError::NoText);
         }
-        let mut line = Line::new();
-        write_value(&mut line, &mut String::new(), value)?;
         Ok(serde_json::from_slice(line.end()?)?)
     }
 }

@@ -3,7 +3,7 @@ use crate::questions::built;
 use crate::questions::built::refusal_name as name_of;
 use crate::questions::bytes::{bytes_of, write_unknown};
 use binary_json::{Document, JsonDiffs, JsonError, Refusal};
-use binary_json_lines::{has_text, write_document};
+use binary_json_lines::write_document_if_text;
 use binary_json_writing::{apply, rewritten};
 use json_line::Line;
 use std::alloc::Global;
@@ -60,11 +60,10 @@ impl Documents {
     }
 
     fn write_text<W: Write>(&mut self, document: &Document<'_>, output: &mut W) -> io::Result<()> {
-        if !has_text(document) {
+        self.line.clear();
+        if !write_document_if_text(&mut self.line, &mut self.memory, document)? {
             return writeln!(output, "no text");
         }
-        self.line.clear();
-        write_document(&mut self.line, &mut self.memory, document)?;
         output.write_all(self.line.end()?)
     }
 }

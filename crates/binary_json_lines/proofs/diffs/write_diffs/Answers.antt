@@ -1,9 +1,10 @@
-use Rattle.std.proofs.Common.{◌≡◌, List, ap, ◌∙◌}
-use Rattle.json.specs.Token.{begin_array, end_array}
+use Rattle.std.proofs.Common.{◌≡◌, Result, Ok, Err, OnOk, List, [], ◌∷◌, ◌++◌, ap, ◌∙◌}
+use Rattle.json.specs.Token.{Token, begin_array, end_array}
 use Rattle.binary_json.specs.Diffs.{Diff, Read, diff_items, item_of, diffs_left}
 use Rattle.binary_json.specs.declared.diffs.JsonDiffs.{JsonDiffs}
 use Rattle.binary_json_lines.specs.Diffs.{items_have_text, item_parts, items_parts}
-use Rattle.binary_json_lines.proofs.PartLemmas.{begun, one_more, ended}
+use Rattle.binary_json_lines.specs.Parts.{Part, exactly, Shows}
+use Rattle.binary_json_lines.proofs.PartLemmas.{ShowsSome, begun, one_more, ended}
 use Rattle.binary_json_lines.proofs.DiffLemmas.{first_has}
 use Rattle.binary_json_lines.proofs.diffs.write_diffs.Goals as goal
 
@@ -26,6 +27,11 @@ diffs-preserved c =
       texts = (first_has (diffs_left c.diffs.item-iterator) (diffs_left c.next.new.self) (item_of c.in-Some.item) steps c.diffs.invariant.texts).1;
     }
 
+all_written : {A E : Type 0} (result : Result A E) (old mid new : List Token) (left all : List Part) → left ≡ [] → ShowsSome begin_array old mid left all → OnOk result (new ≡ mid ++ end_array ∷ [])
+    → OnOk result (Shows old new (exactly begin_array ∷ (all ++ exactly end_array ∷ [])))
+all_written (Ok x) old mid new left all none shown is = ended begin_array end_array old mid new left all none shown is
+all_written (Err e) old mid new left all none shown is = is
+
 pub returns : goal.returns
 returns c =
-    ended c.end_array.result begin_array end_array c.args.line.now c.diffs.line c.end_array.new.self _ (items_parts (diff_items c.args.bytes.now)) (ap (λ (l : List (Read Diff)). items_parts l) c.in-None.ensures.steps.0) c.diffs.invariant.shown c.end_array.ensures.added
+    all_written c.end_array.result c.args.line.now c.diffs.line c.end_array.new.self _ (items_parts (diff_items c.args.bytes.now)) (ap (λ (l : List (Read Diff)). items_parts l) c.in-None.ensures.steps.0) c.diffs.invariant.shown c.end_array.ensures.added

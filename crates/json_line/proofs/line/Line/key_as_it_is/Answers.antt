@@ -7,9 +7,9 @@ use Rattle.json_line.proofs.line.Line.key_as_it_is.Goals as goal
 
 pub invariant_of-self-2 : goal.invariant_of-self-2
 invariant_of-self-2 c =
-    pushed _ _ c.self.invariant (key c.args.name.now) tt (IsUtf8-key _ c.utf8.name) _ false refl (text_begun _ _ _ (key c.args.name.now) _ refl (ap (λ s. 34 ∷ (s ++ 34 ∷ 58 ∷ [])) c.as_bytes.ensures.value ∙ key_text _ c.requires) c.in_ok-add_name.ensures)
+    pushed _ _ c.self.invariant (key c.args.name.now) tt (IsUtf8-key _ c.requires.1) _ false refl (text_begun _ _ _ (key c.args.name.now) _ refl (key_text _ c.requires.0) c.in_ok-add_name.ensures)
 
 pub returns-clause-added : goal.returns-clause-added
 returns-clause-added c =
-    pushed_tokens _ _ c.self.invariant (key c.args.name.now) tt (IsUtf8-key _ c.utf8.name) _ false refl (text_begun _ _ _ (key c.args.name.now) _ refl (ap (λ s. 34 ∷ (s ++ 34 ∷ 58 ∷ [])) c.as_bytes.ensures.value ∙ key_text _ c.requires) c.in_ok-add_name.ensures)
+    pushed_tokens _ _ c.self.invariant (key c.args.name.now) tt (IsUtf8-key _ c.requires.1) _ false refl (text_begun _ _ _ (key c.args.name.now) _ refl (key_text _ c.requires.0) c.in_ok-add_name.ensures)
     ∙ ap (λ l. l ++ key c.args.name.now ∷ []) c.self.view_is
