@@ -1,5 +1,5 @@
 -- What both passes over logs say together.
-use Rattle.std.proofs.Common.{◌≡◌, ℕ, ◌+◌, ◌<◌, ◌^◌, arith, List, [], ◌∷◌, ◌++◌, length, map, Option, refl, sym, ◌∙◌, ap}
+use Rattle.std.proofs.Common.{◌≡◌, ℕ, ◌+◌, ◌<◌, ◌^◌, arith, List, [], ◌∷◌, ◌++◌, length, map, Option, ap}
 use Rattle.std.specs.List.{AllByRecursion}
 use Rattle.std.specs.Prelude.{◌==◌}
 use Rattle.std.proofs.lemmas.List.{length-append}
@@ -24,7 +24,8 @@ short_parts [] most short = tt
 short_parts (log ∷ logs) most short =
     let others : List ℕ = joined (map (λ (log : ScannedLog). log.bytes.now) logs) in
     let long : length (log.bytes.now ++ others) ≡ length log.bytes.now + length others = length-append log.bytes.now others in
-    (omega (arith, long, short), short_parts logs most (omega (arith, long, short)))
+    let here : length (log.bytes.now ++ others) < most = short in
+    (omega (arith, long, here), short_parts logs most (omega (arith, long, here)))
 
 module _ {W : Type 0} (contents : W → Option (List ℕ)) (request : UndoRequest) where
   logs_undone : (count index : ℕ) (logs : List ScannedLog) (old new : UndoOutput W) → AreShort logs (2 ^ 64) → AreScannedFrom request count index logs → AreAllSkipped logs
@@ -44,4 +45,5 @@ module _ {W : Type 0} (contents : W → Option (List ℕ)) (request : UndoReques
   pub request_undone : (logs : List ScannedLog) (old new : UndoOutput W) → length request.logs.now < 2 ^ 64 → ScansRequest request logs → AreAllSkipped logs → WritesLogs contents logs old new
       → UndoesLogs contents request (length logs) 0 logs old new
   request_undone logs old new short scans skipped written =
-      logs_undone (length logs) 0 logs old new (short_parts logs (2 ^ 64) (omega (arith, ap length scans.are.all, short))) scans.each skipped written
+      let all : length request.logs.now ≡ length (joined (map (λ (log : ScannedLog). log.bytes.now) logs)) = ap length scans.are.all in
+      logs_undone (length logs) 0 logs old new (short_parts logs (2 ^ 64) (omega (arith, all, short))) scans.each skipped written
