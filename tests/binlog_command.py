@@ -927,7 +927,7 @@ def progress(runner):
 
 
 def followed(runner):
-    """Events that come to a file while it is followed have their lines at once, without a message while there is only a part of
+    """Transactions that come to a file while it is followed have their lines at once, without a message while there is only a part of
     one; the first files aren't waited for."""
     first = listing_model.expected(SAMPLE)[0]
     ends = [*frame_starts(SAMPLE), len(SAMPLE)]
@@ -940,11 +940,11 @@ def followed(runner):
             ends_of_run = {"stdout": subprocess.PIPE, "stderr": subprocess.PIPE}
             with subprocess.Popen(words, cwd=runner.folder, **ends_of_run) as running:
                 shown = b"".join(running.stdout.readline() for _ in range(first.count(b"\n") + 2))
-                for piece in (SAMPLE[ends[2] : ends[3]], SAMPLE[ends[3] : ends[5] - 1], SAMPLE[ends[5] - 1 :]):
+                # A statement, a part of a transaction of four events, and all the rest.
+                for piece, lines in ((SAMPLE[ends[2] : ends[3]], 1), (SAMPLE[ends[3] : ends[6] - 1], 0), (SAMPLE[ends[6] - 1 :], len(ends[4:]))):
                     log.write(piece)
                     log.flush()
-                    shown += running.stdout.readline()
-                shown += b"".join(running.stdout.readline() for _ in ends[6:])
+                    shown += b"".join(running.stdout.readline() for _ in range(lines))
                 is_waiting = running.poll() is None
                 running.kill()
                 messages = running.stderr.read()

@@ -1,5 +1,6 @@
 #!/usr/bin/env python3
-"""Follows logs from file to file: `binlog list --follow` and `binlog json --follow` go on to the next file at a ROTATE and a STOP.
+"""Follows logs from file to file: `binlog list --follow` and `binlog json --follow` go on to the next file at a ROTATE and a STOP, wait
+for the rest of what is begun, end at damage, and go on from a state file.
 
 Usage: followed_files.py FLAG
 
@@ -12,14 +13,16 @@ status is 1 if something failed.
 import argparse
 import queue
 import re
+import signal
 import subprocess
 import sys
 import tempfile
 import threading
 import time
 from concurrent.futures import ThreadPoolExecutor
-from itertools import chain
+from itertools import accumulate, chain
 from pathlib import Path
+from random import Random
 
 import compact_model
 import encoded_events
@@ -30,11 +33,14 @@ import programs
 import results
 import row_lines
 import samples
-from maria_daemon import PRINTER, LeftOut, Server, is_within, program_in
+from maria_daemon import LeftOut, is_within
+from mirrors import Maria, Mirror
 
 PROCESSES_AT_A_TIME = 12
 # How long a line may take, and how long nothing may come where nothing is wanted, in seconds.
-PATIENCE, QUIET = 30, 0.7
+PATIENCE, QUIET = 60, 0.7
+# How long it takes a run that waits for its turn to look at a file, in seconds.
+LOOK = 2
 MODELS = {"list": listing_model, "json": json_model}
 
 ARTIFICIAL = 0x20
@@ -47,6 +53,13 @@ def rotate(name, behind=b"", **header):
     return samples.frame(samples.ROTATE, (4).to_bytes(8, "little") + name + behind, **header)
 
 
+def sealed(event):
+    """An event that ends with its checksum."""
+    front = bytearray(event + bytes(samples.CHECKSUM_LENGTH))
+    front[9:13] = len(front).to_bytes(4, "little")
+    return bytes(front[: -samples.CHECKSUM_LENGTH]) + samples.crc32(bytes(front[: -samples.CHECKSUM_LENGTH]))
+
+
 def description(algorithm):
     """A format description that states this checksum algorithm."""
     event = encoded_logs.described("", encoded_logs.POST_HEADER_LENGTHS, algorithm=algorithm).event
@@ -54,10 +67,21 @@ def description(algorithm):
 
 
 PLAIN, CHECKSUMMED = description(0), description(1)
+SEALED_XID = sealed(XID)
+BEGIN = samples.frame(samples.QUERY, samples.query_body(b"shop", b"BEGIN"))
 
 
 def log(*events):
     return encoded_logs.FILE_HEADER + b"".join(events)
+
+
+def placed(content):
+    """A log whose events state where they end; of these, only the description has a checksum."""
+    frames, _ = listing_model.split(content[len(encoded_logs.FILE_HEADER) :])
+    ends = accumulate(map(len, frames), initial=len(encoded_logs.FILE_HEADER))
+    description, *others = (frame[:13] + end.to_bytes(4, "little") + frame[17:] for frame, end in zip(frames, list(ends)[1:]))
+    front = description[: -samples.CHECKSUM_LENGTH]
+    return log(front + samples.crc32(front), *others)
 
 
 class Followed:
@@ -164,9 +188,9 @@ def rotations(program, folder):
 
 def checksums(program, folder):
     """The four bytes of a checksum aren't of the name, by the description of the file; the algorithm may change."""
-    first = log(CHECKSUMMED, XID, rotate(b"log.000002", b"\1\2\3\4"))
+    first = log(CHECKSUMMED, SEALED_XID, sealed(rotate(b"log.000002")))
     yield from going_on(first, log(PLAIN, XID), program, folder)
-    yield from going_on(log(PLAIN, CHECKSUMMED, PLAIN, rotate(b"log.000002")), log(CHECKSUMMED), program, folder)
+    yield from going_on(log(PLAIN, CHECKSUMMED, PLAIN, rotate(b"log.000002")), log(PLAIN), program, folder)
 
 
 def prefixes(program, folder):
@@ -209,7 +233,7 @@ def stays(program, folder):
 
 def byte_by_byte(program, folder):
     """Two files that come byte by byte, the second one late."""
-    first, second = log(CHECKSUMMED, XID, rotate(b"log.000002", b"abcd")), log(PLAIN, XID, STOP)
+    first, second = log(CHECKSUMMED, SEALED_XID, sealed(rotate(b"log.000002"))), log(PLAIN, XID, STOP)
     third = log(PLAIN)
     (folder / "log.000001").touch()
     run = followed(program, folder, "log.000001")
@@ -227,8 +251,8 @@ def cut_at(cut):
     """A ROTATE of which so many bytes are there at first, and the next file already."""
 
     def scene(program, folder):
-        whole = rotate(b"log.000002", b"abcd")
-        front = log(CHECKSUMMED, XID)
+        whole = sealed(rotate(b"log.000002"))
+        front = log(CHECKSUMMED, SEALED_XID)
         first, second = front + whole, log(PLAIN, XID)
         (folder / "log.000001").write_bytes(front + whole[:cut])
         (folder / "log.000002").write_bytes(second)
@@ -251,7 +275,7 @@ def late(program, folder):
     yield run.wrong_lines(lines_of(first))
     yield None if not run.messages else f"messages {run.messages!r}"
     message = rb"binlog: log\.000002: .*isn't there yet\n"
-    yield run.message(message, 20)
+    yield run.message(message, PATIENCE)
     (folder / "log.000002").write_bytes(second[:3])
     yield run.wrong_quiet()
     (folder / "log.000002").write_bytes(second[:30])
@@ -280,13 +304,21 @@ def refused(program, folder):
 
 
 def damages(program, folder):
-    """A message has the name and the index of the file that is read; an event without a size ends all, and the status is kept."""
-    damaged = samples.frame(16, b"")[:9] + (5).to_bytes(4, "little") + bytes(6)
-    (folder / "log.000001").write_bytes(log(PLAIN, XID, XID, rotate(b"log.000002")))
-    (folder / "log.000002").write_bytes(log(PLAIN, damaged))
-    run = followed(program, folder, "log.000001")
-    place = len(log(PLAIN))
-    yield run.ended(2, rb"binlog: log\.000002: event 1 at byte %d: an event states the size 5[^\n]*\n" % place)
+    """Damage ends all, with a message that has the file and the place; nothing of its transaction is printed."""
+    sizeless = samples.frame(16, b"")[:9] + (5).to_bytes(4, "little") + bytes(6)
+    first = log(PLAIN, XID, XID, rotate(b"log.000002"))
+    (folder / "log.000001").write_bytes(first)
+    for front, damaged, message in (
+        (log(PLAIN, XID), sizeless, rb"an event states the size 5"),
+        (log(CHECKSUMMED, SEALED_XID), SEALED_XID[:-1] + b"?", rb"the checksum of an event"),
+        (log(PLAIN, XID), samples.frame(16, bytes(8), log_pos=4711), rb"an event states that it ends at byte 4711"),
+    ):
+        (folder / "log.000002").write_bytes(front + damaged + XID)
+        run = followed(program, folder, "log.000001")
+        yield run.ended(2, rb"binlog: log\.000002: behind byte %d: %s[^\n]*\n" % (len(front), message))
+        lines = lines_of(first) + lines_of(front)
+        yield None if run.next_lines(lines.count(b"\n")) == lines else f"other lines before {message!r}"
+        yield None if run.lines.empty() else f"a line behind {message!r}"
 
 
 def several(program, folder):
@@ -317,7 +349,7 @@ def filters(program, folder):
 
 def compact_rows(program, folder):
     """A line of a row has the name of its file."""
-    rows, _ = row_lines.sample()
+    rows = placed(row_lines.sample()[0])
     contents = {"log.000001": rows + rotate(b"log.000002"), "log.000002": rows + STOP, "log.000003": rows}
     for name, content in contents.items():
         (folder / name).write_bytes(content)
@@ -327,43 +359,275 @@ def compact_rows(program, folder):
     yield None if not run.messages else f"messages {run.messages!r}"
 
 
+def transactions(program, folder):
+    """No event of a transaction has a line before the last byte of it is there."""
+    front, whole = log(PLAIN, XID), BEGIN + samples.frame(samples.QUERY, samples.query_body(b"shop", b"DELETE")) + XID
+    (folder / "log.000001").write_bytes(front)
+    run = followed(program, folder, "log.000001")
+    yield run.wrong_lines(lines_of(front))
+    with open(folder / "log.000001", "ab", buffering=0) as file:
+        for place in range(len(whole) - 1):
+            file.write(whole[place : place + 1])
+            time.sleep(0.02)
+        yield run.wrong_quiet()
+        yield run.message(rb"binlog: log\.000001: the rest of a transaction isn't there yet\n", PATIENCE)
+        file.write(whole[-1:])
+    yield run.wrong_lines(lines_of(front + whole)[len(lines_of(front)) :])
+    run.end()
+
+
+def begun_again(program, folder):
+    """A file that is emptied and written again with the same bytes, in place or under its name, gives no line again."""
+    front, rest = log(CHECKSUMMED, SEALED_XID), SEALED_XID
+    (folder / "log.000001").write_bytes(front)
+    run = followed(program, folder, "log.000001")
+    yield run.wrong_lines(lines_of(front))
+    for count in range(1, 4):
+        is_replaced = count == 2
+        if is_replaced:
+            (folder / "log.000001").unlink()
+        with open(folder / "log.000001", "wb", buffering=0) as file:
+            for place in range(0, len(front), 31):
+                file.write(front[place : place + 31])
+                time.sleep(0.03)
+            yield run.wrong_quiet()
+            file.write(rest)
+        front += rest
+        yield run.wrong_lines(lines_of(front)[len(lines_of(front[: -len(rest)])) :])
+    yield None if not run.messages else f"messages {run.messages!r}"
+    (folder / "log.000001").unlink()
+    yield run.message(rb"binlog: log\.000001: the file isn't there\n", PATIENCE)
+    (folder / "log.000001").write_bytes(front + rest)
+    yield run.wrong_lines(lines_of(front + rest)[len(lines_of(front)) :])
+    run.end()
+
+
+def other_log(program, folder):
+    """Another log in the place of one that was read ends all."""
+    first, second = log(PLAIN, XID, XID), log(PLAIN, XID, samples.frame(16, (8).to_bytes(8, "little")), XID)
+    for is_replaced in (False, True):
+        (folder / "log.000001").write_bytes(first)
+        run = followed(program, folder, "log.000001")
+        yield run.wrong_lines(lines_of(first))
+        if is_replaced:
+            (folder / "log.000001").unlink()
+        else:
+            (folder / "log.000001").write_bytes(b"")
+            time.sleep(LOOK)
+        (folder / "log.000001").write_bytes(second)
+        yield run.ended(1, rb"binlog: log\.000001: behind byte %d: the file has another log[^\n]*\n" % len(first))
+        yield None if run.lines.empty() else "a line of another log"
+
+
+def zeros(program, folder):
+    """Zeros in the place of an event aren't one yet."""
+    front = log(CHECKSUMMED, SEALED_XID)
+    for count in (1, 18, 19, 100):
+        (folder / "log.000001").write_bytes(front + bytes(count))
+        run = followed(program, folder, "log.000001")
+        yield run.wrong_lines(lines_of(front))
+        with open(folder / "log.000001", "r+b") as file:
+            file.seek(len(front))
+            file.write(SEALED_XID + bytes(max(0, count - len(SEALED_XID))))
+        yield run.wrong_lines(lines_of(front + SEALED_XID)[len(lines_of(front)) :])
+        run.end()
+
+
+# ---- lists of GTIDs, where a file ends with neither a ROTATE nor a STOP
+
+
+def maria_file(known, *numbers):
+    """A file of MariaDB's: a list with the last number of domain 0 and server 7, and transactions with these numbers."""
+    transactions = (samples.maria_gtid(0, 7, number, flags=0) + XID for number in numbers)
+    return log(samples.maria_start(), samples.maria_gtid_list((0, 7, known)), *transactions)
+
+
+def mysql_file(known, *numbers, type_number=samples.GTID):
+    """A file of MySQL's: a set of the numbers up to this one, and transactions with these; anonymous ones for type 34."""
+    before = samples.previous((samples.SOURCE, [(1, known + 1)])) if known else samples.previous()
+    transactions = (samples.gtid(number, type_number=type_number) + BEGIN + XID for number in numbers)
+    return log(samples.description(samples.MYSQL, algorithm=samples.OFF), before, *transactions)
+
+
+def crashes(program, folder):
+    """A file whose GTIDs are those in the next file's list is whole; what is behind its last transaction has no line, and one message."""
+    for first, second, rest in (
+        (maria_file(4, 5, 6), maria_file(6, 7), b""),
+        (maria_file(4, 5, 6), maria_file(6, 7), samples.maria_gtid(0, 7, 7, flags=0) + BEGIN),
+        (maria_file(4), maria_file(4, 5), samples.maria_gtid(0, 7, 5, flags=0)[:20]),
+        (mysql_file(3, 4, 5), mysql_file(5, 6), b""),
+        (mysql_file(3, 4, 5), mysql_file(5, 6), XID[:20]),
+    ):
+        (folder / "log.000001").write_bytes(first + rest)
+        (folder / "log.000002").write_bytes(second)
+        run = followed(program, folder, "log.000001")
+        yield run.wrong_lines(lines_of(first), lines_of(second))
+        run.end()
+        message = rb"binlog: log\.000001: what is behind byte %d is left out[^\n]*\n" % len(first) if rest else b""
+        yield run.message(message, 0)
+
+
+def other_lists(program, folder):
+    """A next file whose list has more, or which says nothing, is waited for with a message; a ROTATE leads on, or the transactions."""
+    anonymous = {"type_number": samples.ANONYMOUS_GTID}
+    differs, unlisted = rb"transactions that are in the next file's list", rb"the next file is there, but no list"
+    for first, second, more, message in (
+        (maria_file(4, 5), maria_file(6, 7), samples.maria_gtid(0, 7, 6, flags=0) + XID, differs),
+        (mysql_file(3, 4), mysql_file(5, 6), samples.gtid(5) + BEGIN + XID, differs),
+        (mysql_file(0, 1, **anonymous), mysql_file(0, 2, **anonymous), rotate(b"log.000002"), unlisted),
+        (mysql_file(0), mysql_file(0, 2, **anonymous), rotate(b"log.000002"), unlisted),
+        (log(PLAIN, XID), log(PLAIN, XID), STOP, unlisted),
+    ):
+        (folder / "log.000001").write_bytes(first)
+        (folder / "log.000002").write_bytes(second)
+        run = followed(program, folder, "log.000001")
+        yield run.wrong_lines(lines_of(first))
+        yield run.message(rb"binlog: log\.000001: %s[^\n]*\n" % message, PATIENCE)
+        with open(folder / "log.000001", "ab") as file:
+            file.write(more)
+        yield run.wrong_lines(lines_of(first + more)[len(lines_of(first)) :], lines_of(second))
+        run.end()
+
+
+def late_lists(program, folder):
+    """A next file without its list yet is none."""
+    first, second = maria_file(4, 5), maria_file(5, 6)
+    (folder / "log.000001").write_bytes(first)
+    run = followed(program, folder, "log.000001")
+    yield run.wrong_lines(lines_of(first))
+    for count in (2, 60, len(maria_file(5)) - 1):
+        (folder / "log.000002").write_bytes(second[:count])
+        yield run.wrong_quiet()
+    (folder / "log.000002").write_bytes(second)
+    yield run.wrong_lines(lines_of(second))
+    run.end()
+    yield None if not run.messages else f"messages {run.messages!r}"
+
+
+# ---- states
+
+
+def with_state(program, folder, output, *words, command="json", limit=None):
+    """A run with the state file `state`, whose lines are appended to a file. With a limit it is killed where the file would be longer."""
+    limited = () if limit is None else ("prlimit", f"--fsize={limit}", "--core=0")
+    with open(folder / output, "ab") as lines:
+        return subprocess.Popen(
+            [*limited, program, command, "--follow", "--state", "state", *words], cwd=folder, stdout=lines, stderr=subprocess.PIPE
+        )
+
+
+def killed_runs(command):
+    """Runs that are killed and started again while files grow, rotate and go: each line is in the output once."""
+
+    def scene(program, folder):
+        random = Random(7)
+        contents = [log(CHECKSUMMED, *[SEALED_XID] * 9, sealed(rotate(b"log.%06d" % (number + 1)))) for number in range(1, 6)]
+        names = [f"log.{number:06}" for number in range(1, 6)]
+        (folder / names[0]).touch()
+        run = with_state(program, folder, "lines", names[0], command=command)
+        for name, content in zip(names, contents):
+            with open(folder / name, "ab", buffering=0) as file:
+                place = 0
+                while place < len(content):
+                    count = random.randint(1, 200)
+                    file.write(content[place : place + count])
+                    place += count
+                    if random.random() < 0.5:
+                        time.sleep(random.random() * 0.15)
+                        run.kill()
+                        run.wait()
+                        if random.random() < 0.5:
+                            with open(folder / "lines", "ab") as lines:
+                                lines.write(b'{"cut')
+                        run = with_state(program, folder, "lines", names[0], command=command)
+            if name == names[2]:
+                yield None if is_within(PATIENCE, lambda: b"000004" in (folder / "state").read_bytes()) else "no state of the fourth file"
+                (folder / names[0]).unlink()
+        wanted = b"".join(lines_of(content, command) for content in contents)
+        is_written = is_within(PATIENCE, lambda: (folder / "lines").read_bytes() == wanted)
+        run.kill()
+        yield None if is_written else f"other lines: {(folder / 'lines').read_bytes()[-300:]!r}, {run.stderr.read()!r}"
+
+    return scene
+
+
+def killed_at_once(program, folder):
+    """Runs that are killed while they write their first lines, into one file and then into another one: each line is there once."""
+    content = log(PLAIN, *[XID] * 20_000)
+    (folder / "log.000001").write_bytes(content)
+    wanted = lines_of(content)
+    for output in ("lines", "others"):
+        for limit in (1_000, 100_000):
+            run = with_state(program, folder, output, "log.000001", command="list", limit=limit)
+            yield None if run.wait(PATIENCE) == -signal.SIGXFSZ else "it isn't killed"
+            yield None if (folder / output).read_bytes() == wanted[:limit] else f"other lines before a kill at {limit} bytes"
+        run = with_state(program, folder, output, "log.000001", command="list")
+        is_written = is_within(PATIENCE, lambda: (folder / output).stat().st_size >= len(wanted))
+        time.sleep(QUIET)
+        run.kill()
+        run.wait()
+        yield None if is_written and (folder / output).read_bytes() == wanted else f"other lines in {output}"
+        # The other file has the lines from the middle on.
+        content = log(PLAIN, *[XID] * 40_000)
+        wanted = lines_of(content)[len(wanted) :]
+        (folder / "log.000001").write_bytes(content)
+
+
+def repeated(program, folder):
+    """Into a pipe the lines since the last state come again, and none is left out."""
+    content = log(PLAIN, *[XID] * 20)
+    (folder / "log.000001").write_bytes(content)
+    lines = lines_of(content).splitlines(True)
+    run = followed(program, folder, "--state", "state", "log.000001")
+    yield run.wrong_lines(*lines)
+    run.end()
+    state = (folder / "state").read_bytes()
+    yield None if b"position %d\n" % len(content) in state and b"inode 0\n" in state else f"the state is {state!r}"
+    run = followed(program, folder, "--state", "state", "log.000001")
+    yield run.wrong_quiet()
+    with open(folder / "log.000001", "ab") as file:
+        file.write(XID)
+    yield run.wrong_lines(lines_of(content + XID)[len(b"".join(lines)) :])
+    run.end()
+
+
+def states(program, folder):
+    """A state that can't be read, that of another log, and a second run with the same one, are refused; nothing is changed then."""
+    content = log(PLAIN, XID)
+    (folder / "log.000001").write_bytes(content)
+    run = followed(program, folder, "--state", "state", "log.000001")
+    yield run.wrong_lines(lines_of(content))
+    yield followed(program, folder, "--state", "state", "log.000001").ended(3, rb"binlog: state: another process [^\n]*\n")
+    run.end()
+    good = (folder / "state").read_bytes()
+    for bad in (b"", b"x", good[:-1], good.replace(b"position ", b"position 0"), good.replace(b" 1\n", b" 2\n", 1), bytes(2000)):
+        (folder / "state").write_bytes(bad)
+        yield followed(program, folder, "--state", "state", "log.000001").ended(3, rb"binlog: state: it isn't a state of this program\n")
+        yield None if (folder / "state").read_bytes() == bad else "the state is changed"
+    (folder / "state").write_bytes(good)
+    (folder / "log.000001").write_bytes(log(PLAIN, samples.frame(16, bytes(8))))
+    yield followed(program, folder, "--state", "state", "log.000001").ended(1, rb"binlog: log\.000001: behind byte 0: the file has another log[^\n]*\n")
+    yield None if (folder / "state").read_bytes() == good else "the state of another log is changed"
+    for words in (("--state", "state", "log.000001", "log.000001"), ("--state", "state", "-")):
+        yield followed(program, folder, *words).ended(64, rb"binlog: --state is [^\n]*\n")
+    yield Followed(program, folder, "list", "--state", "state", "log.000001").ended(64, rb"binlog: --state is [^\n]*\n")
+
+
 # ---- a mirror of a server's log
 
 ROTATIONS = 6
-SECONDS_TO_MIRROR, SECONDS_TO_SETTLE = 60, 3
 LOAD = b"insert into t (name) select repeat('x', 300) from three; update t set name = 'y' where id % 7 = 0;\n"
-
-
-def mirror_of(server, folder):
-    folder.mkdir()
-    words = [PRINTER, "--no-defaults", "--read-from-remote-server", "--raw", "--stop-never", "--stop-never-slave-server-id=4711"]
-    words += [f"--socket={server.socket}", "--user=root", f"--result-file={folder}/", server.logs()[0].name]
-    return subprocess.Popen(words, stdout=subprocess.DEVNULL, stderr=subprocess.DEVNULL)
-
-
-def sizes(logs):
-    return {log.name: log.stat().st_size for log in logs}
-
-
-def is_mirrored(server, folder):
-    """Whether the mirror has all bytes of the server's log, and that has stopped growing: some time behind a rotation comes a
-    BINLOG_CHECKPOINT event."""
-    before = sizes(server.logs())
-    time.sleep(SECONDS_TO_SETTLE)
-    return before == sizes(server.logs()) == sizes(folder.iterdir())
 
 
 def mirrored(program, folder):
     """The lines of a mirror's files, in order, while the server rotates under load."""
-    daemon = program_in(folder / "unpacked")
-    with Server(daemon, folder / "server", ["--server-id=7", "--binlog-format=ROW", "--binlog-checksum=CRC32"]) as server:
+    kind = Maria(folder)
+    with kind.server(folder / "server") as server:
         server.run(b"create database shop; create table shop.t (id int auto_increment primary key, name text);")
         server.run(b"create view shop.three as select 1 union all select 2 union all select 3;")
-        mirror = mirror_of(server, folder / "mirror")
-        try:
-            begun = is_within(SECONDS_TO_MIRROR, (folder / "mirror" / server.logs()[0].name).exists)
-            yield None if begun else "no mirror"
-            runs = {command: followed(program, folder / "mirror", server.logs()[0].name, command=command) for command in MODELS}
+        with Mirror(kind, server, folder / "mirror") as mirror:
+            yield None if mirror.has_begun() else "no mirror"
+            runs = {command: followed(program, mirror.folder, server.logs()[0].name, command=command) for command in MODELS}
             sessions = [server.start(b"use shop;\n" + LOAD * 20) for _ in range(3)]
             for number in range(ROTATIONS):
                 algorithm = b"NONE" if number % 2 else b"CRC32"
@@ -371,20 +635,21 @@ def mirrored(program, folder):
                 time.sleep(0.3)
             for session in sessions:
                 server.finish(session)
-            yield None if is_within(SECONDS_TO_MIRROR, lambda: is_mirrored(server, folder / "mirror")) else "the mirror lacks bytes"
-            contents = [(folder / "mirror" / log.name).read_bytes() for log in server.logs()]
+            yield None if mirror.is_whole() else "the mirror's files aren't the server's"
+            # The server writes BINLOG_CHECKPOINT events behind others.
+            server.stop()
+            mirror.running.wait()
+            contents = [log.read_bytes() for log in mirror.logs()]
             yield None if len(contents) > ROTATIONS else f"only {len(contents)} files"
             for command, run in runs.items():
                 yield run.wrong_lines(*(lines_of(content, command) for content in contents))
                 run.end()
                 yield None if not run.messages else f"{command}: messages {run.messages!r}"
-        finally:
-            mirror.kill()
-            mirror.wait()
 
 
 SCENES = [mirrored, late, byte_by_byte, rotations, checksums, prefixes, stops, stays, refused, damages, several, filters, compact_rows]
-SCENES += [cut_at(cut) for cut in range(len(rotate(b"log.000002", b"abcd")))]
+SCENES += [crashes, other_lists, late_lists, transactions, begun_again, other_log, zeros, killed_runs("list"), killed_runs("json"), killed_at_once, repeated, states]
+SCENES += [cut_at(cut) for cut in range(len(sealed(rotate(b"log.000002"))))]
 
 
 def results_of(program, scene):

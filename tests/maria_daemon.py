@@ -101,23 +101,38 @@ class Server:
         command = [program, *OPTIONS, f"--datadir={self.data}", f"--socket={self.socket}", f"--pid-file={folder / 'pid'}"]
         command += [f"--lc-messages-dir={messages}", f"--character-sets-dir={messages / 'charsets'}", *options]
         command += ["--user=root"] if os.geteuid() == 0 else []
-        how = {"env": environment_of(program), "stdin": subprocess.DEVNULL, "stderr": subprocess.STDOUT}
-        with open(self.said, "wb") as said:
-            self.process = subprocess.Popen(command, stdout=said, **how)
+        self.command, self.environment = command, environment_of(program)
+        self.launch()
 
     def __enter__(self):
+        self.wait_for_start()
+        return self
+
+    def launch(self):
+        how = {"env": self.environment, "stdin": subprocess.DEVNULL, "stderr": subprocess.STDOUT}
+        with open(self.said, "ab") as said:
+            self.process = subprocess.Popen(self.command, stdout=said, **how)
+
+    def wait_for_start(self):
         has_started = is_within(SECONDS_TO_START, lambda: self.has_ended() or self.answers())
         if self.has_ended() or not has_started:
             self.kill()
             raise LeftOut(f"{PROGRAM} doesn't start: {self.said.read_text(errors='replace')[-300:]}")
-        return self
 
     def __exit__(self, *raised):
         try:
-            subprocess.run([*self.client(), "--execute=shutdown"], stderr=subprocess.DEVNULL, timeout=SECONDS_TO_RUN)
-            self.process.wait(SECONDS_TO_RUN)
+            self.stop()
         finally:
             self.kill()
+
+    def stop(self):
+        subprocess.run([*self.client(), "--execute=shutdown"], stderr=subprocess.DEVNULL, timeout=SECONDS_TO_RUN)
+        self.process.wait(SECONDS_TO_RUN)
+
+    def restart(self):
+        """Starts a server again that was stopped or killed, with its data."""
+        self.launch()
+        self.wait_for_start()
 
     def kill(self):
         self.process.kill()

@@ -6,6 +6,7 @@ they are unpacked into a folder that is kept, and nothing is installed. The prog
 beside them. The data of a new server is made once, and kept there too.
 """
 
+import fcntl
 import os
 import shutil
 import signal
@@ -107,15 +108,34 @@ class Programs:
 def unpacked():
     """The unpacked programs, and the data of a new server: those that are kept, or new ones. `LeftOut` says why there are none."""
     kept = kept_folder()
-    if not (kept / "data").exists():
-        kept.parent.mkdir(parents=True, exist_ok=True)
-        with tempfile.TemporaryDirectory(dir=kept.parent) as name:
-            folder = Path(name)
-            unpack(folder, folder / "new/root")
-            initialize(Programs(folder / "new/root"), folder / "new/data")
-            if not kept.exists():
-                (folder / "new").rename(kept)
+    kept.parent.mkdir(parents=True, exist_ok=True)
+    # Of several scripts that begin at a time one downloads the packages, and the others wait for it.
+    with open(kept.parent / "lock", "w") as lock:
+        is_first = is_locked(lock)
+        fcntl.flock(lock, fcntl.LOCK_EX)
+        if not (kept / "data").exists():
+            if not is_first:
+                raise LeftOut("the packages of a MySQL server couldn't be downloaded by another script")
+            keep(kept)
     return Programs(kept / "root"), kept / "data"
+
+
+def is_locked(lock):
+    """Whether a file can be locked at once; it is then."""
+    try:
+        fcntl.flock(lock, fcntl.LOCK_EX | fcntl.LOCK_NB)
+    except BlockingIOError:
+        return False
+    return True
+
+
+def keep(kept):
+    """Makes the folder that is kept."""
+    with tempfile.TemporaryDirectory(dir=kept.parent) as name:
+        folder = Path(name)
+        unpack(folder, folder / "new/root")
+        initialize(Programs(folder / "new/root"), folder / "new/data")
+        (folder / "new").rename(kept)
 
 
 def unpack(folder, root):

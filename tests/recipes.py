@@ -6,7 +6,8 @@ Usage: recipes.py FLAG
 FLAG is one of `programs.py`: it says which `binlog` is run. A block of the page that begins with `$ ` has commands, perhaps of several
 lines of which the further ones begin with `> `, each with what it prints: standard output and messages. They run in order in a
 folder with the logs that the page names. A test each: a command prints what stands below it. Where `jq` is missing, its commands are
-left out. The last line is `N passed, M failed`; the exit status is 1 if something failed.
+left out. A stand-in of `kcat` keeps the lines that it reads, which have to be all rows of both logs. The last line is `N passed, M
+failed`; the exit status is 1 if something failed.
 """
 
 import argparse
@@ -31,6 +32,7 @@ from samples import FILE_HEADER, POST_HEADER_LENGTHS
 
 PAGE = programs.REPOSITORY / "docs/RECIPES.md"
 SOURCE = UUID("3e11fa47-71ca-11e1-9e33-c80aa9429562").bytes
+REPLICA = UUID("7a9c2f10-71ca-11e1-9e33-c80aa9429562").bytes
 GTID = 33
 SERVER_ID = 1
 ORDERS, CUSTOMERS, ITEMS = 90, 91, 92
@@ -43,6 +45,12 @@ COLUMNS = (
     "shop\titems\t2\tsize\tenum('small','large')\tlatin1\n"
     "shop\titems\t3\tname\tvarchar(20)\tlatin1\n"
 )
+# Keeps the lines of a topic.
+KCAT = """#!/bin/sh
+while [ "$1" != -t ]; do shift; done
+exec cat >> "$2.topic"
+"""
+TOPIC, LOGS = "rows.topic", ["mysql-bin.000007", "mysql-bin.000008"]
 # In the last log: the last byte of its row, before the checksum and an XID event of 31 bytes.
 LAST_BYTE_OF_A_ROW = -36
 
@@ -62,9 +70,9 @@ class Log:
         end = len(self.content) + len(framed(kind, body + footer, (0, 0, 0, 0), True)[0])
         self.content += framed(kind, body + footer, (seconds, SERVER_ID, end, 0), True)[0]
 
-    def transaction(self, time, number, events):
+    def transaction(self, time, number, events, source=SOURCE):
         self.time = time
-        self.add(encode.gtid(GTID, sid=SOURCE, gno=number, clock=(number - 1, number)))
+        self.add(encode.gtid(GTID, sid=source, gno=number, clock=(number - 1, number)))
         self.add(encode.query(schema="shop", text="BEGIN"))
         for event in events:
             self.add(event)
@@ -99,6 +107,7 @@ def logs():
     first.transaction("26 21:59:30", 41, changes(ORDERS, WRITE, (1, b"tea"), (2, b"coffee")))
     replica = Log("26 21:58:02", 40)
     replica.content += first.content[len(Log("26 21:58:00", 40).content) :]
+    replica.transaction("26 21:59:50", 1, changes(CUSTOMERS, WRITE, (9, b"Eve")), REPLICA)
     first.transaction("26 22:00:10", 42, changes(ORDERS, UPDATE, (2, b"coffee"), (2, b"cocoa")))
     first.transaction("26 22:00:40", 43, changes(ORDERS, DELETE, (1, b"tea")) + changes(CUSTOMERS, WRITE, (7, b"Ada")))
     first.statement("26 22:05:00", 44, "TRUNCATE TABLE sessions")
@@ -140,14 +149,26 @@ def failures(binlog, page):
             path = Path(folder, name)
             path.parent.mkdir(exist_ok=True)
             path.write_bytes(content)
-        program = Path(folder, "bin", "binlog")
-        program.parent.mkdir()
-        program.write_text(f'#!/bin/sh\nexec {shlex.join(binlog)} "$@"\n')
-        program.chmod(0o755)
-        environment = {"PATH": f"{program.parent}:/usr/bin:/bin", "LC_ALL": "C.UTF-8", "TZ": "UTC"}
+        programs_in(Path(folder, "bin"), {"binlog": f'#!/bin/sh\nexec {shlex.join(binlog)} "$@"\n', "kcat": KCAT})
+        environment = {"PATH": f"{folder}/bin:/usr/bin:/bin", "LC_ALL": "C.UTF-8", "TZ": "UTC"}
         for command, wanted in blocks(page):
             if shutil.which("jq", path=environment["PATH"]) or "jq" not in command:
                 yield failure(command, wanted, folder, environment)
+        yield sent_failure(binlog, Path(folder))
+
+
+def programs_in(folder, texts):
+    folder.mkdir()
+    for name, text in texts.items():
+        (folder / name).write_text(text)
+        (folder / name).chmod(0o755)
+
+
+def sent_failure(binlog, folder):
+    """None if the rows of all logs were sent, else what was."""
+    wanted = subprocess.run([*binlog, "json", "--compact", *LOGS], cwd=folder, stdout=subprocess.PIPE).stdout
+    found = (folder / TOPIC).read_bytes()
+    return None if found == wanted else f"{found!r} was sent, not {wanted!r}"
 
 
 def main():

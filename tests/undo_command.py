@@ -246,25 +246,45 @@ class Model:
     def changes(self):
         return sum(len(changes) for _, kept in self.kept for _, _, changes in kept)
 
-    def written(self):
-        out, written = FILE_HEADER, None
-        for description, kept in reversed(self.kept):
-            if not kept:
-                continue
-            header, algorithm, body, _ = description
+    def described(self):
+        """The descriptions of the logs in which something is undone, as they are written, and their transactions, the last log first."""
+        for (header, algorithm, body, _), kept in reversed(self.kept):
             stated = b"" if algorithm is None else bytes([algorithm])
-            body = body[:52] + bytes(4) + body[56:] + stated
+            if kept:
+                yield header, algorithm, body[:52] + bytes(4) + body[56:] + stated, kept
+
+    def is_under_one(self):
+        """Whether all that is undone is under one description."""
+        return len({(algorithm, body) for _, algorithm, body, _ in self.described()}) <= 1
+
+    def other_log(self, files):
+        """The first of these files in which something is undone under another description than in the files in front of it."""
+        described = [(name, description[1], description[2][:52] + description[2][56:]) for name, (description, kept) in zip(files, self.kept) if kept]
+        return next(name for name, *description in described if description != list(described[0][1:]))
+
+    def written(self, is_one):
+        """The log. It has one transaction, or those of the logs."""
+        out, written, ends = FILE_HEADER, None, []
+        for header, algorithm, body, kept in self.described():
             if written != (body, algorithm):
                 out += framed(15, body, len(out), (header[0], header[2], 0), algorithm is not None)
                 written = body, algorithm
             for last, xid, changes in reversed(kept):
-                head = lambda flags: (last[0], last[2], last[5] & 0x8000 | flags)
-                out += framed(2, BEGIN_BODY, len(out), head(8), algorithm == 1)
+                if not (is_one and ends):
+                    head = lambda flags, last=last: (last[0], last[2], last[5] & 0x8000 | flags)
+                    out += framed(2, BEGIN_BODY, len(out), head(8), algorithm == 1)
+                    ends = [16, xid.to_bytes(8, "little"), head(0), algorithm == 1]
                 for map_header, map_body, (kind, inverse), rows_header in reversed(changes):
                     for kind, body, source in ((19, map_body, map_header), (kind, bytes.fromhex(inverse), rows_header)):
                         out += framed(kind, body, len(out), (source[0], source[2], source[5] & ~0x61), algorithm == 1)
-                out += framed(16, xid.to_bytes(8, "little"), len(out), head(0), algorithm == 1)
-        return out
+                out += b"" if is_one else ended(out, ends)
+        return out + (ended(out, ends) if is_one and ends else b"")
+
+
+def ended(out, ends):
+    """The XID at the end of a transaction, behind this log."""
+    kind, body, header, has_checksum = ends
+    return framed(kind, body, len(out), header, has_checksum)
 
 
 # ---- random logs
@@ -387,6 +407,9 @@ PHRASES = {
 }
 
 
+OTHER_DESCRIPTION = "another format description than that of the first log, so all can't be one transaction"
+
+
 def random_position(chance, content):
     """A place of an event, or beside one."""
     places, place = [], len(FILE_HEADER)
@@ -416,6 +439,7 @@ def failure(words, seed, folder):
     stop = random_position(chance, contents[-1]) if chance.random() < 0.3 else None
     options += ["--start-position", str(start)] if start else []
     options += [] if stop is None else ["--stop-position", str(stop)]
+    options += ["--one-transaction"] if chance.random() < 0.3 else []
     for number, (name, content) in enumerate(zip(files, contents)):
         Path(name).write_bytes(content)
         model.take(name, content, start if number == 0 else 0, stop if number == len(contents) - 1 else None)
@@ -433,8 +457,11 @@ def long_failure(words, folder):
 
 def difference(words, options, files, model, out, name):
     """What is wrong with the undo of these files, if something is."""
+    is_one = "--one-transaction" in options
     run = subprocess.run([*words, "undo", *options, "-o", str(out), *files], capture_output=True, text=True)
     messages = [f"binlog: {name}: event {index} at byte {place}: {reason}: {PHRASES[reason].format(*end)}" for name, index, place, reason, *end in model.refused]
+    if is_one and not messages and not model.is_under_one():
+        messages = [f"binlog: {model.other_log(files)}: event 0 at byte 4: Description: {OTHER_DESCRIPTION}"]
     if run.stderr.splitlines() != messages:
         return f"{name}: {run.stderr!r}, not {messages}"
     if messages:
@@ -445,7 +472,7 @@ def difference(words, options, files, model, out, name):
         return f"{name}: status {run.returncode}, {run.stdout!r}, not {counted!r}"
     if Path(f"{out}.part").exists():
         return f"{name}: what was written is left behind"
-    wanted = model.written()
+    wanted = model.written(is_one)
     return None if out.read_bytes() == wanted else f"{name}: {shown(out.read_bytes())}, not {shown(wanted)}"
 
 

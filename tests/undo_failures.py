@@ -3,7 +3,7 @@
 
 Usage: undo_failures.py FLAG
 
-FLAG is one of `programs.py`. Two logs are undone. A library that is preloaded (`fail_files.c`) makes
+FLAG is one of `programs.py`. Two logs are undone, as their transactions and as one. A library that is preloaded (`fail_files.c`) makes
 the first call fail that opens, reads, seeks, writes, syncs, renames or removes a file, in the next run the second one, and so on; another
 one (`watch_allocations.c`) refuses each allocation. The status is 1 or 3 then, and there is no log; nothing of it is left behind, where
 the program isn't aborted and can remove it. The last line is `N passed, M failed`, where each run counts; the exit status is 1 if one
@@ -104,15 +104,17 @@ def memory_failures(command, watch, out, whole, is_cargo):
 
 def failures(words, folder, is_cargo):
     library, logs, out = library_in(folder), logs_in(folder), folder / "out"
+    before = [log.read_bytes() for log in logs]
     with watched.Watch() as watch:
-        command = [*words, "undo", "-o", str(out), *map(str, logs)]
-        subprocess.run(command, check=True, stdout=subprocess.DEVNULL)
-        whole = out.read_bytes()
-        out.unlink()
-        before = [log.read_bytes() for log in logs]
-        yield from call_failures(command, folder, library, out, whole)
-        out.unlink(missing_ok=True)
-        yield from memory_failures(command, watch, out, whole, is_cargo)
+        for options in ([], ["--one-transaction"]):
+            command = [*words, "undo", *options, "-o", str(out), *map(str, logs)]
+            subprocess.run(command, check=True, stdout=subprocess.DEVNULL)
+            whole = out.read_bytes()
+            out.unlink()
+            yield from call_failures(command, folder, library, out, whole)
+            out.unlink(missing_ok=True)
+            yield from memory_failures(command, watch, out, whole, is_cargo)
+            out.unlink(missing_ok=True)
         yield None if [log.read_bytes() for log in logs] == before else "the logs are changed"
 
 

@@ -5,8 +5,8 @@ Usage: undo_server.py [--count N] FLAG
 
 FLAG is one of `programs.py`. A server makes tables, with keys and without, of integers, texts, decimals, times, blobs and bits, and
 fills them. At a checkpoint its tables are selected, and its log is closed. N random loads (4 if not given) of inserts, updates,
-deletes and transactions of several statements follow, over several files. `binlog undo` undoes them;
-the server's programs apply that, and the tables are selected again. Then what undid them is undone. Where there is no server
+deletes and transactions of several statements follow, over several files. `binlog undo` undoes them, every other load as one
+transaction; the server's programs apply that, and the tables are selected again. Then what undid them is undone. Where there is no server
 (`maria_daemon.py` and `mysql_daemon.py` say where they come from) nothing is done with it. The last line is `N passed, M failed`; the
 exit status is 1 if something failed.
 """
@@ -125,8 +125,8 @@ def applied(kind, server, log):
     server.run(printed.stdout)
 
 
-def undone(words, logs, out):
-    run = subprocess.run([*words, "undo", "-o", str(out), *map(str, logs)], capture_output=True, text=True)
+def undone(words, options, logs, out):
+    run = subprocess.run([*words, "undo", *options, "-o", str(out), *map(str, logs)], capture_output=True, text=True)
     return None if run.returncode == 0 else f"status {run.returncode}: {run.stderr[-300:]}"
 
 
@@ -144,13 +144,13 @@ def failure(words, kind, folder, seed):
         checkpoint, count = tables_of(server), len(server.logs()) - 1
         server.run(load(chance, keys, 60).replace("ROLLBACK", "COMMIT").encode())
         end, logs = tables_of(server), behind(server, count)
-        wrong = undone(words, logs, folder / f"{kind.name}-{seed}.out")
+        wrong = undone(words, ["--one-transaction"] * (seed % 2), logs, folder / f"{kind.name}-{seed}.out")
         if wrong:
             return f"{kind.name}, seed {seed}: {wrong}"
         applied(kind, server, folder / f"{kind.name}-{seed}.out")
         if tables_of(server) != checkpoint:
             return f"{kind.name}, seed {seed}: the tables aren't those of the checkpoint"
-        wrong = undone(words, [folder / f"{kind.name}-{seed}.out"], folder / f"{kind.name}-{seed}.back")
+        wrong = undone(words, [], [folder / f"{kind.name}-{seed}.out"], folder / f"{kind.name}-{seed}.back")
         if wrong:
             return f"{kind.name}, seed {seed}, again: {wrong}"
         applied(kind, server, folder / f"{kind.name}-{seed}.back")

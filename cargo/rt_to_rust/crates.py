@@ -50,6 +50,7 @@ TOOLS = [
     "binlog_gtid_listing",
     "binlog_filters",
     "binlog_commands",
+    "binlog_continuation",
     "change_statistics",
     "binlog_transaction_gtids",
     "binlog_statistics",

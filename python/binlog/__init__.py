@@ -8,6 +8,7 @@
 
 from ._bodies import Body, Diffs
 from ._errors import BinlogError, ColumnsWarning, InvalidColumns, InvalidLog, LogError, PayloadError, RowsError
+from ._follow import Followed, follow
 from ._library import library_version
 from ._log import Cursor, Damage, Event, Log, open
 from ._payloads import PayloadEvent
@@ -28,6 +29,7 @@ __all__ = [
     "Diffs",
     "Event",
     "EventType",
+    "Followed",
     "InvalidColumns",
     "InvalidLog",
     "Log",
@@ -44,6 +46,7 @@ __all__ = [
     "UndoRefused",
     "Undone",
     "Verification",
+    "follow",
     "gtid_set",
     "library_version",
     "open",

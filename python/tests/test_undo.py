@@ -48,8 +48,8 @@ class Undoing(unittest.TestCase):
         options = ["--table", "s.t", "--table", "s.u", "--skip", "Statement", "--start-datetime", "2024-01-01T00:00:00", "--server-id", "7"]
         self.assertEqual(self.words(), ["undo", *options, "--output", "out.bin", "1.bin", "2.bin"])
         here = timezone(timedelta(hours=2))
-        self.undo("-1.bin", stop=datetime(2024, 1, 1, 12, tzinfo=here), include_gtids="0-1-2", exclude_gtids="0-1-3", foreign_key_checks=False, exclude_tables=["s.q"], start_position=4, stop_position=0, plain_old_temporal=True)
-        options = ["--exclude-table", "s.q", "--start-position", "4", "--stop-position", "0", "--stop-datetime", "2024-01-01T10:00:00", "--include-gtids", "0-1-2", "--exclude-gtids", "0-1-3", "--plain-old-temporal", "--no-foreign-key-checks"]
+        self.undo("-1.bin", stop=datetime(2024, 1, 1, 12, tzinfo=here), include_gtids="0-1-2", exclude_gtids="0-1-3", foreign_key_checks=False, exclude_tables=["s.q"], start_position=4, stop_position=0, plain_old_temporal=True, one_transaction=True)
+        options = ["--exclude-table", "s.q", "--start-position", "4", "--stop-position", "0", "--stop-datetime", "2024-01-01T10:00:00", "--include-gtids", "0-1-2", "--exclude-gtids", "0-1-3", "--plain-old-temporal", "--no-foreign-key-checks", "--one-transaction"]
         self.assertEqual(self.words(), ["undo", *options, "--dry-run", "./-1.bin"])
 
     def test_counts(self):

@@ -14,3 +14,4 @@ pub mod IntervalStatistics
 pub mod TransactionStatistics
 pub mod Statistics
 pub mod Ends
+pub mod FollowedEnds

@@ -19,7 +19,7 @@ use binlog_change_lines::ChangeFilter;
 use binlog_cli::{
     CONTENT_LIMIT, Outcome, Output, Reported, Status, filter, out_of_memory, report_left_out,
 };
-use binlog_file::{Error, Retrying};
+use binlog_file::{BinlogFileHeader, Error, Retrying};
 use binlog_filters::Filter;
 use binlog_json_lines::LineOptions;
 use binlog_payload_filters::PayloadFiltered;
@@ -106,8 +106,8 @@ fn write_file<'a, S: Inputs, R: Clock + Eprint + AllocGlobal, W: Write + Drop>(
     let mut lines = lines;
     match lines.begin(name) {
         Ok(()) => {
-            let begin = |lines: &mut ChangeFilter<W>, name: &str| -> Result<(), AllocError> {
-                lines.begin(name)
+            let begin = |all: &mut ChangeFilter<W>, name: &str, at: u64| -> Result<(), AllocError> {
+                begin_at(all, name, at)
             };
             show_file(rt, inputs, name, reading, lines, begin)
         }
@@ -115,13 +115,21 @@ fn write_file<'a, S: Inputs, R: Clock + Eprint + AllocGlobal, W: Write + Drop>(
     }
 }
 
-// Shows a visitor all items of a file. If it is followed, the visitor is told the name of each file behind it by `begin`.
+// Begins with the file of this name, whose items are shown from this byte on.
+fn begin_at<W>(lines: &mut ChangeFilter<W>, name: &str, start: u64) -> Result<(), AllocError> {
+    lines.begin(name)?;
+    lines.go_on_at(start.max(BinlogFileHeader::LEN as u64));
+    Ok(())
+}
+
+// Shows a visitor all items of a file. If it is followed, the visitor is told the name of each file, and from which byte on its items are
+// shown, by `begin`.
 fn show_file<
     'a,
     S: Inputs,
     R: Clock + Eprint + AllocGlobal,
     T: Visitor + Refusing + Drop,
-    B: Fn(&mut T, &str) -> Result<(), AllocError> + Drop,
+    B: Fn(&mut T, &str, u64) -> Result<(), AllocError> + Drop,
 >(
     rt: &'a R,
     inputs: &S,

@@ -1,12 +1,17 @@
 //! Where the files of a command come from.
-ghost use Rattle.std.specs.Prelude.{◌≡◌, ℕ, List, Option, None, IfOk};
+ghost use Rattle.std.specs.Prelude.{◌≡◌, ℕ, List, Option, None, IfOk, ⊤};
 
+use crate::file_behind::file_behind;
+use binlog_following::{FileBehind, FileId, LogFiles, NEW_FILE, OpenLog, StateFile, file_id};
+use binlog_rotation::Checkpoint;
+use std::alloc::{AllocError, Global};
+use std::fs::File;
 use std::io::Read;
 use std::rt::Files;
 use std::{fs, io};
 
 /// Opens files by their names; `-` is standard input.
-pub(crate) trait Inputs {
+pub(crate) trait Inputs: LogFiles {
     /// An open file.
     type Opened: Read + Drop;
 
@@ -25,16 +30,17 @@ pub(crate) trait Inputs {
 #[derive(Drop)]
 pub(crate) struct HostInputs<'a, R> {
     rt: &'a R,
+    state: Option<StateFile<'a, R>>,
 }
 
 impl<'a, R> HostInputs<'a, R> {
-    /// Those that `rt` opens.
-    pub(crate) fn new(rt: &'a R) -> Self {
-        HostInputs { rt }
+    /// Those that `rt` opens, and a state, if one is asked for.
+    pub(crate) fn new(rt: &'a R, state: Option<StateFile<'a, R>>) -> Self {
+        HostInputs { rt, state }
     }
 }
 
-impl<'a, R: Files + Input> Inputs for HostInputs<'a, R> {
+impl<'a, R: Files<File = File> + Input + AllocGlobal> Inputs for HostInputs<'a, R> {
     type Opened = HostInput<R::Reader, R::File>;
 
     ghost bytes = { λ inputs name. None };
@@ -60,6 +66,43 @@ impl<'a, R: Files + Input> Inputs for HostInputs<'a, R> {
     }
 }
 
+impl<'a, R: Files<File = File> + Input + AllocGlobal> LogFiles for HostInputs<'a, R> {
+    type Log = HostLog<R::File>;
+
+    fn open_log(&self, path: &str) -> io::Result<HostLog<R::File>> {
+        match fs::open(self.rt, path) {
+            Ok(file) => Ok(HostLog { file }),
+            Err(error) => Err(error),
+        }
+    }
+
+    fn named(&self, path: &str) -> Option<FileId> {
+        file_id(self.rt, path)
+    }
+
+    fn behind(&self, path: &str, whole: Checkpoint) -> FileBehind {
+        file_behind(self.rt, path, whole.position)
+    }
+
+    fn has_state(&self) -> bool {
+        self.state.is_some()
+    }
+
+    fn start(&self, alloc: Global, name: &str) -> Result<(String, Checkpoint), AllocError> {
+        match &self.state {
+            Some(state) => state.start(alloc, name),
+            None => Ok((format!(in alloc; "{name}")?, NEW_FILE)),
+        }
+    }
+
+    fn save(&self, path: &str, checkpoint: Checkpoint) -> io::Result<()> {
+        match &self.state {
+            Some(state) => state.save(path, checkpoint),
+            None => Ok(()),
+        }
+    }
+}
+
 /// Standard input, or a file.
 #[derive(Drop)]
 pub(crate) enum HostInput<S, F> {
@@ -73,5 +116,19 @@ impl<S: Read, F: Read> Read for HostInput<S, F> {
             HostInput::Standard(input) => input.read(buf),
             HostInput::File(file) => file.read(buf),
         }
+    }
+}
+
+/// A file of the machine. What is read of it isn't known.
+#[derive(Drop)]
+pub(crate) struct HostLog<F> {
+    file: F,
+}
+
+impl<F: Read> OpenLog for HostLog<F> {
+    ghost has_given = { λ log bytes. ⊤ };
+
+    fn read_log(&mut self, buf: &mut [u8]) -> io::Result<usize> {
+        self.file.read(buf)
     }
 }

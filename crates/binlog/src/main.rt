@@ -2,7 +2,7 @@
 #![tactic(auto)]
 
 ghost use Rattle.std.specs.Prelude.{◌≡◌};
-ghost use Rattle.binlog_cli.specs.declared.exit_status.Status.TheVariants.{Usage};
+ghost use Rattle.binlog_cli.specs.declared.exit_status.Status.TheVariants.{Usage, Failed};
 ghost use Rattle.clap.specs.Values.{kind_of};
 ghost use Rattle.binlog.specs.Ends.{EndsRefused, EndsUnread, status_of};
 ghost use Rattle.binlog.specs.Requests.{IsNoCommand};
@@ -11,6 +11,7 @@ mod changes;
 mod columns;
 mod commands;
 mod copying;
+mod file_behind;
 mod files;
 mod following;
 mod gtids;
@@ -25,20 +26,22 @@ mod type_statistics;
 mod verifying;
 
 use binlog_cli::{Status, out_of_memory};
+use binlog_following::{StateFile, StateFileError};
 use binlog_undo_command::{command, run_undo};
 use clap::ArgMatches;
 use clap::error::ErrorKind;
 use inputs::HostInputs;
 use request::{Request, Terminals};
 use std::env::Env;
-use std::io::IsTerminal;
+use std::fs::File;
+use std::io::{IsTerminal, Write};
 use std::process::ExitCode;
 use std::rt::Files;
 use std::time::Clock;
 use std::{env, io};
 
 // Runs the command that the words of the command line name.
-fn run<R: Files + Env + Clock + Input + Print + Eprint + AllocGlobal>(
+fn run<R: Files<File = File> + Env + Clock + Input + Print + Eprint + AllocGlobal>(
     rt: &R,
     terminals: Terminals,
 ) -> Status {
@@ -64,7 +67,7 @@ fn unread<E: Eprint>(rt: &E, error: &io::Error) -> Status
 }
 
 // Runs the command that these words name. They outlive all that the command reads of them.
-fn run_words<'a, R: Files + Clock + Input + Print + Eprint + AllocGlobal>(
+fn run_words<'a, R: Files<File = File> + Clock + Input + Print + Eprint + AllocGlobal>(
     rt: &'a R,
     words: &'a [String],
     terminals: Terminals,
@@ -97,7 +100,7 @@ fn refused<R: Print + Eprint>(rt: &R, error: &clap::Error) -> Status
 }
 
 // Runs a command, and answers its status, also if it can't begin.
-fn run_command<'a, R: Files + Clock + Input + Print + Eprint + AllocGlobal>(
+fn run_command<'a, R: Files<File = File> + Clock + Input + Print + Eprint + AllocGlobal>(
     rt: &'a R,
     name: &str,
     matches: &ArgMatches<'a>,
@@ -106,13 +109,10 @@ fn run_command<'a, R: Files + Clock + Input + Print + Eprint + AllocGlobal>(
     ensures other { IsNoCommand name.now → result ≡ Usage }
 {
     let request = Request::new(name, matches, terminals);
-    let (inputs, output) = (HostInputs::new(rt), io::writer(rt));
+    let (inputs, output) = (HostInputs::new(rt, None), io::writer(rt));
     match name {
-        "list" => status_of(commands::list(rt, &inputs, &request, output)),
-        "json" if request.is_compact => {
-            status_of(changes::changes(rt, &inputs, &request, output))
-        }
-        "json" => status_of(commands::json(rt, &inputs, &request, output)),
+        "list" => run_lines(rt, name, &request, output),
+        "json" => run_lines(rt, name, &request, output),
         "gtids" => status_of(gtids::gtids(rt, &inputs, &request, output)),
         "verify" => status_of(verifying::verify(rt, &inputs, &request, output)),
         "stats" => status_of(statistics::stats(rt, &inputs, &request, output)),
@@ -122,6 +122,64 @@ fn run_command<'a, R: Files + Clock + Input + Print + Eprint + AllocGlobal>(
         "undo" => run_undo(rt, matches, output),
         _ => Status::Usage,
     }
+}
+
+// Runs `list` or `json`, which may follow a log and go on where a state says.
+fn run_lines<'a, R: Files<File = File> + Clock + Input + Eprint + AllocGlobal, W: Write + Drop>(
+    rt: &'a R,
+    name: &str,
+    request: &Request<'_, 'a>,
+    output: W,
+) -> Status {
+    let state = match state_of(rt, request) {
+        Ok(state) => state,
+        Err(status) => return status,
+    };
+    let inputs = HostInputs::new(rt, state);
+    if name == "list" {
+        status_of(commands::list(rt, &inputs, request, output))
+    } else if request.is_compact {
+        status_of(changes::changes(rt, &inputs, request, output))
+    } else {
+        status_of(commands::json(rt, &inputs, request, output))
+    }
+}
+
+// The state file that is asked for, if one is. It is that of one log that is followed.
+fn state_of<'a, R: Files<File = File> + Eprint + AllocGlobal>(
+    rt: &'a R,
+    request: &Request<'_, 'a>,
+) -> Result<Option<StateFile<'a, R>>, Status> {
+    let Some(path) = request.state else {
+        return Ok(None);
+    };
+    if !request.reading.is_followed || request.files.len() != 1 || request.files[0] == "-" {
+        let _ = eprintln!(rt; "binlog: --state is for --follow with one file");
+        return Err(Status::Usage);
+    }
+    match StateFile::open(rt, path, request.is_synced) {
+        Ok(state) => Ok(Some(state)),
+        Err(error) => Err(no_state(rt, path, &error)),
+    }
+}
+
+// The message if following can't begin with a state file.
+fn no_state<E: Eprint>(rt: &E, path: &str, error: &StateFileError) -> Status
+    ensures { result ≡ Failed }
+{
+    let _ = match error {
+        StateFileError::Locked => {
+            eprintln!(rt; "binlog: {path}: another process follows a log with this state")
+        }
+        StateFileError::Lock(error) => eprintln!(rt; "binlog: {path}.lock: {error}"),
+        StateFileError::Reader(error) => eprintln!(rt; "binlog: {path}: {error}"),
+        StateFileError::Text(error) => eprintln!(rt; "binlog: {path}: {error}"),
+        StateFileError::Output(error) => {
+            eprintln!(rt; "binlog: the output can't be cut back: {error}")
+        }
+        StateFileError::Memory => return out_of_memory(rt),
+    };
+    Status::Failed
 }
 
 // The status of a command that ended, or of one that can't begin.

@@ -84,6 +84,10 @@ pub(crate) struct Request<'m, 'a> {
     pub(crate) missing_in: Option<&'a str>,
     /// The name of the file that is written; `-` is standard output.
     pub(crate) output: &'a str,
+    /// The name of the state file of a log that is followed.
+    pub(crate) state: Option<&'a str>,
+    /// Whether output and state have to be on their devices.
+    pub(crate) is_synced: bool,
 }
 
 impl<'m, 'a> Request<'m, 'a> {
@@ -99,6 +103,8 @@ impl<'m, 'a> Request<'m, 'a> {
         ensures columns { map (λ file. file.now) result.columns.now ≡ unwrap_or (option_map raw_values (matched_of (found_of options.now) (codes "columns"))) [] }
         ensures missing { option_map (λ file. file.now) result.missing_in ≡ first_value (found_of options.now) (codes "missing-in") }
         ensures output { result.output.now ≡ unwrap_or (first_value (found_of options.now) (codes "output")) (codes "-") }
+        ensures state { option_map (λ file. file.now) result.state ≡ first_value (found_of options.now) (codes "state") }
+        ensures synced { Flags (one_text (found_of options.now) (codes "sync")) result.is_synced }
     {
         let is_followed = options.get_flag("follow");
         // A line of progress would stay while a followed file is waited for.
@@ -117,6 +123,8 @@ impl<'m, 'a> Request<'m, 'a> {
             columns: options.get_strs("columns").unwrap_or(&[]),
             missing_in: options.get_str("missing-in"),
             output: options.get_str("output").unwrap_or("-"),
+            state: options.get_str("state"),
+            is_synced: options.get_flag("sync"),
         }
     }
 }

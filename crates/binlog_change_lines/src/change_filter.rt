@@ -1,11 +1,11 @@
 //! A visitor that writes what is written for the items that a filter takes.
-ghost use Rattle.std.specs.Prelude.{◌≡◌, [], OnOk};
+ghost use Rattle.std.specs.Prelude.{◌≡◌, [], OnOk, Some};
 ghost use Rattle.binlog_change_lines.specs.Written.{Begins, KeepsMost, damaged_of, parts_of, writer_of};
 
 use crate::change_writer::ChangeWriter;
 use binlog_declared_columns::Contradictions;
 use binlog_file::{Error, EventRef, EventStreamReader};
-use binlog_filters::{Filter, TableFilter};
+use binlog_filters::{Filter, Place, TableFilter};
 use binlog_json_lines::LineOptions;
 use binlog_payload_checks::Noted;
 use binlog_payload_filters::{PayloadFiltered, TakenParts};
@@ -65,6 +65,15 @@ impl<W> ChangeFilter<W> {
         self.filtered.begin();
         let writer = &mut self.filtered.filtered.visitor.visitor.visitor.visitor;
         writer.begin(file)
+    }
+
+    /// Goes on at this byte of the file: the items in front of it aren't shown.
+    pub fn go_on_at(&mut self, position: u64)
+        ensures { self.new ≡ record self.old { filtered = record self.old.filtered { filtered = record self.old.filtered.filtered { place = record { position = Some position } } } } }
+    {
+        self.filtered.filtered.place = Place {
+            position: Some(position),
+        };
     }
 
     /// How many events the filter left out though they may change one of its tables.

@@ -7,6 +7,7 @@
 #![tactic(auto)]
 
 mod checked_file;
+mod file_behind;
 mod growing_file;
 pub mod laws;
 mod log_files;
@@ -16,6 +17,7 @@ mod state_file;
 mod waits;
 mod written_output;
 
+pub use file_behind::FileBehind;
 pub use growing_file::GrowingFile;
 pub use log_files::{FileId, LogFiles, NEW_FILE, OpenLog, file_id, wait_for};
 pub use state_error::StateFileError;

@@ -3,6 +3,7 @@ ghost use Rattle.std.specs.Prelude.{◌≡◌, ◌==◌, ◌&&◌, ℕ, List, []
 ghost use Rattle.std.specs.Io.{ReadsAtMost};
 ghost use Rattle.binlog_following.specs.Files.{named_file};
 
+use crate::file_behind::FileBehind;
 use crate::waits::{Missing, Waits};
 use binlog_rotation::{Checkpoint, NamedFile};
 use std::alloc::{AllocError, Global};
@@ -94,6 +95,10 @@ pub trait LogFiles {
 
     /// Which file has this name; None if none has.
     fn named(&self, path: &str) -> Option<FileId>;
+
+    /// What the file behind the one of this path is, which ends with no event that says so. The events before `whole` are all of its
+    /// whole transactions.
+    fn behind(&self, path: &str, whole: Checkpoint) -> FileBehind;
 
     /// Whether there is a state that says where to go on.
     fn has_state(&self) -> bool;

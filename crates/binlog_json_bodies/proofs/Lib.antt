@@ -1,5 +1,6 @@
 pub mod Tokens
 pub mod StatusVars
+pub mod WholeTexts
 pub mod BitTokens
 pub mod ClientSets
 pub mod OtherValues

@@ -9,7 +9,9 @@ ghost use Rattle.binlog_file.specs.StatusVars.{variable_of};
 ghost use Rattle.json_line.specs.Lines.{IsPlainText};
 ghost use Rattle.json_line.specs.Tokens.{Adds, text_value, number_value, bytes_value, member, object, array};
 ghost use Rattle.binlog_json_bodies.specs.ClientSets.{collation_in, client_collation};
-ghost use Rattle.binlog_json_bodies.specs.StatusVars.{entry, variable_object, status_vars_value, status_vars_members};
+ghost use Rattle.binlog_statements.specs.Layouts.{IsWholeLen};
+ghost use Rattle.binlog_statements.specs.declared.layout.Layout.TheVariants.{TextAnd};
+ghost use Rattle.binlog_json_bodies.specs.StatusVars.{entry, first_text, short_text, variable_object, status_vars_value, status_vars_members};
 
 use binlog_file::{NullBytes, RawBytes, StatusVar, StatusVarKey, StatusVarVal, StatusVarsIterator};
 use byteorder::{ByteOrder, LittleEndian};
@@ -82,6 +84,10 @@ fn write_variable(
             write_number(line, "SqlMode", LittleEndian::read_u64(raw))?;
             Ok(None)
         }
+        StatusVarKey::CatalogNz => {
+            write_catalog(line, raw)?;
+            Ok(None)
+        }
         StatusVarKey::Charset => {
             let client = LittleEndian::read_u16(raw);
             let connection = LittleEndian::read_u16(&raw[2..]);
@@ -90,6 +96,15 @@ fn write_variable(
         }
         _ => write_parsed(line, alloc, variable),
     }
+}
+
+// Writes the variable with the catalog's name, which is all of its value but the length.
+#[inline(always)]
+fn write_catalog(line: &mut Line, value: &[u8]) -> Result<(), AllocError>
+    requires { IsWholeLen (TextAnd 0) value.now }
+    ensures { Adds result line.old line.new (entry (codes "CatalogNz") (short_text (first_text value.now))) }
+{
+    write_text(line, "CatalogNz", &value[1..])
 }
 
 // Writes a variable with any key.

@@ -131,6 +131,8 @@ impl KeptTable {
 #[derive(Drop)]
 pub(crate) struct KeptTables {
     tables: Vec<Option<KeptTable>>,
+    /// The id of the last table in each place, kept or not; 0 before the first.
+    last_ids: [u64; 16],
 }
 
 /// The place of a table.
@@ -147,7 +149,17 @@ impl KeptTables {
     pub(crate) fn new(alloc: Global) -> Self {
         KeptTables {
             tables: Vec::new(alloc),
+            last_ids: [0; 16],
         }
+    }
+
+    /// Notes a row event of the table with this id. The result is whether the last one in the same place was of this table, too: only
+    /// then is the table worth keeping. Of tables that take turns in a place each would be kept for nothing.
+    pub(crate) fn is_repeated(&mut self, table_id: u64) -> bool {
+        let index = place(table_id);
+        let is_repeated = self.last_ids[index] == table_id;
+        self.last_ids[index] = table_id;
+        is_repeated
     }
 
     /// Takes the table in the place of this id, if one is kept there.

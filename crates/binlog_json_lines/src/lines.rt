@@ -90,6 +90,7 @@ impl JsonLines {
     /// # Errors
     ///
     /// [`Error::Memory`] if an allocation fails.
+    #[inline(always)]
     pub fn event_line_with_rows(
         &mut self,
         alloc: Global,
@@ -113,6 +114,7 @@ impl JsonLines {
 
     // The line of an event that is no row event. Where its data are those of a payload, they are shown with the payload's stored bytes
     // or without them.
+    #[inline(always)]
     fn line_without_rows(
         &mut self,
         alloc: Global,
@@ -130,6 +132,7 @@ impl JsonLines {
     }
 
     // The line of an event with this payload.
+    #[inline(never)]
     fn payload_line(
         &mut self,
         index: u64,
@@ -197,6 +200,7 @@ impl JsonLines {
     }
 
     // The line of a row event with its rows.
+    #[inline(never)]
     fn rows_line(
         &mut self,
         alloc: Global,

@@ -13,6 +13,7 @@ use std::alloc::Global;
 
 /// Whether the type of an event is one of row events: WRITE_ROWS, UPDATE_ROWS or DELETE_ROWS, of either version, or
 /// PARTIAL_UPDATE_ROWS.
+#[inline(always)]
 pub fn is_row_event(event: &EventRef<'_>) -> bool
     ensures { result ≡ is_of_rows (event_type_of (header_of (view_of event.now).frame).event_type) }
 {

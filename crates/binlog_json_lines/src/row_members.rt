@@ -256,9 +256,33 @@ impl RowsWriter {
         }
     }
 
-    // Writes the same, of an event of the table of this table map, where no file declares columns: what the table map states is kept
-    // for the table's next event.
+    // Writes the same, of an event of the table of this table map, where no file declares columns. What the table map states is kept
+    // where the event before was of this table, too.
     fn write_stated_rows(
+        &mut self,
+        line: &mut Line,
+        alloc: Global,
+        body: &RowsEventData<'_>,
+        table_map: &TableMapEvent<'_>,
+        is_maria_log: bool,
+    ) -> Result<ShownRows, AllocError>
+        requires { (event_in body.now).head.table_id ≡ table_map.now.table.id }
+        ensures { ShowsBy result line.old line.new (AreRowsMembers [] is_maria_log body.now table_map.now (rows_error table_map.now body.now)) }
+    {
+        if self.tables.is_repeated(body.table_id()) {
+            return self.write_repeated_rows(line, alloc, body, table_map, is_maria_log);
+        }
+        match table_map.table_columns() {
+            Ok(columns) => {
+                let columns = collected(alloc, columns)?;
+                self.write_table_rows(line, alloc, body, &columns, table_map, is_maria_log, &[])
+            }
+            Err(_) => self.write_repeated_rows(line, alloc, body, table_map, is_maria_log),
+        }
+    }
+
+    // Writes the same, and keeps what the table map states for the table's next event.
+    fn write_repeated_rows(
         &mut self,
         line: &mut Line,
         alloc: Global,

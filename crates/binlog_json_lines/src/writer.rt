@@ -68,6 +68,7 @@ impl<W> JsonWriter<W> {
 }
 
 // The table map in force for the table id of a row event.
+#[inline(always)]
 fn table_map<'a>(
     alloc: Global,
     event: &EventRef<'_>,
@@ -82,6 +83,7 @@ fn table_map<'a>(
 }
 
 /// Notes the column of the table of this table map that contradicts the files, if one does.
+#[inline(always)]
 pub(crate) fn note(
     contradictions: &mut Contradictions,
     table_map: Option<&TableMapEvent<'_>>,

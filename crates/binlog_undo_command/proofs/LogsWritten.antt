@@ -1,7 +1,13 @@
 -- What undoes logs is written from the last one to the first.
-use Rattle.std.proofs.Common.{◌≡◌, ℕ, suc, zero, ◌<◌, arith, List, [], ◌∷◌, length, drop, get_or, Option, refl, sym, subst}
-use Rattle.binlog_undo_command.specs.Written.{WritesOne, WritesLogs}
+use Rattle.std.proofs.Common.{◌≡◌, ◌==◌, Bool, false, true, ℕ, suc, zero, ◌<◌, arith, List, [], ◌∷◌, ◌++◌, length, take, drop, get_or, Option, Some, refl, sym, subst, ◌∙◌, ap}
+use Rattle.std.proofs.lemmas.List.{take-append-drop}
+use Rattle.std.specs.List.{AllByRecursion}
+use Rattle.binlog_undo_command.specs.Descriptions.{HasNone}
+use Rattle.binlog_undo_command.specs.Written.{BeginsBy, BeginsLogs, WritesOne, WritesLogs}
 use Rattle.binlog_undo_command.specs.declared.scanning.ScannedLog.{ScannedLog}
+use Rattle.binlog_undo_index.specs.declared.index.UndoIndex.{UndoIndex}
+use Rattle.binlog_undo_index.specs.declared.places.TransactionPlace.{TransactionPlace}
+use Rattle.binlog_undo_log.specs.declared.one_transaction.Commit.{Commit}
 use Rattle.binlog_undo_log.specs.declared.output.UndoOutput.{UndoOutput}
 
 drop_at : (logs : List ScannedLog) (i : ℕ) (none : ScannedLog) → i < length logs → drop i logs ≡ get_or logs i none ∷ drop (suc i) logs
@@ -21,3 +27,34 @@ module _ {F W : Type 0} (has_frames : List ℕ → F → Type 0) (is_at : F → 
   written_next logs n i none log old mid new next within is behind one =
       subst (λ (left : List ScannedLog). WritesLogs has_frames is_at contents left old new) (sym (drop_at logs i none within))
       (mid, subst (λ (k : ℕ). WritesLogs has_frames is_at contents (drop k logs) old mid) (sym next) behind, subst (λ (found : ScannedLog). WritesOne has_frames is_at contents found mid new) is one)
+
+-- ---- the last log in which something is undone
+
+-- Nothing is undone in a log whose places of transactions are none.
+pub none_in : (log : ScannedLog) (index : UndoIndex) (transactions : List TransactionPlace) (is_empty : Bool) → index ≡ log.scan.index → transactions ≡ index.transactions.items
+    → is_empty ≡ (length transactions == 0) → is_empty ≡ true → HasNone log
+none_in log index [] is_empty at are is yes = sym (are ∙ ap (λ (i : UndoIndex). i.transactions.items) at)
+none_in log index (transaction ∷ transactions) is_empty at are is yes = absurd cc
+
+-- Nothing is undone behind the last log.
+pub none_behind : (logs : List ScannedLog) → AllByRecursion HasNone (drop (length logs) logs)
+none_behind [] = tt
+none_behind (log ∷ logs) = none_behind logs
+
+-- Nor in one log more, the one in front of those.
+pub none_next : (logs : List ScannedLog) (n i : ℕ) (none : ScannedLog) → suc i ≡ n → i < length logs → HasNone (get_or logs i none) → AllByRecursion HasNone (drop n logs) → AllByRecursion HasNone (drop i logs)
+none_next logs n i none next within is behind =
+    subst (λ (left : List ScannedLog). AllByRecursion HasNone left) (sym (drop_at logs i none within)) (is, subst (λ (k : ℕ). AllByRecursion HasNone (drop k logs)) (sym next) behind)
+
+module _ {F W : Type 0} (has_frames : List ℕ → F → Type 0) (is_at : F → ℕ → List ℕ → Type 0) (contents : W → Option (List ℕ)) where
+  -- The transaction begins by the log in front of those.
+  pub begun_by : (logs : List ScannedLog) (n i : ℕ) (none log : ScannedLog) (commit : Commit) (old new : UndoOutput W) → suc i ≡ n → i < length logs → log ≡ get_or logs i none
+      → AllByRecursion HasNone (drop n logs) → BeginsBy has_frames is_at contents commit log old new → BeginsLogs has_frames is_at contents (Some commit) logs old new
+  begun_by logs n i none log commit old new next within is behind begins = record {
+    front = take i logs;
+    log = get_or logs i none;
+    rest = drop (suc i) logs;
+    split = sym (take-append-drop i logs) ∙ ap (λ (left : List ScannedLog). take i logs ++ left) (drop_at logs i none within);
+    none = subst (λ (k : ℕ). AllByRecursion HasNone (drop k logs)) (sym next) behind;
+    begins = subst (λ (found : ScannedLog). BeginsBy has_frames is_at contents commit found old new) is begins;
+  }

@@ -1,9 +1,12 @@
 -- What `binlog undo` makes of its logs.
-use Rattle.std.specs.Prelude.{ℕ, ◌-◌, ◌^◌, min, List, ◌++◌, length, sum_by, Option, codes, decimal}
+use Rattle.std.specs.Prelude.{◌≡◌, ◌⊎◌, ℕ, Bool, true, ◌-◌, ◌^◌, min, List, ◌++◌, length, sum_by, Option, codes, decimal}
 use Rattle.std.specs.Io.KnownBytes.{Appends}
 use Rattle.clap.specs.declared.parser.matches.Found.{Found}
+use Rattle.clap.specs.Matches.{one_text}
 use Rattle.binlog_cli.specs.TableWords.{texts_given}
-use Rattle.binlog_undo_command.specs.Scanned.{AreUndone}
+use Rattle.binlog_undo_command.specs.Descriptions.{HaveOneDescription, HaveDescriptions}
+use Rattle.binlog_undo_command.specs.Options.{StatesFlag}
+use Rattle.binlog_undo_command.specs.Scanned.{AreUndone, HasRefused}
 use Rattle.binlog_undo_command.specs.Written.{WritesLog}
 use Rattle.binlog_undo_command.specs.declared.scanning.ScannedLog.{ScannedLog}
 use Rattle.binlog_undo_index.specs.Parts.{parts_of}
@@ -20,26 +23,47 @@ abbrev pub counts_line : List ScannedLog → List ℕ
 counts_line logs =
     codes "transactions " ++ decimal (min (transactions_in logs) (2 ^ 64 - 1)) ++ codes ", row events " ++ decimal (min (changes_in logs) (2 ^ 64 - 1)) ++ codes "\n"
 
--- Nothing is refused in the logs that the words name, and their counts are written. `bytes` are those of the log of a name.
-pub record CountsLogs (bytes : List ℕ → Option (List ℕ)) (found : Found) (old new : Option (List ℕ)) : Type 0 where
+-- Nothing is refused in the logs that the words name, and if all that is undone is to be one transaction, it is under one description.
+pub record AreUndoneAs {F : Type 0} (bytes : List ℕ → Option (List ℕ)) (has_frames : List ℕ → F → Type 0) (is_at : F → ℕ → List ℕ → Type 0) (found : Found) (is_one : Bool)
+    (logs : List ScannedLog) : Type 0 where
+  pub undone : AreUndone bytes found (texts_given found (codes "FILE")) logs
+  pub flag : StatesFlag (one_text found (codes "one-transaction")) is_one
+  pub descriptions : is_one ≡ true → HaveOneDescription has_frames is_at logs
+
+-- Nothing is refused in them, but all that is undone is to be one transaction, and isn't under one description.
+pub record HaveOtherDescriptions {F : Type 0} (bytes : List ℕ → Option (List ℕ)) (has_frames : List ℕ → F → Type 0) (is_at : F → ℕ → List ℕ → Type 0) (found : Found) : Type 0 where
   pub logs : List ScannedLog
   pub undone : AreUndone bytes found (texts_given found (codes "FILE")) logs
+  pub flag : StatesFlag (one_text found (codes "one-transaction")) true
+  pub descriptions : HaveDescriptions has_frames is_at logs
+
+-- Something is refused.
+abbrev pub IsRefusedAs : {F : Type 0} → (List ℕ → Option (List ℕ)) → (List ℕ → F → Type 0) → (F → ℕ → List ℕ → Type 0) → Found → Type 0
+IsRefusedAs bytes has_frames is_at found = HasRefused bytes found (texts_given found (codes "FILE")) ⊎ HaveOtherDescriptions bytes has_frames is_at found
+
+-- Nothing is refused in the logs that the words name, and their counts are written. `bytes` are those of the log of a name.
+pub record CountsLogs {F : Type 0} (bytes : List ℕ → Option (List ℕ)) (has_frames : List ℕ → F → Type 0) (is_at : F → ℕ → List ℕ → Type 0) (found : Found)
+    (old new : Option (List ℕ)) : Type 0 where
+  pub is_one : Bool
+  pub logs : List ScannedLog
+  pub undone : AreUndoneAs bytes has_frames is_at found is_one logs
   pub counts : Appends old new (counts_line logs)
 
 -- A file has the log that undoes these logs, and nothing in front of it. `is_fresh` says which bytes it is begun with, and `has` which
 -- bytes it has.
 pub record PutsLog {F B : Type 0} (has_frames : List ℕ → F → Type 0) (is_at : F → ℕ → List ℕ → Type 0) (contents : B → Option (List ℕ))
-    (is_fresh has : Option (List ℕ) → Type 0) (logs : List ScannedLog) : Type 0 where
+    (is_fresh has : Option (List ℕ) → Type 0) (is_one : Bool) (logs : List ScannedLog) : Type 0 where
   pub begun : Option (List ℕ)
   pub fresh : is_fresh begun
   pub written : Option (List ℕ)
-  pub writes : WritesLog has_frames is_at contents logs begun written
+  pub writes : WritesLog has_frames is_at contents is_one logs begun written
   pub is : has written
 
 -- Nothing is refused in the logs that the words name, their counts are written, and a file has the log that undoes them.
 pub record Undoes {F B : Type 0} (bytes : List ℕ → Option (List ℕ)) (has_frames : List ℕ → F → Type 0) (is_at : F → ℕ → List ℕ → Type 0) (contents : B → Option (List ℕ))
     (is_fresh has : Option (List ℕ) → Type 0) (found : Found) (old new : Option (List ℕ)) : Type 0 where
+  pub is_one : Bool
   pub logs : List ScannedLog
-  pub undone : AreUndone bytes found (texts_given found (codes "FILE")) logs
+  pub undone : AreUndoneAs bytes has_frames is_at found is_one logs
   pub counts : Appends old new (counts_line logs)
-  pub puts : PutsLog has_frames is_at contents is_fresh has logs
+  pub puts : PutsLog has_frames is_at contents is_fresh has is_one logs

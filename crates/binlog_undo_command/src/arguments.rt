@@ -32,6 +32,7 @@ fn undo<'a>(alloc: Global) -> Result<Command<'a>, AllocError> {
                 .help("The log that is written"),
         )?
         .arg(flag(alloc, "dry-run").help("Writes nothing, and prints what would be undone"))?
+        .arg(flag(alloc, "one-transaction").help("Makes all that is undone one transaction"))?
         .arg(flag(alloc, "no-foreign-key-checks").help(
             "The server checks no foreign keys while the log is applied",
         ))?

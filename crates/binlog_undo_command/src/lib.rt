@@ -2,6 +2,7 @@
 #![tactic(auto)]
 
 mod arguments;
+mod descriptions;
 pub mod laws;
 mod log_place;
 mod logs;

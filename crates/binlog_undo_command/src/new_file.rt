@@ -20,6 +20,9 @@ pub trait NewFile {
     /// Whether the file is there.
     ghost is_there: { Self → Bool };
 
+    /// Whether something was begun to be written that is neither finished nor removed.
+    ghost has_draft: { Self → Bool };
+
     /// What was begun to be written has these bytes, where they are known: none.
     ghost is_fresh: { Self → Option (List ℕ) → Type 0 };
 
@@ -41,21 +44,25 @@ pub trait NewFile {
     /// Those of making a file, and `AlreadyExists` if there is one of the other name. Nothing has changed then.
     fn begin(&mut self) -> io::Result<Self::Draft>
         ensures there { is_there self.new ≡ is_there self.old }
-        ensures fresh { IfOk result (λ draft. is_fresh self.old (Self.Draft.contents draft)) };
+        ensures fresh { IfOk result (λ draft. is_fresh self.old (Self.Draft.contents draft)) }
+        ensures begun { OnOk result (has_draft self.new ≡ true) }
+        ensures failed { OnErr result (has_draft self.new ≡ has_draft self.old) };
 
     /// Gives the file its name. It has the bytes of the draft then.
     ///
     /// # Errors
     ///
-    /// Those of writing a file and of renaming it. The file isn't there then.
+    /// Those of writing a file and of renaming it. The file isn't there then, and what was written may be left.
     fn finish(&mut self, draft: Self::Draft) -> io::Result<()>
         ensures there { OnOk result (is_there self.new ≡ true) }
         ensures bytes { OnOk result (has self.new (Self.Draft.contents draft)) }
+        ensures finished { OnOk result (has_draft self.new ≡ false) }
         ensures failed { OnErr result (is_there self.new ≡ is_there self.old) };
 
-    /// Removes what was written. The file isn't there.
+    /// Removes what was written, as far as the system does that. The file isn't there.
     fn discard(&mut self)
-        ensures { is_there self.new ≡ is_there self.old };
+        ensures there { is_there self.new ≡ is_there self.old }
+        ensures removed { has_draft self.new ≡ false };
 }
 
 /// A file of the machine. What it has isn't known.
@@ -65,6 +72,7 @@ pub struct HostFile<'a, R> {
     name: &'a str,
     draft: &'a str,
     is_there: bool,
+    has_draft: bool,
 }
 
 impl<'a, R: Files> HostFile<'a, R> {
@@ -73,12 +81,14 @@ impl<'a, R: Files> HostFile<'a, R> {
         ensures named { result.name.now ≡ name.now }
         ensures drafted { result.draft.now ≡ draft.now }
         ensures there { result.is_there ≡ false }
+        ensures begun { result.has_draft ≡ false }
     {
         HostFile {
             rt,
             name,
             draft,
             is_there: false,
+            has_draft: false,
         }
     }
 }
@@ -91,6 +101,8 @@ impl<'a, R: Files> NewFile for HostFile<'a, R> {
     ghost drafted = { λ file. file.draft.now };
 
     ghost is_there = { λ file. file.is_there };
+
+    ghost has_draft = { λ file. file.has_draft };
 
     ghost is_fresh = { λ file bytes. ⊤ };
 
@@ -105,7 +117,9 @@ impl<'a, R: Files> NewFile for HostFile<'a, R> {
     }
 
     fn begin(&mut self) -> io::Result<R::File> {
-        File::create_new(self.rt, self.draft)
+        let draft = File::create_new(self.rt, self.draft)?;
+        self.has_draft = true;
+        Ok(draft)
     }
 
     fn finish(&mut self, draft: R::File) -> io::Result<()> {
@@ -113,10 +127,12 @@ impl<'a, R: Files> NewFile for HostFile<'a, R> {
         drop(draft);
         fs::rename(self.rt, self.draft, self.name)?;
         self.is_there = true;
+        self.has_draft = false;
         Ok(())
     }
 
     fn discard(&mut self) {
         let _ = fs::remove_file(self.rt, self.draft);
+        self.has_draft = false;
     }
 }

@@ -103,6 +103,13 @@ fn flag(options: &ArgMatches<'_>, name: &str) -> bool
     options.get_flag(name)
 }
 
+/// Whether all that is undone is to be one transaction.
+pub(crate) fn is_one_transaction(options: &ArgMatches<'_>) -> bool
+    ensures { StatesFlag (one_text (found_of options.now) (codes "one-transaction")) result }
+{
+    flag(options, "one-transaction")
+}
+
 // How foreign keys are checked while the log is applied.
 fn checks(options: &ArgMatches<'_>) -> ForeignKeyChecks
     ensures { StatesChecks (one_text (found_of options.now) (codes "no-foreign-key-checks")) result }

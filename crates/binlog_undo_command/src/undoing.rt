@@ -1,15 +1,17 @@
 //! Both passes over several logs.
-ghost use Rattle.std.specs.Prelude.{◌≡◌, ◌≢◌, true, min, ◌^◌, ◌-◌, codes, IfErr, IfOk, OnOk};
+ghost use Rattle.std.specs.Prelude.{◌≡◌, ◌≢◌, false, true, min, ◌^◌, ◌-◌, codes, IfErr, IfOk, OnOk};
 ghost use Rattle.std.specs.Io.KnownBytes.{Appends};
-ghost use Rattle.clap.specs.Matches.{found_of};
+ghost use Rattle.clap.specs.Matches.{found_of, one_text};
 ghost use Rattle.binlog_cli.specs.TableWords.{texts_given};
 ghost use Rattle.binlog_cli.specs.declared.exit_status.Status.TheVariants.{Fine, Damaged, Failed, Usage};
-ghost use Rattle.binlog_undo_command.specs.Options.{RefusesOptions};
+ghost use Rattle.binlog_undo_command.specs.Options.{RefusesOptions, StatesFlag};
 ghost use Rattle.binlog_undo_command.specs.Scanned.{AreUndone, HasRefused};
-ghost use Rattle.binlog_undo_command.specs.Undoing.{transactions_in, changes_in, counts_line, CountsLogs, PutsLog, Undoes};
+ghost use Rattle.binlog_undo_command.specs.Undoing.{transactions_in, changes_in, counts_line, AreUndoneAs, IsRefusedAs, CountsLogs, PutsLog, Undoes};
 
+use crate::descriptions::check_descriptions;
 use crate::logs::Logs;
 use crate::new_file::NewFile;
+use crate::options::is_one_transaction;
 use crate::scanning::{ScannedLog, scan_logs};
 use crate::writing::write_log;
 use binlog_cli::Status;
@@ -18,8 +20,9 @@ use clap::ArgMatches;
 use std::io;
 use std::io::{BufWriter, Write};
 
-/// Writes a log that undoes the chosen transactions of all logs, or names what can't be undone. Before that it writes how many
-/// transactions and row events are undone. The file is there if the status is [`Status::Fine`], and else it isn't.
+/// Writes a log that undoes the chosen transactions of all logs, as one transaction if that is asked for, or names what can't be undone.
+/// Before that it writes how many transactions and row events are undone. The file is there if the status is [`Status::Fine`]. Else it isn't, and what was begun of
+/// it is removed.
 pub fn undo<'a, L: Logs, T: NewFile, R: Eprint + AllocGlobal, W: Write>(
     rt: &R,
     logs: &L,
@@ -31,27 +34,32 @@ pub fn undo<'a, L: Logs, T: NewFile, R: Eprint + AllocGlobal, W: Write>(
         (T.is_fresh file.old) (T.has file.new) (found_of options.now) (W.contents writer.old) (W.contents writer.new) }
     ensures there { result ≡ Fine → T.is_there file.new ≡ true }
     ensures other { result ≢ Fine → T.is_there file.new ≡ T.is_there file.old }
-    ensures refused { result ≡ Damaged → HasRefused (L.bytes logs.now) (found_of options.now) (texts_given (found_of options.now) (codes "FILE")) }
+    ensures left { T.has_draft file.old ≡ false → T.has_draft file.new ≡ false }
+    ensures silent { result ≢ Fine → result ≢ Failed → W.contents writer.new ≡ W.contents writer.old }
+    ensures refused { result ≡ Damaged → IsRefusedAs (L.bytes logs.now) (L.has_frames logs.now) L.Sought.is_at (found_of options.now) }
     ensures usage { result ≡ Usage → RefusesOptions (found_of options.now) Usage }
 {
-    match count_logs(rt, logs, options, writer) {
-        Ok(scanned) => put_log(rt, logs, scanned.as_slice(), file),
+    let is_one = is_one_transaction(options);
+    match count_logs(rt, logs, options, is_one, writer) {
+        Ok(scanned) => put_log(rt, logs, scanned.as_slice(), is_one, file),
         Err(status) => status,
     }
 }
 
-/// Writes how many transactions and row events are undone, or names what can't be.
+/// Writes how many transactions and row events are undone, or names what can't be. If something is refused nothing is written.
 pub fn count_undo<'a, L: Logs, R: Eprint + AllocGlobal, W: Write>(
     rt: &R,
     logs: &L,
     options: &ArgMatches<'a>,
     writer: &mut W,
 ) -> Status
-    ensures fine { result ≡ Fine → CountsLogs (L.bytes logs.now) (found_of options.now) (W.contents writer.old) (W.contents writer.new) }
-    ensures refused { result ≡ Damaged → HasRefused (L.bytes logs.now) (found_of options.now) (texts_given (found_of options.now) (codes "FILE")) }
+    ensures fine { result ≡ Fine → CountsLogs (L.bytes logs.now) (L.has_frames logs.now) L.Sought.is_at (found_of options.now) (W.contents writer.old) (W.contents writer.new) }
+    ensures silent { result ≢ Fine → result ≢ Failed → W.contents writer.new ≡ W.contents writer.old }
+    ensures refused { result ≡ Damaged → IsRefusedAs (L.bytes logs.now) (L.has_frames logs.now) L.Sought.is_at (found_of options.now) }
     ensures usage { result ≡ Usage → RefusesOptions (found_of options.now) Usage }
 {
-    match count_logs(rt, logs, options, writer) {
+    let is_one = is_one_transaction(options);
+    match count_logs(rt, logs, options, is_one, writer) {
         Ok(_) => Status::Fine,
         Err(status) => status,
     }
@@ -62,16 +70,18 @@ fn count_logs<'a, L: Logs, R: Eprint + AllocGlobal, W: Write>(
     rt: &R,
     logs: &L,
     options: &ArgMatches<'a>,
+    is_one: bool,
     writer: &mut W,
 ) -> Result<Vec<ScannedLog<'a>>, Status>
-    ensures ok { IfOk result (λ scanned. AreUndone (L.bytes logs.now) (found_of options.now) (texts_given (found_of options.now) (codes "FILE")) scanned.items) }
+    requires one { StatesFlag (one_text (found_of options.now) (codes "one-transaction")) is_one }
+    ensures ok { IfOk result (λ scanned. AreUndoneAs (L.bytes logs.now) (L.has_frames logs.now) L.Sought.is_at (found_of options.now) is_one scanned.items) }
     ensures counts { IfOk result (λ scanned. Appends (W.contents writer.old) (W.contents writer.new) (counts_line scanned.items)) }
     ensures err { IfErr result (λ status. status ≢ Fine) }
-    ensures refused { IfErr result (λ status. status ≡ Damaged → HasRefused (L.bytes logs.now) (found_of options.now) (texts_given (found_of options.now) (codes "FILE"))) }
+    ensures silent { IfErr result (λ status. status ≢ Failed → W.contents writer.new ≡ W.contents writer.old) }
+    ensures refused { IfErr result (λ status. status ≡ Damaged → IsRefusedAs (L.bytes logs.now) (L.has_frames logs.now) L.Sought.is_at (found_of options.now)) }
     ensures usage { IfErr result (λ status. status ≡ Usage → RefusesOptions (found_of options.now) Usage) }
 {
-    let names = options.get_strs("FILE").unwrap_or(&[]);
-    let scanned = scan_logs(rt, logs, options, names)?;
+    let scanned = scan_as(rt, logs, options, is_one)?;
     match write_counts(scanned.as_slice(), writer) {
         Ok(()) => Ok(scanned),
         Err(error) => {
@@ -79,6 +89,44 @@ fn count_logs<'a, L: Logs, R: Eprint + AllocGlobal, W: Write>(
             Err(Status::Failed)
         }
     }
+}
+
+// The first pass over all logs. As one transaction they have to be under one description.
+fn scan_as<'a, L: Logs, R: Eprint + AllocGlobal>(
+    rt: &R,
+    logs: &L,
+    options: &ArgMatches<'a>,
+    is_one: bool,
+) -> Result<Vec<ScannedLog<'a>>, Status>
+    requires one { StatesFlag (one_text (found_of options.now) (codes "one-transaction")) is_one }
+    ensures ok { IfOk result (λ scanned. AreUndoneAs (L.bytes logs.now) (L.has_frames logs.now) L.Sought.is_at (found_of options.now) is_one scanned.items) }
+    ensures err { IfErr result (λ status. status ≢ Fine) }
+    ensures refused { IfErr result (λ status. status ≡ Damaged → IsRefusedAs (L.bytes logs.now) (L.has_frames logs.now) L.Sought.is_at (found_of options.now)) }
+    ensures usage { IfErr result (λ status. status ≡ Usage → RefusesOptions (found_of options.now) Usage) }
+{
+    let scanned = scan_files(rt, logs, options)?;
+    if !is_one {
+        return Ok(scanned);
+    }
+    match check_descriptions(rt, logs, scanned.as_slice()) {
+        Ok(()) => Ok(scanned),
+        Err(status) => Err(status),
+    }
+}
+
+// The first pass over the logs that the words name.
+fn scan_files<'a, L: Logs, R: Eprint + AllocGlobal>(
+    rt: &R,
+    logs: &L,
+    options: &ArgMatches<'a>,
+) -> Result<Vec<ScannedLog<'a>>, Status>
+    ensures ok { IfOk result (λ scanned. AreUndone (L.bytes logs.now) (found_of options.now) (texts_given (found_of options.now) (codes "FILE")) scanned.items) }
+    ensures err { IfErr result (λ status. status ≢ Fine) }
+    ensures refused { IfErr result (λ status. status ≡ Damaged → HasRefused (L.bytes logs.now) (found_of options.now) (texts_given (found_of options.now) (codes "FILE"))) }
+    ensures usage { IfErr result (λ status. status ≡ Usage → RefusesOptions (found_of options.now) Usage) }
+{
+    let names = options.get_strs("FILE").unwrap_or(&[]);
+    scan_logs(rt, logs, options, names)
 }
 
 // How many transactions of logs are undone.
@@ -118,11 +166,13 @@ fn put_log<L: Logs, T: NewFile, R: Eprint + AllocGlobal>(
     rt: &R,
     logs: &L,
     scanned: &[ScannedLog<'_>],
+    is_one: bool,
     file: &mut T,
 ) -> Status
-    ensures fine { result ≡ Fine → PutsLog (L.has_frames logs.now) L.Sought.is_at ⟦<Counted<BufWriter<Retrying<T::Draft>>> as WriteCounted>⟧.contents (T.is_fresh file.old) (T.has file.new) scanned.now }
+    ensures fine { result ≡ Fine → PutsLog (L.has_frames logs.now) L.Sought.is_at ⟦<Counted<BufWriter<Retrying<T::Draft>>> as WriteCounted>⟧.contents (T.is_fresh file.old) (T.has file.new) is_one scanned.now }
     ensures there { result ≡ Fine → T.is_there file.new ≡ true }
     ensures other { result ≢ Fine → T.is_there file.new ≡ T.is_there file.old }
+    ensures left { T.has_draft file.old ≡ false → T.has_draft file.new ≡ false }
     ensures failed { result ≢ Fine → result ≡ Failed }
 {
     let draft = match file.begin() {
@@ -132,7 +182,7 @@ fn put_log<L: Logs, T: NewFile, R: Eprint + AllocGlobal>(
             return Status::Failed;
         }
     };
-    match write_log(rt, logs, scanned, file.draft_name(), draft) {
+    match write_log(rt, logs, scanned, is_one, file.draft_name(), draft) {
         Ok(draft) => finish(rt, file, draft),
         Err(status) => {
             file.discard();
@@ -146,6 +196,7 @@ fn finish<T: NewFile, R: Eprint>(rt: &R, file: &mut T, draft: T::Draft) -> Statu
     ensures fine { result ≡ Fine → T.has file.new (T.Draft.contents draft) }
     ensures there { result ≡ Fine → T.is_there file.new ≡ true }
     ensures other { result ≢ Fine → T.is_there file.new ≡ T.is_there file.old }
+    ensures left { T.has_draft file.new ≡ false }
     ensures failed { result ≢ Fine → result ≡ Failed }
 {
     match file.finish(draft) {

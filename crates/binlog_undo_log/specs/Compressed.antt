@@ -1,6 +1,6 @@
 -- Compressed rows of MariaDB's, and the row event that was compressed.
 -- Source: MariaDB's documentation, "Compressed Binlog Events".
-use Rattle.std.specs.Prelude.{◌≡◌, ◌⊎◌, ℕ, ◌-◌, ◌==◌, if◌then◌else◌, List, ◌++◌, length, take, Option, Some, Result, Ok}
+use Rattle.std.specs.Prelude.{◌≡◌, ◌⊎◌, ℕ, ◌≤◌, ◌-◌, ◌==◌, if◌then◌else◌, List, ◌++◌, length, take, Option, Some, Result, Ok}
 use Rattle.binlog_event_data.specs.ReadData.{ReadsData}
 use Rattle.binlog_event_data.specs.declared.event_data.EventData.{EventData}
 use Rattle.binlog_event_data.specs.declared.event_data.EventData.TheVariants as mysql
@@ -31,10 +31,12 @@ uncompressed_type type =
     else (if type == 170 then 31
     else 32))))
 
--- The body of the event that was compressed: that of the compressed event, with the rows in place of the bytes that are stored for them.
+-- The body of the event that was compressed: that of the compressed event, with the rows in place of the bytes that are stored for them,
+-- if these aren't too many.
 pub record IsUncompressed (event : EventView) (compressed : RowsCompressedEvent) (body : List ℕ) : Type 0 where
   pub rows : List ℕ
   pub are : IsCompressed (event_in compressed.event).rows rows
+  pub within : length rows ≤ most_bytes
   pub is : body ≡ take (length (data_of event.fde.footer event.frame) - length (event_in compressed.event).rows) (data_of event.fde.footer event.frame) ++ rows
 
 -- The results of reading this body as the data of the event that was compressed.

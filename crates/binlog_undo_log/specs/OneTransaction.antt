@@ -1,5 +1,5 @@
 -- All that is undone as one transaction.
-use Rattle.std.specs.Prelude.{◌≡◌, ℕ, false, List, [], ◌∷◌, ◌++◌, Option, Some}
+use Rattle.std.specs.Prelude.{◌≡◌, ℕ, Bool, false, List, [], ◌∷◌, ◌++◌, Option, Some}
 use Rattle.binlog_consts.specs.declared.version.BinlogVersion.TheVariants.{Version4}
 use Rattle.binlog_event_format.specs.FormatDescription.{default_description}
 use Rattle.binlog_event_format.specs.Headers.{header_of}
@@ -7,7 +7,7 @@ use Rattle.binlog_event_format.specs.declared.format_description.FormatDescripti
 use Rattle.binlog_events.specs.Events.{EventView}
 use Rattle.binlog_undo_index.specs.Parts.{parts_of}
 use Rattle.binlog_undo_index.specs.declared.places.TransactionPlace.{TransactionPlace}
-use Rattle.binlog_undo_log.specs.Descriptions.{DescribesOnce}
+use Rattle.binlog_undo_log.specs.Descriptions.{DescribesOnce, description_body, has_checksums_under}
 use Rattle.binlog_undo_log.specs.Files.{IsDescribed}
 use Rattle.binlog_undo_log.specs.Output.{Pushes}
 use Rattle.binlog_undo_log.specs.Undoing.{FramesOf, IsEventAt, ReadsXid, begin_event}
@@ -43,3 +43,21 @@ pub record BeginsOne {W : Type 0} (contents : W → Option (List ℕ)) (is_at : 
   pub place : ℕ
   pub at : scan.description ≡ Some place
   pub begins : BeginsUnder contents is_at place transaction.last commit old new
+
+-- ---- the description of a file
+
+-- The body and the checksums of the description at a place, as it is written.
+pub record DescriptionAt (is_at : FramesOf) (place : ℕ) (body : List ℕ) (has_checksums : Bool) : Type 0 where
+  pub event : EventView
+  pub event_at : IsEventAt is_at (default_description Version4) place event
+  pub d : FormatDescriptionEvent
+  pub described : IsDescribed event d
+  pub body_is : body ≡ description_body d
+  pub checksums : has_checksums ≡ has_checksums_under d.footer.checksum_alg
+
+-- Those of the description under which what undoes a file is written. It has transactions that are undone.
+pub record DescriptionOf (is_at : FramesOf) (scan : UndoScan) (body : List ℕ) (has_checksums : Bool) : Type 0 where
+  pub kept : (parts_of scan.index).transactions ≡ [] → ⊥
+  pub place : ℕ
+  pub at : scan.description ≡ Some place
+  pub is : DescriptionAt is_at place body has_checksums

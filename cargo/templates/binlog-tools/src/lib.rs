@@ -10,6 +10,10 @@ pub mod binlog_commands;
 pub mod binlog_event_types;
 pub mod binlog_filters;
 #[doc(hidden)]
+pub mod binlog_continuation;
+// The allocator, which some functions take of the machine alone, isn't passed here.
+#[allow(unused_variables)]
+#[doc(hidden)]
 pub mod binlog_following;
 pub mod binlog_gtid_listing;
 // Of some functions a contract alone reads a parameter.

@@ -7,3 +7,9 @@ returns-clause-usage g c = λ usage. elim c.match-count_logs.branch [
   | in-Ok w ↦ absurd cc
   | in-Err w ↦ w.in-Err.ensures.usage (sym w.result-is ∙ usage)
 ]
+
+pub returns-clause-silent : goal.returns-clause-silent
+returns-clause-silent g c = λ fine failed. elim c.match-count_logs.branch [
+  | in-Ok w ↦ absurd (fine w.result-is)
+  | in-Err w ↦ w.in-Err.ensures.silent (λ is. failed (w.result-is ∙ is))
+]

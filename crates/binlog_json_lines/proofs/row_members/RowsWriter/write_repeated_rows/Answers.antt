@@ -2,7 +2,7 @@ use Rattle.std.proofs.Common.{[]}
 use Rattle.binlog_rows.specs.RowsData.{event_in}
 use Rattle.binlog_json_lines.proofs.KeptTables.{columns_refused}
 use Rattle.binlog_json_lines.proofs.Rows.{refused_members}
-use Rattle.binlog_json_lines.proofs.row_members.RowsWriter.write_stated_rows.Goals as goal
+use Rattle.binlog_json_lines.proofs.row_members.RowsWriter.write_repeated_rows.Goals as goal
 
 pub returns-in_ok-put-in-Ok : goal.returns-in_ok-put-in-Ok
 returns-in_ok-put-in-Ok c =

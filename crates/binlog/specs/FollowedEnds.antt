@@ -1,0 +1,46 @@
+-- The status behind a file that was followed, and the path of the next one.
+use Rattle.std.specs.Prelude.{ℕ, Option, Some, None, Result, Ok, Err, String}
+use Rattle.std.specs.Global.{Global}
+use Rattle.binlog_cli.specs.Statuses.{worse}
+use Rattle.binlog_cli.specs.declared.exit_status.Status.{Status}
+use Rattle.binlog_cli.specs.declared.exit_status.Status.TheVariants.{NotOpened, Damaged, Failed}
+use Rattle.binlog_continuation.specs.declared.continuation.Continuation.{Continuation}
+use Rattle.binlog_continuation.specs.declared.continuation.Continuation.TheVariants as continuations
+use Rattle.binlog_following.specs.declared.file_behind.FileBehind.{FileBehind}
+use Rattle.binlog_following.specs.declared.file_behind.FileBehind.TheVariants as files
+use Rattle.binlog_rotation.specs.declared.error.NextFileError.{NextFileError}
+use Rattle.binlog_rotation.specs.declared.error.NextFileError.TheVariants.{Empty, Folder, InvalidByte, NotUtf8, NoNumber, Memory}
+use Rattle.binlog_rotation.specs.declared.fault.LogFault.{LogFault}
+use Rattle.binlog_rotation.specs.declared.fault.LogFault.TheVariants.{OtherLog, Size, Checksum, Position}
+
+-- Another log isn't the one that was to be read; everything else is damage.
+abbrev pub status_of_fault : LogFault → Status
+status_of_fault OtherLog = NotOpened
+status_of_fault (Size size) = Damaged
+status_of_fault Checksum = Damaged
+status_of_fault (Position position) = Damaged
+
+-- A name that can't be taken is as a file that can't be opened.
+abbrev pub status_of_next : NextFileError → Status
+status_of_next Empty = NotOpened
+status_of_next Folder = NotOpened
+status_of_next InvalidByte = NotOpened
+status_of_next NotUtf8 = NotOpened
+status_of_next NoNumber = NotOpened
+status_of_next Memory = Failed
+
+-- The next file is in sight, or none, or there is a reason why it isn't known.
+abbrev pub behind_whole : Result (Option (String Global)) NextFileError → Status → Status × Option (String Global)
+behind_whole (Ok next) status = (status, next)
+behind_whole (Err error) status = (worse status (status_of_next error), None)
+
+-- A fault comes first: no file comes behind one.
+abbrev pub behind_file : Option (LogFault × ℕ) → Result (Option (String Global)) NextFileError → Status → Status × Option (String Global)
+behind_file (Some fault) next status = (worse status (status_of_fault fault.0), None)
+behind_file None next status = behind_whole next status
+
+-- What the file behind another one is, by what its list of GTIDs says of that.
+abbrev pub behind_of : Continuation → FileBehind
+behind_of continuations.Unlisted = files.Unlisted
+behind_of continuations.Differs = files.Differs
+behind_of continuations.GoesOn = files.GoesOn
