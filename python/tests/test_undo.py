@@ -90,6 +90,7 @@ class Undoing(unittest.TestCase):
         self.assertTrue(out.exists())
 
 
+@unittest.skipUnless(os.environ.get("BINLOG_LIBRARY"), "no library is named")
 class UndoingInMemory(unittest.TestCase):
     """The library, over a sample that has nothing but statements."""
 
