@@ -60,7 +60,7 @@ DAMAGED_CURSORS = 10_000
 DAMAGED_ITEMS = 10_000
 COLUMNS = 400
 PAYLOADS = 400
-UNDONE = 300
+UNDONE = 150
 TO_END = 2**64 - 1
 # The reasons of include/binlog.h, from the number 1 on, and the flags.
 REASONS = ["Unfinished", "Statement", "LoadData", "Xa", "Rollback", "Incident", "Payload", "OldRows", "UnknownEvent", "Encrypted", "NoTableMap"]
@@ -360,7 +360,9 @@ def undo_failures(folder, flags):
     wanted = [(lines, 0) for *_, lines in cases]
     parts = lambda chosen: [part for _, case, _ in chosen for part in case]
     yield from listing_failures("C, undo", listings(program, parts(cases)), names, wanted)
-    yield from listing_failures("C, undo, refused memory", listings(program, parts(cases[:40]), "memory"), names[:40], wanted[:40])
+    small = [place for place, (_, case, lines) in enumerate(cases) if b"log " in lines and 500 < len(case[-1]) < 5000][:6]
+    found = listings(program, parts([cases[place] for place in small]), "memory")
+    yield from listing_failures("C, undo, refused memory", found, [names[place] for place in small], [wanted[place] for place in small])
 
 
 def split_contradictions(output):
