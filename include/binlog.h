@@ -10,13 +10,13 @@
  *                    items[i].position, items[i].event_type, items[i].data_size);
  *
  * C11 and C++. No function keeps anything between calls, or reads anything but what it is passed, so calls in different
- * threads are independent of each other. Those that write lines of JSON, read files of columns or decompress payloads alone allocate
- * memory, by malloc and realloc, and free it before they return.
+ * threads are independent of each other. Those that write lines of JSON, read files of columns, decompress payloads or undo logs alone
+ * allocate memory, by malloc and realloc, and free it before they return.
  *
  * The library is proved to be defined for all contents of the log, the cursor, the items and the buffers. The caller has
  * to ensure: each pointer and its length are memory of that length; it doesn't change during the call; the log, the columns, the
- * cursor, the items, the text, the fault and the error of one call don't overlap; pointers are aligned as their types require; items,
- * cursors, texts, faults and errors were written before, with zeros for instance. A pointer may be NULL if its length is 0.
+ * cursor, the items, the text, the fault, the refusals, the counts and the error of one call don't overlap; pointers are aligned as
+ * their types require; all of these were written before, with zeros for instance. A pointer may be NULL if its length is 0.
  *
  * docs/C.md has more examples. */
 #ifndef BINLOG_H
@@ -32,13 +32,14 @@ extern "C" {
 /* Errors, by their numbers. binlog_error_name has the name of each number, and binlog_error_text what it means. */
 enum {
     BINLOG_OK = 0,
-    BINLOG_END_OF_INPUT = 1,           /* binlog_open: fewer than four bytes */
-    BINLOG_INVALID_FILE_HEADER = 2,    /* binlog_open: the first four bytes aren't fe 62 69 6e */
+    BINLOG_END_OF_INPUT = 1,           /* binlog_open, binlog_undo: fewer than four bytes */
+    BINLOG_INVALID_FILE_HEADER = 2,    /* binlog_open, binlog_undo: the first four bytes aren't fe 62 69 6e */
     BINLOG_EVENT_SIZE_TOO_SMALL = 3,   /* an item: its event states a size below 19; no event can be found after it */
     BINLOG_TOO_SHORT_FOR_CHECKSUM = 4, /* an item: its event has fewer bytes after its header than the checksum has */
     BINLOG_END_OF_BODY = 5,            /* an item: a description, a rotate or a table map that ends within a field */
     BINLOG_INVALID_DATA = 6,           /* an item: one of these with a value that isn't allowed */
-    BINLOG_MEMORY = 12,                /* lines of JSON, files of columns, payloads: there is no memory for a line, or for the tables */
+    BINLOG_EVENT_TOO_LONG = 10,        /* binlog_undo: an event would have more than 4,294,967,295 bytes */
+    BINLOG_MEMORY = 12,                /* lines of JSON, files of columns, payloads, binlog_undo: there is no memory */
     BINLOG_CHECKSUM_MISMATCH = 17,     /* an item of binlog_next_verified: its checksum isn't that of its bytes */
     BINLOG_INVALID_CURSOR = 100,       /* binlog_next, binlog_next_verified: the cursor isn't a place of this log */
     BINLOG_INVALID_ITEM = 101,         /* lines of JSON, payloads: the item isn't one of this log */
@@ -58,7 +59,12 @@ enum {
     BINLOG_ZSTD = 114,                 /* the payload can't be decompressed */
     BINLOG_INNER_TRUNCATED = 115,      /* the content ends within an event */
     BINLOG_INNER_SIZE = 116,           /* an event of the content states a size below 19 */
-    BINLOG_TYPE = 117                  /* the content has a description, or another compressed transaction */
+    BINLOG_TYPE = 117,                 /* the content has a description, or another compressed transaction */
+    /* The next ones are those of binlog_undo. */
+    BINLOG_INVALID_OPTIONS = 118,      /* a flag, a reason, a size or the names of tables aren't such */
+    BINLOG_REFUSED = 119,              /* something can't be undone */
+    BINLOG_OTHER_DESCRIPTION = 120,    /* one transaction can't have events of different format descriptions */
+    BINLOG_CHANGED = 121               /* a log was changed during the call */
 };
 
 /* A place in a log: three numbers, without padding. It can be copied, stored and sent, and used with the same log, or
@@ -215,6 +221,99 @@ size_t binlog_json_lines(const uint8_t *log, size_t size, const binlog_item *ite
  *     if (error == BINLOG_OK && (inner = malloc(length)) != NULL)
  *         binlog_payload_log(log, size, &items[i], inner, length, &error); */
 size_t binlog_payload_log(const uint8_t *log, size_t size, const binlog_item *item, uint8_t *inner, size_t room, uint8_t *error);
+
+/* ---- logs that undo others
+ *
+ * A log whose events, applied by a server, bring the rows of tables back to what they were before the events of logs. docs/UNDO.md has
+ * which transactions can't be undone, what is written, and what a server has to be. */
+
+/* Why a transaction, or a log, can't be undone. The first ones can be skipped, with the bit 2^n of `skip` for the number n. */
+enum {
+    BINLOG_UNDO_UNFINISHED = 1,     /* the transaction isn't finished */
+    BINLOG_UNDO_STATEMENT = 2,      /* a statement that changes more than rows */
+    BINLOG_UNDO_LOAD_DATA = 3,      /* a file was loaded by a statement */
+    BINLOG_UNDO_XA = 4,             /* a part of an XA transaction */
+    BINLOG_UNDO_ROLLBACK = 5,       /* changes were rolled back */
+    BINLOG_UNDO_INCIDENT = 6,       /* an incident */
+    BINLOG_UNDO_PAYLOAD = 7,        /* a compressed transaction of MySQL's */
+    BINLOG_UNDO_OLD_ROWS = 8,       /* row events of a version before 5.1.16 */
+    BINLOG_UNDO_UNKNOWN_EVENT = 9,  /* an event of an unknown type */
+    BINLOG_UNDO_NO_TABLE_MAP = 11,  /* the rows have no table map in their transaction */
+    BINLOG_UNDO_ROWS = 12,          /* the rows can't be read */
+    BINLOG_UNDO_OLD_TEMPORAL = 13,  /* a column of a date or time whose form isn't in the log */
+    BINLOG_UNDO_IMAGE = 14,         /* the images of the rows lack columns */
+    BINLOG_UNDO_PARTIAL_JSON = 15,  /* partial updates of documents */
+    BINLOG_UNDO_COMPRESSED = 16,    /* compressed rows of more than 1 GiB */
+    /* The next ones can't be skipped. */
+    BINLOG_UNDO_ENCRYPTED = 10,     /* encrypted events; the rest of the log isn't looked at */
+    BINLOG_UNDO_DAMAGED = 17,       /* a damaged event; the rest of the log isn't looked at */
+    BINLOG_UNDO_TAIL = 18,          /* the log ends within an event */
+    BINLOG_UNDO_DESCRIPTION = 19,   /* no format description under which the events can be written, or a second one */
+    BINLOG_UNDO_STRADDLES = 20      /* a position is within the transaction */
+};
+
+/* What is asked for; the sum of the flags that are wanted. */
+enum {
+    BINLOG_UNDO_NO_FOREIGN_KEY_CHECKS = 1, /* the server checks no foreign keys while the log is applied */
+    BINLOG_UNDO_ONE_TRANSACTION = 2,       /* all that is undone is one transaction */
+    BINLOG_UNDO_PLAIN_OLD_TEMPORAL = 4     /* columns of MariaDB's old types of dates and times have no fractions */
+};
+
+/* What is undone, and how: four numbers, without padding. {0, UINT64_MAX, 0, 0} undoes all. */
+typedef struct binlog_undo_options {
+    uint64_t start_position; /* transactions that begin at this byte of the first log or behind it; 0 for all */
+    uint64_t stop_position;  /* transactions that begin before this byte of the last log; UINT64_MAX for all */
+    uint64_t skip;           /* reasons for which transactions are left as they are: 1 << BINLOG_UNDO_STATEMENT for instance */
+    uint64_t flags;          /* the sum of the flags above */
+} binlog_undo_options;
+
+/* A transaction, or a log, that can't be undone. No padding. */
+typedef struct binlog_refusal {
+    uint64_t log;        /* the number of the log, from 0 */
+    uint64_t index;      /* the index of the event in its log, from 0 */
+    uint64_t position;   /* where the event begins, in bytes from the start of its log */
+    uint64_t end;        /* of BINLOG_UNDO_STRADDLES the position behind the transaction, otherwise 0 */
+    uint32_t reason;     /* one of the reasons above */
+    uint32_t is_skipped; /* 1 if the reason is one of those that are skipped, otherwise 0 */
+} binlog_refusal;
+
+/* What is undone. No padding. */
+typedef struct binlog_undone {
+    uint64_t transactions; /* how many transactions */
+    uint64_t row_events;   /* how many row events */
+    uint64_t refusals;     /* how many refusals there are, the skipped ones too */
+} binlog_undone;
+
+/* Writes the log that undoes logs, if there is room for all of it, and returns its length; otherwise nothing is written, and a call with
+ * as much room writes it. It is the log that the program `binlog undo` writes. `size` bytes have the logs in their order, one behind
+ * the other, and `sizes` has how long each of the `count` logs is.
+ *
+ * `tables` names tables whose rows alone are undone, and `excluded` tables whose rows aren't; all and none if they have no byte. A table is
+ * named by its database and its own name, with a zero behind each: "shop\0orders\0" has 12 bytes, the last zero included. A * stands
+ * for any bytes, a ? for one.
+ *
+ * Each transaction that can't be undone, and isn't undone for another reason, is refused. As many refusals are filled in as there is room
+ * for, in the order of the logs, and `undone` counts them. Nothing is written unless all are skipped.
+ *
+ * The error is 0, or the first of these; nothing is written then, and 0 is returned. The refusals and the counts change with
+ * BINLOG_REFUSED and without an error alone:
+ *
+ * BINLOG_INVALID_OPTIONS: a flag isn't known, a reason can't be skipped, the sizes aren't those of the logs, or the names of tables aren't
+ *     pairs with a zero behind each.
+ * BINLOG_END_OF_INPUT, BINLOG_INVALID_FILE_HEADER: a log doesn't begin as one.
+ * BINLOG_REFUSED: something can't be undone.
+ * BINLOG_OTHER_DESCRIPTION: with BINLOG_UNDO_ONE_TRANSACTION, the logs have different format descriptions.
+ * BINLOG_EVENT_TOO_LONG: an event would have more than 4,294,967,295 bytes.
+ * BINLOG_CHANGED: a log was changed during the call.
+ * BINLOG_MEMORY: an allocation failed. Memory is taken for the log that is written, and 16 bytes for each row event and each transaction.
+ *
+ *     binlog_undo_options options = {0, UINT64_MAX, 0, 0};
+ *     size_t length = binlog_undo(log, size, &size64, 1, &options, NULL, 0, NULL, 0, refusals, 64, &undone, NULL, 0, &error);
+ *     if (error == BINLOG_OK && (out = malloc(length)) != NULL)
+ *         binlog_undo(log, size, &size64, 1, &options, NULL, 0, NULL, 0, refusals, 64, &undone, out, length, &error); */
+size_t binlog_undo(const uint8_t *logs, size_t size, const uint64_t *sizes, size_t count, const binlog_undo_options *options,
+                   const char *tables, size_t tables_size, const char *excluded, size_t excluded_size, binlog_refusal *refusals,
+                   size_t refusal_room, binlog_undone *undone, uint8_t *out, size_t room, uint8_t *error);
 
 /* ---- files of columns
  *

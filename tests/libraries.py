@@ -12,7 +12,7 @@ built `binlog json`; another C program asks for those of 10,000 items that it ch
 each of their allocations in turn. A C program prints the lines of random logs with files of columns, and which columns contradict
 these: they have to be those of a model of both, and the faults of files that can't be read those that are worked by hand. Another one
 prints the lines of the events inside compressed transactions, or why they are refused, as the built `binlog json` does, with each
-allocation refused in turn. Then the tests of the Python package run over the shared library, which is made of the static one. At last what bin/install and bin/package
+allocation refused in turn; and one undoes random logs, beside the model of undo_command.py, with each allocation refused in turn. Then the tests of the Python package run over the shared library, which is made of the static one. At last what bin/install and bin/package
 make of the library: a C program is built against each by pkg-config and lists the sample, and Python lists it by the package
 that is installed. Without pkg-config the flags are written out; without dpkg-deb there is no package; a line says so.
 
@@ -40,8 +40,10 @@ import payload_lines
 import programs
 import prover
 import results
+import row_events
 import samples
 import static_library
+import undo_command
 from damaged_copies import PROCESSES_AT_A_TIME, all_cases, first_difference, rows_log
 from programs import REPOSITORY
 
@@ -58,6 +60,12 @@ DAMAGED_CURSORS = 10_000
 DAMAGED_ITEMS = 10_000
 COLUMNS = 400
 PAYLOADS = 400
+UNDONE = 150
+TO_END = 2**64 - 1
+# The reasons of include/binlog.h, from the number 1 on, and the flags.
+REASONS = ["Unfinished", "Statement", "LoadData", "Xa", "Rollback", "Incident", "Payload", "OldRows", "UnknownEvent", "Encrypted", "NoTableMap"]
+REASONS += ["Rows", "OldTemporal", "Image", "PartialJson", "Compressed", "Damaged", "Tail", "Description", "Straddles"]
+NO_FOREIGN_KEY_CHECKS, ONE_TRANSACTION, PLAIN_OLD_TEMPORAL = 1, 2, 4
 # The numbers of errors of payloads, by the names that `binlog json` has for them; `Event` is the number of the event's error.
 PAYLOAD_ERRORS = ["EventTruncated", "Lenenc", "FieldTwice", "FieldLength", "Kind", "NoField", "PayloadSize", "Limit", "UncompressedSize"]
 PAYLOAD_ERRORS = {name: 105 + place for place, name in enumerate([*PAYLOAD_ERRORS, "Zstd", "InnerTruncated", "InnerSize", "Type"])}
@@ -199,6 +207,7 @@ def json_failures(folder, names, contents, flags, statuses):
     yield None if found is not None and len(found) == len(contents) else "C, JSON, verified: not all logs are printed"
     yield from damaged_failures("damaged items", build(folder, "damaged_items", "damaged_items.c", flags), DAMAGED_ITEMS)
     yield from refused_memory_failures(folder)
+    yield from undo_failures(folder, flags)
     yield from columns_failures(folder, flags)
 
 
@@ -258,6 +267,102 @@ def payload_failures(folder, flags):
         wanted = [(lines, 0) for lines in pool.map(wanted_payloads, logs)]
     yield from listing_failures("C, payloads", listings(program, logs), names, wanted)
     yield from listing_failures("C, payloads, refused memory", listings(program, logs[:40], "memory"), names, wanted[:40])
+
+
+def undo_parts(logs, start=0, stop=TO_END, skip=0, flags=0, tables=b"", excluded=b"", sizes=None):
+    """A case, as tests/c/undo.c reads it."""
+    sizes = list(map(len, logs)) if sizes is None else sizes
+    packed_sizes = struct.pack(f"<{len(sizes)}Q", *sizes)
+    return [struct.pack("<5Q", start, stop, skip, flags, len(sizes)), tables, excluded, packed_sizes, b"".join(logs)]
+
+
+def table_names(tables):
+    """The names of tables, as the library takes them."""
+    return b"".join(name.encode() + b"\0" for table in tables for name in table.split("."))
+
+
+def refusal_line(name, index, place, reason, *end):
+    return f"refusal {name} {index} {place} {end[0] if end else 0} {REASONS.index(reason) + 1} 0\n"
+
+
+def random_undo(seed):
+    """Logs that are undone, as undo_command.py makes them: a case, and what the model says of it."""
+    chance, kinds = random.Random(seed), list(row_events.kinds())
+    is_sound = chance.random() < 0.5
+    _, chosen, excluded, is_plain = undo_command.random_options(chance)
+    contents = [undo_command.random_file(chance, kinds, is_sound) for _ in range(chance.randint(1, 3))]
+    start = undo_command.random_position(chance, contents[0]) if chance.random() < 0.3 else 0
+    stop = undo_command.random_position(chance, contents[-1]) if chance.random() < 0.3 else None
+    model = undo_command.Model(chosen, excluded, is_plain)
+    for number, content in enumerate(contents):
+        model.take(number, content, start if number == 0 else 0, stop if number == len(contents) - 1 else None)
+    stated = {"tables": table_names(chosen), "excluded": table_names(excluded), "flags": PLAIN_OLD_TEMPORAL * is_plain}
+    case = undo_parts(contents, start, TO_END if stop is None else stop, **stated)
+    lines = [refusal_line(*one) for one in model.refused]
+    written = f"counts {model.transactions()} {model.changes()}\nlog {model.written().hex()}\n"
+    lines.append("error 119 Refused\n" if model.refused else written)
+    return case, "".join(lines).encode()
+
+
+def as_one(log):
+    """The log of one transaction that is made of a log of several, all under one description."""
+    events, place = [], len(undo_command.FILE_HEADER)
+    while place < len(log):
+        size = undo_command.HEADER.unpack_from(log, place)[3]
+        events.append(log[place : place + size])
+        place += size
+    within = [event for event in events[1:] if event[4] not in (2, 16)]
+    ends = [event for event in events[1:] if event[4] in (2, 16)]
+    out = undo_command.FILE_HEADER
+    for event in [events[0], ends[0], *within, ends[1]]:
+        timestamp, kind, server, _, _, flags = undo_command.HEADER.unpack_from(event)
+        out += undo_command.framed(kind, event[undo_command.HEADER.size : -4], len(out), (timestamp, server, flags), True)
+    return out
+
+
+def single_undos():
+    """Cases of other options and of errors, and what is printed of each; the log is that of one transaction where that is asked for."""
+    chance, kinds = random.Random(1), list(row_events.kinds())
+    events = [event for _ in range(4) for event in undo_command.random_transaction(chance, kinds, True, False)]
+    statement, rows = (2, undo_command.query("DROP TABLE d.w")), [(kind, body, undo_command.random_header(chance)) for kind, body in events]
+    log = undo_command.log_of(rows, 1, "8.0.36")
+    model = undo_command.Model()
+    model.take(0, log)
+    counts, written = f"counts {model.transactions()} {model.changes()}\n".encode(), model.written()
+    whole = b"log %s\n" % written.hex().encode()
+    yield "one transaction", undo_parts([log], flags=ONE_TRANSACTION), counts + b"log %s\n" % as_one(written).hex().encode()
+    yield "one transaction, of the second log", undo_parts([log, log[: len(undo_command.FILE_HEADER)]], flags=ONE_TRANSACTION), counts + b"log %s\n" % as_one(written).hex().encode()
+    yield "no log", undo_parts([], sizes=[]), b"counts 0 0\nlog fe62696e\n"
+    refused = undo_command.log_of([*rows, (*statement, (0, 1, 0))], 1, "8.0.36")
+    index, place = len(rows) + 1, len(log)
+    said = f"refusal 0 {index} {place} 0 2 {{}}\n"
+    yield "a statement", undo_parts([refused]), said.format(0).encode() + b"error 119 Refused\n"
+    yield "a statement, skipped", undo_parts([refused], skip=1 << 2), said.format(1).encode() + counts + whole
+    other = undo_command.log_of(rows, 0, "8.0.36")
+    yield "two descriptions", undo_parts([log, other], flags=ONE_TRANSACTION), None
+    for name, case in [
+        ("a flag", undo_parts([log], flags=8)), ("a reason that can't be skipped", undo_parts([log], skip=1 << 17)),
+        ("a reason that there isn't", undo_parts([log], skip=1)), ("a size too much", undo_parts([log], sizes=[len(log), 1])),
+        ("a size too little", undo_parts([log], sizes=[len(log) - 1])), ("a size beyond", undo_parts([log], sizes=[TO_END])),
+        ("a name without a zero", undo_parts([log], tables=b"d\0t")), ("a name alone", undo_parts([log], excluded=b"d\0t\0e\0")),
+    ]:  # fmt: skip
+        yield name, case, b"error 118 InvalidOptions\n"
+    yield "three bytes", undo_parts([log, log[:3]]), b"error 1 EndOfInput\n"
+    yield "no log's bytes", undo_parts([b"\xff" + log[1:]]), b"error 2 InvalidFileHeader\n"
+
+
+def undo_failures(folder, flags):
+    """For each case, None or what is wrong with the log that undoes its logs."""
+    program = build(folder, "undo", "undo.c", [*flags, "-Wl,--wrap=malloc,--wrap=realloc"])
+    cases = [(f"seed {seed}", *random_undo(seed)) for seed in range(UNDONE)]
+    cases += [(name, case, b"error 120 OtherDescription\n" if wanted is None else wanted) for name, case, wanted in single_undos()]
+    names = [name for name, *_ in cases]
+    wanted = [(lines, 0) for *_, lines in cases]
+    parts = lambda chosen: [part for _, case, _ in chosen for part in case]
+    yield from listing_failures("C, undo", listings(program, parts(cases)), names, wanted)
+    small = [place for place, (_, case, lines) in enumerate(cases) if b"log " in lines and 500 < len(case[-1]) < 5000][:6]
+    found = listings(program, parts([cases[place] for place in small]), "memory")
+    yield from listing_failures("C, undo, refused memory", found, [names[place] for place in small], [wanted[place] for place in small])
 
 
 def split_contradictions(output):

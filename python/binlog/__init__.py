@@ -13,8 +13,10 @@ from ._library import library_version
 from ._log import Cursor, Damage, Event, Log, open
 from ._payloads import PayloadEvent
 from ._program import ProgramError
+from ._refusals import Refusal, Undone, UndoRefused
 from ._types import EventType, MariaEventType
-from ._undo import Refusal, Undone, UndoRefused, undo
+from ._undo import undo
+from ._undo_library import UndoLog, undo_logs
 from ._whole import DamagedEvent, Stats, TypeStats, Verification, gtid_set, stats, verify
 
 __all__ = [
@@ -40,6 +42,7 @@ __all__ = [
     "RowsError",
     "Stats",
     "TypeStats",
+    "UndoLog",
     "UndoRefused",
     "Undone",
     "Verification",
@@ -49,5 +52,6 @@ __all__ = [
     "open",
     "stats",
     "undo",
+    "undo_logs",
     "verify",
 ]

@@ -15,8 +15,9 @@ FILE = "libbinlog.so"
 ITEM = struct.Struct("=4Q4IHBB4s2I")
 
 
-# The number of the error of a text that isn't that of a file of columns.
+# The number of the error of a text that isn't that of a file of columns, and of logs that can't be undone.
 INVALID_COLUMNS = 103
+REFUSED = 119
 
 
 class CursorStruct(ctypes.Structure):
@@ -26,6 +27,40 @@ class CursorStruct(ctypes.Structure):
         ("position", ctypes.c_uint64),
         ("description", ctypes.c_uint64),
         ("ended", ctypes.c_uint64),
+    ]
+
+
+class UndoOptionsStruct(ctypes.Structure):
+    """binlog_undo_options"""
+
+    _fields_ = [
+        ("start_position", ctypes.c_uint64),
+        ("stop_position", ctypes.c_uint64),
+        ("skip", ctypes.c_uint64),
+        ("flags", ctypes.c_uint64),
+    ]
+
+
+class RefusalStruct(ctypes.Structure):
+    """binlog_refusal"""
+
+    _fields_ = [
+        ("log", ctypes.c_uint64),
+        ("index", ctypes.c_uint64),
+        ("position", ctypes.c_uint64),
+        ("end", ctypes.c_uint64),
+        ("reason", ctypes.c_uint32),
+        ("is_skipped", ctypes.c_uint32),
+    ]
+
+
+class UndoneStruct(ctypes.Structure):
+    """binlog_undone"""
+
+    _fields_ = [
+        ("transactions", ctypes.c_uint64),
+        ("row_events", ctypes.c_uint64),
+        ("refusals", ctypes.c_uint64),
     ]
 
 
@@ -63,6 +98,8 @@ def _load() -> ctypes.CDLL:
     items = columns = name = [ctypes.c_char_p, size]
     item = ctypes.c_char_p
     cursor, fault = ctypes.POINTER(CursorStruct), ctypes.POINTER(ColumnsFaultStruct)
+    sizes = refusals = [ctypes.c_void_p, size]
+    options, undone = ctypes.POINTER(UndoOptionsStruct), ctypes.POINTER(UndoneStruct)
     error, count = ctypes.POINTER(byte), ctypes.POINTER(size)
     # The result and the parameters of each function.
     functions = {
@@ -79,6 +116,7 @@ def _load() -> ctypes.CDLL:
         "columns_check": (byte, [*columns, fault]),
         "columns_contradiction": (size, [*log, item, *columns, error]),
         "columns_fault_text": (size, [ctypes.c_uint64, *name]),
+        "undo": (size, [*log, *sizes, options, *columns, *columns, *refusals, undone, *text, error]),
         "error_name": (size, [byte, *name]),
         "error_text": (size, [byte, *name]),
     }

@@ -1,62 +1,21 @@
-"""Logs that undo the changes of rows of others, which the program `binlog` writes."""
+"""Logs that undo the changes of rows of others, which the program `binlog` writes, or the library."""
 
 import os
 import subprocess
 from collections.abc import Iterable, Sequence
-from dataclasses import dataclass
 from datetime import datetime, timezone
+from pathlib import Path as FilePath
 from typing import Optional, Union
 
 from ._program import ProgramError, program as program_at
+from ._refusals import Refusal, Undone, UndoRefused
 from ._statistics import Path, _argument
+from ._undo_library import made_log
 
 # The exit status with which something is refused.
 _REFUSED = 2
 
 Time = Union[str, datetime]
-
-
-@dataclass(frozen=True)
-class Refusal:
-    """A transaction, or a log, that can't be undone.
-
-    file: the log's path.
-    index: the index of the event, from 0.
-    position: where the event begins in its log, in bytes.
-    reason: its name, as docs/UNDO.md has it: "Statement" for instance.
-    text: what it says.
-    skipped: whether it is one of those that are left as they are.
-    """
-
-    file: str
-    index: int
-    position: int
-    reason: str
-    text: str
-    skipped: bool = False
-
-
-@dataclass(frozen=True)
-class Undone:
-    """What is undone: how many transactions and row events; and what is left as it is."""
-
-    transactions: int
-    row_events: int
-    skipped: tuple[Refusal, ...] = ()
-
-
-class UndoRefused(Exception):
-    """Something can't be undone, so nothing was written. `refusals` has each, in the order of the logs, the skipped ones too."""
-
-    refusals: tuple[Refusal, ...]
-
-    def __init__(self, refusals: Sequence[Refusal]) -> None:
-        self.refusals = tuple(refusals)
-        named = [f"{one.file}: event {one.index} at byte {one.position}: {one.reason}" for one in self.refusals if not one.skipped]
-        super().__init__("; ".join(named))
-
-    def __reduce__(self) -> tuple:
-        return type(self), (self.refusals,)
 
 
 def undo(
@@ -77,6 +36,7 @@ def undo(
     foreign_key_checks: bool = True,
     one_transaction: bool = False,
     program: Optional[Path] = None,
+    library: bool = False,
 ) -> Undone:
     """Writes a log that undoes the changes of rows of logs; without `out` it only counts them.
 
@@ -89,13 +49,34 @@ def undo(
     start_position, stop_position: transactions that begin at this byte of the first log or behind it, and before this byte of the last one.
     plain_old_temporal: whether columns of MariaDB's old types of dates and times have no fractions.
     foreign_key_checks: whether the server checks foreign keys while the log is applied.
-    one_transaction: whether all that is undone is one transaction.
+    one_transaction: whether all that is undone is one transaction. The logs need the same format description then.
     program: the program `binlog`; if not given, the one that the variable BINLOG_PROGRAM names, or the one that the system finds.
+    library: whether the library makes the log, in memory, and no program is run. It doesn't choose by times, servers and GTIDs.
 
     Raises UndoRefused where something can't be undone, FileExistsError if there is a file `out`, and ProgramError where the program isn't
-    found, or fails. Nothing is written then.
+    found, or fails; BinlogError or OSError in place of it where the library makes the log. Nothing is written then.
     """
     paths = [files] if isinstance(files, (str, os.PathLike)) else list(files)
+    if out is not None and os.path.exists(out):
+        raise FileExistsError(f"{os.fspath(out)}: there is a file of this name")
+    if library:
+        if any(option is not None for option in (start, stop, server_id, include_gtids, exclude_gtids)):
+            raise ValueError("the library doesn't choose by times, servers and GTIDs")
+        made = made_log(
+            [FilePath(path).read_bytes() for path in paths],
+            [os.fspath(path) for path in paths],
+            tables=tables,
+            exclude_tables=exclude_tables,
+            skip=skip,
+            start_position=start_position or 0,
+            stop_position=stop_position,
+            plain_old_temporal=plain_old_temporal,
+            foreign_key_checks=foreign_key_checks,
+            one_transaction=one_transaction,
+        )
+        if out is not None:
+            _write(made.log, os.fspath(out))
+        return Undone(made.transactions, made.row_events, made.skipped)
     given = [("--table", tables), ("--exclude-table", exclude_tables), ("--skip", skip)]
     words = [word for option, texts in given for text in texts for word in (option, text)]
     stated = {
@@ -111,10 +92,22 @@ def undo(
     words += ["--plain-old-temporal"] if plain_old_temporal else []
     words += [] if foreign_key_checks else ["--no-foreign-key-checks"]
     words += ["--one-transaction"] if one_transaction else []
-    if out is not None and os.path.exists(out):
-        raise FileExistsError(f"{os.fspath(out)}: there is a file of this name")
     words += ["--dry-run"] if out is None else ["--output", _argument(out)]
     return _asked(program, words, [_argument(path) for path in paths])
+
+
+def _write(log: bytes, out: str) -> None:
+    """Writes a log, which is there whole or not at all."""
+    part = f"{out}.part"
+    with open(part, "xb") as file:
+        try:
+            file.write(log)
+            file.flush()
+            os.fsync(file.fileno())
+            os.rename(part, out)
+        except BaseException:
+            os.unlink(part)
+            raise
 
 
 def _text(time: Optional[Time]) -> Optional[str]:

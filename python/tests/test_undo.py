@@ -90,5 +90,61 @@ class Undoing(unittest.TestCase):
         self.assertTrue(out.exists())
 
 
+@unittest.skipUnless(os.environ.get("BINLOG_LIBRARY"), "no library is named")
+class UndoingInMemory(unittest.TestCase):
+    """The library, over a sample that has nothing but statements."""
+
+    LOG = Path(__file__).parents[2] / "tests/samples/checksummed.binlog"
+
+    def setUp(self):
+        folder = tempfile.TemporaryDirectory()
+        self.addCleanup(folder.cleanup)
+        self.out = Path(folder.name) / "undo.bin"
+
+    def refusals(self, **options):
+        with self.assertRaises(binlog.UndoRefused) as raised:
+            binlog.undo_logs([self.LOG.read_bytes()] * 2, **options)
+        return raised.exception.refusals
+
+    def test_refusals(self):
+        with self.assertRaises(binlog.UndoRefused) as raised:
+            binlog.undo(self.LOG, self.out, library=True)
+        first = raised.exception.refusals[0]
+        self.assertEqual((first.file, first.index, first.position, first.reason), (str(self.LOG), 1, 126, "Statement"))
+        self.assertFalse(self.out.exists())
+        self.assertEqual({one.file for one in self.refusals()}, {"0", "1"})
+        (straddles,) = (one for one in self.refusals(skip=["Statement", "Unfinished"], start_position=127) if not one.skipped)
+        self.assertRegex(straddles.text, "^a position is within the transaction, which ends at byte [0-9]+$")
+
+    def test_what_is_written(self):
+        skip = ["Statement", "Unfinished"]
+        undone = binlog.undo(self.LOG, self.out, skip=skip, library=True)
+        self.assertEqual((undone.transactions, undone.row_events, self.out.read_bytes()), (0, 0, b"\xfebin"))
+        self.assertTrue(all(one.skipped and one.reason in skip for one in undone.skipped))
+        made = binlog.undo_logs(self.LOG.read_bytes(), skip=skip, one_transaction=True, foreign_key_checks=False, tables=["s.t"], exclude_tables=["s.u"])
+        self.assertEqual(made.log, b"\xfebin")
+        with self.assertRaises(FileExistsError):
+            binlog.undo(self.LOG, self.out, skip=skip, library=True)
+
+    def test_failures(self):
+        for content in (b"abc", b"abcd"):
+            with self.assertRaises(binlog.InvalidLog):
+                binlog.undo_logs(content)
+        for options in ({"skip": ["Damaged"]}, {"skip": ["None"]}, {"tables": ["t"]}, {"exclude_tables": ["s."]}):
+            with self.assertRaises(ValueError):
+                binlog.undo_logs(b"", **options)
+        with self.assertRaises(ValueError):
+            binlog.undo(self.LOG, library=True, server_id=1)
+
+    @unittest.skipUnless(os.environ.get("BINLOG_PROGRAM"), "no program is named")
+    def test_it_is_what_the_program_says(self):
+        found = []
+        for library in (False, True):
+            with self.assertRaises(binlog.UndoRefused) as raised:
+                binlog.undo([self.LOG, self.LOG], skip=["Unfinished"], library=library)
+            found.append(raised.exception.refusals)
+        self.assertEqual(*found)
+
+
 if __name__ == "__main__":
     unittest.main()

@@ -1,0 +1,9 @@
+pub mod Failures
+pub mod Logs
+pub mod Options
+pub mod Refusals
+pub mod Scanned
+pub mod Tables
+pub mod Undoing
+pub mod UndoneLogs
+pub mod Written
