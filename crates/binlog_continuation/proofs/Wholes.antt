@@ -1,5 +1,5 @@
 -- Transactions of a file that aren't there show in the next file's list.
-use Rattle.std.proofs.Common.{◌≡◌, ℕ, ◌<◌, Bool, true, false, ◌||◌, ◌==◌, List, [], ◌∷◌, ◌++◌, Option, Some, None, refl, sym, ap, subst, ◌∙◌, arith}
+use Rattle.std.proofs.Common.{◌≡◌, ℕ, suc, ◌<◌, Bool, true, false, ◌||◌, ◌==◌, List, [], ◌∷◌, ◌++◌, Option, Some, None, refl, sym, ap, subst, ◌∙◌, arith}
 use Rattle.std.specs.Option.{option_or}
 use Rattle.std.specs.Ordering.{is_eq}
 use Rattle.std.specs.Cmp.{tied_itself}
@@ -34,7 +34,7 @@ pub none_of_mysql : (list : Pair → ℕ → Bool) (front rest : List Gtid) → 
     → ((pair : Pair) (n : ℕ) → is_known list (front ++ rest) pair n ≡ is_known list front pair n) → rest ≡ []
 none_of_mysql list front [] new same = refl
 none_of_mysql list front (gtid ∷ rest) new same =
-    let both : true ≡ false = sym (known_in list front gtid rest) ∙ same gtid.pair gtid.number ∙ new.0 in absurd cc
+    let both : true ≡ false = sym (known_in list front gtid rest) ∙ same gtid.pair gtid.number ∙ new 0 gtid (omega arith) in absurd cc
 
 -- ---- MariaDB's
 
@@ -57,7 +57,8 @@ newer_by before gs g o n s None is newer known last others = newer_first before 
 newer_last : (before rest : List MariaGtid) (o : Origin) (n s : ℕ) → AreNewer before rest → last_of before o ≡ Some n → last_of rest o ≡ Some s → n < s
 newer_last before [] o n s new known last = absurd cc
 newer_last before (g ∷ gs) o n s new known last =
-    newer_by before gs g o n s (last_of gs o) refl new.0 known last (λ more. newer_last before gs o n s new.1 known more)
+    let others : AreNewer before gs = λ k d within. new (suc k) d (omega arith) in
+    newer_by before gs g o n s (last_of gs o) refl (new 0 g (omega arith)) known last (λ more. newer_last before gs o n s others known more)
 
 -- The origin of a GTID in a list has a last one.
 some_by : (g : MariaGtid) (found : Option ℕ) → sequence_for (origin_of g) g ≡ Some g.sequence → (s : ℕ) × (option_or found (sequence_for (origin_of g) g) ≡ Some s)

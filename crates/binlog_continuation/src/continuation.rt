@@ -8,6 +8,7 @@ use crate::file_gtids::FileGtids;
 use binlog_file::GtidTracker;
 use binlog_gtid_listing::LogGtids;
 use binlog_maria_gtids::MariaGtidTracker;
+use binlog_mariadb::MariaGtid;
 
 /// What the list of GTIDs of a file says of the file before it.
 #[derive(Clone, Copy)]
@@ -73,5 +74,23 @@ fn is_same_set(first: &GtidTracker, second: &GtidTracker) -> bool
 fn is_same_list(first: &MariaGtidTracker, second: &MariaGtidTracker) -> bool
     ensures { IsTrue result ↔ (first.now ≡ second.now) }
 {
-    first.entries() == second.entries()
+    let (gtids, others) = (first.entries(), second.entries());
+    if gtids.len() != others.len() {
+        return false;
+    }
+    for (i, gtid) in gtids.iter().enumerate() {
+        if !is_same(*gtid, others[i]) {
+            return false;
+        }
+    }
+    true
+}
+
+// Whether both are the same GTID.
+fn is_same(first: MariaGtid, second: MariaGtid) -> bool
+    ensures { IsTrue result ↔ (first ≡ second) }
+{
+    first.domain() == second.domain()
+        && first.server_id() == second.server_id()
+        && first.sequence() == second.sequence()
 }
