@@ -37,7 +37,7 @@ PROCESSES_AT_A_TIME = 12
 BYTES_BETWEEN_CUTS, BYTES_BETWEEN_KILLS = 11, 17
 # A fault ends the program if it is still there behind this time.
 SECONDS_OF_DOUBT = 1
-OTHER_LOG = rb"binlog: log\.000001: behind byte %d: the file has another log[^\n]*\n"
+OTHER_LOG = rb"binlog: log\.000001: behind byte 0: the file has another log[^\n]*\n"
 
 
 # ---- logs
@@ -219,7 +219,7 @@ def another_between(files, other, follower):
     state = follower.state().read_bytes()
     write_front(other, follower)
     with follower.run():
-        yield follower.stopped(1, OTHER_LOG % files.front)
+        yield follower.stopped(1, OTHER_LOG)
     yield follower.wrong_lines(files.lines(files.front))
     yield None if follower.state().read_bytes() == state else "the state is changed"
 
