@@ -297,41 +297,27 @@ def random_undo(seed):
     for number, content in enumerate(contents):
         model.take(number, content, start if number == 0 else 0, stop if number == len(contents) - 1 else None)
     stated = {"tables": table_names(chosen), "excluded": table_names(excluded), "flags": PLAIN_OLD_TEMPORAL * is_plain}
+    is_one = chance.random() < 0.3
+    stated["flags"] |= ONE_TRANSACTION * is_one
     case = undo_parts(contents, start, TO_END if stop is None else stop, **stated)
-    lines = [refusal_line(*one) for one in model.refused]
-    written = f"counts {model.transactions()} {model.changes()}\nlog {model.written().hex()}\n"
-    lines.append("error 119 Refused\n" if model.refused else written)
-    return case, "".join(lines).encode()
-
-
-def as_one(log):
-    """The log of one transaction that is made of a log of several, all under one description."""
-    events, place = [], len(undo_command.FILE_HEADER)
-    while place < len(log):
-        size = undo_command.HEADER.unpack_from(log, place)[3]
-        events.append(log[place : place + size])
-        place += size
-    within = [event for event in events[1:] if event[4] not in (2, 16)]
-    ends = [event for event in events[1:] if event[4] in (2, 16)]
-    out = undo_command.FILE_HEADER
-    for event in [events[0], ends[0], *within, ends[1]]:
-        timestamp, kind, server, _, _, flags = undo_command.HEADER.unpack_from(event)
-        out += undo_command.framed(kind, event[undo_command.HEADER.size : -4], len(out), (timestamp, server, flags), True)
-    return out
+    if model.refused:
+        return case, "".join([*(refusal_line(*one) for one in model.refused), "error 119 Refused\n"]).encode()
+    if is_one and not model.is_under_one():
+        return case, b"error 120 OtherDescription\n"
+    return case, f"counts {model.transactions()} {model.changes()}\nlog {model.written(is_one).hex()}\n".encode()
 
 
 def single_undos():
-    """Cases of other options and of errors, and what is printed of each; the log is that of one transaction where that is asked for."""
+    """Cases of other options and of errors, and what is printed of each."""
     chance, kinds = random.Random(1), list(row_events.kinds())
     events = [event for _ in range(4) for event in undo_command.random_transaction(chance, kinds, True, False)]
     statement, rows = (2, undo_command.query("DROP TABLE d.w")), [(kind, body, undo_command.random_header(chance)) for kind, body in events]
     log = undo_command.log_of(rows, 1, "8.0.36")
     model = undo_command.Model()
     model.take(0, log)
-    counts, written = f"counts {model.transactions()} {model.changes()}\n".encode(), model.written()
-    whole = b"log %s\n" % written.hex().encode()
-    yield "one transaction", undo_parts([log], flags=ONE_TRANSACTION), counts + b"log %s\n" % as_one(written).hex().encode()
-    yield "one transaction, of the second log", undo_parts([log, log[: len(undo_command.FILE_HEADER)]], flags=ONE_TRANSACTION), counts + b"log %s\n" % as_one(written).hex().encode()
+    counts = f"counts {model.transactions()} {model.changes()}\n".encode()
+    whole, one = (b"log %s\n" % model.written(is_one).hex().encode() for is_one in (False, True))
+    yield "one transaction", undo_parts([log, log[: len(undo_command.FILE_HEADER)]], flags=ONE_TRANSACTION), counts + one
     yield "no log", undo_parts([], sizes=[]), b"counts 0 0\nlog fe62696e\n"
     refused = undo_command.log_of([*rows, (*statement, (0, 1, 0))], 1, "8.0.36")
     index, place = len(rows) + 1, len(log)
@@ -339,7 +325,7 @@ def single_undos():
     yield "a statement", undo_parts([refused]), said.format(0).encode() + b"error 119 Refused\n"
     yield "a statement, skipped", undo_parts([refused], skip=1 << 2), said.format(1).encode() + counts + whole
     other = undo_command.log_of(rows, 0, "8.0.36")
-    yield "two descriptions", undo_parts([log, other], flags=ONE_TRANSACTION), None
+    yield "two descriptions", undo_parts([log, other], flags=ONE_TRANSACTION), b"error 120 OtherDescription\n"
     for name, case in [
         ("a flag", undo_parts([log], flags=8)), ("a reason that can't be skipped", undo_parts([log], skip=1 << 17)),
         ("a reason that there isn't", undo_parts([log], skip=1)), ("a size too much", undo_parts([log], sizes=[len(log), 1])),
@@ -355,7 +341,7 @@ def undo_failures(folder, flags):
     """For each case, None or what is wrong with the log that undoes its logs."""
     program = build(folder, "undo", "undo.c", [*flags, "-Wl,--wrap=malloc,--wrap=realloc"])
     cases = [(f"seed {seed}", *random_undo(seed)) for seed in range(UNDONE)]
-    cases += [(name, case, b"error 120 OtherDescription\n" if wanted is None else wanted) for name, case, wanted in single_undos()]
+    cases += single_undos()
     names = [name for name, *_ in cases]
     wanted = [(lines, 0) for *_, lines in cases]
     parts = lambda chosen: [part for _, case, _ in chosen for part in case]
