@@ -1,10 +1,12 @@
 -- What undoes logs is written from the last one to the first.
 use Rattle.std.proofs.Common.{◌≡◌, ◌==◌, Bool, false, true, ℕ, suc, zero, ◌<◌, arith, List, [], ◌∷◌, ◌++◌, length, take, drop, get_or, Option, Some, refl, sym, subst, ◌∙◌, ap}
-use Rattle.std.proofs.lemmas.List.{take-append-drop}
+use Rattle.std.proofs.lemmas.Bool.{eqb-true}
+use Rattle.std.proofs.lemmas.List.{take-append-drop, nil_from_length}
 use Rattle.std.specs.List.{AllByRecursion}
 use Rattle.binlog_undo_command.specs.Descriptions.{HasNone}
 use Rattle.binlog_undo_command.specs.Written.{BeginsBy, BeginsLogs, WritesOne, WritesLogs}
 use Rattle.binlog_undo_command.specs.declared.scanning.ScannedLog.{ScannedLog}
+use Rattle.binlog_undo_index.specs.Parts.{parts_of}
 use Rattle.binlog_undo_index.specs.declared.index.UndoIndex.{UndoIndex}
 use Rattle.binlog_undo_index.specs.declared.places.TransactionPlace.{TransactionPlace}
 use Rattle.binlog_undo_log.specs.declared.one_transaction.Commit.{Commit}
@@ -31,10 +33,10 @@ module _ {F W : Type 0} (has_frames : List ℕ → F → Type 0) (is_at : F → 
 -- ---- the last log in which something is undone
 
 -- Nothing is undone in a log whose places of transactions are none.
-pub none_in : (log : ScannedLog) (index : UndoIndex) (transactions : List TransactionPlace) (is_empty : Bool) → index ≡ log.scan.index → transactions ≡ index.transactions.items
+pub none_in : (log : ScannedLog) (index : UndoIndex) (transactions : List TransactionPlace) (is_empty : Bool) → index ≡ log.scan.index → transactions ≡ (parts_of index).transactions
     → is_empty ≡ (length transactions == 0) → is_empty ≡ true → HasNone log
-none_in log index [] is_empty at are is yes = sym (are ∙ ap (λ (i : UndoIndex). i.transactions.items) at)
-none_in log index (transaction ∷ transactions) is_empty at are is yes = absurd cc
+none_in log index transactions is_empty at are is yes =
+    sym (are ∙ ap (λ (i : UndoIndex). (parts_of i).transactions) at) ∙ nil_from_length transactions (eqb-true (length transactions) 0 (sym is ∙ yes))
 
 -- Nothing is undone behind the last log.
 pub none_behind : (logs : List ScannedLog) → AllByRecursion HasNone (drop (length logs) logs)

@@ -1,4 +1,5 @@
 use Rattle.std.proofs.Common.{◌∙◌, sym, subst, inr, Bool, codes}
+use Rattle.std.proofs.lemmas.Bool.{false≢true}
 use Rattle.clap.specs.Matches.{found_of, one_text}
 use Rattle.binlog_undo_command.specs.Options.{StatesFlag}
 use Rattle.binlog_undo_command.proofs.undoing.scan_as.Goals as goal
@@ -7,7 +8,7 @@ pub returns-then-not-is_one-clause-ok : goal.returns-then-not-is_one-clause-ok
 returns-then-not-is_one-clause-ok g c = record {
   undone = c.in_ok-scanned.ensures.ok;
   flag = c.requires;
-  descriptions = λ one. elim (sym c.if-not-is_one.true ∙ one) [ ];
+  descriptions = λ one. absurd (false≢true (sym c.if-not-is_one.true ∙ one));
 }
 
 pub returns-in-Ok-clause-ok : goal.returns-in-Ok-clause-ok
