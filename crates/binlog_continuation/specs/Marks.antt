@@ -51,8 +51,12 @@ module _ {W : Type 0} (contents : W → Option (List ℕ)) where
     pub marks : new.marks ≡ marks_behind item old.marks
     pub same : new.is_list ≡ old.is_list
 
+  -- The collector refuses the item. Nothing is noted.
+  pub record RefusesOwn (index : ℕ) (item : Result EventView Error) (old : FileGtids W) (error : Error) (new : FileGtids W) : Type 0 where
+    pub refused : RefusesCollected index item (collected contents old.collector) error (collected contents new.collector)
+    pub marks : new.marks ≡ old.marks
+    pub same : new.is_list ≡ old.is_list
+
   -- The collector refuses the item; or nothing behind the list is wanted.
   abbrev pub RefusesNoted : (index : ℕ) (item : Result EventView Error) (old : FileGtids W) (error : Error) (new : FileGtids W) → Type 0
-  RefusesNoted index item old error new =
-      RefusesCollected index item (collected contents old.collector) error (collected contents new.collector)
-      ⊎ ((old.is_list ≡ true) × IsBehindList item error × (new ≡ old))
+  RefusesNoted index item old error new = RefusesOwn index item old error new ⊎ ((old.is_list ≡ true) × IsBehindList item error × (new ≡ old))
