@@ -1,5 +1,6 @@
 mod Words
 mod Counts
 mod Scans
+mod LogsSoFar
 mod LogsWritten
 mod UndoneLogs

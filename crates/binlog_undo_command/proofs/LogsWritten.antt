@@ -35,8 +35,8 @@ module _ {F W : Type 0} (has_frames : List ℕ → F → Type 0) (is_at : F → 
 -- Nothing is undone in a log whose places of transactions are none.
 pub none_in : (log : ScannedLog) (index : UndoIndex) (transactions : List TransactionPlace) (is_empty : Bool) → index ≡ log.scan.index → transactions ≡ (parts_of index).transactions
     → is_empty ≡ (length transactions == 0) → is_empty ≡ true → HasNone log
-none_in log index transactions is_empty at are is yes =
-    sym (are ∙ ap (λ (i : UndoIndex). (parts_of i).transactions) at) ∙ nil_from_length transactions (eqb-true (length transactions) 0 (sym is ∙ yes))
+none_in log index transactions is_empty at are is so =
+    sym (are ∙ ap (λ (i : UndoIndex). (parts_of i).transactions) at) ∙ nil_from_length transactions (eqb-true (length transactions) 0 (sym is ∙ so))
 
 -- Nothing is undone behind the last log.
 pub none_behind : (logs : List ScannedLog) → AllByRecursion HasNone (drop (length logs) logs)
