@@ -1,5 +1,5 @@
 //! What the list of GTIDs of a file says of the file before it.
-ghost use Rattle.std.specs.Prelude.{◌≡◌, ◌↔◌, ⊥, ℕ, IsTrue, false};
+ghost use Rattle.std.specs.Prelude.{◌≡◌, ◌↔◌, ℕ, IsTrue, false};
 ghost use Rattle.binlog_gtid_sets.specs.GtidGroups.{Pair, is_tracked};
 ghost use Rattle.binlog_continuation.specs.Continuations.{HaveSame, is_read, is_told};
 ghost use Rattle.binlog_continuation.specs.declared.continuation.Continuation.TheVariants.{Unlisted, Differs, GoesOn};
