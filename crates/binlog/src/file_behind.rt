@@ -2,7 +2,7 @@
 ghost use Rattle.std.specs.Prelude.{◌≡◌};
 ghost use Rattle.binlog.specs.FollowedEnds.{behind_of};
 
-use binlog_continuation::{Continuation, FileGtids, continuation};
+use binlog_continuation::{Continuation, FileGtids, continuation_of};
 use binlog_file::{Counted, Error, Retrying};
 use binlog_following::FileBehind;
 use binlog_rotation::{LogEnd, next_path};
@@ -20,7 +20,7 @@ pub(crate) fn file_behind<R: Files + AllocGlobal>(rt: &R, path: &str, len: u64) 
         return FileBehind::Absent;
     };
     match gtids_in(rt, path, len) {
-        Some(gtids) => behind_of(continuation(&gtids, &list)),
+        Some(gtids) => behind_of(continuation_of(&gtids, &list)),
         None => FileBehind::Absent,
     }
 }

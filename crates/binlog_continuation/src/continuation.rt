@@ -1,5 +1,5 @@
 //! What the list of GTIDs of a file says of the file before it.
-ghost use Rattle.std.specs.Prelude.{◌≡◌, ◌↔◌, ⊥, ℕ, IsTrue, false};
+ghost use Rattle.std.specs.Prelude.{◌≡◌, ◌↔◌, ℕ, IsTrue, false};
 ghost use Rattle.binlog_gtid_sets.specs.GtidGroups.{Pair, is_tracked};
 ghost use Rattle.binlog_continuation.specs.Continuations.{HaveSame, is_read, is_told};
 ghost use Rattle.binlog_continuation.specs.declared.continuation.Continuation.TheVariants.{Unlisted, Differs, GoesOn};
@@ -23,7 +23,7 @@ pub enum Continuation {
 }
 
 /// What the list of the next file says of a file, whose GTIDs are those of its list and of its whole transactions.
-pub fn continuation<W>(file: &FileGtids<W>, next: &FileGtids<W>) -> Continuation
+pub fn continuation_of<W>(file: &FileGtids<W>, next: &FileGtids<W>) -> Continuation
     ensures unlisted { (result ≡ Unlisted) ↔ (is_told file.now next.now ≡ false) }
     ensures goes_on { result ≡ GoesOn → HaveSame file.now.collector.gtids next.now.collector.gtids }
     ensures differs { result ≡ Differs → HaveSame file.now.collector.gtids next.now.collector.gtids → ⊥ }
