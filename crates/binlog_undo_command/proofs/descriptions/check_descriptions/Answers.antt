@@ -14,7 +14,7 @@ returns-in-None-clause-ok g c = record {
   body = [];
   has_checksums = false;
   under = All-weaker HasNone (λ (log : ScannedLog). HasNone log ⊎ IsUnder (g.L.Logs.has_frames c.args.logs.now) g.L.Sought.Frames.is_at [] false log) (λ log none. inl none) c.args.scanned.now
-      (c.in_ok-first_description.ensures.none (ap is_some c.in-None.is));
+      (c.in_ok-first.ensures.none (ap is_some c.in-None.is));
 }
 
 pub returns-in-Some-clause-ok : goal.returns-in-Some-clause-ok
@@ -30,7 +30,7 @@ returns-in-Some-clause-differ g c =
     (λ status differ. λ damaged. record {
       body = c.in-Some.first.body.items;
       has_checksums = c.in-Some.first.has_checksums;
-      one = rw c.in-Some.is at c.in_ok-first_description.ensures.some;
+      one = rw c.in-Some.is at c.in_ok-first.ensures.some;
       other = differ damaged;
     })
     c.check_against.ensures.differ

@@ -8,7 +8,7 @@ pub returns-in_default : goal.returns-in_default
 returns-in_default g c = record {
   commit = None;
   begun = c.begin_logs.new.output;
-  begins = rw c.in_default.is at c.in_ok-begin_logs.ensures;
+  begins = rw c.in_default.is at c.in_ok-commit.ensures;
   ends = refl;
 }
 
@@ -18,7 +18,7 @@ returns g c =
     (λ (ends : Pushes g.W.WriteCounted.contents (commit_event c.in-Some.commit.header c.in-Some.commit.xid ∷ []) c.write_logs.new.output c.end_logs.new.output). record {
       commit = Some c.in-Some.commit;
       begun = c.begin_logs.new.output;
-      begins = rw c.in-Some.is at c.in_ok-begin_logs.ensures;
+      begins = rw c.in-Some.is at c.in_ok-commit.ensures;
       ends = (c.write_logs.new.output, c.in_ok-write_logs.ensures, ends);
     })
     c.end_logs.ensures
