@@ -13,3 +13,9 @@ returns-clause-silent g c = λ fine failed. elim c.match-count_logs.branch [
   | in-Ok w ↦ absurd (fine w.result-is)
   | in-Err w ↦ w.in-Err.ensures.silent (λ is. failed (w.result-is ∙ is))
 ]
+
+pub returns-clause-refused : goal.returns-clause-refused
+returns-clause-refused g c = λ damaged. elim c.match-count_logs.branch [
+  | in-Ok w ↦ absurd cc
+  | in-Err w ↦ w.in-Err.ensures.refused (sym w.result-is ∙ damaged)
+]
