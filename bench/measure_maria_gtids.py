@@ -3,7 +3,7 @@
 
 Usage: measure_maria_gtids.py [PROGRAM [FOLDER]]
 
-PROGRAM is by default the built `bench`, whose mode `maria-gtids` reads MariaDB's, and `typed` MySQL's. The logs are put into
+PROGRAM is by default the built `probe`, whose mode `maria-gtids` reads MariaDB's, and `typed` MySQL's. The logs are put into
 FOLDER (by default bench/work/maria_gtids): MariaDB's GTIDs as a server writes them for a transaction, with a commit id, and
 for an XA transaction; and MySQL's without a tag. Both modes have to count all GTIDs. `valgrind --tool=callgrind`
 counts, less what it counts for a log without events. Prints a table: the instructions for a GTID, and for the same bytes as
@@ -22,7 +22,7 @@ import make_binlogs
 from make_binlogs import GTID, XID, gtid_times, samples, untagged_gtid
 
 BENCH = Path(__file__).resolve().parent
-PROGRAM = BENCH.parent / "crates/bench/out/bench"
+PROGRAM = BENCH.parent / "crates/probe/out/probe"
 FOLDER = BENCH / "work/maria_gtids"
 
 EVENTS = 20_000

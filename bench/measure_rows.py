@@ -1,9 +1,9 @@
 #!/usr/bin/env python3
-"""Measures `bench rows` and `binlog json` beside hand-written programs, and `binlog json` beside `mariadb-binlog`; prints Markdown tables.
+"""Measures `probe row-sums` and `binlog json` beside hand-written programs, and `binlog json` beside `mariadb-binlog`; prints Markdown tables.
 
 Usage: measure_rows.py [PROGRAM [PRINTER [FOLDER]]]
 
-PROGRAM is the built bench, and PRINTER the built binlog, if not given. FOLDER, `work` beside this file if not given,
+PROGRAM is the built probe, and PRINTER the built binlog, if not given. FOLDER, `work` beside this file if not given,
 holds the logs of make_row_logs.py, which are made if they are missing. The baselines are built first.
 
 The first table is of values that are added up; the sums of both programs must be equal. The second is of lines of JSON with
@@ -108,7 +108,7 @@ def check_rows(command, path):
 
 def main(arguments):
     given = arguments + [None] * (3 - len(arguments))
-    command = [given[0] or str(HERE.parent / "crates/bench/out/bench"), "rows"]
+    command = [given[0] or str(HERE.parent / "crates/probe/out/probe"), "row-sums"]
     printer = [given[1] or str(HERE.parent / "crates/binlog/out/binlog"), "json", "-"]
     folder = Path(given[2] or HERE / "work")
     folder.mkdir(parents=True, exist_ok=True)

@@ -1,13 +1,13 @@
 #!/usr/bin/env python3
-"""Measures `bench verifying` beside a hand-written program and `mariadb-binlog`; prints two Markdown tables.
+"""Measures `probe verifying` beside a hand-written program and `mariadb-binlog`; prints two Markdown tables.
 
 Usage: measure_verifying.py [PROGRAM [LISTING [FOLDER]]]
 
-PROGRAM is the built bench, and LISTING the built binlog_list, if not given. FOLDER, `work` beside this file if not
+PROGRAM is the built probe, and LISTING the built binlog_list, if not given. FOLDER, `work` beside this file if not
 given, holds the files of make_binlogs.py; those with checksums are made if they are missing. The baseline is built first.
 
 The first table is of listings that verify each checksum: their outputs and their exit statuses must be equal. Instructions are those of the small log, less those of its first event alone; the cost of
-verifying is what they are more than those of LISTING. The second is of verifying alone: `bench verifying count`, the
+verifying is what they are more than those of LISTING. The second is of verifying alone: `probe verifying count`, the
 baseline's `--mismatches`, and `mariadb-binlog --verify-binlog-checksum`, of Debian's package `mariadb-client`. Times are
 processor times, the best of 5, in turns, with output to /dev/null.
 """
@@ -90,7 +90,7 @@ def print_table(columns, rows):
 
 def main(arguments):
     crates = HERE.parent / "crates"
-    program = arguments[0] if arguments else str(crates / "bench/out/bench")
+    program = arguments[0] if arguments else str(crates / "probe/out/probe")
     listing = arguments[1] if len(arguments) > 1 else str(crates / "binlog_list/out/binlog_list")
     folder = Path(arguments[2]) if len(arguments) > 2 else HERE / "work"
     folder.mkdir(parents=True, exist_ok=True)

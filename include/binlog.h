@@ -235,7 +235,7 @@ enum {
     BINLOG_UNDO_XA = 4,             /* a part of an XA transaction */
     BINLOG_UNDO_ROLLBACK = 5,       /* changes were rolled back */
     BINLOG_UNDO_INCIDENT = 6,       /* an incident */
-    BINLOG_UNDO_PAYLOAD = 7,        /* a compressed transaction of MySQL's */
+    BINLOG_UNDO_PAYLOAD = 7,        /* a compressed transaction of MySQL's: more than 1 GiB, or rows in front of it */
     BINLOG_UNDO_OLD_ROWS = 8,       /* row events of a version before 5.1.16 */
     BINLOG_UNDO_UNKNOWN_EVENT = 9,  /* an event of an unknown type */
     BINLOG_UNDO_NO_TABLE_MAP = 11,  /* the rows have no table map in their transaction */

@@ -5,8 +5,8 @@ Usage: allocations.py FLAG
 
 FLAG is --proved or --cargo. With --proved the programs and tests are those that are built in crates/NAME/out, with --cargo the
 commands `list`, `json`, `gtids` and `copy` of the packages' `binlog`. Each further event takes one buffer if it is owned
-(`bench reading owned`), and nothing if it is borrowed (binlog_list, `bench write-back`, and those commands), even if
-statements and their status variables are read (`bench typed`), or MariaDB's GTIDs (`bench maria-gtids`), or rows (`bench rows`), or
+(`probe reading owned`), and nothing if it is borrowed (binlog_list, `probe write-back`, and those commands), even if
+statements and their status variables are read (`probe typed`), or MariaDB's GTIDs (`probe maria-gtids`), or rows (`probe row-sums`), or
 GTIDs that come in order are kept (`binlog gtids`). Checksums take nothing. A format description that comes into force, and a
 table map, is copied once: one allocation for each of its texts that isn't empty, and one for the description.
 
@@ -115,12 +115,12 @@ PROGRAMS = {
     "binlog_list": 0,
     "binlog json": 0,
     "binlog gtids": 0,
-    "bench write-back": 0,
-    "bench typed": 0,
-    "bench maria-gtids": 0,
-    "bench rows": 0,
-    "bench verifying": 0,
-    "bench reading owned": 1,
+    "probe write-back": 0,
+    "probe typed": 0,
+    "probe maria-gtids": 0,
+    "probe row-sums": 0,
+    "probe verifying": 0,
+    "probe reading owned": 1,
 }
 
 # The commands of the packages' program, whose further events take nothing.
@@ -128,7 +128,7 @@ PACKAGED = ("list", "json", "gtids", "write back")
 
 # The programs that hold a whole log, for which a buffer may have twice the bytes, and others.
 HOLDING = {"probe slice-listing"}
-OTHERS = HOLDING | {"probe events", "bench reading"}
+OTHERS = HOLDING | {"probe events", "probe reading"}
 
 # The bytes that the vector of table maps may take for each byte of a log: an entry of 216 bytes for an event of 37 bytes,
 # and twice as many entries as there are events.

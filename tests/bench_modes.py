@@ -1,5 +1,5 @@
 #!/usr/bin/env python3
-"""Runs each mode of the program of the benchmark over a small log: its output and its status must be those that are stated here.
+"""Runs each mode of `probe` that the benchmark measures over a small log: its output and its status must be those that are stated here.
 
 Usage: bench_modes.py FLAG
 
@@ -22,6 +22,9 @@ def stored(crate):
 
 
 LOG = stored("binlog_list")
+
+# The last log of the questions of `probe`: rows with values of most types.
+ROWS = bytes.fromhex(stored("probe").split(b"row-sums ")[1].split()[0].decode())
 SAMPLES = programs.REPOSITORY / "tests/samples"
 CHECKSUMMED = (SAMPLES / "checksummed.binlog").read_bytes()
 
@@ -48,7 +51,7 @@ RUNS = [
     ("reading slice", LOG, b"20\n", SUCCESS),
     ("reading memory", LOG, b"0\n", SUCCESS),
     ("reading otherwise", LOG, b"", FAILURE),
-    ("rows", stored("bench"), b"80 0 36 221023899081 6859 12625712440 30830151424016384 201521 129772767139 49548929\n", SUCCESS),
+    ("row-sums", ROWS, b"80 0 36 221023899081 6859 12625712440 30830151424016384 201521 129772767139 49548929\n", SUCCESS),
     ("typed", LOG, b"17 498 68 278987 0 0 0 0 0 0 0 0\n", SUCCESS),
     ("verifying", MISMATCHED, LISTING, DAMAGED),
     ("verifying count", MISMATCHED, b"1\n", DAMAGED),
@@ -63,11 +66,11 @@ RUNS = [
 def failure(program, words, log, *wanted):
     """None if a run is as it should be, else what is wrong."""
     found = programs.run([*program, *words.split()], log)
-    return None if found == wanted else f"bench {words}: {found}, not {wanted}"
+    return None if found == wanted else f"probe {words}: {found}, not {wanted}"
 
 
 def main():
-    parser = argparse.ArgumentParser(description="Runs each mode of the program of the benchmark.")
+    parser = argparse.ArgumentParser(description="Runs each mode that the benchmark measures.")
     programs.add_flags(parser)
     program = programs.parsed(parser, "benchmark").build.command("benchmark")
     return results.report(failure(program, *run) for run in RUNS)

@@ -1,6 +1,6 @@
 #!/usr/bin/env python3
 """Follows logs from file to file: `binlog list --follow` and `binlog json --follow` go on to the next file at a ROTATE and a STOP, wait
-for the rest of what is begun, end at damage, and go on from a state file.
+for the rest of what is begun, end at damage, and go on from a state file; `binlog stats --follow` prints its counts again and again.
 
 Usage: followed_files.py FLAG
 
@@ -11,6 +11,7 @@ status is 1 if something failed.
 """
 
 import argparse
+import functools
 import queue
 import re
 import signal
@@ -27,6 +28,7 @@ from random import Random
 import compact_model
 import encoded_events
 import encoded_logs
+import grouped_events
 import listing_model
 import json_model
 import programs
@@ -35,6 +37,7 @@ import row_lines
 import samples
 from maria_daemon import LeftOut, is_within
 from mirrors import Maria, Mirror
+from statistics_model import Counts
 
 PROCESSES_AT_A_TIME = 12
 # How long a line may take, and how long nothing may come where nothing is wanted, in seconds.
@@ -121,6 +124,19 @@ class Followed:
         if shown != text:
             return f"the lines are {shown[-300:]!r}, not {text[-300:]!r}; messages {self.messages!r}"
         return self.wrong_quiet()
+
+    def wrong_table(self, wanted, name):
+        """None if this table, an empty line behind it, comes in time, behind others and twice in a row."""
+        table, before, end = b"", None, time.monotonic() + PATIENCE
+        while time.monotonic() < end:
+            line = self.next_lines(1)
+            if line != b"\n":
+                table += line
+            elif table == wanted == before:
+                return None
+            else:
+                table, before = b"", table
+        return f"{name}: the tables before {table[-300:]!r} aren't {wanted[-300:]!r}; messages {self.messages!r}"
 
     def wrong_quiet(self):
         """None if no line comes and the command waits."""
@@ -504,6 +520,119 @@ def late_lists(program, folder):
     yield None if not run.messages else f"messages {run.messages!r}"
 
 
+# ---- lists of GTIDs, behind a ROTATE or a STOP
+
+
+def old_files(program, folder):
+    """A next file whose list isn't what the file before ends with is an old one of this name: it is waited for, also by the next run."""
+    for first, old, second in (
+        (maria_file(4, 5, 6) + rotate(b"log.000002"), maria_file(2, 3), maria_file(6, 7)),
+        (maria_file(4, 5, 6) + STOP, maria_file(5, 6), maria_file(6)),
+        (mysql_file(3, 4, 5) + rotate(b"log.000002"), mysql_file(4, 5), mysql_file(5, 6)),
+        (mysql_file(3, 4, 5) + STOP, mysql_file(0), mysql_file(5, 6)),
+    ):
+        (folder / "state").unlink(missing_ok=True)
+        (folder / "log.000001").write_bytes(first)
+        (folder / "log.000002").write_bytes(old)
+        run = followed(program, folder, "--state", "state", "log.000001")
+        yield run.wrong_lines(lines_of(first))
+        run.end()
+        yield None if b"log.000001" in (folder / "state").read_bytes() else "the state has a file whose list differs"
+        run = followed(program, folder, "--state", "state", "log.000001")
+        yield run.wrong_quiet()
+        yield run.message(rb"binlog: log\.000002: the next file's list of GTIDs has other ones[^\n]*\n", PATIENCE)
+        (folder / "log.000002").write_bytes(second)
+        yield run.wrong_lines(lines_of(second))
+        run.end()
+        yield None if b"log.000002" in (folder / "state").read_bytes() else "the state hasn't the next file"
+
+
+def new_lists(program, folder):
+    """A next file that comes piece by piece is read once it has its list; one without a list at once, where that says nothing."""
+    for first, second in (
+        (maria_file(4, 5) + rotate(b"log.000002"), maria_file(5, 6)),
+        (mysql_file(3, 4) + STOP, mysql_file(4, 5)),
+    ):
+        (folder / "log.000001").write_bytes(first)
+        (folder / "log.000002").unlink(missing_ok=True)
+        run = followed(program, folder, "log.000001")
+        yield run.wrong_lines(lines_of(first))
+        for count in (2, 60, len(listless(second)), len(listless(second)) + 25):
+            (folder / "log.000002").write_bytes(second[:count])
+            yield run.wrong_quiet()
+        (folder / "log.000002").write_bytes(second)
+        yield run.wrong_lines(lines_of(second))
+        run.end()
+        yield None if not run.messages else f"messages {run.messages!r}"
+    for first, second in (
+        (maria_file(4, 5) + rotate(b"log.000002"), listless(maria_file(5)) + XID),
+        (mysql_file(3, 4) + STOP, log(PLAIN, XID)),
+        (mysql_file(0) + STOP, mysql_file(0, 2, type_number=samples.ANONYMOUS_GTID)),
+        (mysql_file(3, 4) + samples.gtid(1, type_number=samples.ANONYMOUS_GTID) + XID + STOP, mysql_file(4)),
+    ):
+        yield from going_on(first, second, program, folder)
+
+
+def listless(content):
+    """The front of a file, up to its description."""
+    return log(listing_model.split(content[len(encoded_logs.FILE_HEADER) :])[0][0])
+
+
+# ---- statistics
+
+
+def tables(program, folder):
+    """`stats --every` prints the counts so far at once and again and again, an empty line behind each; those of the next files, too."""
+    rows = placed(row_lines.sample()[0])
+    files = {"log.000001": rows + rotate(b"log.000002"), "log.000002": rows + STOP, "log.000003": rows}
+    counts = lambda names: functools.reduce(Counts.add_log, (files[name] for name in names), Counts())
+    for words, wanted in (
+        (("--by", "table"), lambda counts: counts.text(None)),
+        (("--by", "table", "--json"), lambda counts: counts.json(None)),
+        (("--by", "transaction"), lambda counts: grouped_events.transactions_text(counts.events, None)),
+        (("--by", "time=60s", "--json"), lambda counts: grouped_events.intervals_json(counts.events, 60)),
+        (("--json",), lambda counts: grouped_events.types_json(counts.events, counts.damaged, counts.damaged_inside)),
+    ):
+        for name in files:
+            (folder / name).unlink(missing_ok=True)
+        (folder / "log.000001").touch()
+        run = Followed(program, folder, "stats", "--follow", "--every", "1s", *words, "log.000001")
+        for place, name in enumerate(files):
+            (folder / name).write_bytes(files[name])
+            yield run.wrong_table(wanted(counts(list(files)[: place + 1])), name)
+        run.end()
+        yield None if not run.messages else f"messages {run.messages!r}"
+
+
+def last_table(program, folder):
+    """Where a log can't be followed any further its counts are printed, also if the period is long."""
+    content = log(CHECKSUMMED, SEALED_XID)
+    (folder / "log.000001").write_bytes(content)
+    run = Followed(program, folder, "stats", "--follow", "--every", "1h", "--by", "type", "--json", "log.000001")
+    wanted = lambda content: (lambda counts: grouped_events.types_json(counts.events, 0, 0))(Counts().add_log(content))
+    yield run.wrong_lines(wanted(content), b"\n")
+    with open(folder / "log.000001", "ab") as file:
+        file.write(SEALED_XID + SEALED_XID[:-1] + b"?")
+    yield run.ended(2, rb"binlog: log\.000001: behind byte %d: the checksum of an event[^\n]*\n" % len(content + SEALED_XID))
+    last = wanted(content + SEALED_XID) + b"\n"
+    yield None if run.next_lines(last.count(b"\n")) == last else "another table at the end"
+
+
+def wrong_periods(program, folder):
+    """Each of `--follow` and `--every` needs the other one, and a file; the period is a length of time."""
+    (folder / "log.000001").write_bytes(log(PLAIN))
+    for words, message in (
+        (("--follow", "log.000001"), rb"stats --follow needs --every"),
+        (("--every", "1s", "log.000001"), rb"--every is for --follow[^\n]*"),
+        (("--follow", "--every", "1s", "-"), rb"--every is for --follow[^\n]*"),
+        (("--follow", "--every", "1s", "log.000001", "-"), rb"--every is for --follow[^\n]*"),
+        *((("--follow", f"--every={time}", "log.000001"), rb'--every: "[^\n]*" is no time, as 60s, 5m or 1h') for time in ("", "60", "0s", "-1s", "1d", "4294967296s", "s")),
+    ):
+        run = Followed(program, folder, "stats", *words)
+        yield run.ended(64, rb"binlog: %s\n" % message)
+        yield None if run.lines.empty() else f"{words}: lines"
+
+
 # ---- states
 
 
@@ -648,7 +777,7 @@ def mirrored(program, folder):
 
 
 SCENES = [mirrored, late, byte_by_byte, rotations, checksums, prefixes, stops, stays, refused, damages, several, filters, compact_rows]
-SCENES += [crashes, other_lists, late_lists, transactions, begun_again, other_log, zeros, killed_runs("list"), killed_runs("json"), killed_at_once, repeated, states]
+SCENES += [crashes, other_lists, late_lists, old_files, new_lists, tables, last_table, wrong_periods, transactions, begun_again, other_log, zeros, killed_runs("list"), killed_runs("json"), killed_at_once, repeated, states]
 SCENES += [cut_at(cut) for cut in range(len(sealed(rotate(b"log.000002"))))]
 
 

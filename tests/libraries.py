@@ -5,7 +5,7 @@ Usage: libraries.py [--build | --over-ci]
 
 A C program and a C++ one over include/binlog.h list the samples, the encoder's logs and the damaged copies: their
 listing has to be that of the built binlog_list without its last word. The C program also lists with room for one item,
-built with the sanitizers of the C compiler, and with checksums verified, as the built `bench verifying` does; it computes
+built with the sanitizers of the C compiler, and with checksums verified, as the built `probe verifying` does; it computes
 the checksums by itself, bit by bit. A third program calls the library with 10,000 cursors that it did not
 make over each of some logs. A C program and a C++ one print the lines of JSON of all these logs: they have to be those of the
 built `binlog json`; another C program asks for those of 10,000 items that it changed over each of some logs, and one refuses
@@ -19,7 +19,7 @@ that is installed. Without pkg-config the flags are written out; without dpkg-de
 With --build the static library is first proved and built by bin/build if a source is newer. With --over-ci it is built by
 static_library.py over what `rt ci` left, which proves the crate binlog_c alone once more. Where there is no library then, a
 line says so, nothing is run, and both numbers are 0; the same is true without the C compiler `cc`. Without a C++ compiler
-`c++`, sanitizers, Dask, or the programs `bench` and `binlog`, a line says so, and what needs them isn't run. The
+`c++`, sanitizers, Dask, or the programs `probe` and `binlog`, a line says so, and what needs them isn't run. The
 last line is `N passed, M failed`; the exit status is 1 if something failed.
 """
 
@@ -164,7 +164,7 @@ def program_failures(folder, cases):
     if Path(VERIFYING[0]).exists():
         yield from verified_failures(plain, checked, names, contents)
     else:
-        print("no program bench: no checksum is verified")
+        print("no program probe: no checksum is verified")
     if shutil.which("c++"):
         yield from listing_failures("C++", listings(build(folder, "list_cpp", "list.cpp"), contents), names, wanted)
     else:

@@ -124,12 +124,12 @@ def failure_fault(_content):
 PROGRAMS = {
     "binlog_list": listing_fault,
     "probe slice-listing": mode_listing_fault,
-    "bench write-back": written_back_fault,
-    "bench typed": failure_fault,
+    "probe write-back": written_back_fault,
+    "probe typed": failure_fault,
     "probe events": failure_fault,
-    "bench reading owned": failure_fault,
-    "bench maria-gtids": failure_fault,
-    "bench rows": failure_fault,
+    "probe reading owned": failure_fault,
+    "probe maria-gtids": failure_fault,
+    "probe row-sums": failure_fault,
 }
 
 

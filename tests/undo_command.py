@@ -5,8 +5,9 @@ Usage: undo_command.py [--count N] FLAG
 
 FLAG is one of `programs.py`. N random logs (300 if not given) of one to three files have transactions of all kinds: with GTIDs or
 without, ended by an XID, a COMMIT or the last row event, with statements and events that can't be undone, cut off, or with rows that
-are damaged or have partial images. Some tables are chosen, some table maps state a primary key, and MariaDB's rows may be compressed. The model, written from `docs/UNDO.md`, makes the bytes of the
-log that undoes them, or the refusals. Then wrong words and outputs that fail are tried: nothing is written. The last line is
+are damaged or have partial images. Some tables are chosen, some table maps state a primary key, and MariaDB's rows may be compressed, and
+transactions of MySQL's may be compressed as a whole. The model, written from `docs/UNDO.md`, makes the bytes of the
+log that undoes them, and the lines of a dry run, or the refusals. Then wrong words and outputs that fail are tried: nothing is written. The last line is
 `N passed, M failed`; the exit status is 1 if something failed.
 """
 
@@ -21,6 +22,8 @@ import encoded_events as encode
 import event_data_model
 import maria_events
 import maria_json_model
+import payload_lines
+import payload_model
 import programs
 import results
 import row_events
@@ -38,6 +41,10 @@ ROWS_TYPES = [kind[0] for kind in encode.ROWS_KINDS]
 UNCOMPRESSED = maria_json_model.ROWS_COMPRESSED
 COMPRESSED = {plain: kind for kind, plain in UNCOMPRESSED.items()}
 SIMPLE_PRIMARY_KEY, PRIMARY_KEY_WITH_PREFIX = 8, 9
+# Which count of a table's line has the rows of an event: the one behind its events of the inserted, the updated or the deleted ones.
+CHANGED_BY = {23: 1, 30: 1, 24: 2, 31: 2, 39: 2, 25: 3, 32: 3}
+# A compressed transaction, the most bytes inside, and what is in place of an event inside that can't be read.
+PAYLOAD, MOST_BYTES, DAMAGED = 40, 2**30, "damaged"
 
 # ---- logs
 
@@ -102,6 +109,15 @@ def uncompressed(kind, body):
     return UNCOMPRESSED[kind], body[: len(body) - len(stored)] + maria_json_model.uncompressed(stored)
 
 
+def is_table_map(body):
+    """Whether these bytes are those of a table map."""
+    try:
+        event_data_model.fields(19, body, POST_HEADER_LENGTHS)
+    except event_data_model.Fault:
+        return False
+    return True
+
+
 def key_in(map_body):
     """The columns of the primary key that a table map states: by the last such field that can be read."""
     key, table = [], event_data_model.fields(19, map_body, POST_HEADER_LENGTHS)
@@ -122,6 +138,24 @@ def indexes_in(kind, content, count):
         if kind == PRIMARY_KEY_WITH_PREFIX:
             content.lenenc()
         yield index
+
+
+def events_of(header, body, changes):
+    """The event itself, or those inside, one after another, and then their end. Of a transaction with changes outside it is the event itself."""
+    if header[1] != PAYLOAD:
+        yield header, body
+        return
+    try:
+        stated = payload_model.event_of(body)
+        if changes:
+            yield header, body
+            return
+        frames, fault = payload_model.inner_frames(payload_model.content_of(*stated, MOST_BYTES))
+    except payload_model.Refusal:
+        frames, fault = [], "the payload"
+    for frame in frames:
+        yield HEADER.unpack_from(frame), frame[HEADER.size :]
+    yield (DAMAGED, b"") if fault else (None, b"")
 
 
 class Model:
@@ -147,41 +181,46 @@ class Model:
         cut_off = lambda end: straddles(end) or ((found or [(*first, "Unfinished")])[:1] if is_taken(first) else [])
         refuse = lambda refusals: self.refused.extend((name, *one) for one in refusals)
         while place < len(content) and not (is_past(place) and reading.way is None):
-            header = HEADER.unpack_from(content, place)
-            end = place + header[3]
-            body = content[place + HEADER.size : end - (CHECKSUM if description[1] == 1 and header[1] != 15 else 0)]
-            try:
-                word, change, refusal = self.word_of(header[1], body, maps, description)
-            except Damaged:
-                self.refused.append((name, index, place, "Damaged"))
-                return
-            change = change and (*change, header)
-            told = len(reading.told)
-            reading.take(word)
-            turn, _, why = reading.told[told].partition(":")
-            if turn.endswith("!"):
-                refuse(cut_off(place))
-                changes, maps, found = [], {}, []
-            turn = turn.rstrip("!")
-            if turn in ("First", "Alone"):
-                first, changes, maps, found = (index, place), [], {}, []
-            found += [(index, place, reason) for reason in (why, refusal) if reason]
-            if turn == "Outside":
-                refuse(found if is_taken((index, place)) else [])
-                found = []
-            if header[1] == 19:
-                maps[int.from_bytes(body[:6], "little")] = (header, body)
-            if change:
-                changes.append(change)
-            if turn in ("Last", "Alone"):
-                if straddles(end) or not is_taken(first):
-                    refuse(straddles(end))
-                elif found:
-                    refuse(found[:1])
-                elif changes:
-                    xid = int.from_bytes(body, "little") if header[1] == 16 else 0
-                    kept.append((header, xid, changes))
-                changes, maps, found = [], {}, []
+            outer = HEADER.unpack_from(content, place)
+            end = place + outer[3]
+            outer_body = content[place + HEADER.size : end - (CHECKSUM if description[1] == 1 and outer[1] != 15 else 0)]
+            for number, (header, body) in enumerate(events_of(outer, outer_body, changes)):
+                is_inside = header is not outer
+                # The table maps of events inside are those inside.
+                maps = {} if is_inside and number == 0 else maps
+                try:
+                    word, change, refusal = self.word_of(header, body, maps, description)
+                except Damaged:
+                    self.refused.append((name, index, place, "Damaged"))
+                    return
+                change = change and (*change, header)
+                told = len(reading.told)
+                reading.take(word)
+                turn, _, why = reading.told[told].partition(":")
+                if turn.endswith("!"):
+                    refuse(cut_off(place))
+                    changes, maps, found = [], {}, []
+                turn = turn.rstrip("!")
+                if turn in ("First", "Alone"):
+                    first, changes, maps, found = (index, place), [], {}, []
+                found += [(index, place, reason) for reason in (why, refusal) if reason]
+                if turn == "Outside":
+                    refuse(found if is_taken((index, place)) else [])
+                    found = []
+                if header and header[1] == 19:
+                    maps[int.from_bytes(body[:6], "little")] = (header, body)
+                if change:
+                    changes.append(change)
+                if turn in ("Last", "Alone"):
+                    if straddles(end) or not is_taken(first):
+                        refuse(straddles(end))
+                    elif found:
+                        refuse(found[:1])
+                    elif changes:
+                        # What is inside ends with the event that has it, which is no XID.
+                        xid = int.from_bytes(body, "little") if header[1] == 16 and not is_inside else 0
+                        kept.append((outer, xid, changes))
+                    changes, maps, found = [], {}, []
             place, index = end, index + 1
         if reading.way is not None:
             refuse(cut_off(place))
@@ -195,10 +234,17 @@ class Model:
         version = body[2:52].rstrip(b"\0").decode()
         return header, algorithm, body[: 57 + lengths], version
 
-    def word_of(self, kind, body, maps, description):
-        """The word of an event, what undoes it, and its refusal."""
+    def word_of(self, header, body, maps, description):
+        """The word of an event, what undoes it, and its refusal; that of the end of what is inside another, without a header."""
+        if header is None:
+            return "border", None, None
+        if header is DAMAGED:
+            raise Damaged
+        kind = header[1]
         if kind in ROWS_TYPES or kind in UNCOMPRESSED:
             return self.rows_of(kind, body, maps, description)
+        if kind == 19 and not is_table_map(body):
+            raise Damaged
         if kind == 2:
             kind_of_text = transactions.kind_of(body[14:].decode())
             words = {
@@ -206,7 +252,7 @@ class Model:
                 "Harmless": "SAVEPOINT", "XaStart": "XA-START", "XaEnd": "XA-COMMIT", "Xa": "XA-END", "Other": "STATEMENT",
             }
             return words[kind_of_text], None, None
-        words = {4: "border", 15: "border", 3: "border", 16: "xid", 19: "map", 33: "gtid", 34: "gtid", 38: "xa-prepare", 26: "incident", 29: "nothing"}
+        words = {4: "border", 15: "border", 3: "border", 16: "xid", 19: "map", 33: "gtid", 34: "gtid", 38: "xa-prepare", 26: "incident", 29: "nothing", 40: "payload"}
         return words[kind], None, None
 
     def rows_of(self, kind, body, maps, description):
@@ -238,13 +284,25 @@ class Model:
         if "error" in members:
             names = {"Image": "Image", "PartialJson": "PartialJson"}
             return word(False), None, names.get(members["error"], "Rows")
-        return word(True), (map_header, map_body, members["event"]), None
+        return word(True), (map_header, map_body, members["event"], tables.count), None
 
     def transactions(self):
         return sum(len(kept) for _, kept in self.kept)
 
     def changes(self):
         return sum(len(changes) for _, kept in self.kept for _, _, changes in kept)
+
+    def table_lines(self):
+        """The line of each table whose rows are undone, in the order in which they are."""
+        tables = {}
+        for _, kept in reversed(self.kept):
+            for _, _, changes in reversed(kept):
+                for _, map_body, _, count, header in reversed(changes):
+                    counts = tables.setdefault(table_of(map_body), [0, 0, 0, 0])
+                    counts[0] += 1
+                    counts[CHANGED_BY[UNCOMPRESSED.get(header[1], header[1])]] += count
+        text = "table {} {} events {} inserted {} updated {} deleted\n"
+        return "".join(text.format(name, *counts) for name, counts in tables.items())
 
     def described(self):
         """The descriptions of the logs in which something is undone, as they are written, and their transactions, the last log first."""
@@ -274,7 +332,7 @@ class Model:
                     head = lambda flags, last=last: (last[0], last[2], last[5] & 0x8000 | flags)
                     out += framed(2, BEGIN_BODY, len(out), head(8), algorithm == 1)
                     ends = [16, xid.to_bytes(8, "little"), head(0), algorithm == 1]
-                for map_header, map_body, (kind, inverse), rows_header in reversed(changes):
+                for map_header, map_body, (kind, inverse), _, rows_header in reversed(changes):
                     for kind, body, source in ((19, map_body, map_header), (kind, bytes.fromhex(inverse), rows_header)):
                         out += framed(kind, body, len(out), (source[0], source[2], source[5] & ~0x61), algorithm == 1)
                 out += b"" if is_one else ended(out, ends)
@@ -288,6 +346,8 @@ def ended(out, ends):
 
 
 # ---- random logs
+
+PAYLOAD_KINDS = payload_lines.kinds()
 
 
 def random_header(chance):
@@ -363,13 +423,29 @@ def random_transaction(chance, kinds, is_sound, is_maria):
     return events
 
 
+def with_payload(chance, events, is_sound):
+    """The events of a transaction with those behind its GTID in a payload; where it isn't sound, only some of them may be."""
+    start = next((place for place, (kind, _, _) in enumerate(events) if kind not in (33, 34)), 0)
+    stop = len(events)
+    if not is_sound and chance.random() < 0.2:
+        start, stop = sorted((chance.randint(start, stop), chance.randint(start, stop)))
+    frames = [HEADER.pack(timestamp, kind, server, HEADER.size + len(body), 0, flags) + body for kind, body, (timestamp, server, flags) in events[start:stop]]
+    payload = payload_lines.packed(chance, b"".join(frames), chance.choice(PAYLOAD_KINDS))
+    if not is_sound and chance.random() < 0.1:
+        payload = row_values.damage(chance, payload)
+    return [*events[:start], (PAYLOAD, payload, random_header(chance)), *events[stop:]]
+
+
 def random_file(chance, kinds, is_sound):
     version, algorithm = chance.choice(SERVERS)
     is_maria = "MariaDB" in version
-    events = [event for _ in range(chance.randint(0, 6)) for event in random_transaction(chance, kinds, is_sound, is_maria)]
+    events = []
+    for _ in range(chance.randint(0, 6)):
+        own = [(kind, body, random_header(chance)) for kind, body in random_transaction(chance, kinds, is_sound, is_maria)]
+        events += with_payload(chance, own, is_sound) if not is_maria and chance.random() < 0.4 else own
     if chance.random() < 0.5:
-        events.append((4, (4).to_bytes(8, "little") + b"next"))
-    return log_of([(kind, body, random_header(chance)) for kind, body in events], algorithm, version)
+        events.append((4, (4).to_bytes(8, "little") + b"next", random_header(chance)))
+    return log_of(events, algorithm, version)
 
 
 def long_file(chance):
@@ -401,8 +477,10 @@ PHRASES = {
     "Rows": "the rows can't be read",
     "OldTemporal": "a column of a date or time whose form isn't in the log",
     "Image": "the images of the rows lack columns",
+    "Payload": "the events of the transaction are within one event",
     "Compressed": "the compressed rows are too long",
     "PartialJson": "partial updates of documents",
+    "Payload": "the events of the transaction are within one event",
     "Straddles": "a position is within the transaction, which ends at byte {}",
 }
 
@@ -464,6 +542,10 @@ def difference(words, options, files, model, out, name):
         messages = [f"binlog: {model.other_log(files)}: event 0 at byte 4: Description: {OTHER_DESCRIPTION}"]
     if run.stderr.splitlines() != messages:
         return f"{name}: {run.stderr!r}, not {messages}"
+    dry = subprocess.run([*words, "undo", *options, "--dry-run", *files], capture_output=True, text=True)
+    lines = "" if messages else run.stdout + model.table_lines()
+    if (dry.returncode, dry.stderr, dry.stdout) != (run.returncode, run.stderr, lines):
+        return f"{name}: a dry run has status {dry.returncode} and {dry.stdout!r}, not {lines!r}"
     if messages:
         left = [path for path in (out, Path(f"{out}.part")) if path.exists()]
         return None if run.returncode == 2 and not left else f"{name}: status {run.returncode}, and {left}"

@@ -38,13 +38,12 @@ def library_in(folder):
 
 
 def logs_in(folder):
-    """Two logs in which something is undone."""
+    """Two logs in which something is undone, in the second one of a compressed transaction."""
     chance, kinds = random.Random(3), list(row_events.kinds())
     logs = []
     while len(logs) < 2:
-        content = undo_command.log_of(
-            [(kind, body, undo_command.random_header(chance)) for kind, body in undo_command.random_transaction(chance, kinds, True, False)], 1, "8.0.36"
-        )
+        events = [(kind, body, undo_command.random_header(chance)) for kind, body in undo_command.random_transaction(chance, kinds, True, False)]
+        content = undo_command.log_of(undo_command.with_payload(chance, events, True) if logs else events, 1, "8.0.36")
         model = undo_command.Model()
         model.take("log", content)
         if model.transactions() and not model.refused:

@@ -57,7 +57,8 @@ class Maria:
 class Mysql:
     """A MySQL server. What it does has new GTIDs, so what is applied states none."""
 
-    name, engine, options, forms = "MySQL", "InnoDB", [], OPTIONS
+    name, engine, options = "MySQL", "InnoDB", []
+    forms = [*OPTIONS, ["--binlog-checksum=CRC32", "--binlog-transaction-compression=ON"]]
 
     def __init__(self, folder):
         self.programs, self.data = mysql_daemon.unpacked()

@@ -72,7 +72,7 @@ def is_needed(images, key):
 
 
 def undone(found, stated, event, key, is_partial):
-    """Whether images are completed, and the bytes that undo the rows."""
+    """Whether images are completed, and the rows that undo the rows, each as its bytes."""
     images = tuple(event[f"columns_{name}_image"] for name in ("before", "after"))
     if not is_needed(images, key):
         raise Refused([("error", "Image")])
@@ -94,7 +94,7 @@ def undone(found, stated, event, key, is_partial):
             raise Refused(row_model.refusal("LeftOver", len(rows)))
         (before, olds), (after, news) = row
         rows.append((made_image(olds | news) if completes else after) + before)
-    return completes, b"".join(reversed(rows))
+    return completes, rows[::-1]
 
 
 # The type of the event that undoes one of a type.
@@ -135,11 +135,11 @@ def inverse(kind, body, completes, rows, added_flags):
 
 
 class Tables(row_values.Tables):
-    """The table maps in force, and a primary key of the columns at these places."""
+    """The table maps in force, and a primary key of the columns at these places. `count` is that of the rows of the last event."""
 
     def __init__(self, is_maria, key):
         super().__init__(is_maria)
-        self.key = key
+        self.key, self.count = key, 0
 
     def members(self, kind, body, event, table, columns):
         stated, _ = row_model.facts(columns, table["optional_metadata"].bytes, self.is_maria)
@@ -147,6 +147,7 @@ class Tables(row_values.Tables):
             completes, rows = undone(columns, stated, event, self.key, kind == row_values.PARTIAL[0])
         except Refused as refused:
             return refused.args[0]
+        self.count, rows = len(rows), b"".join(rows)
         events = [inverse(kind, body, completes, rows, flags) for flags in (0, NO_FOREIGN_KEY_CHECKS)]
         return [("completes", completes), ("rows", rows.hex()), ("event", events[0]), ("unchecked", events[1])]
 

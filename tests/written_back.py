@@ -3,7 +3,7 @@
 
 Usage: written_back.py FLAG
 
-FLAG is one of `programs.py`. Of the proved programs `bench write-back` computes each checksum anew; the command `copy` of `binlog`
+FLAG is one of `programs.py`. Of the proved programs `probe write-back` computes each checksum anew; the command `copy` of `binlog`
 writes what it reads. The checksums of the logs are the encoder's: CRC-32 of the bytes before them, with only the lowest of the
 header's flags cleared. The last line is `N passed, M failed`; the exit status is 1 if something failed.
 """

@@ -50,7 +50,6 @@ TOOLS = [
     "binlog_gtid_listing",
     "binlog_filters",
     "binlog_commands",
-    "binlog_continuation",
     "change_statistics",
     "binlog_transaction_gtids",
     "binlog_statistics",
@@ -70,11 +69,11 @@ PROGRAMS = {"binlog": "binlog"}
 PROBES = {"probe": "probe"}
 
 # Modules of these that the packages don't have, since they are of crates that the packages lack.
-LEFT_OUT = {"probe": ("questions", "undone")}
+LEFT_OUT = {"probe": ("measured", "questions", "undone")}
 
-# The crates of tests, and what only they use: the recipes of CALLING.md.
+# The crate of tests, and what only it uses: the recipes of CALLING.md.
 TESTKITS = ["examples"]
-TESTS = ["test_base", "test_bodies", "test_logs"]
+TESTS = ["library_tests"]
 
 # The sources that are written by hand in the packages, in `templates`: what real devices are there isn't what the proved
 # sources know of them (`devices.py`), and the program of `tests` has fewer modes there.

@@ -54,7 +54,7 @@ PORTS = ("clap", "jiff")
 
 # Names that Rust has as they are.
 SAME = re.compile(
-    r"(std::(cell::Cell|cmp::Ordering|collections::(BTreeMap|btree_map::Iter)|fmt|hash::\w+|io(::\w+)?|iter::FusedIterator|marker::PhantomData|mem(::swap)?|num::NonZeroU32|process::ExitCode|str)"
+    r"(std::(cell::Cell|cmp::Ordering|collections::(BTreeMap|btree_map::Iter)|error::Error|fmt|hash::\w+|io(::\w+)?|iter::FusedIterator|marker::PhantomData|mem(::swap)?|num::NonZeroU32|process::ExitCode|str)"
     r"|std::sync::Arc|std::time::Duration"
     r"|byteorder::\w+|memchr::\w+|hex::encode_to_slice|itoa::Buffer|ryu::Buffer|uuid::Uuid|thiserror::Error|indexmap::IndexMap)"
 )

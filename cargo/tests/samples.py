@@ -18,7 +18,7 @@ PUBLIC = {
 LIBRARY = Place("binlog_wire", None, is_test=False)
 TOOL = Place("binlog_visits", PUBLIC, is_test=False)
 PROGRAM = Place(None, PUBLIC, is_test=False)
-TEST = Place("test_base", PUBLIC, is_test=True)
+TEST = Place("library_tests", PUBLIC, is_test=True)
 
 
 def source(text):

@@ -13,7 +13,7 @@ from ._library import library_version
 from ._log import Cursor, Damage, Event, Log, open
 from ._payloads import PayloadEvent
 from ._program import ProgramError
-from ._refusals import Refusal, Undone, UndoRefused
+from ._refusals import Refusal, Undone, UndoneTable, UndoRefused
 from ._types import EventType, MariaEventType
 from ._undo import undo
 from ._undo_library import UndoLog, undo_logs
@@ -45,6 +45,7 @@ __all__ = [
     "UndoLog",
     "UndoRefused",
     "Undone",
+    "UndoneTable",
     "Verification",
     "follow",
     "gtid_set",

@@ -25,12 +25,24 @@ class Refusal:
 
 
 @dataclass(frozen=True)
+class UndoneTable:
+    """What is undone of a table, whose name is "shop.orders": its row events, and the rows that these inserted, updated and deleted."""
+
+    name: str
+    row_events: int
+    inserted: int
+    updated: int
+    deleted: int
+
+
+@dataclass(frozen=True)
 class Undone:
-    """What is undone: how many transactions and row events; and what is left as it is."""
+    """What is undone: how many transactions and row events; what is left as it is; and where the program only counts, the tables."""
 
     transactions: int
     row_events: int
     skipped: tuple[Refusal, ...] = ()
+    tables: tuple[UndoneTable, ...] = ()
 
 
 class UndoRefused(Exception):

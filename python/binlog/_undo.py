@@ -1,6 +1,7 @@
 """Logs that undo the changes of rows of others, which the program `binlog` writes, or the library."""
 
 import os
+import re
 import subprocess
 from collections.abc import Iterable, Sequence
 from datetime import datetime, timezone
@@ -8,12 +9,15 @@ from pathlib import Path as FilePath
 from typing import Optional, Union
 
 from ._program import ProgramError, program as program_at
-from ._refusals import Refusal, Undone, UndoRefused
+from ._refusals import Refusal, Undone, UndoneTable, UndoRefused
 from ._statistics import Path, _argument
 from ._undo_library import made_log
 
 # The exit status with which something is refused.
 _REFUSED = 2
+
+# The line of a table.
+_TABLE = re.compile(r"table (.*?) (\d+) events (\d+) inserted (\d+) updated (\d+) deleted\n", re.DOTALL)
 
 Time = Union[str, datetime]
 
@@ -38,7 +42,7 @@ def undo(
     program: Optional[Path] = None,
     library: bool = False,
 ) -> Undone:
-    """Writes a log that undoes the changes of rows of logs; without `out` it only counts them.
+    """Writes a log that undoes the changes of rows of logs; without `out` it only counts them, also by table.
 
     files: the logs, in order, or one of them.
     out: the log that is written. It may not be there before, and is there whole or not at all.
@@ -129,9 +133,11 @@ def _asked(stated: Optional[Path], words: list[str], paths: list[str]) -> Undone
         raise UndoRefused(refusals)
     if ran.returncode != 0:
         raise ProgramError("\n".join(lines) or f"{command}: status {ran.returncode}")
-    # "transactions 5, row events 8"
-    transactions, row_events = (int(part.split()[-1]) for part in ran.stdout.decode().split(","))
-    return Undone(transactions, row_events, tuple(refusals))
+    # "transactions 5, row events 8", and where nothing is written a line for each table.
+    first, _, others = os.fsdecode(ran.stdout).partition("\n")
+    transactions, row_events = (int(part.split()[-1]) for part in first.split(","))
+    tables = [UndoneTable(name, *map(int, counts)) for name, *counts in _TABLE.findall(others)]
+    return Undone(transactions, row_events, tuple(refusals), tuple(tables))
 
 
 def _refusals(line: str, paths: Sequence[str]) -> list[Refusal]:

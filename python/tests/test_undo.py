@@ -58,6 +58,12 @@ class Undoing(unittest.TestCase):
         refusal = binlog.Refusal("a: event 1.bin", 12, 3456, "Statement", "a statement can't be undone", True)
         self.assertEqual(self.undo(["a: event 1.bin"]), binlog.Undone(5, 8, (refusal,)))
 
+    def test_tables(self):
+        lines = ["table shop.orders 2 events 9 inserted 0 updated 1 deleted", "table s.a table 1 events 0 inserted 3 updated 0 deleted"]
+        self.answer("transactions 2, row events 3\n" + "\n".join(lines) + "\n")
+        tables = binlog.UndoneTable("shop.orders", 2, 9, 0, 1), binlog.UndoneTable("s.a table", 1, 0, 3, 0)
+        self.assertEqual(self.undo("1.bin"), binlog.Undone(2, 3, (), tables))
+
     def test_refusals(self):
         lines = [
             "binlog: 1.bin: event 12 at byte 3456: Image: the images of the rows lack columns",

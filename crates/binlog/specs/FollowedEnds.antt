@@ -4,10 +4,12 @@ use Rattle.std.specs.Global.{Global}
 use Rattle.binlog_cli.specs.Statuses.{worse}
 use Rattle.binlog_cli.specs.declared.exit_status.Status.{Status}
 use Rattle.binlog_cli.specs.declared.exit_status.Status.TheVariants.{NotOpened, Damaged, Failed}
-use Rattle.binlog_continuation.specs.declared.continuation.Continuation.{Continuation}
-use Rattle.binlog_continuation.specs.declared.continuation.Continuation.TheVariants as continuations
+use Rattle.binlog_commands.specs.declared.continuation.Continuation.{Continuation}
+use Rattle.binlog_commands.specs.declared.continuation.Continuation.TheVariants as continuations
 use Rattle.binlog_following.specs.declared.file_behind.FileBehind.{FileBehind}
 use Rattle.binlog_following.specs.declared.file_behind.FileBehind.TheVariants as files
+use Rattle.binlog_following.specs.declared.waits.Missing.{Missing}
+use Rattle.binlog_following.specs.declared.waits.Missing.TheVariants as missings
 use Rattle.binlog_rotation.specs.declared.error.NextFileError.{NextFileError}
 use Rattle.binlog_rotation.specs.declared.error.NextFileError.TheVariants.{Empty, Folder, InvalidByte, NotUtf8, NoNumber, Memory}
 use Rattle.binlog_rotation.specs.declared.fault.LogFault.{LogFault}
@@ -44,3 +46,10 @@ abbrev pub behind_of : Continuation → FileBehind
 behind_of continuations.Unlisted = files.Unlisted
 behind_of continuations.Differs = files.Differs
 behind_of continuations.GoesOn = files.GoesOn
+
+-- What is missing of a file with a list of GTIDs, by what it says of the file before; None if there is no list yet.
+abbrev pub missing_by : Option Continuation → Option Missing
+missing_by None = Some missings.List
+missing_by (Some continuations.Unlisted) = None
+missing_by (Some continuations.Differs) = Some missings.SameList
+missing_by (Some continuations.GoesOn) = None

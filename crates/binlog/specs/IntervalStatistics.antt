@@ -3,7 +3,7 @@ use Rattle.std.specs.Prelude.{◌≡◌, ◌⊎◌, ℕ, Bool, true, false, List
 use Rattle.std.specs.Io.KnownBytes.{Appends}
 use Rattle.change_statistics.specs.declared.intervals.IntervalStats.{IntervalStats}
 use Rattle.binlog_cli.specs.Outputs.{written}
-use Rattle.binlog_cli.specs.StatsText.{Writes}
+use Rattle.binlog_summaries.specs.StatsText.{Writes}
 use Rattle.binlog_cli.specs.declared.exit_status.Outcome.{Outcome}
 use Rattle.binlog_cli.specs.declared.exit_status.Status.TheVariants.{Failed}
 use Rattle.binlog_summaries.specs.IntervalJson.{intervals_json}

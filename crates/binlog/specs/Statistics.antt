@@ -27,13 +27,13 @@ use Rattle.binlog.specs.TypeStatistics.{WritesTypes}
 abbrev pub default_top : ℕ
 default_top = 20
 
-module _ {B N : Type 0} (contents : B → Option (List ℕ)) (found : Found) (is_verified is_followed : Bool) (bytes : N → Option (List ℕ)) (names : List N) (options : StatsOptions) where
+module _ {B N : Type 0} (contents : B → Option (List ℕ)) (found : Found) (is_verified is_followed : Bool) (bytes : N → Option (List ℕ)) (names : List N) (period : Option ℕ) (options : StatsOptions) where
   -- A counter counts what the filter takes of the files, and inside compressed transactions, from `start` on: `adds` says what an event makes
   -- of the counts, and `keeps` that they are the same. `writes` says what is written of them.
   abbrev pub WritesCounted : {C : Type 0} → (adds : C → Fact → C → Type 0) → (keeps : C → C → Type 0) → (writes : C → Outcome → Option (List ℕ) → Option (List ℕ) → Type 0) → (start : C)
       → (old : Option (List ℕ)) (status : Status) (new : Option (List ℕ)) → Type 0
   WritesCounted {C} adds keeps writes start old status new =
-      (counter : Counter C) × (counter.stats ≡ start) × WritesCounts contents found is_verified is_followed bytes names
+      (counter : Counter C) × (counter.stats ≡ start) × WritesCounts contents found is_verified is_followed bytes names period
       (λ (before : Counter C) maps index item (after : Counter C). CountsItem adds before.stats maps item after.stats × (after.end_position ≡ end_behind before.end_position item))
       (λ (before : Counter C) maps index number part (after : Counter C). CountsPart adds before.end_position before.stats maps part after.stats × (after.end_position ≡ before.end_position))
       (λ (before : Counter C) maps index item error (after : Counter C). RefusesItem keeps before.stats error after.stats)
@@ -43,7 +43,7 @@ module _ {B N : Type 0} (contents : B → Option (List ℕ)) (found : Found) (is
   -- What is counted together is what the options ask for. It is counted from nothing.
   abbrev pub WritesBy : Grouping → (old : Option (List ℕ)) (status : Status) (new : Option (List ℕ)) → Type 0
   WritesBy Types old status new =
-      WritesCounts contents found is_verified is_followed bytes names (λ before maps index item after. CountsOutside before index item after)
+      WritesCounts contents found is_verified is_followed bytes names period (λ before maps index item after. CountsOutside before index item after)
       (λ before maps index number part after. CountsInside before part after) (λ before maps index item error after. IsNever) (λ before maps index number part error after. IsNever)
       (λ stats outcome before after. WritesTypes options.is_json stats outcome before after) nothing_counted old status new
   WritesBy Tables old status new =

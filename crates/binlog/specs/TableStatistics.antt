@@ -5,7 +5,7 @@ use Rattle.std.specs.List.Sorted.{IsPermutation}
 use Rattle.change_statistics.specs.SortedTables.{AreSorted, AreInOrder, KeepsOthers}
 use Rattle.change_statistics.specs.declared.tables.TableStats.{TableStats}
 use Rattle.binlog_cli.specs.Outputs.{written}
-use Rattle.binlog_cli.specs.StatsText.{Writes}
+use Rattle.binlog_summaries.specs.StatsText.{Writes}
 use Rattle.binlog_cli.specs.declared.exit_status.Outcome.{Outcome}
 use Rattle.binlog_cli.specs.declared.exit_status.Status.TheVariants.{Failed}
 use Rattle.binlog_summaries.specs.TableText.{IsTablesText}
@@ -18,6 +18,11 @@ pub record IsSorted (old new : TableStats) : Type 0 where
   pub all : IsPermutation old.tables.entries new.tables.entries
   pub sorted : AreSorted new.tables.entries
   pub stable : AreInOrder old.tables.entries new.tables.entries
+  pub others : KeepsOthers old new
+
+-- The same tables with the same counts, in any order.
+pub record IsSameTables (old new : TableStats) : Type 0 where
+  pub all : IsPermutation old.tables.entries new.tables.entries
   pub others : KeepsOthers old new
 
 -- The text of the statistics, or their lines of JSON, are written.

@@ -3,7 +3,7 @@ use Rattle.std.specs.Prelude.{◌≡◌, ◌⊎◌, ℕ, Bool, true, false, List
 use Rattle.std.specs.Io.KnownBytes.{Appends}
 use Rattle.change_statistics.specs.Transactions.{Seen, ended, is_any_full}
 use Rattle.binlog_cli.specs.Outputs.{written}
-use Rattle.binlog_cli.specs.StatsText.{Writes}
+use Rattle.binlog_summaries.specs.StatsText.{Writes}
 use Rattle.binlog_cli.specs.declared.exit_status.Outcome.{Outcome}
 use Rattle.binlog_cli.specs.declared.exit_status.Status.TheVariants.{Failed}
 use Rattle.binlog_summaries.specs.TransactionJson.{transactions_json}
@@ -28,3 +28,7 @@ WritesEnded is_json seen outcome old new =
 -- The last transaction has ended, and the statistics are written.
 abbrev pub WritesTransactions : (is_json : Bool) → Seen → Outcome → (old new : Option (List ℕ)) → Type 0
 WritesTransactions is_json seen outcome old new = WritesEnded is_json (ended seen) outcome old new
+
+-- The same was seen; the last transaction may have ended.
+abbrev pub IsOrHasEnded : (old new : Seen) → Type 0
+IsOrHasEnded old new = (new ≡ old) ⊎ (new ≡ ended old)

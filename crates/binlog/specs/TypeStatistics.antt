@@ -2,7 +2,7 @@
 use Rattle.std.specs.Prelude.{◌≡◌, ℕ, Bool, true, false, List, ◌++◌, Option}
 use Rattle.std.specs.Io.KnownBytes.{Appends}
 use Rattle.binlog_statistics.specs.declared.spliced_stats.SplicedStats.{SplicedStats}
-use Rattle.binlog_cli.specs.StatsText.{IsStatsText, Writes}
+use Rattle.binlog_summaries.specs.StatsText.{IsStatsText, Writes}
 use Rattle.binlog_cli.specs.declared.exit_status.Outcome.{Outcome}
 use Rattle.binlog_summaries.specs.InnerTypes.{inner_json, inner_text}
 use Rattle.binlog_summaries.specs.TypeJson.{types_json}

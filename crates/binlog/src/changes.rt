@@ -17,7 +17,8 @@ use crate::request::{Reading, Request};
 use crate::rotations::{follow, goes_on};
 use binlog_change_lines::ChangeFilter;
 use binlog_cli::{
-    CONTENT_LIMIT, Outcome, Output, Reported, Status, filter, out_of_memory, report_left_out,
+    CONTENT_LIMIT, Follower, Outcome, Output, Reported, Status, filter, out_of_memory,
+    report_left_out,
 };
 use binlog_file::{BinlogFileHeader, Error, Retrying};
 use binlog_filters::Filter;
@@ -105,46 +106,53 @@ fn write_file<'a, S: Inputs, R: Clock + Eprint + AllocGlobal, W: Write + Drop>(
 {
     let mut lines = lines;
     match lines.begin(name) {
-        Ok(()) => {
-            let begin = |all: &mut ChangeFilter<W>, name: &str, at: u64| -> Result<(), AllocError> {
-                begin_at(all, name, at)
-            };
-            show_file(rt, inputs, name, reading, lines, begin)
-        }
+        Ok(()) => { show_file(rt, inputs, name, reading, lines, &mut FileNames) }
         Err(_) => (Ok(out_of_memory(rt)), lines),
     }
 }
 
-// Begins with the file of this name, whose items are shown from this byte on.
-fn begin_at<W>(lines: &mut ChangeFilter<W>, name: &str, start: u64) -> Result<(), AllocError> {
-    lines.begin(name)?;
-    lines.go_on_at(start.max(BinlogFileHeader::LEN as u64));
-    Ok(())
+// Lines of rows have the names of the files that are followed, and the places in them.
+#[derive(Clone, Copy)]
+struct FileNames;
+
+impl<W> Follower<ChangeFilter<W>> for FileNames {
+    fn begin_file(
+        &mut self,
+        lines: &mut ChangeFilter<W>,
+        path: &str,
+        start: u64,
+    ) -> Result<(), AllocError> {
+        lines.begin(path)?;
+        lines.go_on_at(start.max(BinlogFileHeader::LEN as u64));
+        Ok(())
+    }
+
+    fn rest(&mut self, _lines: &mut ChangeFilter<W>) -> Result<(), Error> {
+        Ok(())
+    }
 }
 
-// Shows a visitor all items of a file. If it is followed, the visitor is told the name of each file, and from which byte on its items are
-// shown, by `begin`.
+// Shows a visitor all items of a file. If it is followed, the follower is told of each file.
 fn show_file<
     'a,
     S: Inputs,
     R: Clock + Eprint + AllocGlobal,
     T: Visitor + Refusing + Drop,
-    B: Fn(&mut T, &str, u64) -> Result<(), AllocError> + Drop,
+    F: Follower<T>,
 >(
     rt: &'a R,
     inputs: &S,
     name: &'a str,
     reading: Reading,
     visitor: T,
-    begin: B,
+    follower: &mut F,
 ) -> (Result<Status, Error>, T)
-    requires { B.IsAlwaysCallable begin }
     ensures { ShowsFile T.visits T.refuses T.refusals reading.is_verified (unless_followed reading.is_followed (S.bytes inputs.now name.now)) visitor result.0 result.1 }
 {
     let every = Filter::new(rt.alloc());
     let all = PayloadFiltered::new(rt.alloc(), CONTENT_LIMIT, every, visitor);
     if goes_on(name, reading) {
-        let (read, all) = follow(rt, inputs, name, all, begin);
+        let (read, all) = follow(rt, inputs, name, all, follower);
         return (read, all.filtered.visitor);
     }
     let mut reported = Reported::new(rt, all);

@@ -14,7 +14,9 @@ use crate::columns::{read_columns, report_contradictions};
 use crate::inputs::Inputs;
 use crate::request::{Reading, Request};
 use crate::rotations::read_all_files;
-use binlog_cli::{CONTENT_LIMIT, Outcome, Output, Reported, Status, filter, report_left_out};
+use binlog_cli::{
+    CONTENT_LIMIT, Follower, NoFollower, Outcome, Output, Reported, Status, filter, report_left_out,
+};
 use binlog_file::{Counted, Retrying};
 use binlog_filters::Filter;
 use binlog_json_lines::{JsonWriter, LineOptions};
@@ -119,16 +121,46 @@ pub(crate) fn read_all<
         (λ name. S.bytes inputs.now name.now) request.now.files.now visitor shown.0 shown.1) }
     ensures err { IfErr result (λ status. NeverBegins (found_of request.now.options.now) status) }
 {
-    let filter = filter(rt, request.options)?;
-    Ok(read_taken(rt, inputs, request.files, request.reading, filter, visitor))
+    read_followed(rt, inputs, request, visitor, &mut NoFollower)
 }
 
-/// Shows a visitor what a filter takes of files.
+/// Shows a visitor what the filter of the words takes of all files. The follower is told of those that are followed.
+pub(crate) fn read_followed<
+    'a,
+    S: Inputs,
+    R: Clock + Eprint + AllocGlobal,
+    T: Visitor + Refusing + Drop,
+    F: Follower<T>,
+>(
+    rt: &'a R,
+    inputs: &S,
+    request: &Request<'_, 'a>,
+    visitor: T,
+    follower: &mut F,
+) -> Result<(Outcome, T), Status>
+    ensures ok { IfOk result (λ shown. (filter : Filter) × StatesFilter (found_of request.now.options.now) filter × ShowsTaken T.visits T.refuses T.refusals filter request.now.reading.is_verified request.now.reading.is_followed
+        (λ name. S.bytes inputs.now name.now) request.now.files.now visitor shown.0 shown.1) }
+    ensures err { IfErr result (λ status. NeverBegins (found_of request.now.options.now) status) }
+{
+    let filter = filter(rt, request.options)?;
+    Ok(read_taken(
+        rt,
+        inputs,
+        request.files,
+        request.reading,
+        filter,
+        visitor,
+        follower,
+    ))
+}
+
+/// Shows a visitor what a filter takes of files. The follower is told of those that are followed.
 pub(crate) fn read_taken<
     'a,
     S: Inputs,
     R: Clock + Eprint + AllocGlobal,
     T: Visitor + Refusing + Drop,
+    F: Follower<T>,
 >(
     rt: &'a R,
     inputs: &S,
@@ -136,12 +168,13 @@ pub(crate) fn read_taken<
     reading: Reading,
     filter: Filter,
     visitor: T,
+    follower: &mut F,
 ) -> (Outcome, T)
     ensures { ShowsTaken T.visits T.refuses T.refusals filter reading.is_verified reading.is_followed (λ name. S.bytes inputs.now name.now) files.now visitor result.0 result.1 }
 {
     let filtered = PayloadFiltered::new(rt.alloc(), CONTENT_LIMIT, filter, visitor);
     let reported = Reported::new(rt, filtered);
-    let (outcome, behind) = read_all_files(rt, inputs, files, reading, reported);
+    let (outcome, behind) = read_all_files(rt, inputs, files, reading, reported, follower);
     report_left_out(rt, behind.filtered.state.left_out);
     (outcome, behind.filtered.visitor)
 }

@@ -8,7 +8,7 @@ ghost use Rattle.binlog.specs.Copying.{CopiesFiles};
 use crate::commands::read_taken;
 use crate::inputs::Inputs;
 use crate::request::Request;
-use binlog_cli::{BUFFER_SIZE, Outcome, Output, Status, filter};
+use binlog_cli::{BUFFER_SIZE, NoFollower, Outcome, Output, Status, filter};
 use binlog_commands::Copier;
 use binlog_file::{BinlogFileHeader, BinlogVersion, Retrying};
 use binlog_filters::Filter;
@@ -98,6 +98,14 @@ fn copy_taken<'a, S: Inputs, R: Clock + Eprint + AllocGlobal, B: Write + Drop>(
         return Err(output);
     }
     let copier = Copier { output };
-    let (outcome, copier) = read_taken(rt, inputs, request.files, request.reading, filter, copier);
+    let (outcome, copier) = read_taken(
+        rt,
+        inputs,
+        request.files,
+        request.reading,
+        filter,
+        copier,
+        &mut NoFollower,
+    );
     Ok((outcome, copier.output))
 }

@@ -8,7 +8,7 @@ ghost use Rattle.binlog.specs.Gtids.{outcome_of_lines, is_unread, status_read, W
 use crate::commands::{read_all, read_taken};
 use crate::inputs::Inputs;
 use crate::request::{Reading, Request};
-use binlog_cli::{BUFFER_SIZE, Outcome, Output, Status, out_of_memory};
+use binlog_cli::{BUFFER_SIZE, NoFollower, Outcome, Output, Status, out_of_memory};
 use binlog_commands::GtidCollector;
 use binlog_file::{Counted, CountedRef, Error, GtidTracker, Retrying};
 use binlog_filters::Filter;
@@ -74,7 +74,15 @@ fn write_missing<'a, S: Inputs, R: Clock + Eprint + AllocGlobal, W: Write>(
 {
     let collector = GtidCollector::new(rt.alloc(), Counted::new(io::sink()));
     let all = Filter::new(rt.alloc());
-    let (read, found) = read_taken(rt, inputs, &[other], Reading::to_end(), all, collector);
+    let (read, found) = read_taken(
+        rt,
+        inputs,
+        &[other],
+        Reading::to_end(),
+        all,
+        collector,
+        &mut NoFollower,
+    );
     let status = status_read(read);
     write_unless(rt, is_unread(status), status, gtids, &found.gtids, output)
 }

@@ -1,8 +1,11 @@
 //! Where the files of a command come from.
 ghost use Rattle.std.specs.Prelude.{◌≡◌, ℕ, List, Option, None, IfOk, ⊤};
 
-use crate::file_behind::file_behind;
-use binlog_following::{FileBehind, FileId, LogFiles, NEW_FILE, OpenLog, StateFile, file_id};
+use crate::file_behind::{continuation_in, file_behind};
+use binlog_commands::{Continuation, FileGtids};
+use binlog_following::{
+    FileBehind, FileId, LogFiles, NEW_FILE, OpenLog, Pauses, StateFile, file_id,
+};
 use binlog_rotation::Checkpoint;
 use std::alloc::{AllocError, Global};
 use std::fs::File;
@@ -24,6 +27,12 @@ pub(crate) trait Inputs: LogFiles {
 
     /// The size of a file in bytes, if it is known.
     fn size(&self, name: &str) -> Option<u64>;
+
+    /// Whether the reader of a file that is followed pauses.
+    fn pauses(&self) -> &Pauses;
+
+    /// What the list of GTIDs of the file of this path says of the file before it, which has these; None as long as it isn't there.
+    fn continuation_in(&self, path: &str, before: &FileGtids) -> Option<Continuation>;
 }
 
 /// The files of the machine. What they have isn't known.
@@ -31,12 +40,17 @@ pub(crate) trait Inputs: LogFiles {
 pub(crate) struct HostInputs<'a, R> {
     rt: &'a R,
     state: Option<StateFile<'a, R>>,
+    pauses: Pauses,
 }
 
 impl<'a, R> HostInputs<'a, R> {
     /// Those that `rt` opens, and a state, if one is asked for.
     pub(crate) fn new(rt: &'a R, state: Option<StateFile<'a, R>>) -> Self {
-        HostInputs { rt, state }
+        HostInputs {
+            rt,
+            state,
+            pauses: Pauses::new(),
+        }
     }
 }
 
@@ -63,6 +77,14 @@ impl<'a, R: Files<File = File> + Input + AllocGlobal> Inputs for HostInputs<'a, 
             Ok(metadata) => Some(metadata.len()),
             Err(_) => None,
         }
+    }
+
+    fn pauses(&self) -> &Pauses {
+        &self.pauses
+    }
+
+    fn continuation_in(&self, path: &str, before: &FileGtids) -> Option<Continuation> {
+        continuation_in(self.rt, path, before)
     }
 }
 

@@ -12,12 +12,15 @@ use change_statistics::{IntervalStats, MAX_INTERVALS};
 use std::io::Write;
 
 impl Statistics for Counter<IntervalStats> {
+    ghost use Rattle.std.specs.Prelude.{◌≡◌};
     ghost use Rattle.binlog.specs.IntervalStatistics.{WritesIntervals};
 
     ghost writes = { λ options counter outcome old new. WritesIntervals options.is_json counter.stats outcome old new };
 
+    ghost keeps = { λ old new. new ≡ old };
+
     fn write<R: Eprint + AllocGlobal, W: Write>(
-        self,
+        &mut self,
         rt: &R,
         options: StatsOptions,
         output: &mut W,

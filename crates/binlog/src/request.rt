@@ -82,6 +82,8 @@ pub(crate) struct Request<'m, 'a> {
     pub(crate) columns: &'m [&'a str],
     /// The log whose GTIDs aren't written.
     pub(crate) missing_in: Option<&'a str>,
+    /// How much time there is between two tables of a log that is followed, as 60s.
+    pub(crate) every: Option<&'a str>,
     /// The name of the file that is written; `-` is standard output.
     pub(crate) output: &'a str,
     /// The name of the state file of a log that is followed.
@@ -102,6 +104,7 @@ impl<'m, 'a> Request<'m, 'a> {
         ensures stored { Flags (one_text (found_of options.now) (codes "stored")) result.keeps_stored }
         ensures columns { map (λ file. file.now) result.columns.now ≡ unwrap_or (option_map raw_values (matched_of (found_of options.now) (codes "columns"))) [] }
         ensures missing { option_map (λ file. file.now) result.missing_in ≡ first_value (found_of options.now) (codes "missing-in") }
+        ensures every { option_map (λ time. time.now) result.every ≡ first_value (found_of options.now) (codes "every") }
         ensures output { result.output.now ≡ unwrap_or (first_value (found_of options.now) (codes "output")) (codes "-") }
         ensures state { option_map (λ file. file.now) result.state ≡ first_value (found_of options.now) (codes "state") }
         ensures synced { Flags (one_text (found_of options.now) (codes "sync")) result.is_synced }
@@ -122,6 +125,7 @@ impl<'m, 'a> Request<'m, 'a> {
             keeps_stored: options.get_flag("stored"),
             columns: options.get_strs("columns").unwrap_or(&[]),
             missing_in: options.get_str("missing-in"),
+            every: options.get_str("every"),
             output: options.get_str("output").unwrap_or("-"),
             state: options.get_str("state"),
             is_synced: options.get_flag("sync"),

@@ -1,5 +1,5 @@
 //! `binlog stats --by table`: how what is counted of each table is written.
-ghost use Rattle.binlog.specs.TableStatistics.{WritesSorted, WritesRows, WritesTables};
+ghost use Rattle.binlog.specs.TableStatistics.{IsSameTables, WritesSorted, WritesRows, WritesTables};
 ghost use Rattle.binlog.specs.WrittenRows.{WritesOr};
 
 use crate::commands::outcome_of_text;
@@ -12,28 +12,32 @@ use change_statistics::{MAX_TABLES, TableStats};
 use std::io::Write;
 
 impl Statistics for Counter<TableStats> {
-    ghost use Rattle.binlog.specs.TableStatistics.{WritesTables};
+    ghost use Rattle.std.specs.Prelude.{◌≡◌};
+    ghost use Rattle.binlog.specs.TableStatistics.{IsSameTables, WritesTables};
 
     ghost writes = { λ options counter outcome old new. WritesTables options counter.stats outcome old new };
 
+    ghost keeps = { λ old new. IsSameTables old.stats new.stats × (new.end_position ≡ old.end_position) };
+
     fn write<R: Eprint + AllocGlobal, W: Write>(
-        self,
+        &mut self,
         rt: &R,
         options: StatsOptions,
         output: &mut W,
     ) -> Outcome {
-        write_table_stats(rt, self.stats, options, output)
+        write_table_stats(rt, &mut self.stats, options, output)
     }
 }
 
 // Writes statistics by table. Nothing is written of more tables than can be counted, which has a message.
 fn write_table_stats<R: Eprint + AllocGlobal, W: Write>(
     rt: &R,
-    stats: TableStats,
+    stats: &mut TableStats,
     options: StatsOptions,
     output: &mut W,
 ) -> Outcome
-    ensures { WritesTables options stats result (W.contents output.old) (W.contents output.new) }
+    ensures writes { WritesTables options stats.old result (W.contents output.old) (W.contents output.new) }
+    ensures keeps { IsSameTables stats.old stats.new }
 {
     if stats.is_full {
         let _ = eprintln!(rt; "binlog: the logs have rows of more than {MAX_TABLES} tables");
@@ -45,15 +49,15 @@ fn write_table_stats<R: Eprint + AllocGlobal, W: Write>(
 // Writes statistics by table, those with most bytes first.
 fn write_rows<R: Eprint + AllocGlobal, W: Write>(
     rt: &R,
-    stats: TableStats,
+    stats: &mut TableStats,
     options: StatsOptions,
     output: &mut W,
 ) -> Outcome
-    ensures { WritesRows options stats result (W.contents output.old) (W.contents output.new) }
+    ensures writes { WritesRows options stats.old result (W.contents output.old) (W.contents output.new) }
+    ensures keeps { IsSameTables stats.old stats.new }
 {
-    let mut sorted = stats;
-    match sorted.sort_by_bytes() {
-        Ok(()) => write_sorted(rt, &sorted, options, output),
+    match stats.sort_by_bytes() {
+        Ok(()) => write_sorted(rt, stats, options, output),
         Err(_) => Outcome::written(out_of_memory(rt)),
     }
 }

@@ -1,6 +1,6 @@
 //! `binlog stats --by transaction`: how what is counted of transactions is written.
 ghost use Rattle.change_statistics.specs.Transactions.{seen_by};
-ghost use Rattle.binlog.specs.TransactionStatistics.{WritesEnded, WritesSeen, WritesTransactions};
+ghost use Rattle.binlog.specs.TransactionStatistics.{IsOrHasEnded, WritesEnded, WritesSeen, WritesTransactions};
 ghost use Rattle.binlog.specs.WrittenRows.{WritesOr};
 
 use crate::commands::outcome_of_text;
@@ -16,33 +16,36 @@ use std::io::Write;
 pub(crate) const DEFAULT_TOP: u64 = 20;
 
 impl Statistics for Counter<TransactionStats> {
+    ghost use Rattle.std.specs.Prelude.{◌≡◌};
     ghost use Rattle.change_statistics.specs.Transactions.{seen_by};
-    ghost use Rattle.binlog.specs.TransactionStatistics.{WritesTransactions};
+    ghost use Rattle.binlog.specs.TransactionStatistics.{IsOrHasEnded, WritesTransactions};
 
     ghost writes = { λ options counter outcome old new. WritesTransactions options.is_json (seen_by counter.stats) outcome old new };
 
+    ghost keeps = { λ old new. IsOrHasEnded (seen_by old.stats) (seen_by new.stats) × (new.end_position ≡ old.end_position) };
+
     fn write<R: Eprint + AllocGlobal, W: Write>(
-        self,
+        &mut self,
         rt: &R,
         options: StatsOptions,
         output: &mut W,
     ) -> Outcome {
-        write_transaction_stats(rt, self.stats, options.is_json, output)
+        write_transaction_stats(rt, &mut self.stats, options.is_json, output)
     }
 }
 
 // Writes statistics by transaction, when the last one has ended.
 fn write_transaction_stats<R: Eprint + AllocGlobal, W: Write>(
     rt: &R,
-    stats: TransactionStats,
+    stats: &mut TransactionStats,
     is_json: bool,
     output: &mut W,
 ) -> Outcome
-    ensures { WritesTransactions is_json (seen_by stats) result (W.contents output.old) (W.contents output.new) }
+    ensures writes { WritesTransactions is_json (seen_by stats.old) result (W.contents output.old) (W.contents output.new) }
+    ensures keeps { IsOrHasEnded (seen_by stats.old) (seen_by stats.new) }
 {
-    let mut ended = stats;
-    match ended.finish() {
-        Ok(()) => write_ended(rt, &ended, is_json, output),
+    match stats.finish() {
+        Ok(()) => write_ended(rt, stats, is_json, output),
         Err(_) => Outcome::written(out_of_memory(rt)),
     }
 }

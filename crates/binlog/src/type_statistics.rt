@@ -1,7 +1,7 @@
 //! `binlog stats --by type`: how what is counted of each type is written.
 ghost use Rattle.std.specs.Io.KnownBytes.{Appends};
 ghost use Rattle.std.specs.Prelude.{◌++◌, OnOk};
-ghost use Rattle.binlog_cli.specs.StatsText.{Writes};
+ghost use Rattle.binlog_summaries.specs.StatsText.{Writes};
 ghost use Rattle.binlog_summaries.specs.InnerTypes.{inner_json};
 ghost use Rattle.binlog_summaries.specs.TypeJson.{types_json};
 ghost use Rattle.binlog.specs.TypeStatistics.{IsTypesText, WritesTypes};
@@ -9,26 +9,31 @@ ghost use Rattle.binlog.specs.TypeStatistics.{IsTypesText, WritesTypes};
 use crate::commands::outcome_of_text;
 use crate::gtids::outcome_of_lines;
 use crate::statistics::Statistics;
-use binlog_cli::{Outcome, write_stats};
+use binlog_cli::Outcome;
 use binlog_file::Error;
 use binlog_statistics::SplicedStats;
-use binlog_summaries::{StatsOptions, write_inner_types, write_inner_types_json, write_types_json};
+use binlog_summaries::{
+    StatsOptions, write_inner_types, write_inner_types_json, write_stats, write_types_json,
+};
 use std::alloc::Global;
 use std::io;
 use std::io::Write;
 
 impl Statistics for SplicedStats {
+    ghost use Rattle.std.specs.Prelude.{◌≡◌};
     ghost use Rattle.binlog.specs.TypeStatistics.{WritesTypes};
 
     ghost writes = { λ options stats outcome old new. WritesTypes options.is_json stats outcome old new };
 
+    ghost keeps = { λ old new. new ≡ old };
+
     fn write<R: Eprint + AllocGlobal, W: Write>(
-        self,
+        &mut self,
         rt: &R,
         options: StatsOptions,
         output: &mut W,
     ) -> Outcome {
-        write_types(rt, &self, options.is_json, output)
+        write_types(rt, self, options.is_json, output)
     }
 }
 

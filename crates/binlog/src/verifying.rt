@@ -13,12 +13,13 @@ use crate::inputs::Inputs;
 use crate::request::{Reading, Request};
 use binlog_cli::{
     BUFFER_SIZE, CONTENT_LIMIT, Outcome, Output, Reported, Status, filter, report_left_out,
-    shown_name, write_tally,
+    shown_name,
 };
 use binlog_commands::Tally;
 use binlog_file::{Error, Retrying};
 use binlog_payload_checks::Checked;
 use binlog_payload_filters::PayloadFiltered;
+use binlog_summaries::write_tally;
 use std::alloc::Global;
 use std::io::{BufWriter, Write};
 use std::time::Clock;

@@ -33,9 +33,9 @@ use Rattle.binlog_json_lines.specs.Lines.{IsRowsLine, IsLineOf, IsLineWith}
 use Rattle.binlog_json_lines.specs.Options.{RowOptions}
 use Rattle.binlog_json_lines.specs.PartLines.{IsPartEventLine, part_head}
 use Rattle.binlog_json_lines.specs.Refusals.{metadata_member}
-use Rattle.binlog_json_lines.specs.RowEvents.{is_of_rows, rows_event_of}
+use Rattle.binlog_filters.specs.RowEvents.{is_of_rows, rows_event_of}
 use Rattle.binlog_json_lines.specs.RowMembers.{name_of, IsFlavour, AreReadRows, AreRowsMembers, AreEventMembers, AreMembersOf, AreMembers}
-use Rattle.binlog_json_lines.proofs.Reading.{read_some}
+use Rattle.binlog_filters.proofs.RowsRead.{read_some}
 use Rattle.column_files.specs.declared.tables.DeclaredTables.{DeclaredTables}
 use Rattle.binlog_change_lines.specs.EventTexts.{rows_in, has_line, AreLinesBy, ShowsIf, ShowsRead, ShowsEvent, IsTextOf, IsEventText, IsPartText}
 use Rattle.binlog_change_lines.specs.Heads.{Place}

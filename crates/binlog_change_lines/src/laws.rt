@@ -11,7 +11,7 @@ ghost use Rattle.binlog_rows.specs.declared.table_map_event.TableMapEvent.{Table
 ghost use Rattle.binlog_json_lines.specs.Lines.{IsLineWith};
 ghost use Rattle.binlog_json_lines.specs.Options.{RowOptions};
 ghost use Rattle.binlog_json_lines.specs.PartLines.{IsPartEventLine};
-ghost use Rattle.binlog_json_lines.specs.RowEvents.{is_of_rows};
+ghost use Rattle.binlog_filters.specs.RowEvents.{is_of_rows};
 ghost use Rattle.binlog_json_lines.specs.RowMembers.{rows_error, AreReadRows};
 ghost use Rattle.column_files.specs.declared.tables.DeclaredTables.{DeclaredTables};
 ghost use Rattle.binlog_change_lines.specs.EventTexts.{IsEventText, IsPartText};

@@ -1,8 +1,4 @@
 pub mod Reporting
-mod StatsRows
-mod StatsTimes
-mod WholeStats
-pub mod WrittenTexts
 mod NamedTypes
 mod CivilInstants
 pub mod TableNames

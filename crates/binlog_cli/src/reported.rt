@@ -1,7 +1,9 @@
 //! A visitor that writes messages.
-ghost use Rattle.std.specs.Prelude.{◌≡◌, ◌≢◌, codes, false};
+ghost use Rattle.std.specs.Prelude.{◌≡◌, ◌≢◌, codes, false, IfErr};
+ghost use Rattle.binlog_wire.specs.declared.error.Error.TheVariants.{Writer};
 ghost use Rattle.binlog_cli.specs.Reports.{begun_file, ended_file, with_visitor};
 
+use crate::follower::Follower;
 use crate::progress::Progress;
 use binlog_file::{Error, EventData, EventRef, EventStreamReader, GtidTracker};
 use binlog_filters::Place;
@@ -103,6 +105,18 @@ impl<'a, E: Eprint, T> Reported<'a, E, PayloadFiltered<T>> {
         ensures { self.new ≡ record self.old { visitor = with_visitor self.old.visitor visitor } }
     {
         self.visitor.filtered.visitor = visitor;
+    }
+
+    /// Goes on behind a pause between two items, in which a follower does with the other visitor what it does then.
+    ///
+    /// # Errors
+    ///
+    /// [`Error::Writer`] if the output failed.
+    pub fn pause<F: Follower<T>>(&mut self, follower: &mut F) -> Result<(), Error>
+        ensures same { self.new ≡ record self.old { visitor = with_visitor self.old.visitor self.new.visitor.filtered.visitor } }
+        ensures err { IfErr result (λ error. error ≡ Writer) }
+    {
+        follower.rest(&mut self.visitor.filtered.visitor)
     }
 
     /// Begins with this file, and shows this progress in it.

@@ -2,6 +2,8 @@ pub mod ColumnLists
 pub mod ColumnTypeLaws
 pub mod ColumnTypes
 pub mod Columns
+pub mod DecoderLaws
+pub mod Decoders
 pub mod Kinds
 pub mod LayoutLaws
 pub mod Layouts

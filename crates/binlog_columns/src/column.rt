@@ -3,12 +3,14 @@ ghost use Rattle.std.specs.Prelude.{◌≡◌, ◌==◌, ◌<◌, true};
 ghost use Rattle.std.specs.Prelude.{◌+◌, ◌*◌};
 ghost use Rattle.binlog_wire.specs.Fields.{number_at};
 ghost use Rattle.binlog_wire.specs.Reading.{Gives};
+ghost use Rattle.binlog_columns.specs.Decoders.{decoder_of, layout_in};
 ghost use Rattle.binlog_columns.specs.Layouts.{layout_of, layout_as, real_layout, string_layout, blob_layout, IsLayout};
 ghost use Rattle.binlog_columns.specs.declared.layout.Layout.TheVariants.{Bits, Decimal, Number};
 ghost use Rattle.binlog_columns.specs.RealTypes.{real_as, real_type};
 ghost use Rattle.binlog_columns.specs.Metadata.{metadata_len, first_byte, second_byte, bit_count, high_bits, real_number, string_length, is_size, is_fraction, is_decimal, is_bit, is_enum_or_set, is_string, is_metadata};
 
 use crate::column_type::ColumnType;
+use crate::decoder::Decoder;
 use crate::layout::Layout;
 use binlog_wire::{Error, IntRepr, Invalid, LeU16, ParseBuf};
 
@@ -31,7 +33,9 @@ use binlog_wire::{Error, IntRepr, Invalid, LeU16, ParseBuf};
 pub struct Column {
     column_type: ColumnType,
     metadata: u16,
+    decoder: Decoder,
     ghost is_allowed: { is_metadata column_type metadata ≡ true },
+    ghost decodes: { decoder ≡ decoder_of (column_type, metadata) },
 }
 
 impl Column {
@@ -56,9 +60,11 @@ impl Column {
         if !is_allowed(column_type, metadata) {
             return Err(Error::InvalidData(Invalid::FieldRange(u64::from(number))));
         }
+        let layout = layout_as(column_type, metadata);
         Ok(Column {
             column_type,
             metadata,
+            decoder: Decoder::new(column_type, real_number(metadata) == 247, layout),
         })
     }
 
@@ -108,6 +114,19 @@ impl Column {
         ensures ranges { IsLayout result }
     {
         layout_as(self.column_type, self.metadata)
+    }
+
+    /// How the values of the column are read.
+    #[tactic(auto, using(crate::specs::DecoderLaws::sound_decoder, crate::specs::DecoderLaws::decoder_has_layout))]
+    #[inline(always)]
+    pub fn decoder(&self) -> Decoder
+        ensures decoder { result ≡ decoder_of (typed_of self.now) }
+        ensures layout { layout_in result ≡ layout_of (typed_of self.now) }
+        ensures ranges { IsLayout (layout_in result) }
+    {
+        // The metadata is read, so that its range is known.
+        let _metadata = self.metadata;
+        self.decoder
     }
 }
 

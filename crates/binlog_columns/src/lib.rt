@@ -5,6 +5,7 @@
 mod column;
 mod column_error;
 mod column_type;
+mod decoder;
 pub mod laws;
 mod layout;
 mod table_columns;
@@ -12,5 +13,6 @@ mod table_columns;
 pub use column::Column;
 pub use column_error::{ColumnError, ColumnErrorKind};
 pub use column_type::{ColumnType, UnknownColumnType};
+pub use decoder::Decoder;
 pub use layout::Layout;
 pub use table_columns::TableColumns;

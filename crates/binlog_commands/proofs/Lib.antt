@@ -3,3 +3,4 @@ pub mod FilteredCopies
 pub mod TakenCounts
 pub mod CollectedGtids
 pub mod WholeCounts
+pub mod Wholes

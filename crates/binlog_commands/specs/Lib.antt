@@ -6,3 +6,6 @@ pub mod Statistics
 pub mod WholeCounts
 pub mod TakenCounts
 pub mod FilteredCopies
+pub mod Marks
+pub mod Continuations
+pub mod Wholes

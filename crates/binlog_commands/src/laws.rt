@@ -1,11 +1,14 @@
 //! Laws of collecting, counting and copying. Each is a function without effect whose contract states it.
-ghost use Rattle.std.specs.Prelude.{◌≡◌, ℕ, List, [], All, map, Option, Result, Ok, true};
+ghost use Rattle.std.specs.Prelude.{◌≡◌, ℕ, Bool, List, [], ◌++◌, All, map, Option, Result, Ok, true};
 ghost use Rattle.binlog_wire.specs.declared.error.Error.{Error};
 ghost use Rattle.binlog_event_format.specs.declared.format_description.FormatDescriptionEvent.{FormatDescriptionEvent};
 ghost use Rattle.binlog_events.specs.Frames.{IsFrame};
 ghost use Rattle.binlog_events.specs.Events.{EventView};
 ghost use Rattle.binlog_file.specs.StreamItems.{AreItems};
 ghost use Rattle.binlog_file.specs.TableMapsInForce.{TableMaps};
+ghost use Rattle.binlog_gtid_sets.specs.GtidGroups.{Pair};
+ghost use Rattle.binlog_maria_gtids.specs.LastGtids.{Origin, last_of};
+ghost use Rattle.binlog_mariadb.specs.declared.maria_gtid.MariaGtid.{MariaGtid};
 ghost use Rattle.binlog_visits.specs.Visits.{Visits, VisitsLog};
 ghost use Rattle.binlog_gtid_listing.specs.LogItems.{log_gtids};
 ghost use Rattle.binlog_filters.specs.declared.filtered.Filtered.{Filtered};
@@ -20,6 +23,7 @@ ghost use Rattle.binlog_commands.specs.WholeCounts.{AreCounted, AreTallied};
 ghost use Rattle.binlog_commands.specs.TakenCounts.{AreTakenCounted, AreTakenTallied};
 ghost use Rattle.binlog_commands.specs.Parts.{ArePart, event_bytes};
 ghost use Rattle.binlog_commands.specs.FilteredCopies.{IsFilteredCopy};
+ghost use Rattle.binlog_commands.specs.Wholes.{Gtid, is_known, AreNew, AreNewer};
 
 use crate::copying::Copier;
 use crate::gtids::GtidCollector;
@@ -85,4 +89,14 @@ pub fn filtered_copies_are_logs<W: Write>()
     ensures { (bytes : List ℕ) (old new : Filtered (Copier W)) (tail_len : Option ℕ) → old.filter.is_for_copy ≡ true
         → VisitsLog ⟦<Filtered<Copier<W>> as Visitor>⟧.visits ⟦<Filtered<Copier<W>> as Visitor>⟧.refuses bytes old (Ok tail_len) new
         → IsFilteredCopy old.filter old.place.position old.state bytes (W.contents old.visitor.output) (W.contents new.visitor.output) }
+{}
+
+/// Of the transactions of a file only the first ones are there, `front`, and not `rest`. The next file's list has the GTIDs of the list of
+/// this file and of all of its transactions. If these are the same as those that are there, no transaction is missing: of MySQL's, where
+/// each transaction has a GTID that none before it has; of MariaDB's, where in each domain the numbers of a server rise.
+pub fn files_are_whole()
+    ensures mysql { (list : Pair → ℕ → Bool) (front rest : List Gtid) → AreNew list front rest
+        → ((pair : Pair) (n : ℕ) → is_known list (front ++ rest) pair n ≡ is_known list front pair n) → rest ≡ [] }
+    ensures maria { (list front rest : List MariaGtid) → AreNewer (list ++ front) rest
+        → ((o : Origin) → last_of ((list ++ front) ++ rest) o ≡ last_of (list ++ front) o) → rest ≡ [] }
 {}

@@ -1,7 +1,7 @@
 -- What a filter of tables makes of an event, by what was read of its data.
 use Rattle.std.proofs.Common.{Bool, Option, Result, Ok, Err, IfOk}
 use Rattle.binlog_wire.specs.declared.error.Error.{Error}
-use Rattle.binlog_events.specs.Events.{EventView}
+use Rattle.binlog_file.specs.Events.{EventView}
 use Rattle.binlog_file.specs.LogData.{ReadsLogData}
 use Rattle.binlog_file.specs.TableMapsInForce.{TableMaps}
 use Rattle.binlog_file.specs.declared.log_data.LogEventData.{LogEventData}

@@ -1,5 +1,6 @@
 pub mod Concerned
 pub mod Followed
 pub mod PassedOn
+pub mod RowsRead
 pub mod Patterns
 pub mod TakenLines

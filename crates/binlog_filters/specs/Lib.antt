@@ -2,6 +2,7 @@ pub mod Places
 pub mod GtidFilters
 pub mod Patterns
 pub mod Reading
+pub mod RowEvents
 pub mod Concerns
 pub mod Tables
 pub mod Taking

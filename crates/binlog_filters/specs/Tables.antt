@@ -9,7 +9,7 @@ use Rattle.binlog_event_data.specs.declared.event_data.EventData.{EventData}
 use Rattle.binlog_event_data.specs.declared.event_data.EventData.TheVariants as mysql
 use Rattle.binlog_mariadb.specs.declared.event_data.MariaEventData.{MariaEventData}
 use Rattle.binlog_mariadb.specs.declared.event_data.MariaEventData.TheVariants as maria
-use Rattle.binlog_events.specs.Events.{EventView}
+use Rattle.binlog_file.specs.Events.{EventView}
 use Rattle.binlog_file.specs.TableMapsInForce.{TableMaps}
 use Rattle.binlog_file.specs.LogData.{ReadsLogData}
 use Rattle.binlog_file.specs.declared.log_data.LogEventData.{LogEventData}

@@ -2,7 +2,7 @@
 use Rattle.std.specs.Prelude.{◌≡◌, ℕ, ◌+◌, Bool, true, false, List, [], ◌∷◌, ◌++◌, Option, Result}
 use Rattle.std.specs.Io.KnownBytes.{Appends}
 use Rattle.binlog_wire.specs.declared.error.Error.{Error}
-use Rattle.binlog_events.specs.Events.{EventView}
+use Rattle.binlog_file.specs.Events.{EventView}
 use Rattle.binlog_file.specs.TableMapsInForce.{TableMaps}
 use Rattle.binlog_visits.specs.TableMaps.{maps_behind}
 use Rattle.binlog_filters.specs.Places.{behind}

@@ -4,8 +4,8 @@ use Rattle.std.specs.List.{list_any}
 use Rattle.binlog_wire.specs.declared.error.Error.{Error}
 use Rattle.binlog_wire.specs.declared.error.Error.TheVariants.{Memory}
 use Rattle.binlog_event_format.specs.Headers.{header_of}
-use Rattle.binlog_events.specs.Events.{EventView}
-use Rattle.binlog_events.specs.Parts.{is_description}
+use Rattle.binlog_file.specs.Events.{EventView}
+use Rattle.binlog_file.specs.Parts.{is_description}
 use Rattle.binlog_file.specs.LogData.{ReadsLogData}
 use Rattle.binlog_file.specs.declared.log_data.LogEventData.{LogEventData}
 use Rattle.binlog_filters.specs.GtidFilters.{has_gtid_of}

@@ -1,7 +1,7 @@
 //! Laws of filters. Each is a function without effect whose contract states it.
 ghost use Rattle.std.specs.Prelude.{◌≡◌, ◌↔◌, true, ℕ, List, Result};
 ghost use Rattle.binlog_wire.specs.declared.error.Error.{Error};
-ghost use Rattle.binlog_events.specs.Events.{EventView};
+ghost use Rattle.binlog_file.specs.Events.{EventView};
 ghost use Rattle.binlog_file.specs.TableMapsInForce.{TableMaps};
 ghost use Rattle.binlog_visits.specs.Visits.{Visits};
 ghost use Rattle.binlog_visits.specs.declared.line_writer.LineWriter.{LineWriter};

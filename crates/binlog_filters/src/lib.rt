@@ -1,5 +1,5 @@
 //! Takes some of the events of a log: by their positions, their times, their server, their type, the GTIDs of their transactions,
-//! and their tables.
+//! and their tables. Which events are row events, and of which table.
 #![tactic(auto)]
 
 mod concern;
@@ -9,6 +9,7 @@ mod gtid_set;
 pub mod laws;
 mod pattern;
 mod place;
+mod row_events;
 mod state;
 mod tables;
 
@@ -18,5 +19,6 @@ pub use filtered::Filtered;
 pub use gtid_set::GtidSet;
 pub use pattern::Pattern;
 pub use place::Place;
+pub use row_events::{is_row_event, table_id};
 pub use state::FilterState;
 pub use tables::{TableFilter, TablePattern};

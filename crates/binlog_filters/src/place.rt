@@ -1,6 +1,6 @@
 //! Where the items of a file begin.
 ghost use Rattle.std.specs.Prelude.{◌≡◌, Some};
-ghost use Rattle.binlog_events.specs.EventRefs.{view_of};
+ghost use Rattle.binlog_file.specs.EventRefs.{view_of};
 ghost use Rattle.binlog_filters.specs.Places.{start_of, behind_event};
 
 use binlog_file::{BinlogFileHeader, EventRef};

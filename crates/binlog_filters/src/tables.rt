@@ -1,7 +1,7 @@
 //! Which tables an event is of.
 ghost use Rattle.std.specs.Prelude.{◌≡◌, IfErr, IfOk};
 ghost use Rattle.binlog_wire.specs.declared.error.Error.TheVariants.{Memory};
-ghost use Rattle.binlog_events.specs.EventRefs.{view_of};
+ghost use Rattle.binlog_file.specs.EventRefs.{view_of};
 ghost use Rattle.binlog_file.specs.State.{state_of};
 ghost use Rattle.binlog_filters.specs.Reading.{IsReadAs};
 ghost use Rattle.binlog_filters.specs.Tables.{has_any, is_named, is_table_named, asks_for_database, asks_for_map, asks_for_table, frames_transaction, frame_concern, map_concern, rows_concern, statement_concern, query_concern, beside_concern, mysql_concern, maria_concern, data_concern, read_concern, ReadsConcern};

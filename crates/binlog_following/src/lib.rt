@@ -12,6 +12,7 @@ mod growing_file;
 pub mod laws;
 mod log_files;
 mod paths;
+mod pauses;
 mod state_error;
 mod state_file;
 mod waits;
@@ -19,6 +20,8 @@ mod written_output;
 
 pub use file_behind::FileBehind;
 pub use growing_file::GrowingFile;
-pub use log_files::{FileId, LogFiles, NEW_FILE, OpenLog, file_id, wait_for};
+pub use log_files::{FileId, LogFiles, NEW_FILE, OpenLog, file_id, missing_front};
+pub use pauses::Pauses;
 pub use state_error::StateFileError;
 pub use state_file::StateFile;
+pub use waits::{Missing, Waits};

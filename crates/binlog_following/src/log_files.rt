@@ -4,12 +4,11 @@ ghost use Rattle.std.specs.Io.{ReadsAtMost};
 ghost use Rattle.binlog_following.specs.Files.{named_file};
 
 use crate::file_behind::FileBehind;
-use crate::waits::{Missing, Waits};
+use crate::waits::Missing;
 use binlog_rotation::{Checkpoint, NamedFile};
 use std::alloc::{AllocError, Global};
 use std::os::unix::fs::MetadataExt;
 use std::rt::Files;
-use std::time::Clock;
 use std::{fs, io};
 
 /// The length of a binlog file's header in bytes.
@@ -115,16 +114,11 @@ pub trait LogFiles {
     fn save(&self, path: &str, checkpoint: Checkpoint) -> io::Result<()>;
 }
 
-/// Waits until a file is there with as many bytes as were read of it before, at least a file header. After ten seconds there is a message.
-pub fn wait_for<S: LogFiles, R: Clock + Eprint>(rt: &R, files: &S, path: &str, start: Checkpoint) {
-    let mut waits = Waits::new();
-    'looks: for _ in 0..u64::MAX {
-        match files.named(path) {
-            Some(file) if file.len >= start.position.max(FILE_HEADER_LEN) => return,
-            Some(_) if start.position > FILE_HEADER_LEN => {
-                waits.wait(rt, path, Some(Missing::Front));
-            }
-            _ => waits.wait(rt, path, Some(Missing::File)),
-        }
+/// What is missing of a file of which so much was read before: all of that, and at least a file header, has to be there.
+pub fn missing_front<S: LogFiles>(files: &S, path: &str, start: Checkpoint) -> Option<Missing> {
+    match files.named(path) {
+        Some(file) if file.len >= start.position.max(FILE_HEADER_LEN) => None,
+        Some(_) if start.position > FILE_HEADER_LEN => Some(Missing::Front),
+        _ => Some(Missing::File),
     }
 }

@@ -1,29 +1,34 @@
 //! Waiting for more of a log.
-ghost use Rattle.std.specs.Prelude.{◌≡◌, ◌==◌, ◌+◌, ◌-◌, ◌%◌, ◌^◌, min};
-ghost use Rattle.binlog_following.specs.Files.{missing_of, looks_between};
+ghost use Rattle.std.specs.Prelude.{◌≡◌, ◌==◌, ◌+◌, ◌-◌, ◌%◌, ◌^◌, min, nat_le};
+ghost use Rattle.binlog_following.specs.Files.{missing_of, time_to_look, time_to_ask};
 
 use crate::file_behind::FileBehind;
 use binlog_rotation::NamedFile;
 use std::thread;
 use std::time::{Clock, Duration};
 
-/// The time between two looks, in milliseconds.
-const WAIT: u64 = 50;
+/// The time between two looks, in milliseconds: in the first second behind something new, and at rest.
+const SOON: u64 = 5;
 
-/// How many looks without anything new there are before a message: those of ten seconds.
-const LOOKS: u64 = 200;
+const AT_REST: u64 = 50;
 
-/// How many looks there are in a second, and in a minute.
-const LOOKS_A_SECOND: u64 = 20;
+/// How long there is nothing new before the state is written, in milliseconds.
+const QUIET: u64 = 50;
 
-const LOOKS_A_MINUTE: u64 = 1_200;
+/// How long there is nothing new before a message, in milliseconds.
+const LONG: u64 = 10_000;
+
+/// A second and a minute, in milliseconds.
+const SECOND: u64 = 1_000;
+
+const MINUTE: u64 = 60_000;
 
 /// The time before a file with a fault is read again, in milliseconds.
 const DOUBT: u64 = 1_000;
 
 /// What is missing, where it is waited for.
 #[derive(Clone, Copy, Debug, PartialEq, Eq)]
-pub(crate) enum Missing {
+pub enum Missing {
     /// The name of the file that is read.
     Name,
     /// Bytes of a file that were read before.
@@ -36,6 +41,10 @@ pub(crate) enum Missing {
     Rest,
     /// The file, or its file header.
     File,
+    /// The list of GTIDs at the front of a file, where the file before it has one.
+    List,
+    /// The list of GTIDs with which the file before ends, in the place of another one.
+    SameList,
 }
 
 impl Missing {
@@ -50,6 +59,9 @@ impl Missing {
                 "transactions that are in the next file's list of GTIDs aren't there yet",
             Missing::Rest => "the rest of a transaction isn't there yet",
             Missing::File => "the next file isn't there yet",
+            Missing::List => "the next file's list of GTIDs isn't there yet",
+            Missing::SameList =>
+                "the next file's list of GTIDs has other ones than the file before ends with",
         }
     }
 }
@@ -76,50 +88,65 @@ pub(crate) fn missing_of(
 
 /// How long there is nothing new.
 #[derive(Clone, Copy, Debug)]
-pub(crate) struct Waits {
-    looks: u64,
+pub struct Waits {
+    // In milliseconds, by the times between the looks.
+    waited: u64,
 }
 
 impl Waits {
     /// Something new came.
-    pub(crate) fn new() -> Self
-        ensures { result.looks ≡ 0 }
+    pub fn new() -> Self
+        ensures { result.waited ≡ 0 }
     {
-        Waits { looks: 0 }
+        Waits { waited: 0 }
     }
 
-    /// Whether this is the first look of a second without anything new.
-    pub(crate) fn is_second(self) -> bool
-        ensures { result ≡ (self.looks % 20 == 1) }
+    /// Whether there is nothing new for a while, so that there is time for other work.
+    pub(crate) fn is_quiet(self) -> bool
+        ensures { result ≡ nat_le 50 self.waited }
     {
-        self.looks % LOOKS_A_SECOND == 1
+        self.waited >= QUIET
+    }
+
+    /// Whether this is one look of each second without anything new.
+    pub(crate) fn is_second(self) -> bool
+        ensures { result ≡ (self.waited % 1000 == 50) }
+    {
+        self.waited % SECOND == AT_REST
     }
 
     /// Whether it is to be found out what the file behind this one is, which was this: each second as long as there is none, and else
     /// each minute.
     pub(crate) fn is_time_to_ask(self, behind: FileBehind) -> bool
-        ensures { result ≡ (self.looks % looks_between behind == 0) }
+        ensures { result ≡ (self.waited % time_to_ask behind == 0) }
     {
         match behind {
-            FileBehind::Absent => self.looks % LOOKS_A_SECOND == 0,
-            FileBehind::Unlisted | FileBehind::Differs | FileBehind::GoesOn => self.looks
-                % LOOKS_A_MINUTE
+            FileBehind::Absent => self.waited % SECOND == 0,
+            FileBehind::Unlisted | FileBehind::Differs | FileBehind::GoesOn => self.waited % MINUTE
                 == 0,
         }
     }
 
     /// Waits for a moment. After ten seconds there is a message, if something is missing.
-    pub(crate) fn wait<R: Clock + Eprint>(&mut self, rt: &R, path: &str, missing: Option<Missing>)
-        ensures { self.new.looks ≡ min (self.old.looks + 1) (2 ^ 64 - 1) }
+    pub fn wait<R: Clock + Eprint>(&mut self, rt: &R, path: &str, missing: Option<Missing>)
+        ensures { self.new.waited ≡ min (self.old.waited + time_to_look self.old.waited) (2 ^ 64 - 1) }
     {
-        thread::sleep(rt, Duration::from_millis(WAIT));
-        self.looks = self.looks.saturating_add(1);
-        if self.looks == LOOKS {
+        let time = self.time_to_look();
+        thread::sleep(rt, Duration::from_millis(time));
+        self.waited = self.waited.saturating_add(time);
+        if self.waited == LONG {
             if let Some(missing) = missing {
                 let message = missing.message();
                 let _ = eprintln!(rt; "binlog: {path}: {message}");
             }
         }
+    }
+
+    // How long it is to the next look, in milliseconds.
+    fn time_to_look(self) -> u64
+        ensures { result ≡ time_to_look self.waited }
+    {
+        if self.waited < SECOND { SOON } else { AT_REST }
     }
 }
 

@@ -1,12 +1,7 @@
 -- Bitmaps whose bits are all alike.
-use Rattle.std.proofs.Common.{◌≡◌, ℕ, zero, suc, ◌+◌, ◌/◌, ◌%◌, ◌<◌, ◌≤◌, Bool, true, false, ◌&&◌, eqb, List, [], ◌∷◌, get_or, refl, sym, ap, subst, ◌∙◌, arith}
-use Rattle.std.specs.Bool.{OnTrue}
-use Rattle.std.specs.Int.{bit_at}
-use Rattle.std.specs.List.{list_all}
-use Rattle.std.specs.Prelude.{nat_eq, nat_lt, unwrap_or, if◌then◌else◌, ◌==◌, Option, Some, None}
+use Rattle.std.proofs.Common.{◌≡◌, ℕ, zero, suc, ◌+◌, ◌<◌, ◌≤◌, Bool, true, false, List, refl, sym, subst, ◌∙◌, arith}
+use Rattle.std.specs.Prelude.{nat_eq, nat_lt, if◌then◌else◌}
 use Rattle.std.proofs.lemmas.Bool.Decides.{nat_tests}
-use Rattle.std.proofs.lemmas.Nat.Bits.{bit_at-zero}
-use Rattle.binlog_wire.specs.Bits.{bit_of, bit_in}
 use Rattle.binlog_rows.specs.Columns.{Bitmap}
 use Rattle.binlog_images.specs.Bits.{is_set, set_count}
 
@@ -50,32 +45,3 @@ pub all_counted : (len count there : ℕ) (bits : Bitmap) → count ≡ set_coun
 all_counted len count there bits counted is same k below =
     let equal : count ≡ there = grind (arith, nat_tests) in
     counted_each len 0 bits (sym counted ∙ equal ∙ is) k (omega arith) (omega (arith, below))
-
--- ---- none is set
-
-both_true : (a b : Bool) → a && b ≡ true → (a ≡ true) × (b ≡ true)
-both_true true b is = (refl, is)
-both_true false b is = absurd cc
-
-zero_byte : (s : List ℕ) (index : ℕ) → list_all (λ (b : ℕ). b == 0) s ≡ true → get_or s index 0 ≡ 0
-zero_byte [] index all = refl
-zero_byte (b ∷ s) zero all =
-    let here = both_true (b == 0) (list_all (λ (b : ℕ). b == 0) s) all in
-    let is : (b == 0) ≡ true = here.0 in
-    grind (arith, nat_tests)
-zero_byte (b ∷ s) (suc index) all = zero_byte s index (both_true (b == 0) (list_all (λ (b : ℕ). b == 0) s) all).1
-
-unset_by : (len : ℕ) (s : List ℕ) (index : ℕ) (below : Bool) → nat_lt index len ≡ below → bit_of s index ≡ false → is_set (len, s) index ≡ false
-unset_by len s index true is unset = rw is unset
-unset_by len s index false is unset = rw is refl
-
--- No bit is set if all bytes are zero.
-pub none_set : (bits : Bitmap) → list_all (λ (b : ℕ). b == 0) bits.1 ≡ true → (k : ℕ) → is_set bits k ≡ false
-none_set bits all k =
-    let unset : bit_of bits.1 k ≡ false =
-    ap (λ (b : ℕ). bit_at b (k % 8) == 1) (zero_byte bits.1 (k / 8) all) ∙ ap (λ (b : ℕ). b == 1) (bit_at-zero (k % 8)) in
-    unset_by bits.0 bits.1 k (nat_lt k bits.0) refl unset
-
-pub none_on : (bits : Bitmap) (result : Bool) → result ≡ list_all (λ (b : ℕ). b == 0) bits.1 → OnTrue result ((k : ℕ) → is_set bits k ≡ false)
-none_on bits true is = none_set bits (sym is)
-none_on bits false is = tt

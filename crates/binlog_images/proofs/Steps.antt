@@ -29,12 +29,9 @@ pub left_step : (diffs : Diffs) (columns others : List Typed) (column : Typed) (
 left_step diffs columns others column bits s m cell split read = rw (split, read) refl
 
 -- A column is refused.
-pub left_here : (diffs : Diffs) (columns others : List Typed) (column : Typed) (bits : Bits) (s : List ℕ) (e : Error) → columns ≡ column ∷ others
-    → Refuses ⊥ e ((cell_at diffs column bits).reads s)
-    → left diffs columns bits s ≡ Err (record { kind = kind_of e; column = Some bits.index })
-left_here diffs columns others column bits s e split h =
-    let d = kind_is e ((cell_at diffs column bits).reads s) h in
-    rw (split, d.1, d.2) refl
+pub left_here : (diffs : Diffs) (columns others : List Typed) (column : Typed) (bits : Bits) (s : List ℕ) (d : Refusal) → columns ≡ column ∷ others
+    → (cell_at diffs column bits).reads s ≡ Err d → left diffs columns bits s ≡ Err (record { kind = kind_as d; column = Some bits.index })
+left_here diffs columns others column bits s d split h = rw (split, h) refl
 
 -- The first column, and those after it.
 pub cells_step : (diffs : Diffs) (columns others : List Typed) (column : Typed) (bits : Bits) (s m : List ℕ) (cell : Cell) → columns ≡ column ∷ others
@@ -51,10 +48,10 @@ pub whole_step : (diffs : Diffs) (columns others : List Typed) (column : Typed) 
     → (cell_at diffs column bits).reads s ≡ Ok (cell, m) → is_ok (left diffs columns bits s) ≡ true → is_ok (left (next_diffs column diffs) others (next_bits bits) m) ≡ true
 whole_step diffs columns others column bits s m cell split read h = rw (left_step diffs columns others column bits s m cell split read) at h
 
-pub never_refused : (diffs : Diffs) (columns others : List Typed) (column : Typed) (bits : Bits) (s : List ℕ) (e : Error) → columns ≡ column ∷ others
-    → Refuses ⊥ e ((cell_at diffs column bits).reads s) → is_ok (left diffs columns bits s) ≡ true → ⊥
-never_refused diffs columns others column bits s e split refused h =
-    let none = rw (left_here diffs columns others column bits s e split refused) at h in
+pub never_refused : (diffs : Diffs) (columns others : List Typed) (column : Typed) (bits : Bits) (s : List ℕ) (d : Refusal) → columns ≡ column ∷ others
+    → (cell_at diffs column bits).reads s ≡ Err d → is_ok (left diffs columns bits s) ≡ true → ⊥
+never_refused diffs columns others column bits s d split refused h =
+    let none = rw (left_here diffs columns others column bits s d split refused) at h in
     cc
 
 -- There is a bit for each column that is left.

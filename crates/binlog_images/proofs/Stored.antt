@@ -1,12 +1,11 @@
 -- The first row of bytes, with the bytes of its images.
 use Rattle.std.proofs.Common.{◌≡◌, ℕ, ◌≤◌, List, [], ◌∷◌, ◌++◌, length, map, Option, None, Some, Result, Ok, Err, refl, sym, ◌∙◌, ap, subst, append_assoc}
 use Rattle.std.proofs.lemmas.List.{append-nil, map-append}
-use Rattle.binlog_wire.specs.declared.error.Error.{Error}
-use Rattle.binlog_wire.specs.Reading.{Refuses}
+use Rattle.binlog_wire.specs.Reading.{Refusal}
 use Rattle.binlog_columns.specs.Metadata.{Typed}
 use Rattle.binlog_images.specs.Bits.{Bits, next_bits}
 use Rattle.binlog_images.specs.Cells.{Cell, cell_at, RowsShape}
-use Rattle.binlog_images.specs.Kinds.{kind_of}
+use Rattle.binlog_images.specs.Kinds.{kind_as}
 use Rattle.binlog_images.specs.Images.{left, image_if_at}
 use Rattle.binlog_images.specs.Splits.{after_at, first_row, left_over}
 use Rattle.binlog_images.specs.Stored.{IsTaken, IsFault}
@@ -32,11 +31,11 @@ after_refused index shape s behind before e p q = row_refused index shape s e (r
 -- ---- columns as they are stored
 
 -- A column is refused.
-pub refused_here : (columns others : List Typed) (column : Typed) (bits : Bits) (s : List ℕ) (e : Error) (all : Result (List ℕ) ImageError) → columns ≡ column ∷ others
-    → Refuses ⊥ e ((cell_at None column bits).reads s) → all ≡ left None columns bits s → IsFault all
-refused_here columns others column bits s e all split refused same = record {
-  error = record { kind = kind_of e; column = Some bits.index };
-  is = same ∙ left_here None columns others column bits s e split refused;
+pub refused_here : (columns others : List Typed) (column : Typed) (bits : Bits) (s : List ℕ) (d : Refusal) (all : Result (List ℕ) ImageError) → columns ≡ column ∷ others
+    → (cell_at None column bits).reads s ≡ Err d → all ≡ left None columns bits s → IsFault all
+refused_here columns others column bits s d all split refused same = record {
+  error = record { kind = kind_as d; column = Some bits.index };
+  is = same ∙ left_here None columns others column bits s d split refused;
 }
 
 -- One more column is taken.

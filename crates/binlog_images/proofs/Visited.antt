@@ -1,7 +1,7 @@
 -- Columns that are visited one after another.
 use Rattle.std.proofs.Common.{◌≡◌, ℕ, ◌+◌, Bool, true, false, List, [], ◌∷◌, length, Option, None, Some, Result, Ok, Err, refl, sym, ap, subst}
 use Rattle.binlog_wire.specs.declared.error.Error.{Error}
-use Rattle.binlog_wire.specs.Reading.{Read, Refuses}
+use Rattle.binlog_wire.specs.Reading.{Refusal, Read, Refuses}
 use Rattle.binlog_columns.specs.Metadata.{Typed}
 use Rattle.binlog_rows.specs.Columns.{Bitmap, bitmap}
 use Rattle.binlog_images.specs.Answers.{Leaves, IsPassed, Passes}
@@ -22,11 +22,9 @@ use Rattle.binlog_images.proofs.Steps.{kind_is, cells_step}
 -- ---- the columns of an image
 
 -- None is read where the first is refused.
-cells_refused : (diffs : Diffs) (columns others : List Typed) (column : Typed) (bits : Bits) (s : List ℕ) (e : Error) → columns ≡ column ∷ others
-    → Refuses ⊥ e ((cell_at diffs column bits).reads s) → cells_in diffs columns bits s ≡ []
-cells_refused diffs columns others column bits s e split h =
-    let d = kind_is e ((cell_at diffs column bits).reads s) h in
-    rw (split, d.1) refl
+cells_refused : (diffs : Diffs) (columns others : List Typed) (column : Typed) (bits : Bits) (s : List ℕ) (d : Refusal) → columns ≡ column ∷ others
+    → (cell_at diffs column bits).reads s ≡ Err d → cells_in diffs columns bits s ≡ []
+cells_refused diffs columns others column bits s d split h = rw (split, h) refl
 
 module _ {T : Type 0} (visits : VisitRelation T) (kind : ImageKind) where
   -- What is left to be visited, behind which all is visited.
@@ -46,10 +44,10 @@ module _ {T : Type 0} (visits : VisitRelation T) (kind : ImageKind) where
   visited_all start all first index diffs columns bits s now so_far none = so_far now (rw none refl)
 
   -- A column is refused.
-  pub visited_front : (start : ℕ) (all : List Cell) (first : T) (index : ℕ) (diffs : Diffs) (columns others : List Typed) (column : Typed) (bits : Bits) (s : List ℕ) (e : Error) (now : T)
-      → Remains start all first index (cells_in diffs columns bits s) now → columns ≡ column ∷ others → Refuses ⊥ e ((cell_at diffs column bits).reads s)
+  pub visited_front : (start : ℕ) (all : List Cell) (first : T) (index : ℕ) (diffs : Diffs) (columns others : List Typed) (column : Typed) (bits : Bits) (s : List ℕ) (d : Refusal) (now : T)
+      → Remains start all first index (cells_in diffs columns bits s) now → columns ≡ column ∷ others → (cell_at diffs column bits).reads s ≡ Err d
       → VisitsColumns visits kind start all first now
-  visited_front start all first index diffs columns others column bits s e now so_far split refused = so_far now (rw (cells_refused diffs columns others column bits s e split refused) refl)
+  visited_front start all first index diffs columns others column bits s d now so_far split refused = so_far now (rw (cells_refused diffs columns others column bits s d split refused) refl)
 
 -- ---- an image
 

@@ -14,11 +14,12 @@ pub mod ImageCells
 pub mod ImageShapes
 pub mod Images
 pub mod Kinds
+pub mod NullWords
 pub mod Placing
 pub mod RowCells
 pub mod RowsLeft
 pub mod Splits
-pub mod Visits
 pub mod Stored
 pub mod StoredColumns
 pub mod StoredRows
+pub mod Visits

@@ -1,7 +1,7 @@
 //! A column in a row image.
 ghost use Rattle.std.specs.Prelude.{◌≡◌};
-ghost use Rattle.binlog_wire.specs.Reading.{Gives};
 ghost use Rattle.binlog_columns.specs.Columns.{typed_of};
+ghost use Rattle.binlog_values.specs.Faults.{Decodes};
 ghost use Rattle.binlog_values.specs.Values.{json, meaning_of, content_of};
 ghost use Rattle.binlog_images.specs.BitsOf.{bits_of};
 ghost use Rattle.binlog_images.specs.DiffsOf.{diffs_of};
@@ -11,8 +11,8 @@ ghost use Rattle.binlog_images.specs.ColumnValues.{answer_cell, cell_of};
 use crate::diff_bits::{DiffBits, is_diffs};
 use crate::image_bits::ImageBits;
 use binlog_columns::Column;
-use binlog_values::Value;
-use binlog_wire::{Error, ParseBuf};
+use binlog_values::{Value, ValueFault};
+use binlog_wire::ParseBuf;
 
 /// A column in a row image. It borrows its bytes, and takes no memory.
 #[derive(Clone, Copy, Debug, PartialEq, Eq, Hash)]
@@ -33,7 +33,7 @@ impl<'a> ColumnValue<'a> {
     ///
     /// # Errors
     ///
-    /// Those of [`Value::read`].
+    /// Those of [`Value::decode`].
     #[tactic(auto, using(crate::proofs::Reading::absent_read, crate::proofs::Reading::null_read, crate::proofs::Reading::value_read, crate::proofs::Reading::diffs_read, crate::proofs::Reading::refused_read))]
     #[inline(always)]
     pub(crate) fn read(
@@ -41,8 +41,8 @@ impl<'a> ColumnValue<'a> {
         bits: &ImageBits<'_>,
         diffs: &Option<DiffBits<'_>>,
         buf: &mut ParseBuf<'a>,
-    ) -> Result<Self, Error>
-        ensures { Gives ⊥ buf.new (answer_cell result) ((cell_at (diffs_of diffs.now) (typed_of column.now) (bits_of bits.now)).reads buf.old) }
+    ) -> Result<Self, ValueFault>
+        ensures { Decodes buf.new (answer_cell result) ((cell_at (diffs_of diffs.now) (typed_of column.now) (bits_of bits.now)).reads buf.old) }
     {
         if !bits.is_present() {
             return Ok(ColumnValue::Absent);
@@ -50,7 +50,7 @@ impl<'a> ColumnValue<'a> {
         if bits.is_null() {
             return Ok(ColumnValue::Null);
         }
-        let value = Value::read(column, buf)?;
+        let value = Value::decode(column, buf)?;
         if is_diffs(column, diffs) {
             Ok(diffs_in(value))
         } else {

@@ -1,14 +1,16 @@
 //! The bits of an image.
-ghost use Rattle.std.specs.Prelude.{◌≡◌, ◌==◌, ◌<◌, ◌≤◌, ◌+◌, ℕ, true, false};
-ghost use Rattle.std.specs.Bool.{OnTrue};
-ghost use Rattle.std.specs.List.{list_all};
+ghost use Rattle.std.specs.Prelude.{◌≡◌, ◌<◌, ◌≤◌, ◌+◌, ◌/◌, ℕ, true, length, option_map};
+ghost use Rattle.byteorder.specs.Endian.{little_number};
+ghost use Rattle.binlog_wire.specs.Fields.{IsBytes};
 ghost use Rattle.binlog_wire.specs.Reading.{Gives};
 ghost use Rattle.binlog_rows.specs.Columns.{bitmap};
 ghost use Rattle.binlog_rows.specs.Images.{bitmap_of};
 ghost use Rattle.binlog_images.specs.Bits.{is_set, is_present, is_null, first_bits, next_bits, set_count};
 ghost use Rattle.binlog_images.specs.BitmapViews.{answer_bitmap};
+ghost use Rattle.binlog_images.specs.NullWords.{HoldsNulls};
 
 use binlog_wire::{BitView, Error, ParseBuf};
+use byteorder::{ByteOrder, LittleEndian};
 
 /// The bits of an image, and the places of the next column's.
 #[derive(Clone, Copy, Debug)]
@@ -19,14 +21,15 @@ pub(crate) struct ImageBits<'a> {
     pub(crate) nulls: BitView<'a>,
     /// True if all columns are present: then no bit is looked up.
     pub(crate) all_present: bool,
-    /// True if no column is NULL: then no bit is looked up.
-    pub(crate) none_null: bool,
+    /// Where at most 64 columns are present, which of the columns that are left are NULL: the next column's bit is the least
+    /// significant one.
+    pub(crate) null_word: Option<u64>,
     /// The index of the column among all columns.
     pub(crate) index: u64,
     /// The index of the column among the present ones.
     pub(crate) place: u64,
     ghost present_each: { all_present ≡ true → (k : ℕ) → k < present.len → is_set (bitmap_of present) k ≡ true },
-    ghost null_never: { none_null ≡ true → (k : ℕ) → is_set (bitmap_of nulls) k ≡ false },
+    ghost null_each: { HoldsNulls null_word (bitmap_of nulls) place },
 }
 
 impl<'a> ImageBits<'a> {
@@ -46,7 +49,7 @@ impl<'a> ImageBits<'a> {
             present,
             nulls,
             all_present,
-            none_null: is_zero(nulls),
+            null_word: word_of(nulls),
             index: 0,
             place: 0,
         }
@@ -70,7 +73,10 @@ impl<'a> ImageBits<'a> {
     pub(crate) fn is_null(&self) -> bool
         ensures { result ≡ is_null (bits_of self.now) }
     {
-        !self.none_null && is_set(self.nulls, self.place)
+        match self.null_word {
+            Some(word) => word % 2 == 1,
+            None => is_set(self.nulls, self.place),
+        }
     }
 
     /// Goes to the next column, after this one, which was present or not.
@@ -84,10 +90,12 @@ impl<'a> ImageBits<'a> {
         ensures index { self.new.index ≡ self.old.index + 1 }
         ensures place { self.new.place ≤ self.new.index }
     {
-        if was_present {
-            self.place += 1;
-        }
         self.index += 1;
+        if !was_present {
+            return;
+        }
+        self.place += 1;
+        self.null_word = next_word(self.null_word);
     }
 }
 
@@ -99,20 +107,56 @@ pub(crate) fn is_set(bits: BitView<'_>, index: u64) -> bool
     bits.bit(index).unwrap_or(false)
 }
 
-/// Whether all bytes are zero.
+// Bytes are below 256, which is a premise of what the bits of their number are.
+fn are_bytes(bytes: &[u8])
+    ensures { IsBytes bytes.now }
+{}
+
+/// The little-endian number of these bytes, at most eight.
+// Most are one or two, and then are one load.
 #[inline(always)]
-fn are_zero(bytes: &[u8]) -> bool
-    ensures { result ≡ list_all (λ byte. byte == 0) bytes.now }
+fn number_of(bytes: &[u8]) -> u64
+    requires { length bytes.now ≤ 8 }
+    ensures { result ≡ little_number (length bytes.now) bytes.now }
 {
-    bytes.iter().all(|byte| *byte == 0)
+    match bytes.len() {
+        0 => 0,
+        1 => LittleEndian::read_uint(bytes, 1),
+        2 => LittleEndian::read_uint(bytes, 2),
+        len => LittleEndian::read_uint(bytes, len),
+    }
 }
 
-/// Whether all bytes are zero, so that no bit is set.
+/// The bits as one number, the first one the least significant, where there are at most 64.
+#[tactic(auto, using(crate::proofs::NullWords::no_word))]
 #[inline(always)]
-fn is_zero(bits: BitView<'_>) -> bool
-    ensures { OnTrue result ((k : ℕ) → is_set (bitmap_of bits.entry) k ≡ false) }
+fn word_of(bits: BitView<'_>) -> Option<u64>
+    ensures { HoldsNulls result (bitmap_of bits.entry) 0 }
 {
-    are_zero(bits.as_bytes())
+    let len = bits.len();
+    if len > 64 {
+        return None;
+    }
+    let bytes = bits.as_bytes();
+    are_bytes(bytes);
+    let number = number_of(bytes);
+    if len == 64 {
+        Some(number)
+    } else {
+        // Bits behind the last column's may be set.
+        Some(number % (1 << len))
+    }
+}
+
+/// The bits behind the first one.
+#[inline(always)]
+fn next_word(word: Option<u64>) -> Option<u64>
+    ensures { result ≡ option_map (λ bits. bits / 2) word }
+{
+    match word {
+        Some(bits) => Some(bits / 2),
+        None => None,
+    }
 }
 
 /// The number of bits that are set.

@@ -1,9 +1,11 @@
 //! Why rows are refused.
 ghost use Rattle.std.specs.Prelude.{◌≡◌};
 ghost use Rattle.binlog_images.specs.Images.{error_in};
-ghost use Rattle.binlog_images.specs.Kinds.{kind_of};
+ghost use Rattle.binlog_images.specs.Kinds.{kind_as, kind_of};
+ghost use Rattle.binlog_values.specs.Faults.{refusal_of};
 
 use binlog_columns::ColumnError;
+use binlog_values::ValueFault;
 use binlog_wire::Error;
 use thiserror::Error as ErrorMessage;
 
@@ -84,12 +86,22 @@ impl ImageError {
     }
 }
 
-/// The kind of an error of reading a value, or of what is in front of the values.
+/// The kind of an error of reading what is in front of the values.
 pub(crate) fn kind_of(error: Error) -> RowsErrorKind
     ensures { result ≡ kind_of error }
 {
     match error {
         Error::InvalidData(_) => RowsErrorKind::BadValue,
         _ => RowsErrorKind::Truncated,
+    }
+}
+
+/// The kind of a fault of reading a value.
+pub(crate) fn kind_of_fault(fault: ValueFault) -> RowsErrorKind
+    ensures { result ≡ kind_as (refusal_of fault) }
+{
+    match fault {
+        ValueFault::EndOfBody => RowsErrorKind::Truncated,
+        ValueFault::OutOfRange => RowsErrorKind::BadValue,
     }
 }

@@ -1,9 +1,9 @@
 //! The columns of images as they are stored.
-ghost use Rattle.std.specs.Prelude.{◌≡◌, ◌+◌, ◌≤◌, None, length, map, MatchResult, MatchOption, IfOk, IfErr, OnErr};
-ghost use Rattle.binlog_wire.specs.Reading.{Refuses};
+ghost use Rattle.std.specs.Prelude.{◌≡◌, ◌+◌, ◌≤◌, None, Err, length, map, MatchResult, MatchOption, IfOk, IfErr, OnErr};
 ghost use Rattle.binlog_columns.specs.Columns.{typed_of};
 ghost use Rattle.binlog_columns.specs.TableColumns.{columns_of};
 ghost use Rattle.binlog_rows.specs.Images.{bitmap_of};
+ghost use Rattle.binlog_values.specs.Faults.{refusal_of};
 ghost use Rattle.binlog_images.specs.BitsOf.{bits_of};
 ghost use Rattle.binlog_images.specs.Cells.{cell_at};
 ghost use Rattle.binlog_images.specs.Images.{left, image_at};
@@ -15,7 +15,8 @@ use crate::image_bits::{ImageBits, read_bitmap};
 use crate::image_columns::ImageColumns;
 use crate::stored_row::front;
 use binlog_columns::{Column, TableColumns};
-use binlog_wire::{BitView, Error, ParseBuf};
+use binlog_values::ValueFault;
+use binlog_wire::{BitView, ParseBuf};
 use std::alloc::{AllocError, Global};
 
 /// A column of an image as it is stored.
@@ -34,10 +35,10 @@ fn read_stored<'a>(
     column: &Column,
     bits: &ImageBits<'_>,
     buf: &mut ParseBuf<'a>,
-) -> Result<StoredColumn<'a>, Error>
+) -> Result<StoredColumn<'a>, ValueFault>
     ensures { MatchResult result
         (λ stored. IsTaken (bits_of bits.now) buf.old ((cell_at None (typed_of column.now) (bits_of bits.now)).reads buf.old) (column_of stored) buf.new)
-        (λ e. Refuses ⊥ e ((cell_at None (typed_of column.now) (bits_of bits.now)).reads buf.old)) }
+        (λ fault. (cell_at None (typed_of column.now) (bits_of bits.now)).reads buf.old ≡ Err (refusal_of fault)) }
 {
     let all = buf.0;
     ColumnValue::read(column, bits, &None, buf)?;

@@ -16,7 +16,7 @@ use crate::column_value::ColumnValue;
 use crate::diff_bits::{DiffBits, advance_diffs, first_diffs, read_diff_bits};
 use crate::image_bits::{ImageBits, read_bitmap};
 use crate::image_columns::ImageColumns;
-use crate::rows_error::{ImageError, ImageKind, kind_of};
+use crate::rows_error::{ImageError, ImageKind, kind_of, kind_of_fault};
 use crate::visitor::ColumnVisitor;
 use binlog_columns::TableColumns;
 use binlog_wire::{BitView, ParseBuf};
@@ -48,9 +48,9 @@ pub(crate) fn visit_columns<T: ColumnVisitor>(
                 advance_diffs(&mut diffs, &column);
                 visitor.visit_column(kind, index, value);
             }
-            Err(error) => {
+            Err(fault) => {
                 return Err(ImageError {
-                    kind: kind_of(error),
+                    kind: kind_of_fault(fault),
                     column: Some(index),
                 });
             }

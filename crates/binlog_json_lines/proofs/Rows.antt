@@ -17,7 +17,7 @@ use Rattle.column_files.specs.declared.tables.DeclaredTables.{DeclaredTables}
 use Rattle.binlog_json_lines.specs.declared.row_members.ShownRows.{ShownRows}
 use Rattle.binlog_json_lines.specs.RowMembers.{name_of, nothing_shown, rows_error, StatesColumns, AreReadRows, ShowsStatedRows, AreRowsMembers, AreMappedMembers, IsFlavour, AreBodyMembers, AreMembersOf}
 use Rattle.binlog_json_lines.specs.Refusals.{refusal_value, metadata_member}
-use Rattle.binlog_json_lines.specs.RowEvents.{rows_in}
+use Rattle.binlog_filters.specs.RowEvents.{rows_in}
 use Rattle.binlog_optional_metadata.specs.declared.metadata_error.OptionalMetadataError.{OptionalMetadataError}
 use Rattle.binlog_json_bodies.specs.Shown.{Appended, ShowsBy}
 

@@ -1,5 +1,5 @@
 pub mod ItemLines
-pub mod RowEvents
+pub use Rattle.binlog_filters.specs.RowEvents
 pub mod Refusals
 pub mod Options
 pub mod RowMembers

@@ -21,7 +21,7 @@ use Rattle.binlog_payloads.specs.Fields.{Payload}
 use Rattle.binlog_payloads.specs.declared.error.PayloadError.{PayloadError}
 use Rattle.binlog_json_lines.specs.RowMembers.{AreMembers}
 use Rattle.binlog_json_lines.specs.declared.row_members.ShownRows.{ShownRows}
-use Rattle.binlog_json_lines.specs.RowEvents.{is_of_rows, table_id_of}
+use Rattle.binlog_filters.specs.RowEvents.{is_of_rows, table_id_of}
 use Rattle.binlog_file.specs.TableMapsInForce.{TableMaps}
 use Rattle.binlog_mariadb.specs.EventTypes.{maria_event_number, maria_event_type_of}
 use Rattle.binlog_mariadb.specs.Flavour.{IsMariaVersion}

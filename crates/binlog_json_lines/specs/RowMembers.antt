@@ -24,7 +24,7 @@ use Rattle.column_files.specs.declared.tables.DeclaredTables.{DeclaredTables}
 use Rattle.binlog_json_lines.specs.declared.row_members.ShownRows.{ShownRows}
 use Rattle.binlog_json_lines.specs.Refusals.{refusal_value, metadata_member}
 use Rattle.binlog_optional_metadata.specs.declared.metadata_error.OptionalMetadataError.{OptionalMetadataError}
-use Rattle.binlog_json_lines.specs.RowEvents.{rows_event_of}
+use Rattle.binlog_filters.specs.RowEvents.{rows_event_of}
 
 -- The names of a table and of its schema.
 abbrev pub schema_in : TableMapEvent → List ℕ

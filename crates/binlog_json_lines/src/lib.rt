@@ -16,12 +16,11 @@ mod part_members;
 mod part_writer;
 mod payload_refusals;
 mod refusals;
-mod row_events;
 mod row_members;
 mod writer;
 
+pub use binlog_filters::{is_row_event, table_id};
 pub use lines::{EventLine, JsonLines};
 pub use options::LineOptions;
 pub use part_members::PartPlace;
-pub use row_events::{is_row_event, table_id};
 pub use writer::JsonWriter;

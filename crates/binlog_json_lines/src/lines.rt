@@ -21,10 +21,10 @@ use crate::event_members::{
 };
 use crate::options::LineOptions;
 use crate::part_members::{PartPlace, write_part, write_part_error, write_payload_event};
-use crate::row_events::is_row_event;
 use crate::row_members::RowsWriter;
 use binlog_event_types::maria_name_of;
 use binlog_file::{Error, EventRef, TableMapEvent};
+use binlog_filters::is_row_event;
 use binlog_json_bodies::write_maria_data;
 use binlog_mariadb::{MariaEventType, is_maria_log};
 use binlog_payloads::{PayloadError, TransactionPayloadEvent};

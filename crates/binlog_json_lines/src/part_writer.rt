@@ -5,9 +5,9 @@ ghost use Rattle.binlog_json_lines.specs.Lines.{map_of_event};
 ghost use Rattle.binlog_payload_visits.specs.PartMaps.{maps_of};
 
 use crate::part_members::PartPlace;
-use crate::row_events::table_id;
 use crate::writer::{JsonWriter, note};
 use binlog_file::{CountedRef, Error, EventRef, TableMapEvent};
+use binlog_filters::table_id;
 use binlog_payload_visits::{PartTableMaps, PartVisitor};
 use binlog_payloads::PayloadError;
 use binlog_visits::write_line;

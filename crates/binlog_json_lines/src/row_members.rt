@@ -15,16 +15,16 @@ ghost use Rattle.binlog_json_values.specs.Written.{HasImages};
 ghost use Rattle.binlog_rows.specs.declared.table_map_event.TableMapEvent.{TableMapEvent};
 ghost use Rattle.binlog_json_lines.specs.RowMembers.{name_of, nothing_shown, unmapped_members, rows_error, map_for, ShowsStatedRows, AreRowsMembers, AreEventMembers, AreBodyMembers, AreMembers};
 ghost use Rattle.binlog_json_lines.specs.Refusals.{metadata_member, refusal_value};
-ghost use Rattle.binlog_json_lines.specs.RowEvents.{rows_in};
+ghost use Rattle.binlog_filters.specs.RowEvents.{rows_in};
 ghost use Rattle.binlog_json_bodies.specs.Shown.{ShowsBy};
 
 use crate::kept_tables::{KeptTable, KeptTables, collected};
 use crate::refusals::{write_metadata_refusal, write_refusal};
-use crate::row_events::is_row_event;
 use binlog_columns::{Column, TableColumns};
 use binlog_declared_columns::table_facts;
 use binlog_event_data::EventData;
 use binlog_events::EventRef;
+use binlog_filters::is_row_event;
 use binlog_images::{Rows, RowsEventError, RowsEventExt};
 use binlog_json_values::{RowImages, ValueWriter};
 use binlog_mariadb::is_maria_log;

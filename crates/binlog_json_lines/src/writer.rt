@@ -8,9 +8,9 @@ ghost use Rattle.binlog_json_lines.specs.Contradicted.{NotesIf};
 
 use crate::lines::JsonLines;
 use crate::options::LineOptions;
-use crate::row_events::table_id;
 use binlog_declared_columns::Contradictions;
 use binlog_file::{CountedRef, Error, EventRef, EventStreamReader, TableMapEvent};
+use binlog_filters::table_id;
 use binlog_visits::{Refusing, Visitor, write_line};
 use std::alloc::Global;
 use std::io::Write;

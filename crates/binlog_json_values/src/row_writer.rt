@@ -145,6 +145,7 @@ impl<'a, 'b, 'c> RowWriter<'a, 'b, 'c> {
     }
 
     /// Begins the image after, if this column is its first.
+    #[inline(always)]
     fn begin_image(&mut self, image: ImageKind, index: u64) -> Result<(), AllocError>
         ensures kept { Keeps self.old self.new }
         ensures row { self.new.before.rows ≡ self.old.before.rows }
@@ -176,6 +177,7 @@ impl<'a, 'b, 'c> RowWriter<'a, 'b, 'c> {
     }
 
     /// Writes the member of the column with this index; nothing if it is beyond the table's columns.
+    #[inline(always)]
     fn write_member(&mut self, index: u64, value: &ColumnValue<'_>) -> Result<(), AllocError>
         ensures kept { Keeps self.old self.new }
         ensures row { self.new.before.rows ≡ self.old.before.rows }
@@ -200,6 +202,7 @@ impl<'a, 'b, 'c> RowWriter<'a, 'b, 'c> {
     }
 
     /// Writes the member of the column with this index of an image, behind the beginning of an image after if it is its first.
+    #[inline(always)]
     fn write_column(
         &mut self,
         image: ImageKind,

@@ -5,7 +5,8 @@ ghost use Rattle.binlog_events.specs.EventRefs.{view_of};
 ghost use Rattle.binlog_listing.specs.Words.{word_text, word_of, TakesMemoryFor};
 
 use crate::line::write_text;
-use binlog_file::{Error, EventRef};
+use binlog_events::EventRef;
+use binlog_wire::Error;
 use std::alloc::Global;
 
 /// Whether the data of an event can be read.

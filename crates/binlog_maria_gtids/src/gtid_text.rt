@@ -3,7 +3,7 @@ ghost use Rattle.std.specs.Prelude.{◌≡◌, ◌⊎◌, ◌+◌, List, [], ◌
 ghost use Rattle.binlog_mariadb.specs.declared.maria_gtid.MariaGtid.{MariaGtid};
 ghost use Rattle.binlog_maria_gtids.specs.declared.gtid_text_error.MariaGtidTextError.TheVariants.{Memory};
 ghost use Rattle.binlog_maria_gtids.specs.GtidSets.{is_among};
-ghost use Rattle.binlog_maria_gtids.specs.GtidReading.{has_digits_alone, number_in, gtid_in, parts_of, AreRead, IsInvalidIn, IsInvalid};
+ghost use Rattle.binlog_maria_gtids.specs.GtidReading.{has_digits_alone, number_in, gtid_in, gtid_of, parts_of, AreRead, IsInvalidIn, IsInvalid};
 ghost use Rattle.binlog_maria_gtids.specs.GtidTexts.{AreGtidTexts};
 
 use crate::gtid_text_error::{MariaGtidFault, MariaGtidTextError};
@@ -77,6 +77,13 @@ fn gtid_in(text: &str) -> Result<MariaGtid, MariaGtidFault>
     let Some((server_id, sequence)) = rest.split_once('-') else {
         return Err(MariaGtidFault::Hyphens);
     };
+    gtid_of(domain, server_id, sequence)
+}
+
+// Reads the GTID of these numbers.
+fn gtid_of(domain: &str, server_id: &str, sequence: &str) -> Result<MariaGtid, MariaGtidFault>
+    ensures { result ≡ gtid_of (number_in 32 domain.now) (number_in 32 server_id.now) (number_in 64 sequence.now) }
+{
     let domain = short_number_in(domain)?;
     let server_id = short_number_in(server_id)?;
     let sequence = number_in(sequence)?;

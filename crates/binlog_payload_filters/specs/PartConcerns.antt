@@ -9,7 +9,7 @@ use Rattle.binlog_filters.specs.Tables.{asks_for_map, ReadsConcern}
 use Rattle.binlog_filters.specs.declared.concern.Concern.{Concern}
 use Rattle.binlog_filters.specs.declared.concern.Concern.TheVariants.{Taken, Rows}
 use Rattle.binlog_filters.specs.declared.tables.TableFilter.{TableFilter}
-use Rattle.binlog_json_lines.specs.RowEvents.{is_of_rows, table_id_of}
+use Rattle.binlog_filters.specs.RowEvents.{is_of_rows, table_id_of}
 use Rattle.binlog_payload_visits.specs.Parts.{Part}
 
 -- Rows of the table whose table map is in force inside for this id. A row event whose data can't be read is taken.

@@ -8,8 +8,9 @@ use Rattle.binlog_filters.specs.declared.filter.Filter.{Filter}
 use Rattle.binlog_filters.specs.declared.state.FilterState.{FilterState}
 use Rattle.binlog_event_format.specs.Headers.{header_of}
 use Rattle.binlog_payload_visits.specs.Parts.{Part}
+use Rattle.binlog_rows.specs.declared.table_map_event.TableMapEvent.{TableMapEvent}
 use Rattle.change_statistics.specs.Facts.{Fact}
-use Rattle.binlog_statistics.specs.ItemFacts.{IsFact, IsPartFact, AreFacts, AreTakenFacts}
+use Rattle.binlog_statistics.specs.ItemFacts.{IsFact, IsMappedFact, IsPartFact, AreFacts, AreTakenFacts}
 use Rattle.binlog_statistics.specs.SplicedFacts.{AreSplicedFacts}
 
 -- `adds old fact new` says what an event makes of what is counted.
@@ -23,6 +24,10 @@ module _ {S : Type 0} (adds : S → Fact → S → Type 0) where
   abbrev pub CountsPart : (end : ℕ) → S → TableMaps → Part → S → Type 0
   CountsPart end old maps (Ok event) new = (fact : Fact) × IsPartFact end maps event fact × adds old fact new
   CountsPart end old maps (Err e) new = new ≡ old
+
+  -- A row event of the table of this table map is counted.
+  abbrev pub CountsMapped : S → TableMapEvent → EventView → S → Type 0
+  CountsMapped old map event new = (fact : Fact) × IsMappedFact map event fact × adds old fact new
 
 -- The position behind an item in its log, as it states. An error states none.
 abbrev pub end_behind : (end : ℕ) → Result EventView Error → ℕ

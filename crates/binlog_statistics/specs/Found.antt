@@ -79,3 +79,10 @@ abbrev pub FindsRows : TableMaps → EventView → RowsFound → Type 0
 FindsRows maps event found =
     ((may_have_rows (header_of event.frame).event_type ≡ false) × (found ≡ Other))
     ⊎ ((may_have_rows (header_of event.frame).event_type ≡ true) × ReadsRows maps event found)
+
+-- The same of an event that may have some, by this table map.
+pub record FindsMappedRows (map : TableMapEvent) (event : EventView) (found : RowsFound) : Type 0 where
+  pub read : Result (Option LogEventData) Error
+  pub reads : ReadsLogData event read
+  pub is_read : ¬ (read ≡ Err Memory)
+  pub is : IsFound (Some map) read found

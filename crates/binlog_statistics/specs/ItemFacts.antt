@@ -13,7 +13,7 @@ use Rattle.binlog_filters.specs.declared.state.FilterState.{FilterState}
 use Rattle.binlog_transaction_gtids.specs.Gtids.{FollowsGtid}
 use Rattle.change_statistics.specs.Facts.{Name, Rows, nothing, unknown, rows, Fact}
 use Rattle.change_statistics.specs.declared.facts.ChangeKind.{ChangeKind}
-use Rattle.binlog_statistics.specs.Found.{FindsRows}
+use Rattle.binlog_statistics.specs.Found.{FindsMappedRows, FindsRows}
 use Rattle.binlog_statistics.specs.declared.finding.RowsFound.{RowsFound}
 use Rattle.binlog_statistics.specs.declared.finding.RowsFound.TheVariants as found
 
@@ -72,6 +72,10 @@ part_fact_with map end event found = record {
 
 abbrev pub IsPartFact : (end : ℕ) → TableMaps → EventView → Fact → Type 0
 IsPartFact end maps event fact = (found : RowsFound) × FindsRows maps event found × (fact ≡ part_fact_with (map_of_rows maps found) end event found)
+
+-- The facts of a row event of the table of this table map.
+abbrev pub IsMappedFact : TableMapEvent → EventView → Fact → Type 0
+IsMappedFact map event fact = (found : RowsFound) × FindsMappedRows map event found × (fact ≡ fact_with (Some map) event found [])
 
 -- ---- items one after another
 

@@ -1,11 +1,13 @@
 //! A visitor that counts events.
-ghost use Rattle.std.specs.Prelude.{◌≡◌, option_copied};
+ghost use Rattle.std.specs.Prelude.{◌≡◌, option_copied, IfErr, OnOk};
+ghost use Rattle.binlog_events.specs.EventRefs.{view_of};
 ghost use Rattle.binlog_file.specs.State.{state_of};
 ghost use Rattle.binlog_payload_visits.specs.PartMaps.{maps_of};
+ghost use Rattle.binlog_statistics.specs.Counting.{CountsMapped, RefusesItem};
 ghost use Rattle.binlog_statistics.specs.ItemFacts.{map_of_rows};
 
 use crate::facts::{facts_of, part_facts_of};
-use crate::finding::{RowsFound, find_part_rows, find_rows};
+use crate::finding::{RowsFound, find_mapped_rows, find_part_rows, find_rows};
 use binlog_file::{Error, EventRef, EventStreamReader};
 use binlog_payload_visits::{PartTableMaps, PartVisitor};
 use binlog_payloads::PayloadError;
@@ -37,6 +39,29 @@ impl<C> Counter<C> {
             gtid: String::new(alloc),
             end_position: 0,
             stats,
+        }
+    }
+}
+
+impl<C: Counts> Counter<C> {
+    /// Counts a row event of the table of this table map, whatever was shown before.
+    ///
+    /// # Errors
+    ///
+    /// [`Error::Memory`] if memory is refused. Nothing is counted then.
+    pub fn count_rows(
+        &mut self,
+        event: &EventRef<'_>,
+        table_map: &TableMapEvent<'_>,
+    ) -> Result<(), Error>
+        ensures ok { OnOk result (CountsMapped C.adds self.old.stats table_map.now (view_of event.now) self.new.stats) }
+        ensures err { IfErr result (λ e. RefusesItem C.keeps self.old.stats e self.new.stats) }
+    {
+        let found = find_mapped_rows(self.alloc, event, table_map)?;
+        let facts = facts_of(found, "", event, Some(table_map));
+        match self.stats.add(&facts) {
+            Ok(()) => Ok(()),
+            Err(_) => Err(Error::Memory),
         }
     }
 }

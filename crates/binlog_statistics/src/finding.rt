@@ -9,7 +9,7 @@ ghost use Rattle.binlog_file.specs.declared.log_data.LogEventData.TheVariants.{M
 ghost use Rattle.binlog_rows.specs.RowsData.{event_in};
 ghost use Rattle.binlog_statistics.specs.CompressedRows.{ReadsCompressed};
 ghost use Rattle.binlog_payload_visits.specs.PartMaps.{maps_of};
-ghost use Rattle.binlog_statistics.specs.Found.{may_have_rows, kind_by, table_id_in, IsMappedStoredCount, IsFoundStored, IsFound, FindsRows};
+ghost use Rattle.binlog_statistics.specs.Found.{may_have_rows, kind_by, table_id_in, IsMappedStoredCount, IsFoundStored, IsFound, FindsMappedRows, FindsRows};
 
 use crate::compressed_rows::stored_rows_in;
 use crate::row_count::rows_in;
@@ -84,6 +84,23 @@ pub fn find_part_rows(
     let read = read_log_data(alloc, event);
     let map = inside_map(&read, maps);
     let answer = read_rows(alloc, event, &read, map);
+    drop(read);
+    answer
+}
+
+/// What an event says of rows, by this table map.
+///
+/// The only error is [`Error::Memory`], as that of [`find_rows`].
+pub(crate) fn find_mapped_rows(
+    alloc: Global,
+    event: &EventRef<'_>,
+    table_map: &TableMapEvent<'_>,
+) -> Result<RowsFound, Error>
+    ensures ok { IfOk result (λ found. FindsMappedRows table_map.now (view_of event.now) found) }
+    ensures memory { IfErr result (λ e. e ≡ Memory) }
+{
+    let read = read_log_data(alloc, event);
+    let answer = read_rows(alloc, event, &read, Some(table_map));
     drop(read);
     answer
 }

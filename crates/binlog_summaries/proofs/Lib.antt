@@ -1,3 +1,4 @@
+pub mod WrittenTexts
 pub mod ShownRows
 mod TableLines
 mod GroupingNames
@@ -7,3 +8,6 @@ mod TransactionLines
 mod Powers
 mod TypeLines
 mod InnerLines
+mod StatsRows
+mod StatsTimes
+mod WholeStats

@@ -3,8 +3,8 @@ use Rattle.std.proofs.Common.{◌≡◌, inl, inr, ℕ, ◌+◌, ◌<◌, List, 
 use Rattle.std.proofs.lemmas.Option.{slice_get_cases}
 use Rattle.std.specs.Prelude.{IfSome, slice_get, flat_map}
 use Rattle.std.specs.Io.KnownBytes.{Appends}
-use Rattle.binlog_cli.proofs.WrittenTexts.{on_ok, appends_both}
-use Rattle.binlog_cli.specs.StatsText.{Writes}
+use Rattle.binlog_summaries.proofs.WrittenTexts.{on_ok, appends_both}
+use Rattle.binlog_summaries.specs.StatsText.{Writes}
 use Rattle.change_statistics.specs.declared.table_counts.TableCounts.{TableCounts}
 use Rattle.change_statistics.specs.declared.table_name.TableName.{TableName}
 use Rattle.binlog_summaries.specs.TableText.{IsTableLine, AreTableLines, IsTimeOf, names_text, counts_text}

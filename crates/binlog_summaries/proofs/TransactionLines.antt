@@ -5,8 +5,8 @@ use Rattle.json.specs.Token.{Token}
 use Rattle.std.specs.Io.KnownBytes.{Appends}
 use Rattle.std.proofs.Math.Seq.{take-suc}
 use Rattle.std.proofs.lemmas.List.{length-take-le}
-use Rattle.binlog_cli.proofs.WrittenTexts.{on_ok, appends_both}
-use Rattle.binlog_cli.specs.StatsText.{Writes, number_line}
+use Rattle.binlog_summaries.proofs.WrittenTexts.{on_ok, appends_both}
+use Rattle.binlog_summaries.specs.StatsText.{Writes, number_line}
 use Rattle.change_statistics.specs.Facts.{Name}
 use Rattle.change_statistics.specs.Transactions.{Seen, duration_of}
 use Rattle.change_statistics.specs.declared.event_counts.EventCounts.{EventCounts}

@@ -2,7 +2,7 @@
 use Rattle.std.specs.Prelude.{ℕ, ◌==◌, ◌&&◌, Bool, suc, zero, List, [], ◌++◌, codes, decimal, slice_index_or, if◌then◌else◌}
 use Rattle.json.specs.Token.{Token}
 use Rattle.json_line.specs.Tokens.{object}
-use Rattle.binlog_cli.specs.StatsText.{type_text}
+use Rattle.binlog_summaries.specs.StatsText.{type_text}
 use Rattle.change_statistics.specs.TypeCounting.{total}
 use Rattle.change_statistics.specs.declared.type_counts.TypeCounts.{TypeCounts}
 use Rattle.binlog_summaries.specs.JsonLines.{number_member, line_of}

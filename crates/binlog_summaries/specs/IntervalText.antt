@@ -1,7 +1,7 @@
 -- The text of statistics by time.
 use Rattle.std.specs.Prelude.{◌≡◌, ℕ, List, [], ◌∷◌, ◌++◌, codes, decimal}
 use Rattle.std.specs.BTreeMap.{btree_map_len}
-use Rattle.binlog_cli.specs.StatsText.{IsTime, number_line}
+use Rattle.binlog_summaries.specs.StatsText.{IsTime, number_line}
 use Rattle.change_statistics.specs.Intervals.{seconds_of}
 use Rattle.change_statistics.specs.declared.event_counts.EventCounts.{EventCounts}
 use Rattle.change_statistics.specs.declared.intervals.IntervalStats.{IntervalStats}

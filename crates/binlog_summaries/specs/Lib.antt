@@ -1,8 +1,11 @@
 pub mod Intervals
 pub mod Options
 pub mod Shown
+pub mod TallyText
+pub mod StatsText
 pub mod JsonLines
 pub mod TableText
+pub mod RowText
 pub mod TableJson
 pub mod IntervalJson
 pub mod IntervalText

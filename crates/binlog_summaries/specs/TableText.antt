@@ -1,6 +1,6 @@
 -- The text of statistics by table.
 use Rattle.std.specs.Prelude.{◌≡◌, ℕ, List, [], ◌∷◌, ◌++◌, length, codes, decimal, Option, Some, None}
-use Rattle.binlog_cli.specs.StatsText.{IsTime, number_line}
+use Rattle.binlog_summaries.specs.StatsText.{IsTime, number_line}
 use Rattle.change_statistics.specs.declared.table_counts.TableCounts.{TableCounts}
 use Rattle.change_statistics.specs.declared.table_counts.UnknownRows.{UnknownRows}
 use Rattle.change_statistics.specs.declared.table_name.TableName.{TableName}

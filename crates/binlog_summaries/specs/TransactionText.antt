@@ -1,6 +1,6 @@
 -- The text of statistics by transaction.
 use Rattle.std.specs.Prelude.{◌≡◌, ℕ, ◌+◌, ◌/◌, ◌^◌, ◌==◌, List, [], ◌∷◌, ◌++◌, flat_map, codes, decimal, Option, Some, None, if◌then◌else◌}
-use Rattle.binlog_cli.specs.StatsText.{number_line}
+use Rattle.binlog_summaries.specs.StatsText.{number_line}
 use Rattle.change_statistics.specs.Facts.{Name}
 use Rattle.change_statistics.specs.Transactions.{Seen, duration_of}
 use Rattle.change_statistics.specs.declared.event_counts.EventCounts.{EventCounts}

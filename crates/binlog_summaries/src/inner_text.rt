@@ -1,7 +1,7 @@
 //! The text of statistics by type of the events inside compressed transactions.
 ghost use Rattle.std.specs.Io.KnownBytes.{Appends};
 ghost use Rattle.std.specs.Prelude.{◌≡◌, ◌++◌, OnOk};
-ghost use Rattle.binlog_cli.specs.StatsText.{type_text};
+ghost use Rattle.binlog_summaries.specs.StatsText.{type_text};
 ghost use Rattle.binlog_summaries.specs.InnerTypes.{head_line, inner_text, is_empty, row_of, rows_below};
 
 use binlog_event_types::name_of_number;
@@ -28,7 +28,7 @@ pub(crate) fn is_empty(counts: &TypeCounts) -> bool
 }
 
 // Writes the line of all types, and the rows of the types.
-#[tactic(auto, using(binlog_cli::proofs::WrittenTexts::appends_both))]
+#[tactic(auto, using(crate::proofs::WrittenTexts::appends_both))]
 fn write_lines<W: Write>(counts: &TypeCounts, output: &mut W) -> io::Result<()>
     ensures { OnOk result (Appends (W.contents output.old) (W.contents output.new) (head_line counts.now ++ rows_below 256 counts.now)) }
 {
@@ -78,7 +78,7 @@ fn write_row<W: Write>(number: u8, events: u64, bytes: u64, output: &mut W) -> i
 }
 
 // Writes the name of a type, or its number.
-#[tactic(auto, unfolding(binlog_cli::specs::StatsText::type_text))]
+#[tactic(auto, unfolding(crate::specs::StatsText::type_text))]
 fn write_type<W: Write>(number: u8, output: &mut W) -> io::Result<()>
     ensures { OnOk result (Appends (W.contents output.old) (W.contents output.new) (type_text number)) }
 {

@@ -1,11 +1,11 @@
 //! The text of statistics by time.
 ghost use Rattle.std.specs.Io.KnownBytes.{Appends};
 ghost use Rattle.std.specs.Prelude.{◌≡◌, OnOk};
-ghost use Rattle.binlog_cli.specs.StatsText.{Writes};
+ghost use Rattle.binlog_summaries.specs.StatsText.{Writes};
 ghost use Rattle.binlog_summaries.specs.IntervalText.{IsStart, counts_text, IsIntervalLine, AreIntervalLines, intervals_head, IsIntervalsText};
 
+use crate::stats_text::datetime_of;
 use crate::table_text::write_number;
-use binlog_cli::datetime_of;
 use change_statistics::{EventCounts, IntervalStats};
 use std::io;
 use std::io::Write;

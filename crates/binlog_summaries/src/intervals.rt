@@ -12,8 +12,9 @@ pub(crate) fn interval_named(name: &str) -> Option<u32>
     }
 }
 
-// The seconds of a length: a whole number and the letter of its unit.
-fn seconds_in(length: &str) -> Option<u32>
+/// The seconds of a length of time: a whole number and the letter of its unit, as 60s, 5m or 1h; None if it isn't one, or has no seconds, or
+/// 2^32 or more.
+pub fn seconds_in(length: &str) -> Option<u32>
     ensures { MatchOption result ((seconds : ℕ) → ¬ (IsLength length.now seconds)) (λ seconds. IsLength length.now seconds) }
 {
     seconds_with(length, "s", 1)

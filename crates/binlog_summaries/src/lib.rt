@@ -1,4 +1,4 @@
-//! What `binlog stats` is asked for, and the texts and the lines of JSON of statistics.
+//! What `binlog stats` is asked for, and the texts and the lines of JSON of statistics; the line of `binlog verify`.
 #![tactic(auto)]
 
 mod inner_json;
@@ -8,6 +8,8 @@ mod interval_text;
 mod intervals;
 mod json_lines;
 mod options;
+mod row_text;
+mod stats_text;
 mod table_json;
 mod table_text;
 mod transaction_json;
@@ -18,7 +20,10 @@ pub use inner_json::write_inner_types_json;
 pub use inner_text::write_inner_types;
 pub use interval_json::write_intervals_json;
 pub use interval_text::write_intervals;
+pub use intervals::seconds_in;
 pub use options::{Grouping, StatsOptions, stats_options};
+pub use row_text::write_table_rows;
+pub use stats_text::{write_stats, write_tally};
 pub use table_json::write_tables_json;
 pub use table_text::write_tables;
 pub use transaction_json::write_transactions_json;

@@ -34,7 +34,7 @@ pub fn write_tables_json<W: Write>(
 }
 
 // Writes the line of all tables, and those of the tables that are shown.
-#[tactic(auto, using(binlog_cli::proofs::WrittenTexts::appends_both))]
+#[tactic(auto, using(crate::proofs::WrittenTexts::appends_both))]
 fn write_objects<W: Write>(
     line: &mut Line,
     stats: &TableStats,

@@ -1,11 +1,11 @@
 //! The text of statistics by table.
 ghost use Rattle.std.specs.Io.KnownBytes.{Appends};
 ghost use Rattle.std.specs.Prelude.{◌≡◌, ◌<◌, ◌≤◌, IfSome, OnOk, Some, length, slice_get, take};
-ghost use Rattle.binlog_cli.specs.StatsText.{Writes, number_line};
+ghost use Rattle.binlog_summaries.specs.StatsText.{Writes, number_line};
 ghost use Rattle.binlog_summaries.specs.Shown.{shown, shown_count, name_text};
 ghost use Rattle.binlog_summaries.specs.TableText.{IsTimeOf, counts_text, names_text, IsTableLine, AreTableLines, tables_head, unknown_line, IsTablesText};
 
-use binlog_cli::datetime_of;
+use crate::stats_text::datetime_of;
 use change_statistics::{TableCounts, TableName, TableStats, UnknownRows};
 use std::io::Write;
 use std::{io, str};
@@ -99,8 +99,8 @@ fn write_table<W: Write>(name: &TableName, counts: &TableCounts, output: &mut W)
     writeln!(output, "")
 }
 
-// Writes the names of a table.
-fn write_names<W: Write>(name: &TableName, output: &mut W) -> io::Result<()>
+/// Writes the names of a table.
+pub(crate) fn write_names<W: Write>(name: &TableName, output: &mut W) -> io::Result<()>
     ensures { OnOk result (Appends (W.contents output.old) (W.contents output.new) (names_text name.now)) }
 {
     let database = name_text(&name.database);

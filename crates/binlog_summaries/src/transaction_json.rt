@@ -34,7 +34,7 @@ pub fn write_transactions_json<W: Write>(
 }
 
 // Writes the line of all transactions, and those of the largest.
-#[tactic(auto, using(binlog_cli::proofs::WrittenTexts::appends_both))]
+#[tactic(auto, using(crate::proofs::WrittenTexts::appends_both))]
 fn write_objects<W: Write>(
     line: &mut Line,
     stats: &TransactionStats,

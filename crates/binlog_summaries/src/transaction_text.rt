@@ -1,7 +1,7 @@
 //! The text of statistics by transaction.
 ghost use Rattle.std.specs.Io.KnownBytes.{Appends};
 ghost use Rattle.std.specs.Prelude.{◌≡◌, ◌<◌, IfSome, OnOk, Some, length, slice_get, flat_map};
-ghost use Rattle.binlog_cli.specs.StatsText.{Writes};
+ghost use Rattle.binlog_summaries.specs.StatsText.{Writes};
 ghost use Rattle.change_statistics.specs.Names.{name_of};
 ghost use Rattle.change_statistics.specs.Transactions.{seen_by};
 ghost use Rattle.binlog_summaries.specs.TransactionText.{smallest_of, class_line, size_line, size_lines, places_text, gtid_text, counts_text, duration_text, table_names, table_line, IsTransactionLine, IsTransactionText, AreTransactionTexts, IsTransactionsText};

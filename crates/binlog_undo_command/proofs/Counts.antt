@@ -1,5 +1,5 @@
 -- The counts of several logs.
-use Rattle.std.proofs.Common.{◌≡◌, ℕ, ◌+◌, ◌<◌, List, ◌++◌, length, take, get_or, Option, codes, decimal, append_assoc, sym, subst}
+use Rattle.std.proofs.Common.{◌≡◌, ℕ, ◌+◌, ◌<◌, List, ◌++◌, length, take, get_or, Option, codes, decimal, append_assoc, sym, subst, Result, Ok, Err, OnOk}
 use Rattle.std.proofs.lemmas.List.Sums.{sum_by_more}
 use Rattle.std.specs.Io.KnownBytes.{Appends}
 use Rattle.binlog_undo_command.specs.Undoing.{transactions_in, changes_in}
@@ -23,3 +23,7 @@ pub line_appended : (old new : Option (List ℕ)) (transactions changes : ℕ) �
     → Appends old new (codes "transactions " ++ decimal transactions ++ codes ", row events " ++ decimal changes ++ codes "\n")
 line_appended old new transactions changes appended =
     subst (λ (text : List ℕ). Appends old new text) (simp append_assoc) appended
+
+pub on_any : {T E : Type 0} (result : Result T E) (P : Type 0) → P → OnOk result P
+on_any (Ok value) P fact = fact
+on_any (Err error) P fact = tt

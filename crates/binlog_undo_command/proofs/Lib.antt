@@ -1,6 +1,7 @@
 mod Words
 mod Counts
 mod Scans
+mod RowCounts
 mod LogsSoFar
 mod LogsWritten
 mod UndoneLogs

@@ -12,7 +12,7 @@ use Rattle.binlog_undo_index.specs.declared.places.TransactionPlace.{Transaction
 use Rattle.binlog_undo_log.specs.declared.one_transaction.Commit.{Commit}
 use Rattle.binlog_undo_log.specs.declared.output.UndoOutput.{UndoOutput}
 
-drop_at : (logs : List ScannedLog) (i : ℕ) (none : ScannedLog) → i < length logs → drop i logs ≡ get_or logs i none ∷ drop (suc i) logs
+pub drop_at : (logs : List ScannedLog) (i : ℕ) (none : ScannedLog) → i < length logs → drop i logs ≡ get_or logs i none ∷ drop (suc i) logs
 drop_at [] i none within = absurd (omega (arith, within))
 drop_at (log ∷ logs) zero none within = refl
 drop_at (log ∷ logs) (suc i) none within = drop_at logs i none (omega (arith, within))

@@ -4,5 +4,6 @@ pub mod Options
 pub mod Scanned
 pub mod Descriptions
 pub mod Written
+pub mod RowCounts
 pub mod Undoing
 pub mod UndoneLogs

@@ -1,15 +1,18 @@
 -- What `binlog undo` makes of its logs.
-use Rattle.std.specs.Prelude.{◌≡◌, ◌⊎◌, ℕ, Bool, true, ◌-◌, ◌^◌, min, List, ◌++◌, length, sum_by, Option, codes, decimal}
+use Rattle.std.specs.Prelude.{◌≡◌, ◌⊎◌, ℕ, Bool, true, ◌-◌, ◌^◌, min, List, ◌++◌, length, sum_by, flat_map, Option, codes, decimal}
 use Rattle.std.specs.Io.KnownBytes.{Appends}
 use Rattle.clap.specs.declared.parser.matches.Found.{Found}
 use Rattle.clap.specs.Matches.{one_text}
 use Rattle.binlog_cli.specs.TableWords.{texts_given}
+use Rattle.binlog_summaries.specs.RowText.{rows_line}
 use Rattle.binlog_undo_command.specs.Descriptions.{HaveOneDescription, HaveDescriptions}
 use Rattle.binlog_undo_command.specs.Options.{StatesFlag}
+use Rattle.binlog_undo_command.specs.RowCounts.{CountsRows}
 use Rattle.binlog_undo_command.specs.Scanned.{AreUndone, HasRefused}
 use Rattle.binlog_undo_command.specs.Written.{WritesLog}
 use Rattle.binlog_undo_command.specs.declared.scanning.ScannedLog.{ScannedLog}
 use Rattle.binlog_undo_index.specs.Parts.{parts_of}
+use Rattle.change_statistics.specs.declared.tables.TableStats.{TableStats}
 
 -- How many transactions of logs are undone, and how many row events.
 abbrev pub transactions_in : List ScannedLog → ℕ
@@ -41,13 +44,16 @@ pub record HaveOtherDescriptions {F : Type 0} (bytes : List ℕ → Option (List
 abbrev pub IsRefusedAs : {F : Type 0} → (List ℕ → Option (List ℕ)) → (List ℕ → F → Type 0) → (F → ℕ → List ℕ → Type 0) → Found → Type 0
 IsRefusedAs bytes has_frames is_at found = HasRefused bytes found (texts_given found (codes "FILE")) ⊎ HaveOtherDescriptions bytes has_frames is_at found
 
--- Nothing is refused in the logs that the words name, and their counts are written. `bytes` are those of the log of a name.
+-- Nothing is refused in the logs that the words name, and their counts are written, those of their tables too. `bytes` are those of the
+-- log of a name.
 pub record CountsLogs {F : Type 0} (bytes : List ℕ → Option (List ℕ)) (has_frames : List ℕ → F → Type 0) (is_at : F → ℕ → List ℕ → Type 0) (found : Found)
     (old new : Option (List ℕ)) : Type 0 where
   pub is_one : Bool
   pub logs : List ScannedLog
   pub undone : AreUndoneAs bytes has_frames is_at found is_one logs
-  pub counts : Appends old new (counts_line logs)
+  pub stats : TableStats
+  pub rows : CountsRows has_frames is_at logs stats
+  pub counts : Appends old new (counts_line logs ++ flat_map rows_line stats.tables.entries)
 
 -- A file has the log that undoes these logs, and nothing in front of it. `is_fresh` says which bytes it is begun with, and `has` which
 -- bytes it has.

@@ -9,6 +9,7 @@ mod logs;
 mod new_file;
 mod options;
 mod reasons;
+mod row_counts;
 mod running;
 mod scanning;
 mod undoing;

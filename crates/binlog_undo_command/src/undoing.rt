@@ -1,9 +1,10 @@
 //! Both passes over several logs.
-ghost use Rattle.std.specs.Prelude.{◌≡◌, ◌≢◌, false, true, min, ◌^◌, ◌-◌, codes, IfErr, IfOk, OnOk};
+ghost use Rattle.std.specs.Prelude.{◌≡◌, ◌≢◌, false, true, min, ◌^◌, ◌-◌, ◌++◌, flat_map, codes, IfErr, IfOk, OnOk};
 ghost use Rattle.std.specs.Io.KnownBytes.{Appends};
 ghost use Rattle.clap.specs.Matches.{found_of, one_text};
 ghost use Rattle.binlog_cli.specs.TableWords.{texts_given};
 ghost use Rattle.binlog_cli.specs.declared.exit_status.Status.TheVariants.{Fine, Damaged, Failed, Usage};
+ghost use Rattle.binlog_summaries.specs.RowText.{rows_line};
 ghost use Rattle.binlog_undo_command.specs.Options.{RefusesOptions, StatesFlag};
 ghost use Rattle.binlog_undo_command.specs.Scanned.{AreUndone, HasRefused};
 ghost use Rattle.binlog_undo_command.specs.Undoing.{transactions_in, changes_in, counts_line, AreUndoneAs, IsRefusedAs, CountsLogs, PutsLog, Undoes};
@@ -12,10 +13,13 @@ use crate::descriptions::check_descriptions;
 use crate::logs::Logs;
 use crate::new_file::NewFile;
 use crate::options::is_one_transaction;
+use crate::row_counts::count_rows;
 use crate::scanning::{ScannedLog, scan_logs};
 use crate::writing::write_log;
 use binlog_cli::Status;
 use binlog_file::{Counted, Retrying, WriteCounted};
+use binlog_summaries::write_table_rows;
+use change_statistics::TableStats;
 use clap::ArgMatches;
 use std::io;
 use std::io::{BufWriter, Write};
@@ -46,7 +50,8 @@ pub fn undo<'a, L: Logs, T: NewFile, R: Eprint + AllocGlobal, W: Write>(
     }
 }
 
-/// Writes how many transactions and row events are undone, or names what can't be. If something is refused nothing is written.
+/// Writes how many transactions and row events are undone, and a line for each table, or names what can't be undone. If something is
+/// refused nothing is written.
 pub fn count_undo<'a, L: Logs, R: Eprint + AllocGlobal, W: Write>(
     rt: &R,
     logs: &L,
@@ -59,9 +64,35 @@ pub fn count_undo<'a, L: Logs, R: Eprint + AllocGlobal, W: Write>(
     ensures usage { result ≡ Usage → RefusesOptions (found_of options.now) Usage }
 {
     let is_one = is_one_transaction(options);
-    match count_logs(rt, logs, options, is_one, writer) {
-        Ok(_) => Status::Fine,
+    match count_tables(rt, logs, options, is_one, writer) {
+        Ok(()) => Status::Fine,
         Err(status) => status,
+    }
+}
+
+// The first pass over all logs. Behind it their rows are counted, and the counts are written.
+fn count_tables<L: Logs, R: Eprint + AllocGlobal, W: Write>(
+    rt: &R,
+    logs: &L,
+    options: &ArgMatches<'_>,
+    is_one: bool,
+    writer: &mut W,
+) -> Result<(), Status>
+    requires one { StatesFlag (one_text (found_of options.now) (codes "one-transaction")) is_one }
+    ensures ok { OnOk result (CountsLogs (L.bytes logs.now) (L.has_frames logs.now) L.Sought.is_at (found_of options.now) (W.contents writer.old) (W.contents writer.new)) }
+    ensures err { IfErr result (λ status. status ≢ Fine) }
+    ensures silent { IfErr result (λ status. status ≢ Failed → W.contents writer.new ≡ W.contents writer.old) }
+    ensures refused { IfErr result (λ status. status ≡ Damaged → IsRefusedAs (L.bytes logs.now) (L.has_frames logs.now) L.Sought.is_at (found_of options.now)) }
+    ensures usage { IfErr result (λ status. status ≡ Usage → RefusesOptions (found_of options.now) Usage) }
+{
+    let scanned = scan_as(rt, logs, options, is_one)?;
+    let rows = count_rows(rt, logs, scanned.as_slice())?;
+    match write_rows(scanned.as_slice(), rows.stats(), writer) {
+        Ok(()) => Ok(()),
+        Err(error) => {
+            let _ = eprintln!(rt; "binlog: the output: {error}");
+            Err(Status::Failed)
+        }
     }
 }
 
@@ -159,6 +190,26 @@ fn write_counts<W: Write>(scanned: &[ScannedLog<'_>], writer: &mut W) -> io::Res
     let changes = changes_in(scanned);
     writeln!(writer, "transactions {transactions}, row events {changes}")?;
     writer.flush()
+}
+
+// Writes the line of the counts, and those of the tables.
+fn write_rows<W: Write>(
+    scanned: &[ScannedLog<'_>],
+    stats: &TableStats,
+    writer: &mut W,
+) -> io::Result<()>
+    ensures { OnOk result (Appends (W.contents writer.old) (W.contents writer.new) (counts_line scanned.now ++ flat_map rows_line stats.now.tables.entries)) }
+{
+    write_counts(scanned, writer)?;
+    write_table_lines(stats, writer)?;
+    writer.flush()
+}
+
+// Writes the lines of the tables.
+fn write_table_lines<W: Write>(stats: &TableStats, writer: &mut W) -> io::Result<()>
+    ensures { OnOk result (Appends (W.contents writer.old) (W.contents writer.new) (flat_map rows_line stats.now.tables.entries)) }
+{
+    write_table_rows(stats, writer)
 }
 
 // Writes the log that undoes these logs into a file. It is there if the status is `Fine`.

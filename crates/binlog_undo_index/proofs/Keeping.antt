@@ -26,7 +26,7 @@ counted_more : (skips : Skips) (found : Option Refused) (events : List Told) (ne
 counted_more skips found [] next = refl
 counted_more skips found (event ∷ events) next = counted_more skips (counted_behind skips found event) events next
 
-end_more : (end : ℕ) (events : List Told) (next : Told) → end_of end (events ++ next ∷ []) ≡ next.event.end
+pub end_more : (end : ℕ) (events : List Told) (next : Told) → end_of end (events ++ next ∷ []) ≡ next.event.end
 end_more end [] next = refl
 end_more end (event ∷ events) next = end_more event.event.end events next
 
@@ -38,9 +38,9 @@ open_more skips (event ∷ events) next =
     ∙ ap (λ (end : ℕ). let b : Begun = record (open_at event.event) { end = end; refused = counted_behind skips (counted_in skips None (event ∷ events)) next } in Some b) (end_more event.event.end events next)
 
 maps_more : (maps : List (ℕ × ℕ)) (events : List Told) (next : Told)
-    → maps_in maps (events ++ next ∷ []) ≡ with_map_at next.event.table_id next.event.place (maps_in maps events)
+    → maps_in maps (events ++ next ∷ []) ≡ with_map_at next.event.table_id next.event.read_at (maps_in maps events)
 maps_more maps [] next = refl
-maps_more maps (event ∷ events) next = maps_more (with_map_at event.event.table_id event.event.place maps) events next
+maps_more maps (event ∷ events) next = maps_more (with_map_at event.event.table_id event.event.read_at maps) events next
 
 changes_more : (events : List Told) (next : Told) → changes_in (events ++ next ∷ []) ≡ changes_in events ++ change_list next.event.change
 changes_more events next =
@@ -70,7 +70,7 @@ same_ended parts changes more transactions others refusals found c t r =
 added_is : (rules : Rules) (groups : List Group) (begun : List Told) (next : Told)
     → added next.event next.turn.refusal (parts_for rules groups begun) ≡ parts_for rules groups (begun ++ next ∷ [])
 added_is rules groups begun next =
-    same_open (parts_for rules groups begun) (with_map_at next.event.table_id next.event.place (maps_in [] begun)) (maps_in [] (begun ++ next ∷ []))
+    same_open (parts_for rules groups begun) (with_map_at next.event.table_id next.event.read_at (maps_in [] begun)) (maps_in [] (begun ++ next ∷ []))
     (Some (begun_behind rules.skips next.event next.turn.refusal (opened next.event (open_of rules.skips begun)))) (open_of rules.skips (begun ++ next ∷ []))
     (changes_in begun ++ change_list next.event.change) (changes_in (begun ++ next ∷ [])) (sym (maps_more [] begun next)) (sym (open_more rules.skips begun next))
     (sym (changes_more begun next))

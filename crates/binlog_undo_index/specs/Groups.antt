@@ -252,4 +252,4 @@ with_map_at (Some id) place maps = insert_entry nat_cmp maps id place
 
 abbrev pub maps_in : List (ℕ × ℕ) → List Told → List (ℕ × ℕ)
 maps_in maps [] = maps
-maps_in maps (told ∷ others) = maps_in (with_map_at told.event.table_id told.event.place maps) others
+maps_in maps (told ∷ others) = maps_in (with_map_at told.event.table_id told.event.read_at maps) others

@@ -3,3 +3,4 @@ pub mod Skips
 pub mod Groups
 pub mod Parts
 pub mod Index
+pub mod RowTransactions

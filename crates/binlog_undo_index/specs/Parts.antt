@@ -62,7 +62,7 @@ abbrev pub with_event : SeenEvent → Option Refusal → Parts → Parts
 with_event event refusal parts = record parts { begun = Some (begun_behind parts.rules.skips event refusal (opened event parts.begun)) }
 
 abbrev pub with_map : SeenEvent → Parts → Parts
-with_map event parts = record parts { maps = with_map_at event.table_id event.place parts.maps }
+with_map event parts = record parts { maps = with_map_at event.table_id event.read_at parts.maps }
 
 abbrev pub with_change : SeenEvent → Parts → Parts
 with_change event parts = record parts { open_changes = parts.open_changes ++ change_list event.change }

@@ -1,5 +1,5 @@
 //! The places that are kept of the transactions that are undone.
-ghost use Rattle.std.specs.Prelude.{◌≡◌, None, false, OnOk, is_some};
+ghost use Rattle.std.specs.Prelude.{◌≡◌, ◌==◌, None, false, OnOk, is_some, length};
 ghost use Rattle.std.specs.Ordering.{nat_cmp};
 ghost use Rattle.std.specs.BTreeMap.{get};
 ghost use Rattle.binlog_transactions.specs.Pieces.{step};
@@ -73,6 +73,13 @@ impl UndoIndex {
         ensures { result ≡ get nat_cmp self.now.maps table_id }
     {
         self.maps.get(&table_id).copied()
+    }
+
+    /// Whether no row event is undone so far of the transaction that is read, if there is one.
+    pub fn has_no_change(&self) -> bool
+        ensures { result ≡ (length (parts_of self.now).open_changes == 0) }
+    {
+        self.open_changes.is_empty()
     }
 
     /// Whether a transaction is read that has begun and not ended.
@@ -159,7 +166,7 @@ impl UndoIndex {
         ensures automaton { OnOk result (self.new.automaton.current ≡ self.old.automaton.current) }
     {
         if let Some(table_id) = event.table_id {
-            self.maps.insert(table_id, event.place)?;
+            self.maps.insert(table_id, event.read_at)?;
         }
         Ok(())
     }

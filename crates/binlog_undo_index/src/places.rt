@@ -1,6 +1,7 @@
 //! Places in a file.
 
-/// Where a row event that is undone is in its file. A place is the number of bytes in front of an event.
+/// Where a row event that is undone is in its file, or in the content of the compressed transaction that it is in. A place is the number of
+/// bytes in front of an event.
 #[derive(Clone, Copy, Debug, PartialEq, Eq)]
 pub struct ChangePlace {
     /// The place of its table map.

@@ -12,6 +12,9 @@ pub struct SeenEvent {
     pub place: u64,
     /// Where it ends in its file: the place of the byte behind it.
     pub end: u64,
+    /// Where it begins in what it is read from, in bytes: in its file, or in the content of a compressed transaction. An event of a
+    /// content is in its file where the compressed transaction is.
+    pub read_at: u64,
     /// What it is to the transactions of its log.
     pub mark: Mark,
     /// The id of its table, if it is a table map.

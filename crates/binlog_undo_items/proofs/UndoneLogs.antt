@@ -12,7 +12,7 @@ use Rattle.binlog_undo_items.specs.Written.{WritesLogs}
 use Rattle.binlog_undo_items.specs.declared.request.UndoRequest.{UndoRequest}
 use Rattle.binlog_undo_items.specs.declared.scanning.ScannedLog.{ScannedLog}
 use Rattle.binlog_undo_log.proofs.FileChanges.{file_undone}
-use Rattle.binlog_undo_log.specs.FileChanges.{IsFrameIn}
+use Rattle.binlog_undo_log.specs.Places.{IsFrameIn}
 use Rattle.binlog_undo_log.specs.declared.output.UndoOutput.{UndoOutput}
 
 -- Each log is shorter than this.

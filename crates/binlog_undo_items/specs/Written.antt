@@ -6,7 +6,7 @@ use Rattle.binlog_undo_index.specs.Parts.{parts_of}
 use Rattle.binlog_undo_items.specs.Options.{is_one}
 use Rattle.binlog_undo_items.specs.declared.options.BinlogUndoOptions.{BinlogUndoOptions}
 use Rattle.binlog_undo_items.specs.declared.scanning.ScannedLog.{ScannedLog}
-use Rattle.binlog_undo_log.specs.FileChanges.{IsFrameIn}
+use Rattle.binlog_undo_log.specs.Places.{IsFrameIn}
 use Rattle.binlog_undo_log.specs.Files.{WritesFile}
 use Rattle.binlog_undo_log.specs.OneTransaction.{BeginsOne}
 use Rattle.binlog_undo_log.specs.Output.{Pushes}

@@ -5,7 +5,6 @@
 #![tactic(auto)]
 
 mod failure;
-mod frames;
 pub mod laws;
 mod options;
 mod refusals;
@@ -17,7 +16,6 @@ mod undoing;
 mod writing;
 
 pub use failure::UndoFailure;
-pub use frames::SliceFrames;
 pub use options::BinlogUndoOptions;
 pub use refusals::BinlogRefusal;
 pub use request::UndoRequest;

@@ -5,11 +5,10 @@ ghost use Rattle.binlog_undo_items.specs.Options.{is_one};
 ghost use Rattle.binlog_undo_items.specs.Written.{AreAllKept, IsLastUndone, MakesLog, WritesAs, WritesAsOne, WritesLogs, WritesOne};
 
 use crate::failure::UndoFailure;
-use crate::frames::SliceFrames;
 use crate::options::BinlogUndoOptions;
 use crate::scanning::ScannedLog;
 use binlog_file::{BinlogFileHeader, Counted, WriteCounted};
-use binlog_undo_log::{UndoLogError, UndoOutput, begin_one, write_file};
+use binlog_undo_log::{SliceFrames, UndoLogError, UndoOutput, begin_one, write_file};
 use std::alloc::Global;
 
 // Writes what undoes a log.

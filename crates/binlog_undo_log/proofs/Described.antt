@@ -14,7 +14,8 @@ use Rattle.binlog_undo_log.proofs.Undone.{AreAmong, all_from}
 use Rattle.binlog_undo_log.specs.Descriptions.{DescribesOnce}
 use Rattle.binlog_undo_log.specs.Files.{IsDescribed, WritesDescribed, WritesIfAny}
 use Rattle.binlog_undo_log.specs.Output.{GrowsBy}
-use Rattle.binlog_undo_log.specs.Undoing.{FramesOf, HasRightChecksum, IsEventAt, UndoesAll}
+use Rattle.binlog_undo_log.specs.Places.{FramesOf}
+use Rattle.binlog_undo_log.specs.Undoing.{HasRightChecksum, IsEventAt, UndoesAll}
 use Rattle.binlog_undo_log.specs.declared.output.UndoOutput.{UndoOutput}
 use Rattle.binlog_undo_log.specs.declared.undo_error.UndoLogError.{UndoLogError}
 

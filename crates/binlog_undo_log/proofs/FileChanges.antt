@@ -12,9 +12,11 @@ use Rattle.binlog_undo_log.proofs.Placed.{file_placed}
 use Rattle.binlog_undo_log.proofs.Scanned.{file_scanned}
 use Rattle.binlog_undo_log.proofs.Undone.{AreAmong, event_from, all_from, kept_are_undone}
 use Rattle.binlog_undo_log.specs.Choices.{rules_of}
-use Rattle.binlog_undo_log.specs.FileChanges.{IsFrameIn, AreFramesOf, undone_of, WritesInverse, WritesInverseIfAny, UndoesFile}
+use Rattle.binlog_undo_log.specs.FileChanges.{AreFramesOf, undone_of, WritesInverse, WritesInverseIfAny, UndoesFile}
+use Rattle.binlog_undo_log.specs.Places.{IsFrameIn}
 use Rattle.binlog_undo_log.specs.Files.{IsFresh, ScansWhole, AreSkipped, IsScanned, WritesDescribed, WritesAt, WritesIfAny, WritesFile}
-use Rattle.binlog_undo_log.specs.Undoing.{FramesOf, UndoesKept}
+use Rattle.binlog_undo_log.specs.Places.{FramesOf}
+use Rattle.binlog_undo_log.specs.Undoing.{UndoesKept}
 use Rattle.binlog_undo_log.specs.declared.choice.Choice.{Choice}
 use Rattle.binlog_undo_log.specs.declared.output.UndoOutput.{UndoOutput}
 use Rattle.binlog_undo_log.specs.declared.scan.UndoScan.{UndoScan}

@@ -10,7 +10,8 @@ use Rattle.binlog_undo_log.proofs.Undone.{AreAmong}
 use Rattle.binlog_undo_log.specs.Descriptions.{DescribesOnce}
 use Rattle.binlog_undo_log.specs.Files.{IsDescribed}
 use Rattle.binlog_undo_log.specs.OneTransaction.{BeginsBy, BeginsUnder}
-use Rattle.binlog_undo_log.specs.Undoing.{FramesOf, HasRightChecksum}
+use Rattle.binlog_undo_log.specs.Places.{FramesOf}
+use Rattle.binlog_undo_log.specs.Undoing.{HasRightChecksum}
 use Rattle.binlog_undo_log.specs.declared.one_transaction.Commit.{Commit}
 use Rattle.binlog_undo_log.specs.declared.output.UndoOutput.{UndoOutput}
 

@@ -1,5 +1,5 @@
 -- The steps of the second pass.
-use Rattle.std.proofs.Common.{◌≡◌, ℕ, List, [], ◌∷◌, ◌++◌, length, Option, Some, Result, Ok, Err, OnOk, refl, ◌∙◌, ap, subst, append_assoc}
+use Rattle.std.proofs.Common.{◌≡◌, inl, inr, ℕ, List, [], ◌∷◌, ◌++◌, length, Option, Some, None, Result, Ok, Err, OnOk, refl, ◌∙◌, ap, subst, append_assoc}
 use Rattle.binlog_event_format.specs.Headers.{header_of}
 use Rattle.binlog_event_format.specs.declared.format_description.FormatDescriptionEvent.{FormatDescriptionEvent}
 use Rattle.binlog_events.specs.Events.{EventView, event_at}
@@ -7,9 +7,15 @@ use Rattle.binlog_undo.specs.declared.inverse_event.ForeignKeyChecks.{ForeignKey
 use Rattle.binlog_undo_index.specs.declared.places.ChangePlace.{ChangePlace}
 use Rattle.binlog_undo_index.specs.declared.places.TransactionPlace.{TransactionPlace}
 use Rattle.binlog_undo_log.proofs.Grown.{grows_nothing, grows_over}
-use Rattle.binlog_undo_log.proofs.Undone.{AreAmong, change_from, changes_from, transaction_from}
+use Rattle.binlog_undo_log.proofs.Undone.{AreAmong, change_from, own_from, transaction_from}
 use Rattle.binlog_undo_log.specs.Output.{Grows, GrowsBy}
-use Rattle.binlog_undo_log.specs.Undoing.{FramesOf, begin_event, commit_event, IsEventAt, HasRightChecksum, ReadsXid, UndoesChange, UndoesChanges, UndoesTransaction, UndoesAll}
+use Rattle.binlog_payloads.specs.Contents.{content_of}
+use Rattle.binlog_payloads.specs.Events.{payload_in}
+use Rattle.binlog_payloads.specs.Fields.{Payload}
+use Rattle.binlog_payloads.specs.InnerEvents.{inner_fde}
+use Rattle.binlog_undo_log.specs.Compressed.{most_bytes}
+use Rattle.binlog_undo_log.specs.Places.{FramesOf, IsFrameIn}
+use Rattle.binlog_undo_log.specs.Undoing.{begin_event, commit_event, IsEventAt, HasRightChecksum, ReadsXid, UndoesChange, UndoesChanges, UndoesInside, UndoesOwn, UndoesTransaction, UndoesAll}
 use Rattle.binlog_event_format.specs.declared.header.BinlogEventHeader.{BinlogEventHeader}
 use Rattle.binlog_undo_log.specs.declared.undo_error.UndoLogError.{UndoLogError}
 use Rattle.binlog_undo_log.specs.declared.output.UndoOutput.{UndoOutput}
@@ -34,7 +40,7 @@ module _ {W : Type 0} (contents : W → Option (List ℕ)) (is_at now : FramesOf
 
   pub one_transaction : (last : ℕ) (changes : List ChangePlace) (frame : List ℕ) (event : EventView) (xid : ℕ) (old first mid new : UndoOutput W)
       → is_at last frame → event_at fde frame ≡ Some event → HasRightChecksum event → ReadsXid event xid → Grows contents (begin_event (header_of event.frame) ∷ []) old first
-      → GrowsBy contents (UndoesChanges now fde checks changes) first mid → Grows contents (commit_event (header_of event.frame) xid ∷ []) mid new
+      → GrowsBy contents (UndoesOwn now fde checks event changes) first mid → Grows contents (commit_event (header_of event.frame) xid ∷ []) mid new
       → GrowsBy contents (UndoesTransaction is_at fde checks last changes) old new
   one_transaction last changes frame event xid old first mid new at is right reads begun h ended =
       let begin : List Event = begin_event (header_of event.frame) ∷ [] in
@@ -46,7 +52,7 @@ module _ {W : Type 0} (contents : W → Option (List ℕ)) (is_at now : FramesOf
         xid = xid;
         reads = reads;
         undone = h.0;
-        undoes = changes_from now is_at among fde checks changes h.0 h.1;
+        undoes = own_from now is_at among fde checks event changes h.0 h.1;
         are = refl;
       } in
       (begin ++ h.0 ++ commit, undone, grows_over contents begin (h.0 ++ commit) old first new begun (grows_over contents h.0 commit first mid new h.2 ended))
@@ -54,7 +60,7 @@ module _ {W : Type 0} (contents : W → Option (List ℕ)) (is_at now : FramesOf
   -- The same for the answer of the XID. The header is that of the last event.
   pub transaction_if : (answer : Result (Unit {0}) UndoLogError) (last : ℕ) (changes : List ChangePlace) (frame : List ℕ) (event : EventView) (header : BinlogEventHeader) (xid : ℕ)
       (old first mid new : UndoOutput W) → is_at last frame → event_at fde frame ≡ Some event → HasRightChecksum event → header ≡ header_of event.frame → ReadsXid event xid
-      → Grows contents (begin_event header ∷ []) old first → GrowsBy contents (UndoesChanges now fde checks changes) first mid
+      → Grows contents (begin_event header ∷ []) old first → GrowsBy contents (UndoesOwn now fde checks event changes) first mid
       → OnOk answer (Grows contents (commit_event header xid ∷ []) mid new) → OnOk answer (GrowsBy contents (UndoesTransaction is_at fde checks last changes) old new)
   transaction_if (Ok done) last changes frame event header xid old first mid new at is right head reads begun h ended =
       one_transaction last changes frame event xid old first mid new at is right reads (subst (λ (x : BinlogEventHeader). Grows contents (begin_event x ∷ []) old first) head begun) h
@@ -72,3 +78,26 @@ module _ {W : Type 0} (contents : W → Option (List ℕ)) (is_at now : FramesOf
     (own, others, h.0, k.0, refl, long, h.1, transaction_from now is_at among fde checks transaction.last own k.0 k.1, refl),
     grows_over contents h.0 k.0 old mid new h.2 k.2,
   )
+
+-- ---- where the row events are
+
+module _ {W : Type 0} (contents : W → Option (List ℕ)) (checks : ForeignKeyChecks) (event : EventView) (changes : List ChangePlace) where
+  pub own_outside : (is_at : FramesOf) (fde : FormatDescriptionEvent) (answer : Result (Unit {0}) UndoLogError) (old new : UndoOutput W) → payload_in event ≡ Ok None
+      → OnOk answer (GrowsBy contents (UndoesChanges is_at fde checks changes) old new) → OnOk answer (GrowsBy contents (UndoesOwn is_at fde checks event changes) old new)
+  own_outside is_at fde (Ok done) old new none h = (h.0, inl (none, h.1), h.2)
+  own_outside is_at fde (Err error) old new none h = tt
+
+  pub own_inside : (is_at : FramesOf) (fde : FormatDescriptionEvent) (answer : Result (Unit {0}) UndoLogError) (old new : UndoOutput W)
+      → OnOk answer (GrowsBy contents (UndoesInside checks event changes) old new) → OnOk answer (GrowsBy contents (UndoesOwn is_at fde checks event changes) old new)
+  own_inside is_at fde (Ok done) old new h = (h.0, inr h.1, h.2)
+  own_inside is_at fde (Err error) old new h = tt
+
+  pub inside_if : (payload : Payload) (content bytes : List ℕ) (d : FormatDescriptionEvent) (answer : Result (Unit {0}) UndoLogError) (old new : UndoOutput W)
+      → payload_in event ≡ Ok (Some payload) → content_of most_bytes payload ≡ Ok content → bytes ≡ content → d ≡ inner_fde event.fde
+      → OnOk answer (GrowsBy contents (UndoesChanges (IsFrameIn bytes) d checks changes) old new) → OnOk answer (GrowsBy contents (UndoesInside checks event changes) old new)
+  inside_if payload content bytes d (Ok done) old new has is same under h =
+      let undoes : UndoesChanges (IsFrameIn content) (inner_fde event.fde) checks changes h.0 =
+      subst (λ (s : List ℕ). UndoesChanges (IsFrameIn s) (inner_fde event.fde) checks changes h.0) same
+      (subst (λ (f : FormatDescriptionEvent). UndoesChanges (IsFrameIn bytes) f checks changes h.0) under h.1) in
+      (h.0, record { content = content; has = record { payload = payload; payload_is = has; content_is = is }; in_it = undoes }, h.2)
+  inside_if payload content bytes d (Err error) old new has is same under h = tt

@@ -15,7 +15,8 @@ use Rattle.binlog_rows.specs.declared.table_map_event.TableMapEvent.{TableMapEve
 use Rattle.binlog_undo.specs.declared.inverse_event.ForeignKeyChecks.{ForeignKeyChecks}
 use Rattle.binlog_undo_index.specs.declared.places.ChangePlace.{ChangePlace}
 use Rattle.binlog_undo_writing.specs.declared.events_writer.EventsWriter.{EventsWriter}
-use Rattle.binlog_undo_log.specs.Undoing.{FramesOf, IsEventAt, HasRightChecksum, Writes, UndoesRows, UndoesReadEvent, UndoesBody, UndoesCompressed, UndoesReadRows, UndoesMapped, UndoesReadMap, UndoesEvents, UndoesChange}
+use Rattle.binlog_undo_log.specs.Places.{FramesOf}
+use Rattle.binlog_undo_log.specs.Undoing.{IsEventAt, HasRightChecksum, Writes, UndoesRows, UndoesReadEvent, UndoesBody, UndoesCompressed, UndoesReadRows, UndoesMapped, UndoesReadMap, UndoesEvents, UndoesChange}
 use Rattle.binlog_undo_log.specs.declared.undo_error.UndoLogError.{UndoLogError}
 use Rattle.binlog_wire.specs.declared.error.Error.{Error}
 
@@ -57,6 +58,20 @@ pub read_rows_if : (answer : Result (Unit {0}) UndoLogError) (checks : ForeignKe
     → OnOk answer (Writes (UndoesRows checks map_event map event rows) old new) → OnOk answer (Writes (UndoesReadRows checks map_event map event read) old new)
 read_rows_if (Ok done) checks map_event map event read rows old new is h = (h.0, record { rows = rows; are = inl is; undoes = h.1 }, h.2)
 read_rows_if (Err error) checks map_event map event read rows old new is h = tt
+
+-- The body of an event that was compressed was read as rows.
+pub read_event_if : (answer : Result (Unit {0}) UndoLogError) (checks : ForeignKeyChecks) (map_event : EventView) (map : TableMapEvent) (event : EventView)
+    (read : Result (Option EventData) Error) (rows : RowsEventData) (old new : EventsWriter) → read ≡ Ok (Some (mysql.RowsEvent rows))
+    → OnOk answer (Writes (UndoesRows checks map_event map event rows) old new) → OnOk answer (Writes (UndoesReadEvent checks map_event map event read) old new)
+read_event_if (Ok done) checks map_event map event read rows old new is h = (h.0, record { rows = rows; is = is; undoes = h.1 }, h.2)
+read_event_if (Err error) checks map_event map event read rows old new is h = tt
+
+-- An event was read as a table map.
+pub read_map_if : (answer : Result (Unit {0}) UndoLogError) (checks : ForeignKeyChecks) (map_event : EventView) (read : Result (Option EventData) Error)
+    (map : TableMapEvent) (event : EventView) (old new : EventsWriter) → read ≡ Ok (Some (mysql.TableMapEvent map))
+    → OnOk answer (Writes (UndoesMapped checks map_event map event) old new) → OnOk answer (Writes (UndoesReadMap checks map_event read event) old new)
+read_map_if (Ok done) checks map_event read map event old new is h = (h.0, record { map = map; is = is; undoes = h.1 }, h.2)
+read_map_if (Err error) checks map_event read map event old new is h = tt
 
 pub events_if : (answer : Result (Unit {0}) UndoLogError) (checks : ForeignKeyChecks) (map_event : EventView) (event : EventView)
     (read : Result (Option EventData) Error) (old new : EventsWriter) → ReadsEventData map_event read → OnOk answer (Writes (UndoesReadMap checks map_event read event) old new)

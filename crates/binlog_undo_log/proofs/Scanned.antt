@@ -2,7 +2,13 @@
 use Rattle.std.proofs.Common.{◌≡◌, ℕ, ◌+◌, ◌⊎◌, Bool, true, false, List, [], ◌∷◌, ◌++◌, Option, Some, None, Result, Ok, Err, refl, sym, ◌∙◌, ap, subst, inl, inr, eqb-true}
 use Rattle.binlog_events.specs.Events.{EventView}
 use Rattle.binlog_events.specs.Parts.{is_description}
+use Rattle.binlog_consts.specs.declared.version.BinlogVersion.TheVariants.{Version4}
+use Rattle.binlog_event_format.specs.declared.format_description.FormatDescriptionEvent.{FormatDescriptionEvent}
+use Rattle.binlog_file.specs.State.{StreamState, first_state}
 use Rattle.binlog_file.specs.TableMapsInForce.{TableMaps, no_table_maps}
+use Rattle.binlog_filters.specs.Taking.{FollowsEvent}
+use Rattle.binlog_payloads.specs.Decompressed.{content_behind}
+use Rattle.binlog_payloads.specs.InnerEvents.{inner_fde}
 use Rattle.binlog_transactions.specs.Pieces.{step}
 use Rattle.binlog_transactions.specs.declared.mark.Mark.{Mark}
 use Rattle.binlog_transactions.specs.declared.mark.Mark.TheVariants as marks
@@ -23,7 +29,9 @@ use Rattle.binlog_undo_index.specs.declared.seen.SeenEvent.{SeenEvent}
 use Rattle.binlog_undo_index.specs.declared.skips.Skips.{Skips}
 use Rattle.binlog_undo_log.specs.Choices.{rules_of}
 use Rattle.binlog_undo_log.specs.Files.{IsFresh, scans, refuses, ScansWhole, AreSeen, groups_of, AreSkipped, IsScanned}
-use Rattle.binlog_undo_log.specs.Scanning.{refused_at, Stops, DescribesBehind, DescribesIf, NotesIn, Notes, NotesMark, NotesIf, ScansEvent, ScansUnless, ScansItem, border_at, has_no_tail, is_past_stop, Closes, EndsIfWhole, EndsScan}
+use Rattle.binlog_undo_log.specs.Contents.{AreInside, SeesContent, ScansContent, ScansInsideOf, SeesWhole, ScansAny, ScansEvent, SeesEvent, ScansUnless, ScansItem, border_of, in_front, span_of}
+use Rattle.binlog_undo_log.specs.Scanning.{refused_at, Stops, DescribesBehind, DescribesIf, NotesIn, Notes, NotesMark, NotesIf, border_at, has_no_tail, is_past_stop, Closes, EndsIfWhole, EndsScan}
+use Rattle.binlog_undo_log.specs.declared.scan.content.Span.{Span}
 use Rattle.binlog_undo_log.specs.declared.choice.Choice.{Choice}
 use Rattle.binlog_undo_log.specs.declared.scan.UndoScan.{UndoScan}
 use Rattle.binlog_visits.specs.TableMaps.{maps_behind}
@@ -129,25 +137,53 @@ note_told index event seen old new goes h =
     let same : h.between.index ≡ h.told = described_if_index (is_description event.frame) index (record old { index = h.told }) h.between between h.describes in
     subst (λ (i : UndoIndex). NotesIn seen old.index i) (sym (ap (λ (s : UndoScan). s.index) h.is ∙ same)) h.notes
 
--- An item of a pass that goes on is an event, which is noted.
+told_over : (events others : List SeenEvent) (old mid new : UndoIndex) → AreTold old events mid → AreTold mid others new → AreTold old (events ++ others) new
+told_over [] others old mid new h k = subst (λ (i : UndoIndex). AreTold i others new) h k
+told_over (event ∷ events) others old mid new h k = (h.0, h.1, told_over events others h.0 mid new h.2 k)
+
+-- What is inside an event is told, and the pass goes on.
+inside_told : (span : Span) (state : StreamState) (index : ℕ) (d : FormatDescriptionEvent) (frames : List (List ℕ)) (seen : List SeenEvent) (old new : UndoScan)
+    → AreInside span state index d frames seen old new → AreTold old.index seen new.index × (new.is_stopped ≡ old.is_stopped)
+inside_told span state index d [] seen old new h =
+    (subst (λ (s : List SeenEvent). AreTold old.index s new.index) (sym h.0) (ap (λ (s : UndoScan). s.index) h.1), ap (λ (s : UndoScan). s.is_stopped) h.1)
+inside_told span state index d (frame ∷ frames) seen old new h =
+    let first : SeenEvent = h.0 in
+    let others : List SeenEvent = h.1 in
+    let mid : UndoScan = h.2 in
+    let more = inside_told span (content_behind state frame) index d frames others mid new h.5 in (
+      subst (λ (s : List SeenEvent). AreTold old.index s new.index) (sym h.3) (mid.index, h.4.notes, more.0),
+      more.1 ∙ ap (λ (s : UndoScan). s.is_stopped) h.4.passes,
+    )
+
+content_told : (index : ℕ) (event : EventView) (content : List ℕ) (own : List SeenEvent) (old new : UndoScan) → SeesContent index event content own old new
+    → AreTold old.index own new.index × (new.is_stopped ≡ old.is_stopped)
+content_told index event content own old new h =
+    let span : Span = span_of old event in
+    let within = inside_told span (first_state Version4) index (inner_fde event.fde) h.all.first.frames h.seen (in_front old) h.behind h.all.first.are in (
+      subst (λ (s : List SeenEvent). AreTold old.index s new.index) (sym h.own_are) (told_more h.seen (border_of span index) old.index h.behind.index new.index within.0 h.ends.notes),
+      ap (λ (s : UndoScan). s.is_stopped) h.ends.is ∙ within.1,
+    )
+
+-- An item of a pass that goes on is an event, which is noted, or the events inside are.
 pub record IsOneSeen (maps : TableMaps) (index : ℕ) (item : Result EventView Error) (old new : UndoScan) : Type 0 where
   pub event : EventView
-  pub first : SeenEvent
+  pub own : List SeenEvent
   pub is : item ≡ Ok event
-  pub scanned : ScansEvent maps index event (Some first) old new
-  pub told : NotesIn first old.index new.index
+  pub scanned : SeesEvent maps index event own old new
+  pub told : AreTold old.index own new.index
 
-event_seen : (seen : Option SeenEvent) (maps : TableMaps) (index : ℕ) (event : EventView) (old new : UndoScan) → new.is_stopped ≡ false → ScansEvent maps index event seen old new
-    → IsOneSeen maps index (Ok event) old new
-event_seen None maps index event old new goes h = absurd (not_both new.is_stopped (stopped index reasons.Damaged (record old { is_wanted = h.wanted }) new h.notes) goes)
-event_seen (Some seen) maps index event old new goes h =
-    let was : UndoScan = record old { is_wanted = h.wanted } in
-    let told : NotesIn seen old.index new.index =
-    elim (noted_or seen.mark index event seen was new h.notes) [
-      | inl n ↦ note_told index event seen was new goes n
-      | inr s ↦ absurd (not_both new.is_stopped (stopped index (reasons.Transaction refusals.Encrypted) was new s) goes)
-    ] in
-    record { event = event; first = seen; is = refl; scanned = h; told = told }
+module _ (maps : TableMaps) (index : ℕ) (event : EventView) (old : UndoScan) (wanted : Bool) (follows : FollowsEvent old.choice.transactions old.is_wanted event (Ok wanted)) where
+  whole_seen : (seen : Option SeenEvent) (new : UndoScan) → new.is_stopped ≡ false → SeesWhole maps index event seen (record old { is_wanted = wanted }) new
+      → IsOneSeen maps index (Ok event) old new
+  whole_seen None new goes h = absurd (not_both new.is_stopped (stopped index reasons.Damaged (record old { is_wanted = wanted }) new h.notes) goes)
+  whole_seen (Some seen) new goes h =
+      let was : UndoScan = record old { is_wanted = wanted } in
+      let told : NotesIn seen old.index new.index =
+      elim (noted_or seen.mark index event seen was new h.notes) [
+        | inl n ↦ note_told index event seen was new goes n
+        | inr s ↦ absurd (not_both new.is_stopped (stopped index (reasons.Transaction refusals.Encrypted) was new s) goes)
+      ] in
+      record { event = event; own = seen ∷ []; is = refl; scanned = record { wanted = wanted; follows = follows; sees = inl (seen, refl, h) }; told = (new.index, told, refl) }
 
 -- What an item makes of a pass that goes on: it is seen, and the pass goes on; or the pass ends in front of it at the stop position; or
 -- something is refused that isn't skipped.
@@ -163,21 +199,51 @@ ItemOutcome maps index item old new = (IsOneSeen maps index item old new × (new
 refused_of : (index : ℕ) (reason : Reason) (old new : UndoScan) → Stops index reason old new → IsRefused new
 refused_of index reason old new h = (stopped index reason old new h, not_skipped index reason old new h)
 
-event_outcome : (seen : Option SeenEvent) (maps : TableMaps) (index : ℕ) (event : EventView) (old new : UndoScan) → old.is_stopped ≡ false → ScansEvent maps index event seen old new
-    → ItemOutcome maps index (Ok event) old new
-event_outcome seen maps index event old new goes h =
+-- Of an event that is seen as it is.
+whole_outcome : (maps : TableMaps) (index : ℕ) (event : EventView) (old new : UndoScan) (wanted : Bool) (seen : Option SeenEvent) → old.is_stopped ≡ false
+    → FollowsEvent old.choice.transactions old.is_wanted event (Ok wanted) → SeesWhole maps index event seen (record old { is_wanted = wanted }) new → ItemOutcome maps index (Ok event) old new
+whole_outcome maps index event old new wanted seen goes follows h =
     elim (one_of new.is_stopped) [
-      | inl stops ↦ elim (notes_fine seen index event (record old { is_wanted = h.wanted }) new goes h.notes) [
+      | inl stops ↦ elim (notes_fine seen index event (record old { is_wanted = wanted }) new goes h.notes) [
         | inl on ↦ absurd (not_both new.is_stopped stops on)
         | inr none ↦ inr (inr (stops, none))
       ]
-      | inr on ↦ inl (event_seen seen maps index event old new on h, on)
+      | inr on ↦ inl (whole_seen maps index event old wanted follows seen new on h, on)
     ]
+
+-- Of one with events inside.
+inside_outcome : (maps : TableMaps) (index : ℕ) (event : EventView) (old new : UndoScan) (wanted : Bool) → old.is_stopped ≡ false
+    → FollowsEvent old.choice.transactions old.is_wanted event (Ok wanted) → (h : ScansInsideOf index event (record old { is_wanted = wanted }) new)
+    → ScansContent index event h.content (record old { is_wanted = wanted }) new → ItemOutcome maps index (Ok event) old new
+inside_outcome maps index event old new wanted goes follows h (inl all) =
+    let was : UndoScan = record old { is_wanted = wanted } in
+    let told = content_told index event h.content all.0 was new all.1 in
+    inl (
+      record {
+        event = event;
+        own = all.0;
+        is = refl;
+        scanned = record { wanted = wanted; follows = follows; sees = inr (record { content = h.content; has = h.has; apart = h.apart; sees = all.1 }) };
+        told = told.0;
+      },
+      told.1 ∙ goes,
+    )
+inside_outcome maps index event old new wanted goes follows h (inr some) = inr (inr (refused_of index reasons.Damaged (record some.behind { place = old.place }) new some.stops))
+
+any_outcome : (maps : TableMaps) (index : ℕ) (event : EventView) (old new : UndoScan) (wanted : Bool) → old.is_stopped ≡ false
+    → FollowsEvent old.choice.transactions old.is_wanted event (Ok wanted) → ScansAny maps index event (record old { is_wanted = wanted }) new → ItemOutcome maps index (Ok event) old new
+any_outcome maps index event old new wanted goes follows (inl whole) = whole_outcome maps index event old new wanted whole.0 goes follows whole.1
+any_outcome maps index event old new wanted goes follows (inr (inl h)) = inside_outcome maps index event old new wanted goes follows h h.scans
+any_outcome maps index event old new wanted goes follows (inr (inr none)) = inr (inr (refused_of index reasons.Damaged (record old { is_wanted = wanted }) new none.1))
+
+event_outcome : (maps : TableMaps) (index : ℕ) (event : EventView) (old new : UndoScan) → old.is_stopped ≡ false → ScansEvent maps index event old new
+    → ItemOutcome maps index (Ok event) old new
+event_outcome maps index event old new goes h = any_outcome maps index event old new h.wanted goes h.follows h.scans
 
 unless_outcome : (past : Bool) (maps : TableMaps) (index : ℕ) (item : Result EventView Error) (old new : UndoScan) → is_past_stop old ≡ past → old.is_stopped ≡ false
     → ScansUnless past maps index item old new → ItemOutcome maps index item old new
 unless_outcome true maps index item old new past goes h = inr (inl (past, h))
-unless_outcome false maps index (Ok event) old new past goes h = event_outcome h.0 maps index event old new goes h.1
+unless_outcome false maps index (Ok event) old new past goes h = event_outcome maps index event old new goes h
 unless_outcome false maps index (Err error) old new past goes h = inr (inr (refused_of index reasons.Damaged old new h))
 
 item_outcome : (is : Bool) (maps : TableMaps) (index : ℕ) (item : Result EventView Error) (old new : UndoScan) → old.is_stopped ≡ is → is ≡ false → ScansItem is maps index item old new
@@ -226,9 +292,9 @@ seen_before maps index item items old mid new here goes others = record {
   front = item ∷ others.front;
   rest = others.rest;
   split = ap (λ (all : List (Result EventView Error)). item ∷ all) others.split;
-  seen = here.first ∷ others.seen;
-  each = (here.event, here.first, others.seen, mid, here.is, refl, here.scanned, goes, others.each);
-  told = (mid.index, here.told, others.told);
+  seen = here.own ++ others.seen;
+  each = (here.event, here.own, others.seen, mid, here.is, refl, here.scanned, goes, others.each);
+  told = told_over here.own others.seen old.index mid.index new.index here.told others.told;
 }
 
 outcome : (maps : TableMaps) (index : ℕ) (items : List (Result EventView Error)) (old new : UndoScan) → old.is_stopped ≡ false → Visits scans maps index items old new

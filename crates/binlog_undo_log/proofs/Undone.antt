@@ -1,5 +1,5 @@
 -- What undoes places of a file.
-use Rattle.std.proofs.Common.{◌≡◌, ℕ, List, [], ◌∷◌, ◌++◌, map, flat_map, length, refl, sym, ◌∙◌, ap, subst, arith}
+use Rattle.std.proofs.Common.{◌≡◌, inl, inr, ℕ, List, [], ◌∷◌, ◌++◌, map, flat_map, length, refl, sym, ◌∙◌, ap, subst, arith}
 use Rattle.binlog_event_format.specs.declared.format_description.FormatDescriptionEvent.{FormatDescriptionEvent}
 use Rattle.binlog_events.specs.Events.{EventView}
 use Rattle.binlog_undo.specs.declared.inverse_event.ForeignKeyChecks.{ForeignKeyChecks}
@@ -7,7 +7,8 @@ use Rattle.binlog_undo_index.specs.Groups.{Kept}
 use Rattle.binlog_undo_index.specs.Index.{Keeps, place_of, changes_of}
 use Rattle.binlog_undo_index.specs.declared.places.ChangePlace.{ChangePlace}
 use Rattle.binlog_undo_index.specs.declared.places.TransactionPlace.{TransactionPlace}
-use Rattle.binlog_undo_log.specs.Undoing.{FramesOf, IsEventAt, UndoesChange, UndoesChanges, UndoesTransaction, UndoesAll, UndoesKept}
+use Rattle.binlog_undo_log.specs.Places.{FramesOf}
+use Rattle.binlog_undo_log.specs.Undoing.{IsEventAt, UndoesChange, UndoesChanges, UndoesOwn, UndoesTransaction, UndoesAll, UndoesKept}
 use Rattle.binlog_undo_writing.specs.Transactions.{Event}
 
 -- Each frame of the one is at the same place of the other.
@@ -31,6 +32,10 @@ module _ (others is_at : FramesOf) (among : AreAmong others is_at) (fde : Format
   changes_from [] events h = h
   changes_from (change ∷ changes) events h = (h.0, h.1, changes_from changes h.0 h.2, change_from change h.1 h.3, h.4)
 
+  pub own_from : (event : EventView) (changes : List ChangePlace) (events : List Event) → UndoesOwn others fde checks event changes events → UndoesOwn is_at fde checks event changes events
+  own_from event changes events (inl h) = inl (h.0, changes_from changes events h.1)
+  own_from event changes events (inr h) = inr h
+
   pub transaction_from : (last : ℕ) (changes : List ChangePlace) (events : List Event) → UndoesTransaction others fde checks last changes events
       → UndoesTransaction is_at fde checks last changes events
   transaction_from last changes events h = record {
@@ -39,7 +44,7 @@ module _ (others is_at : FramesOf) (among : AreAmong others is_at) (fde : Format
     xid = h.xid;
     reads = h.reads;
     undone = h.undone;
-    undoes = changes_from changes h.undone h.undoes;
+    undoes = own_from h.event changes h.undone h.undoes;
     are = h.are;
   }
 

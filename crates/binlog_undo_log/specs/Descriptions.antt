@@ -6,16 +6,20 @@ use Rattle.binlog_event_format.specs.FormatDescription.{format_description}
 use Rattle.binlog_event_format.specs.declared.format_description.FormatDescriptionEvent.{FormatDescriptionEvent}
 use Rattle.binlog_event_format.specs.declared.header.BinlogEventHeader.{BinlogEventHeader}
 use Rattle.binlog_undo_log.specs.declared.output.UndoOutput.{UndoOutput}
-use Rattle.binlog_undo_writing.specs.Events.{event_size, event_bytes}
+use Rattle.binlog_undo_writing.specs.Events.{event_size, event_bytes, FitsHeader}
 use Rattle.binlog_undo_writing.specs.declared.heading.Heading.{Heading}
 
 abbrev pub algorithm_byte : Option ℕ → List ℕ
 algorithm_byte None = []
 algorithm_byte (Some number) = number ∷ []
 
--- The same description, created at 0, and the number of its algorithm, if it states one.
+-- The same description, created at 0.
+abbrev pub written_description : FormatDescriptionEvent → FormatDescriptionEvent
+written_description d = record d { create_timestamp = 0 }
+
+-- Its body, and the number of its algorithm, if it states one.
 abbrev pub description_body : FormatDescriptionEvent → List ℕ
-description_body d = format_description.written (record d { create_timestamp = 0 }) ++ algorithm_byte d.footer.checksum_alg
+description_body d = format_description.written (written_description d) ++ algorithm_byte d.footer.checksum_alg
 
 -- The time and the server of the description, and no flags.
 abbrev pub description_heading : BinlogEventHeader → Heading
@@ -35,6 +39,7 @@ pub record IsUnder {W : Type 0} (body : List ℕ) (has_checksums : Bool) (output
 pub record PushesDescription {W : Type 0} (contents : W → Option (List ℕ)) (header : BinlogEventHeader) (d : FormatDescriptionEvent) (written : List ℕ) (old new : UndoOutput W) : Type 0 where
   pub bytes : Appends (contents old.writer) (contents new.writer)
       (event_bytes (is_some d.footer.checksum_alg) old.place (description_heading header) FORMAT_DESCRIPTION_EVENT written)
+  pub fits : FitsHeader (is_some d.footer.checksum_alg) old.place (description_heading header) written
   pub place : new.place ≡ old.place + event_size (is_some d.footer.checksum_alg) written
   pub bounds : new.has_bounds ≡ old.has_bounds
 

@@ -1,5 +1,6 @@
 -- What is written for a file: the inverse of the changes of its transactions that are undone.
-use Rattle.std.specs.Prelude.{◌≡◌, ℕ, List, [], ◌∷◌, ◌++◌, drop, Option, Result, Ok}
+use Rattle.std.specs.Prelude.{◌≡◌, ℕ, List, [], ◌∷◌, ◌++◌, Option, Result, Ok}
+use Rattle.std.specs.List.{AllByRecursion}
 use Rattle.binlog_consts.specs.declared.version.BinlogVersion.TheVariants.{Version4}
 use Rattle.binlog_event_format.specs.FormatDescription.{default_description}
 use Rattle.binlog_event_format.specs.Headers.{header_of}
@@ -13,24 +14,21 @@ use Rattle.binlog_undo_log.specs.Descriptions.{DescribesOnce}
 use Rattle.binlog_undo_log.specs.Files.{IsScanned, IsDescribed, groups_of}
 use Rattle.binlog_undo_log.specs.LogChanges.{LogChange, AreKeptChanges, AreLogChanges}
 use Rattle.binlog_undo_log.specs.Output.{Grows}
+use Rattle.binlog_undo_log.specs.Places.{IsFrameIn}
 use Rattle.binlog_undo_log.specs.Scanning.{border_at}
-use Rattle.binlog_undo_log.specs.Undoing.{FramesOf, IsEventAt}
+use Rattle.binlog_undo_log.specs.Places.{FramesOf}
+use Rattle.binlog_undo_log.specs.Undoing.{IsEventAt}
 use Rattle.binlog_undo_log.specs.declared.output.UndoOutput.{UndoOutput}
 use Rattle.binlog_undo_log.specs.declared.scan.UndoScan.{UndoScan}
 use Rattle.binlog_undo_writing.specs.Transactions.{Event}
 use Rattle.table_changes.specs.Changes.{inverse}
 
--- These bytes are at this place of a file.
-pub record IsFrameIn (bytes : List ℕ) (place : ℕ) (frame : List ℕ) : Type 0 where
-  pub rest : List ℕ
-  pub at : drop place bytes ≡ frame ++ rest
-
--- Each of these items is an event whose frame is at the place of what is seen of it.
+-- Each of these items is an event whose frame is at the place of what is seen of it, and of the events inside.
 abbrev pub AreAtPlaces : List ℕ → List (Result EventView Error) → List SeenEvent → Type 0
 AreAtPlaces bytes [] seen = seen ≡ []
 AreAtPlaces bytes (item ∷ items) seen =
-    (event : EventView) × (first : SeenEvent) × (others : List SeenEvent) × (item ≡ Ok event) × (seen ≡ first ∷ others) × IsFrameIn bytes first.place event.frame
-    × AreAtPlaces bytes items others
+    (event : EventView) × (own : List SeenEvent) × (others : List SeenEvent) × (item ≡ Ok event) × (seen ≡ own ++ others)
+    × AllByRecursion (λ (one : SeenEvent). IsFrameIn bytes one.place event.frame) own × AreAtPlaces bytes items others
 
 -- The frames are those of a file of these bytes.
 abbrev pub AreFramesOf : List ℕ → FramesOf → Type 0
@@ -52,7 +50,7 @@ pub record WritesInverse {W : Type 0} (contents : W → Option (List ℕ)) (is_a
   pub changes : List LogChange
   pub are : AreKeptChanges is_at d kept changes
   pub events : List Event
-  pub inverse_are : AreLogChanges events (inverse changes)
+  pub inverse_are : AreLogChanges d events (inverse changes)
   pub grows : Grows contents events between new
 
 -- Nothing is written where no transaction is undone.

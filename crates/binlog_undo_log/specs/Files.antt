@@ -2,7 +2,7 @@
 use Rattle.std.specs.Prelude.{◌≡◌, ◌⊎◌, ℕ, ◌+◌, true, false, List, [], ◌∷◌, ◌++◌, Option, Some, None, is_none, Result, Ok, Err}
 use Rattle.std.specs.List.{AllByRecursion}
 use Rattle.binlog_consts.specs.declared.version.BinlogVersion.TheVariants.{Version4}
-use Rattle.binlog_event_format.specs.FormatDescription.{default_description, format_description}
+use Rattle.binlog_event_format.specs.FormatDescription.{default_description, format_description, IsFormatDescription}
 use Rattle.binlog_event_format.specs.Headers.{header_of}
 use Rattle.binlog_event_format.specs.declared.format_description.FormatDescriptionEvent.{FormatDescriptionEvent}
 use Rattle.binlog_events.specs.Events.{EventView}
@@ -28,10 +28,13 @@ use Rattle.binlog_undo_index.specs.declared.rules.Rules.{Rules}
 use Rattle.binlog_undo_index.specs.declared.seen.SeenEvent.{SeenEvent}
 use Rattle.binlog_undo_index.specs.declared.skips.Skips.{Skips}
 use Rattle.binlog_undo_log.specs.Descriptions.{DescribesOnce}
+use Rattle.binlog_undo_log.specs.Heads.{is_writable}
 use Rattle.binlog_undo_log.specs.Output.{GrowsBy}
 use Rattle.binlog_undo_log.specs.Choices.{rules_of}
-use Rattle.binlog_undo_log.specs.Scanning.{ScansItem, ScansEvent, EndsScan, border_at, is_past_stop}
-use Rattle.binlog_undo_log.specs.Undoing.{FramesOf, IsEventAt, UndoesAll}
+use Rattle.binlog_undo_log.specs.Contents.{ScansItem, SeesEvent}
+use Rattle.binlog_undo_log.specs.Scanning.{EndsScan, border_at, is_past_stop}
+use Rattle.binlog_undo_log.specs.Places.{FramesOf}
+use Rattle.binlog_undo_log.specs.Undoing.{IsEventAt, UndoesAll}
 use Rattle.binlog_undo_log.specs.declared.choice.Choice.{Choice}
 use Rattle.binlog_undo_log.specs.declared.output.UndoOutput.{UndoOutput}
 use Rattle.binlog_undo_log.specs.declared.scan.UndoScan.{UndoScan}
@@ -71,12 +74,13 @@ ScansFile bytes old (Err error) new = VisitsVerifiedLog IsCrc32 scans refuses by
 
 -- ---- what was scanned
 
--- Each of these items is an event of which this is seen, and doesn't end the pass. `maps` are the table maps in front of the first one.
+-- Each of these items is an event, and this is seen of them and of the events inside, where a compressed transaction stands for these. None
+-- ends the pass. `maps` are the table maps in front of the first one.
 abbrev pub AreSeen : TableMaps → ℕ → List (Result EventView Error) → List SeenEvent → UndoScan → UndoScan → Type 0
 AreSeen maps index [] seen old new = (seen ≡ []) × (new ≡ old)
 AreSeen maps index (item ∷ items) seen old new =
-    (event : EventView) × (first : SeenEvent) × (others : List SeenEvent) × (mid : UndoScan) × (item ≡ Ok event) × (seen ≡ first ∷ others)
-    × ScansEvent (maps_behind maps item) index event (Some first) old mid × (mid.is_stopped ≡ false) × AreSeen (maps_behind maps item) (index + 1) items others mid new
+    (event : EventView) × (own : List SeenEvent) × (others : List SeenEvent) × (mid : UndoScan) × (item ≡ Ok event) × (seen ≡ own ++ others)
+    × SeesEvent (maps_behind maps item) index event own old mid × (mid.is_stopped ≡ false) × AreSeen (maps_behind maps item) (index + 1) items others mid new
 
 abbrev pub groups_of : List SeenEvent → List Group
 groups_of events = groups_in [] (told_events None events)
@@ -105,12 +109,14 @@ pub record IsScanned (rules : Rules) (bytes : List ℕ) (start scan : UndoScan) 
 
 -- ---- the second pass
 
--- The event is a description, which is read as this one, with the event's own footer.
+-- The event is a description, which is read as this one, with the event's own footer. The events that undo a log can be written under it.
 pub record IsDescribed (event : EventView) (d : FormatDescriptionEvent) : Type 0 where
   pub is : is_description event.frame ≡ true
   pub body : FormatDescriptionEvent
   pub reads : Gives ⊥ [] (Ok body) (format_description.reads (data_of event.fde.footer event.frame))
+  pub spelled : IsFormatDescription (data_of event.fde.footer event.frame) body []
   pub footer : d ≡ record body { footer = event.fde.footer }
+  pub writable : is_writable d ≡ true
 
 -- The description at a place is written, and what undoes these transactions, the last one first.
 pub record WritesDescribed {W : Type 0} (contents : W → Option (List ℕ)) (is_at : FramesOf) (checks : ForeignKeyChecks) (place : ℕ)

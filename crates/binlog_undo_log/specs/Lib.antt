@@ -4,11 +4,16 @@ pub mod Heads
 pub mod Marks
 pub mod Compressed
 pub mod Keys
+pub mod Places
 pub mod Undoing
 pub mod Output
 pub mod Looking
 pub mod Scanning
+pub mod Contents
 pub mod Files
+pub mod Visiting
 pub mod LogChanges
 pub mod OneTransaction
 pub mod FileChanges
+pub mod WholeLogs
+pub mod SeenWritten

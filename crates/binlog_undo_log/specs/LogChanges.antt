@@ -2,14 +2,18 @@
 use Rattle.std.specs.Prelude.{◌≡◌, ◌⊎◌, ℕ, List, [], ◌∷◌, ◌++◌, Some, Ok}
 use Rattle.std.specs.List.{AllByRecursion, flat_map}
 use Rattle.binlog_columns.specs.Refusals.{columns_in}
+use Rattle.binlog_consts.specs.EventTypes.{event_number}
 use Rattle.binlog_consts.specs.declared.event_type.EventType.TheVariants.{QUERY_EVENT, XID_EVENT, TABLE_MAP_EVENT}
 use Rattle.binlog_event_data.specs.declared.event_data.EventData.TheVariants as mysql
+use Rattle.binlog_event_format.specs.Headers.{header_of}
+use Rattle.binlog_event_format.specs.PostHeaders.{post_header}
 use Rattle.binlog_event_format.specs.declared.format_description.FormatDescriptionEvent.{FormatDescriptionEvent}
 use Rattle.binlog_events.specs.Events.{EventView, ReadsEventData}
-use Rattle.binlog_events.specs.Parts.{data_of}
-use Rattle.binlog_rows.specs.Forms.{default_length}
+use Rattle.binlog_file.specs.LogData.{ReadsLogData}
+use Rattle.binlog_file.specs.declared.log_data.LogEventData.TheVariants.{Mysql}
 use Rattle.binlog_rows.specs.Rows.{rows}
 use Rattle.binlog_rows.specs.RowsData.{event_in, form_in}
+use Rattle.binlog_rows.specs.TableMaps.{table_map}
 use Rattle.binlog_rows.specs.declared.rows_event_data.RowsEventData.{RowsEventData}
 use Rattle.binlog_rows.specs.declared.table_map_event.TableMapEvent.{TableMapEvent}
 use Rattle.binlog_undo.specs.EventChanges.{HasChanges}
@@ -18,7 +22,8 @@ use Rattle.binlog_undo.specs.RowChanges.{TableRow}
 use Rattle.binlog_undo_index.specs.Groups.{Kept}
 use Rattle.binlog_undo_index.specs.declared.places.ChangePlace.{ChangePlace}
 use Rattle.binlog_undo_log.specs.Compressed.{ReadsRows}
-use Rattle.binlog_undo_log.specs.Undoing.{FramesOf, IsEventAt}
+use Rattle.binlog_undo_log.specs.Places.{FramesOf, AtPlaces}
+use Rattle.binlog_undo_log.specs.Undoing.{IsEventAt}
 use Rattle.binlog_undo_writing.specs.Transactions.{Event}
 use Rattle.table_changes.specs.Changes.{Change}
 
@@ -56,51 +61,79 @@ AreChanged is_at fde [] changes = changes ≡ []
 AreChanged is_at fde (change ∷ others) changes =
     (own : List LogChange) × (more : List LogChange) × IsChanged is_at fde change own × AreChanged is_at fde others more × (changes ≡ own ++ more)
 
+-- A transaction with this last event is these changes.
+pub record AreTransactionChanges (is_at : FramesOf) (fde : FormatDescriptionEvent) (last : ℕ) (changes : List ChangePlace) (own : List LogChange) : Type 0 where
+  pub event : EventView
+  pub event_at : IsEventAt is_at fde last event
+  pub are : AtPlaces (λ (among : FramesOf) (d : FormatDescriptionEvent). AreChanged among d changes own) is_at fde event
+
 -- The transactions are these changes, one transaction after the other.
 abbrev pub AreKeptChanges : FramesOf → FormatDescriptionEvent → List Kept → List LogChange → Type 0
 AreKeptChanges is_at fde [] changes = changes ≡ []
 AreKeptChanges is_at fde (kept ∷ others) changes =
-    (own : List LogChange) × (more : List LogChange) × AreChanged is_at fde kept.changes own × AreKeptChanges is_at fde others more × (changes ≡ own ++ more)
+    (own : List LogChange) × (more : List LogChange) × AreTransactionChanges is_at fde kept.last kept.changes own × AreKeptChanges is_at fde others more × (changes ≡ own ++ more)
+
+-- ---- pieces of a log
+
+-- A piece of a log: an event beside rows, or a table map and rows, with their changes.
+pub data LogPiece (E : Type 0) : Type 0 where
+  beside : E → LogPiece E
+  pair : (map_event rows_event : E) → List LogChange → LogPiece E
+
+module _ {E : Type 0} where
+  abbrev pub piece_events : LogPiece E → List E
+  piece_events (beside event) = event ∷ []
+  piece_events (pair map_event rows_event changes) = map_event ∷ rows_event ∷ []
+
+  abbrev pub piece_changes : LogPiece E → List LogChange
+  piece_changes (beside event) = []
+  piece_changes (pair map_event rows_event changes) = changes
+
+  -- `IsBeside` says which events are beside rows, and `ArePair` which changes a table map and rows are.
+  abbrev pub IsPieceOf : (E → Type 0) → (E → E → List LogChange → Type 0) → LogPiece E → Type 0
+  IsPieceOf IsBeside ArePair (beside event) = IsBeside event
+  IsPieceOf IsBeside ArePair (pair map_event rows_event changes) = ArePair map_event rows_event changes
+
+  -- The events are pieces, one after the other, and these are the changes of all pieces, in order.
+  pub record ArePieces (IsBeside : E → Type 0) (ArePair : E → E → List LogChange → Type 0) (events : List E) (changes : List LogChange) : Type 0 where
+    pub pieces : List (LogPiece E)
+    pub each : AllByRecursion (IsPieceOf IsBeside ArePair) pieces
+    pub events_are : events ≡ flat_map piece_events pieces
+    pub changes_are : changes ≡ flat_map piece_changes pieces
 
 -- ---- in a log that is written
 
--- A table map and rows behind it are these changes. The body of the table map is that of an event of the log that is undone, which is
--- read as a table map; that of the rows is read under the post-header lengths of binlog version 4.
-pub record ArePairChanges (map_event rows_event : Event) (changes : List LogChange) : Type 0 where
-  pub source : EventView
+-- A table map and rows behind it are these changes. Both bodies are read under this description.
+pub record ArePairChanges (d : FormatDescriptionEvent) (map_event rows_event : Event) (changes : List LogChange) : Type 0 where
   pub map : TableMapEvent
-  pub map_read : ReadsEventData source (Ok (Some (mysql.TableMapEvent map)))
   pub map_type : map_event.event_type ≡ TABLE_MAP_EVENT
-  pub map_body : map_event.body ≡ data_of source.fde.footer source.frame
+  pub map_read : (table_map (post_header d TABLE_MAP_EVENT)).reads map_event.body ≡ Ok (map, [])
   pub event : RowsEventData
   pub event_type : rows_event.event_type ≡ type_of event
-  pub event_read : (rows (form_in event) (default_length (form_in event))).spells rows_event.body (event_in event) []
+  pub event_read : (rows (form_in event) (post_header d (type_of event))).spells rows_event.body (event_in event) []
   pub are : HasTableChanges map event changes
 
 -- The event is a statement, or the end of a transaction.
 abbrev pub IsBesideRows : Event → Type 0
 IsBesideRows event = (event.event_type ≡ QUERY_EVENT) ⊎ (event.event_type ≡ XID_EVENT)
 
--- A piece of a log: an event beside rows, or a table map and rows, with their changes.
-pub data LogPiece : Type 0 where
-  beside : Event → LogPiece
-  pair : (map_event rows_event : Event) → List LogChange → LogPiece
+-- The events are these changes.
+abbrev pub AreLogChanges : FormatDescriptionEvent → List Event → List LogChange → Type 0
+AreLogChanges d events changes = ArePieces IsBesideRows (ArePairChanges d) events changes
 
-abbrev pub IsLogPiece : LogPiece → Type 0
-IsLogPiece (beside event) = IsBesideRows event
-IsLogPiece (pair map_event rows_event changes) = ArePairChanges map_event rows_event changes
+-- ---- in a log that is read
 
-abbrev pub piece_events : LogPiece → List Event
-piece_events (beside event) = event ∷ []
-piece_events (pair map_event rows_event changes) = map_event ∷ rows_event ∷ []
+-- A table map and rows behind it are read so, and are these changes.
+pub record AreReadPair (map_event rows_event : EventView) (changes : List LogChange) : Type 0 where
+  pub map : TableMapEvent
+  pub map_read : ReadsLogData map_event (Ok (Some (Mysql (mysql.TableMapEvent map))))
+  pub event : RowsEventData
+  pub event_read : ReadsLogData rows_event (Ok (Some (Mysql (mysql.RowsEvent event))))
+  pub are : HasTableChanges map event changes
 
-abbrev pub piece_changes : LogPiece → List LogChange
-piece_changes (beside event) = []
-piece_changes (pair map_event rows_event changes) = changes
+abbrev pub IsReadBeside : EventView → Type 0
+IsReadBeside event = ((header_of event.frame).event_type ≡ event_number QUERY_EVENT) ⊎ ((header_of event.frame).event_type ≡ event_number XID_EVENT)
 
--- The events are pieces, one after the other, and these are the changes of all pieces, in order.
-pub record AreLogChanges (events : List Event) (changes : List LogChange) : Type 0 where
-  pub pieces : List LogPiece
-  pub each : AllByRecursion IsLogPiece pieces
-  pub events_are : events ≡ flat_map piece_events pieces
-  pub changes_are : changes ≡ flat_map piece_changes pieces
+-- The events of a log, as they are read, are these changes.
+abbrev pub AreReadChanges : List EventView → List LogChange → Type 0
+AreReadChanges events changes = ArePieces IsReadBeside AreReadPair events changes

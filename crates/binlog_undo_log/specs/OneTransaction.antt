@@ -10,7 +10,8 @@ use Rattle.binlog_undo_index.specs.declared.places.TransactionPlace.{Transaction
 use Rattle.binlog_undo_log.specs.Descriptions.{DescribesOnce, description_body, has_checksums_under}
 use Rattle.binlog_undo_log.specs.Files.{IsDescribed}
 use Rattle.binlog_undo_log.specs.Output.{Pushes}
-use Rattle.binlog_undo_log.specs.Undoing.{FramesOf, IsEventAt, ReadsXid, begin_event}
+use Rattle.binlog_undo_log.specs.Places.{FramesOf}
+use Rattle.binlog_undo_log.specs.Undoing.{IsEventAt, ReadsXid, begin_event}
 use Rattle.binlog_undo_log.specs.declared.one_transaction.Commit.{Commit}
 use Rattle.binlog_undo_log.specs.declared.output.UndoOutput.{UndoOutput}
 use Rattle.binlog_undo_log.specs.declared.scan.UndoScan.{UndoScan}

@@ -4,7 +4,7 @@ use Rattle.std.specs.Io.KnownBytes.{Appends}
 use Rattle.binlog_consts.specs.declared.event_type.EventType.{EventType}
 use Rattle.binlog_consts.specs.declared.event_type.EventType.TheVariants.{QUERY_EVENT, XID_EVENT}
 use Rattle.binlog_undo_writing.specs.Events.{event_size}
-use Rattle.binlog_undo_writing.specs.Transactions.{Event, events_bytes}
+use Rattle.binlog_undo_writing.specs.Transactions.{Event, events_bytes, AllFit}
 use Rattle.binlog_undo_log.specs.declared.output.UndoOutput.{UndoOutput}
 
 -- The place behind events, of which the first one begins at this place.
@@ -15,6 +15,7 @@ place_behind has_checksums place (event ∷ events) = place_behind has_checksums
 -- These events are written behind the log. `contents` are the bytes of its writer.
 pub record Pushes {W : Type 0} (contents : W → Option (List ℕ)) (events : List Event) (old new : UndoOutput W) : Type 0 where
   pub bytes : Appends (contents old.writer) (contents new.writer) (events_bytes old.has_checksums old.place events)
+  pub fit : AllFit old.has_checksums old.place events
   pub place : new.place ≡ place_behind old.has_checksums old.place events
   pub checksums : new.has_checksums ≡ old.has_checksums
   pub description : new.description ≡ old.description

@@ -10,7 +10,6 @@ use Rattle.binlog_file.specs.LogData.{ReadsLogData}
 use Rattle.binlog_file.specs.TableMapsInForce.{TableMaps}
 use Rattle.binlog_file.specs.declared.log_data.LogEventData.{LogEventData}
 use Rattle.binlog_file.specs.declared.log_data.LogEventData.TheVariants.{Mysql, Maria}
-use Rattle.binlog_filters.specs.Taking.{FollowsEvent}
 use Rattle.binlog_mariadb.specs.Flavour.{IsMariaVersion}
 use Rattle.binlog_mariadb.specs.declared.compressed_rows.RowsCompressedEvent.{RowsCompressedEvent}
 use Rattle.binlog_mariadb.specs.declared.event_data.MariaEventData.TheVariants as maria
@@ -97,6 +96,7 @@ seen_event scan index event mark table_id look = record {
   index = index;
   place = scan.place;
   end = place_behind scan event;
+  read_at = scan.place;
   mark = mark;
   table_id = table_id;
   change = change_in look;
@@ -190,16 +190,6 @@ abbrev pub NotesIf : ℕ → EventView → Option SeenEvent → UndoScan → Und
 NotesIf index event (Some seen) old new = NotesMark seen.mark index event seen old new
 NotesIf index event None old new = Stops index reasons.Damaged old new
 
--- An event is seen and noted. `maps` are the table maps in force.
-pub record ScansEvent (maps : TableMaps) (index : ℕ) (event : EventView) (seen : Option SeenEvent) (old new : UndoScan) : Type 0 where
-  pub wanted : Bool
-  pub follows : FollowsEvent old.choice.transactions old.is_wanted event (Ok wanted)
-  pub sees : Sees (record old { is_wanted = wanted }) maps index event seen
-  pub notes : NotesIf index event seen (record old { is_wanted = wanted }) new
-
-abbrev pub ScansSome : TableMaps → ℕ → EventView → UndoScan → UndoScan → Type 0
-ScansSome maps index event old new = (seen : Option SeenEvent) × ScansEvent maps index event seen old new
-
 -- ---- the end of a file
 
 -- What is told of the end.
@@ -208,6 +198,7 @@ border_at scan = record {
   index = scan.items;
   place = scan.place;
   end = scan.place;
+  read_at = scan.place;
   mark = marks.Border;
   table_id = None;
   change = None;
@@ -242,15 +233,3 @@ EndsIfWhole false old new = Stops old.items reasons.Tail old new
 abbrev pub EndsScan : Bool → Option ℕ → UndoScan → UndoScan → Type 0
 EndsScan true tail_len old new = new ≡ old
 EndsScan false tail_len old new = EndsIfWhole (has_no_tail tail_len || is_past_stop old) old new
-
--- ---- an item
-
-abbrev pub ScansUnless : Bool → TableMaps → ℕ → Result EventView Error → UndoScan → UndoScan → Type 0
-ScansUnless true maps index item old new = Closes old new
-ScansUnless false maps index (Ok event) old new = ScansSome maps index event old new
-ScansUnless false maps index (Err error) old new = Stops index reasons.Damaged old new
-
--- An item is looked at, unless the pass has ended, or ends in front of it.
-abbrev pub ScansItem : Bool → TableMaps → ℕ → Result EventView Error → UndoScan → UndoScan → Type 0
-ScansItem true maps index item old new = new ≡ old
-ScansItem false maps index item old new = ScansUnless (is_past_stop old) maps index item old new

@@ -1,5 +1,5 @@
 -- Which events undo those at some places of a file.
-use Rattle.std.specs.Prelude.{◌≡◌, ◌≢◌, ◌⊎◌, ℕ, Bool, List, [], ◌∷◌, ◌++◌, length, Option, Some, None, IfSome, Result, Ok}
+use Rattle.std.specs.Prelude.{◌≡◌, ◌≢◌, ◌⊎◌, ℕ, Bool, true, List, [], ◌∷◌, ◌++◌, length, Option, Some, None, IfSome, Result, Ok}
 use Rattle.binlog_columns.specs.Refusals.{refusal, columns_in}
 use Rattle.binlog_event_data.specs.declared.event_data.EventData.{EventData}
 use Rattle.binlog_event_data.specs.declared.event_data.EventData.TheVariants as mysql
@@ -24,8 +24,10 @@ use Rattle.binlog_undo_index.specs.declared.places.ChangePlace.{ChangePlace}
 use Rattle.binlog_undo_index.specs.declared.places.TransactionPlace.{TransactionPlace}
 use Rattle.binlog_consts.specs.declared.event_type.EventType.TheVariants.{QUERY_EVENT, XID_EVENT, TABLE_MAP_EVENT}
 use Rattle.binlog_bodies.specs.declared.events.xid.XidEvent.{XidEvent}
+use Rattle.binlog_undo_log.specs.Heads.{has_rows_length}
 use Rattle.binlog_undo_log.specs.Keys.{IsMariaEvent, GivesByKey}
 use Rattle.binlog_undo_log.specs.Compressed.{ReadsUncompressed, HasCompressedRows, IsReadAsRows, ReadsRows}
+use Rattle.binlog_undo_log.specs.Places.{FramesOf, InContent, AtPlaces}
 use Rattle.binlog_undo_writing.specs.Events.{begin_body, xid_body}
 use Rattle.binlog_undo_writing.specs.Headings.{begin_heading, commit_heading, source_heading}
 use Rattle.binlog_undo_writing.specs.Transactions.{Event, AreWritten}
@@ -53,12 +55,13 @@ undone_parts map_header map_body header inverse =
 abbrev pub undone_events : (map_event event : EventView) → InverseEvent → List Event
 undone_events map_event event inverse = undone_parts (header_of map_event.frame) (data_of map_event.fde.footer map_event.frame) (header_of event.frame) inverse
 
--- These events undo rows, of the table of this table map.
+-- These events undo rows, of the table of this table map. The description states how rows of the written type are read.
 pub record UndoesRows (checks : ForeignKeyChecks) (map_event : EventView) (map : TableMapEvent) (event : EventView) (rows : RowsEventData) (events : List Event) : Type 0 where
   pub is_maria_log : Bool
   pub maria : IsMariaEvent event is_maria_log
   pub inverse : InverseEvent
   pub undoes : UndoesTable is_maria_log checks map rows inverse
+  pub length : has_rows_length event.fde inverse.event_type ≡ true
   pub are : events ≡ undone_events map_event event inverse
 
 -- What was read of the body of an event that was compressed are rows of the table of this table map.
@@ -103,10 +106,6 @@ pub record UndoesEvents (checks : ForeignKeyChecks) (map_event event : EventView
   pub read : ReadsEventData map_event (Ok (Some (mysql.TableMapEvent map)))
   pub undoes : UndoesMapped checks map_event map event events
 
--- The frames of a file: the frame with these bytes begins at this place.
-abbrev pub FramesOf : Type 1
-FramesOf = ℕ → List ℕ → Type 0
-
 -- A CRC-32 of the checksummed bytes of an event. An algorithm's number is among them for a description.
 abbrev pub IsChecksumOf : EventView → ℕ → Type 0
 IsChecksumOf event checksum = (algorithm : ℕ) × (checksum ≡ crc32 (checksummed algorithm event.fde.footer event.frame))
@@ -138,6 +137,14 @@ UndoesChanges is_at fde checks (change ∷ changes) events =
 
 -- ---- a transaction
 
+-- Row events in the content of an event are undone.
+abbrev pub UndoesInside : ForeignKeyChecks → EventView → List ChangePlace → List Event → Type 0
+UndoesInside checks event changes events = InContent (λ (among : FramesOf) (d : FormatDescriptionEvent). UndoesChanges among d checks changes events) event
+
+-- The row events of a transaction with this last event are undone, at their places in its file or in its content.
+abbrev pub UndoesOwn : FramesOf → FormatDescriptionEvent → ForeignKeyChecks → EventView → List ChangePlace → List Event → Type 0
+UndoesOwn is_at fde checks event changes events = AtPlaces (λ (among : FramesOf) (d : FormatDescriptionEvent). UndoesChanges among d checks changes events) is_at fde event
+
 -- The number of an XID event, and 0 for any other event.
 abbrev pub ReadsXid : EventView → ℕ → Type 0
 ReadsXid event xid =
@@ -157,7 +164,7 @@ pub record UndoesTransaction (is_at : FramesOf) (fde : FormatDescriptionEvent) (
   pub xid : ℕ
   pub reads : ReadsXid event xid
   pub undone : List Event
-  pub undoes : UndoesChanges is_at fde checks changes undone
+  pub undoes : UndoesOwn is_at fde checks event changes undone
   pub are : events ≡ begin_event (header_of event.frame) ∷ undone ++ commit_event (header_of event.frame) xid ∷ []
 
 -- ---- all transactions

@@ -11,7 +11,7 @@ use binlog_mariadb::{CompressionError, RowsCompressedEvent, uncompress};
 use std::alloc::{AllocError, Global};
 
 /// The greatest size of uncompressed rows in bytes, 1 GiB, which is that of a packet of the server.
-const MOST_BYTES: usize = 1_073_741_824;
+pub(crate) const MOST_BYTES: usize = 1_073_741_824;
 
 // The bytes of a body, with others in place of so many last ones.
 fn with_last(alloc: Global, body: &[u8], count: usize, others: &[u8]) -> Result<Vec<u8>, AllocError>

@@ -4,26 +4,40 @@ ghost use Rattle.binlog_event_format.specs.DescriptionRefs.{description_of};
 ghost use Rattle.binlog_undo_log.specs.Descriptions.{description_body};
 ghost use Rattle.binlog_undo_log.specs.Files.{IsDescribed};
 ghost use Rattle.binlog_events.specs.EventRefs.{view_of};
+ghost use Rattle.binlog_wire.specs.Fields.{IsBytes};
 
+use crate::heads::is_writable;
 use crate::undo_error::UndoLogError;
 use binlog_event_format::DescriptionRef;
 use binlog_file::{EventRef, MySerialize};
 use std::alloc::Global;
 
+// Bytes are below 256, which is a premise of how a description is encoded.
+fn are_bytes(bytes: &[u8])
+    ensures { IsBytes bytes.now }
+{}
+
 /// The description of a description event.
 ///
 /// # Errors
 ///
-/// [`UndoLogError::Changed`] if the event is none.
+/// [`UndoLogError::Changed`] if the event is none, or the events that undo a log can't be written under it.
 pub(crate) fn description_in<'a>(event: &EventRef<'a>) -> Result<DescriptionRef<'a>, UndoLogError>
     ensures { IfOk result (λ fde. IsDescribed (view_of event.now) (description_of fde)) }
 {
     if !event.is_description() {
         return Err(UndoLogError::Changed);
     }
-    match DescriptionRef::read(event.data()) {
-        Ok(fde) => Ok(fde.with_footer(event.footer())),
-        Err(_) => Err(UndoLogError::Changed),
+    let data = event.data();
+    are_bytes(data);
+    let Ok(read) = DescriptionRef::read(data) else {
+        return Err(UndoLogError::Changed);
+    };
+    let fde = read.with_footer(event.footer());
+    if is_writable(fde) {
+        Ok(fde)
+    } else {
+        Err(UndoLogError::Changed)
     }
 }
 

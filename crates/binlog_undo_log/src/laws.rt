@@ -1,5 +1,7 @@
 //! Laws of the definitions. Each is a function that does nothing and whose contract states the law.
-ghost use Rattle.std.specs.Prelude.{List, ℕ, ◌<◌, ◌^◌, length};
+ghost use Rattle.std.specs.Prelude.{◌≡◌, true, Option, List, ℕ, ◌<◌, ◌^◌, length};
+ghost use Rattle.binlog_events.specs.Events.{EventView};
+ghost use Rattle.binlog_file.specs.TableMapsInForce.{TableMaps};
 ghost use Rattle.binlog_event_format.specs.declared.format_description.FormatDescriptionEvent.{FormatDescriptionEvent};
 ghost use Rattle.binlog_undo.specs.RowChanges.{TableRow};
 ghost use Rattle.binlog_undo.specs.declared.inverse_event.ForeignKeyChecks.{ForeignKeyChecks};
@@ -14,6 +16,11 @@ ghost use Rattle.binlog_undo_log.specs.FileChanges.{AreFramesOf, UndoesFile};
 ghost use Rattle.binlog_undo_log.specs.Files.{IsFresh, ScansWhole, AreSkipped, IsScanned, WritesFile};
 ghost use Rattle.binlog_undo_log.specs.LogChanges.{TableName, LogChange, AreKeptChanges, AreLogChanges};
 ghost use Rattle.binlog_undo_log.specs.Undoing.{UndoesAll, UndoesKept};
+ghost use Rattle.binlog_undo_log.specs.WholeLogs.{IsNewLog, HasUndoLog, HasInverseLog, IsReadAs};
+ghost use Rattle.binlog_undo_log.specs.Heads.{is_writable};
+ghost use Rattle.binlog_undo_log.specs.Scanning.{Sees};
+ghost use Rattle.binlog_undo_log.specs.SeenWritten.{AreSeenAsWritten};
+ghost use Rattle.binlog_undo_index.specs.declared.seen.SeenEvent.{SeenEvent};
 ghost use Rattle.binlog_undo_log.specs.declared.choice.Choice.{Choice};
 ghost use Rattle.binlog_undo_log.specs.declared.output.UndoOutput.{UndoOutput};
 ghost use Rattle.binlog_undo_log.specs.declared.scan.UndoScan.{UndoScan};
@@ -40,7 +47,7 @@ pub fn kept_transactions_are_undone<F: Frames>()
 /// they lead from the state behind the transactions, if no other change came in between, back to the state that was there before them.
 pub fn logs_are_undone<F: Frames>()
     ensures changes { (frames : F) (fde : FormatDescriptionEvent) (checks : ForeignKeyChecks) (kept : List Kept) (events : List Event) → UndoesKept (F.is_at frames) fde checks kept events
-        → (changes : List LogChange) × AreKeptChanges (F.is_at frames) fde kept changes × AreLogChanges events (inverse changes) }
+        → (changes : List LogChange) × AreKeptChanges (F.is_at frames) fde kept changes × AreLogChanges fde events (inverse changes) }
     ensures back { (changes : List LogChange) (old new : State TableName TableRow) → AppliesAll changes old new → AppliesAll (inverse changes) new old }
 {}
 
@@ -50,4 +57,27 @@ pub fn files_are_undone<F: Frames, W: WriteCounted>()
     ensures { (frames : F) (choice : Choice) (checks : ForeignKeyChecks) (skips : Skips) (bytes : List ℕ) (start scan : UndoScan) (old new : UndoOutput W)
         → length bytes < 2 ^ 64 → AreFramesOf bytes (F.is_at frames) → IsFresh choice checks skips start → ScansWhole bytes start scan → AreSkipped (parts_of scan.index).refusals
         → WritesFile W.contents (F.is_at frames) scan old new → UndoesFile W.contents (rules_of choice skips) bytes start scan old new }
+{}
+
+/// What is written for a file at the front of a log is a log that is read without a refusal: a file header, the file's description, created
+/// at 0, and exactly the events that undo the transactions of the file, with nothing between them or behind them. Each is read with the
+/// heading and the body that were written, its checksum is right, and its log position is the place behind it.
+pub fn undo_logs_are_read<F: Frames, W: WriteCounted>()
+    ensures { (frames : F) (scan : UndoScan) (old new : UndoOutput W) → IsNewLog W.contents old → WritesFile W.contents (F.is_at frames) scan old new
+        → HasUndoLog W.contents (F.is_at frames) scan.checks (parts_of scan.index).transactions (parts_of scan.index).changes new }
+{}
+
+/// Read again from its own bytes, this log is exactly the inverse of the changes of the transactions of the file that are undone: its table
+/// maps and row events are read so that their changes, in order, are these.
+pub fn undo_logs_are_inverse<F: Frames, W: WriteCounted>()
+    ensures { (frames : F) (kept : List Kept) (scan : UndoScan) (old new : UndoOutput W) → IsNewLog W.contents old
+        → Keeps kept (parts_of scan.index).transactions (parts_of scan.index).changes → WritesFile W.contents (F.is_at frames) scan old new
+        → HasInverseLog W.contents (F.is_at frames) kept new }
+{}
+
+/// The first pass sees the events of such a log as they were written: a BEGIN, an XID, and a table map with its id; and it looks at the
+/// rows that were written. By [`binlog_undo_index::laws::row_transactions_are_kept`] they are whole transactions.
+pub fn written_events_are_seen()
+    ensures { (scan : UndoScan) (maps : TableMaps) (index : ℕ) (d : FormatDescriptionEvent) (written : Event) (event : EventView) (seen : Option SeenEvent)
+        → is_writable d ≡ true → IsReadAs d written event → Sees scan maps index event seen → AreSeenAsWritten scan maps index d written event seen }
 {}

@@ -20,7 +20,9 @@ mod output;
 mod primary_key;
 mod rows;
 mod scan;
+mod slice_frames;
 mod undo_error;
+mod visiting;
 mod writing;
 
 pub use choice::Choice;
@@ -31,5 +33,7 @@ pub use log_description::{LogDescription, read_description};
 pub use one_transaction::{Commit, begin_one};
 pub use output::UndoOutput;
 pub use scan::UndoScan;
+pub use slice_frames::SliceFrames;
 pub use undo_error::UndoLogError;
+pub use visiting::{RowsVisitor, visit_undone_rows};
 pub use writing::write_undo;

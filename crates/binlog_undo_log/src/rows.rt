@@ -7,6 +7,7 @@ ghost use Rattle.binlog_undo_log.specs.Undoing.{Writes, UndoesTable, UndoesRows,
 use crate::compressed::{read_uncompressed, uncompressed_body};
 use crate::events::{event_of, is_maria_event};
 use crate::frames::Frames;
+use crate::heads::has_rows_length;
 use crate::primary_key::undo_by_key;
 use crate::undo_error::UndoLogError;
 use binlog_columns::TableColumns;
@@ -57,6 +58,9 @@ fn push_rows(
     ensures { OnOk result (Writes (UndoesRows checks (view_of map_event.now) map.now (view_of event.now) rows.now) writer.old writer.new) }
 {
     let inverse = inverse_of(alloc, map, rows, is_maria_event(event), checks)?;
+    if !has_rows_length(event.fde(), inverse.event_type()) {
+        return Err(UndoLogError::Changed);
+    }
     let change = UndoneChange {
         map_header: map_event.header(),
         map_body: map_event.data(),

@@ -3,10 +3,12 @@ ghost use Rattle.std.specs.Prelude.{◌≡◌, IfErr, IfOk, OnOk};
 ghost use Rattle.binlog_wire.specs.declared.error.Error.TheVariants.{Memory};
 ghost use Rattle.binlog_events.specs.EventRefs.{view_of};
 ghost use Rattle.binlog_file.specs.State.{state_of};
+ghost use Rattle.binlog_undo_log.specs.Contents.{ScansEvent};
 ghost use Rattle.binlog_undo_log.specs.Files.{IsFresh};
-ghost use Rattle.binlog_undo_log.specs.Scanning.{LooksAtData, IsRole, place_behind, seen_event, SeesData, SeesUnread, SeesRead, Sees, Stops, Describes, DescribesIf, Notes, NotesMark, NotesIf, ScansSome, is_past_stop, Closes, has_no_tail, EndsWhole, EndsScan};
+ghost use Rattle.binlog_undo_log.specs.Scanning.{LooksAtData, IsRole, place_behind, seen_event, SeesData, SeesUnread, SeesRead, Sees, Stops, Describes, DescribesIf, Notes, NotesMark, NotesIf, is_past_stop, Closes, has_no_tail, EndsWhole, EndsScan};
 
 mod compressed_rows;
+pub(crate) mod content;
 pub(crate) mod seeing;
 
 use crate::choice::Choice;
@@ -130,6 +132,7 @@ impl UndoScan {
             index,
             place: self.place,
             end: self.place_behind(event),
+            read_at: self.place,
             mark,
             table_id,
             change,
@@ -274,21 +277,20 @@ impl UndoScan {
         }
     }
 
-    // Sees an event and notes it.
+    // Scans an event, or the events inside.
     fn scan_event(
         &mut self,
         index: u64,
         event: &EventRef<'_>,
         reader: &EventStreamReader,
     ) -> Result<(), Error>
-        ensures ok { OnOk result (ScansSome (state_of reader.now).table_maps index (view_of event.now) self.old self.new) }
+        ensures ok { OnOk result (ScansEvent (state_of reader.now).table_maps index (view_of event.now) self.old self.new) }
         ensures memory { IfErr result (λ e. e ≡ Memory) }
     {
         let transactions = &self.choice.transactions;
         let is_wanted = transactions.follow(self.alloc, self.is_wanted, event)?;
         self.is_wanted = is_wanted;
-        let seen = self.see(index, event, reader)?;
-        self.note_if(index, event, seen)
+        self.scan_any(index, event, reader)
     }
 
     // No transaction goes across the end of a file.
@@ -300,6 +302,7 @@ impl UndoScan {
             index: self.items,
             place: self.place,
             end: self.place,
+            read_at: self.place,
             mark: Mark::Border,
             table_id: None,
             change: None,
@@ -372,7 +375,7 @@ fn role_of(event: &EventRef<'_>) -> Role
 impl Visitor for UndoScan {
     ghost use Rattle.std.specs.Prelude.{◌≡◌};
     ghost use Rattle.binlog_wire.specs.declared.error.Error.TheVariants.{Memory};
-    ghost use Rattle.binlog_undo_log.specs.Scanning.{ScansItem};
+    ghost use Rattle.binlog_undo_log.specs.Contents.{ScansItem};
 
     ghost visits = { λ old maps index item new. ScansItem old.is_stopped maps index item old new };
 

@@ -1,11 +1,11 @@
 -- Events that are written one after the other.
-use Rattle.std.proofs.Common.{◌≡◌, ℕ, ◌+◌, Bool, List, [], ◌∷◌, ◌++◌, refl, sym, ◌∙◌, ap, append_assoc, append-nil}
+use Rattle.std.proofs.Common.{◌≡◌, ℕ, ◌+◌, Bool, List, [], ◌∷◌, ◌++◌, refl, sym, ◌∙◌, ap, subst, append_assoc, append-nil}
 use Rattle.std.specs.Prelude.{OnOk, Result, Ok, Err}
 use Rattle.binlog_consts.specs.declared.event_type.EventType.TheVariants.{QUERY_EVENT, XID_EVENT, TABLE_MAP_EVENT}
 use Rattle.binlog_event_format.specs.declared.header.BinlogEventHeader.{BinlogEventHeader}
-use Rattle.binlog_undo_writing.specs.Events.{event_size, event_bytes, IsWritten, IsUnchanged, begin_body, xid_body}
+use Rattle.binlog_undo_writing.specs.Events.{event_size, event_bytes, FitsHeader, IsWritten, IsUnchanged, begin_body, xid_body}
 use Rattle.binlog_undo_writing.specs.Headings.{begin_heading, commit_heading, source_heading}
-use Rattle.binlog_undo_writing.specs.Transactions.{Event, AreWritten, events_bytes, change_events, changes_events, transaction_events}
+use Rattle.binlog_undo_writing.specs.Transactions.{Event, AreWritten, events_bytes, AllFit, change_events, changes_events, transaction_events}
 use Rattle.binlog_undo_writing.specs.declared.events_writer.EventsWriter.{EventsWriter}
 use Rattle.binlog_undo_writing.specs.declared.undone_change.UndoneChange.{UndoneChange}
 use Rattle.binlog_undo_writing.specs.declared.write_error.WriteError.{WriteError}
@@ -35,6 +35,7 @@ from_unchanged (event ∷ events) old mid new h w = (
         ∙ ap (λ (p : ℕ). old.bytes.items ++ event_bytes old.has_checksums p event.heading event.event_type event.body) h.place;
     place = w.1.place ∙ ap (λ (p : ℕ). p + event_size mid.has_checksums event.body) h.place ∙ ap (λ (b : Bool). old.place + event_size b event.body) h.checksums;
     checksums = w.1.checksums ∙ h.checksums;
+    fits = subst (λ (b : Bool). FitsHeader b old.place event.heading event.body) h.checksums (subst (λ (p : ℕ). FitsHeader mid.has_checksums p event.heading event.body) h.place w.1.fits);
   },
   w.2,
 )
@@ -62,3 +63,13 @@ bytes_are (event ∷ events) old new h =
     ∙ ap (λ (b : Bool). (old.bytes.items ++ first) ++ events_bytes b h.0.place events) h.1.checksums
     ∙ ap (λ (p : ℕ). (old.bytes.items ++ first) ++ events_bytes old.has_checksums p events) h.1.place
     ∙ append_assoc old.bytes.items first (events_bytes old.has_checksums (old.place + event_size old.has_checksums event.body) events)
+
+-- ---- their sizes
+
+pub all_fit : (events : List Event) (old new : EventsWriter) → AreWritten events old new → AllFit old.has_checksums old.place events
+all_fit [] old new h = tt
+all_fit (event ∷ events) old new h = (
+  h.1.fits,
+  subst (λ (b : Bool). AllFit b (old.place + event_size old.has_checksums event.body) events) h.1.checksums
+      (subst (λ (p : ℕ). AllFit h.0.has_checksums p events) h.1.place (all_fit events h.0 new h.2)),
+)

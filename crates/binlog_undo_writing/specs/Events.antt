@@ -1,5 +1,5 @@
 -- The bytes of events that are written, one after the other.
-use Rattle.std.specs.Prelude.{◌≡◌, ℕ, ◌+◌, ◌%◌, ◌^◌, Bool, true, false, ◌&&◌, nat_lt, List, ◌++◌, length, codes, replicate, Result, Err, IsOkUnless, if◌then◌else◌}
+use Rattle.std.specs.Prelude.{◌≡◌, ℕ, ◌+◌, ◌%◌, ◌^◌, ◌<◌, Bool, true, false, ◌&&◌, nat_lt, List, ◌++◌, length, codes, replicate, Result, Err, IsOkUnless, if◌then◌else◌}
 use Rattle.binlog_wire.specs.Fields.{little_bytes}
 use Rattle.binlog_consts.specs.EventTypes.{event_number}
 use Rattle.binlog_consts.specs.declared.event_type.EventType.{EventType}
@@ -38,21 +38,29 @@ abbrev pub event_bytes : Bool → ℕ → Heading → EventType → List ℕ →
 event_bytes has_checksum place heading event_type body =
     with_checksum has_checksum (header.written (event_header (event_size has_checksum body) (place + event_size has_checksum body) heading event_type) ++ body)
 
+-- Its header can state how long an event is that begins at this place, and the place behind it is a number of 64 bits.
+abbrev pub fits_at : Bool → ℕ → List ℕ → Bool
+fits_at has_checksum place body = nat_lt (event_size has_checksum body) (2 ^ 32) && nat_lt (place + event_size has_checksum body) (2 ^ 64)
+
+-- It fits, and its header can state the numbers of its heading.
+pub record FitsHeader (has_checksum : Bool) (place : ℕ) (heading : Heading) (body : List ℕ) : Type 0 where
+  pub timestamp : heading.timestamp < 2 ^ 32
+  pub server_id : heading.server_id < 2 ^ 32
+  pub flags : heading.flags < 2 ^ 16
+  pub size : fits_at has_checksum place body ≡ true
+
 -- The event is behind the others, and the place is the one behind it.
 pub record IsWritten (heading : Heading) (event_type : EventType) (body : List ℕ) (old new : EventsWriter) : Type 0 where
   pub bytes : new.bytes.items ≡ old.bytes.items ++ event_bytes old.has_checksums old.place heading event_type body
   pub place : new.place ≡ old.place + event_size old.has_checksums body
   pub checksums : new.has_checksums ≡ old.has_checksums
+  pub fits : FitsHeader old.has_checksums old.place heading body
 
 -- Nothing is written.
 pub record IsUnchanged (old new : EventsWriter) : Type 0 where
   pub bytes : new.bytes.items ≡ old.bytes.items
   pub place : new.place ≡ old.place
   pub checksums : new.has_checksums ≡ old.has_checksums
-
--- Its header can state how long an event is that begins at this place, and the place behind it is a number of 64 bits.
-abbrev pub fits_at : Bool → ℕ → List ℕ → Bool
-fits_at has_checksum place body = nat_lt (event_size has_checksum body) (2 ^ 32) && nat_lt (place + event_size has_checksum body) (2 ^ 64)
 
 abbrev pub fits : EventsWriter → List ℕ → Bool
 fits writer body = fits_at writer.has_checksums writer.place body

@@ -4,7 +4,7 @@ use Rattle.std.specs.List.{flat_map}
 use Rattle.binlog_consts.specs.declared.event_type.EventType.{EventType}
 use Rattle.binlog_consts.specs.declared.event_type.EventType.TheVariants.{QUERY_EVENT, XID_EVENT, TABLE_MAP_EVENT}
 use Rattle.binlog_event_format.specs.declared.header.BinlogEventHeader.{BinlogEventHeader}
-use Rattle.binlog_undo_writing.specs.Events.{event_size, event_bytes, IsWritten, IsUnchanged, fits, fits_at, RefusesAs, begin_body, xid_body}
+use Rattle.binlog_undo_writing.specs.Events.{event_size, event_bytes, FitsHeader, IsWritten, IsUnchanged, fits, fits_at, RefusesAs, begin_body, xid_body}
 use Rattle.binlog_undo_writing.specs.Headings.{begin_heading, commit_heading, source_heading}
 use Rattle.binlog_undo_writing.specs.declared.events_writer.EventsWriter.{EventsWriter}
 use Rattle.binlog_undo_writing.specs.declared.heading.Heading.{Heading}
@@ -29,6 +29,12 @@ abbrev pub events_bytes : Bool → ℕ → List Event → List ℕ
 events_bytes has_checksums place [] = []
 events_bytes has_checksums place (event ∷ events) =
     event_bytes has_checksums place event.heading event.event_type event.body ++ events_bytes has_checksums (place + event_size has_checksums event.body) events
+
+-- Each of them fits.
+abbrev pub AllFit : Bool → ℕ → List Event → Type 0
+AllFit has_checksums place [] = Unit {0}
+AllFit has_checksums place (event ∷ events) =
+    FitsHeader has_checksums place event.heading event.body × AllFit has_checksums (place + event_size has_checksums event.body) events
 
 -- ---- a transaction
 

@@ -4,6 +4,9 @@ pub mod Contents
 pub mod DecimalGroups
 pub mod DecimalLaws
 pub mod Decimals
+pub mod DecoderLaws
+pub mod Decoding
+pub mod Faults
 pub mod Texts
 pub mod Times
 pub mod Values

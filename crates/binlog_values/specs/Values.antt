@@ -3,11 +3,14 @@ use Rattle.std.specs.Prelude.{ℕ, ◌==◌, Result, Ok, Err, if◌then◌else�
 use Rattle.binlog_wire.specs.declared.error.Error.{Error}
 use Rattle.binlog_columns.specs.Metadata.{Typed, real_number}
 use Rattle.binlog_columns.specs.Layouts.{layout_of}
+use Rattle.binlog_columns.specs.declared.decoder.Decoder.{Decoder}
+use Rattle.binlog_columns.specs.declared.decoder.Decoder.TheVariants as decoders
 use Rattle.binlog_columns.specs.declared.layout.Layout.{Layout}
 use Rattle.binlog_columns.specs.declared.layout.Layout.TheVariants as layouts
 use Rattle.binlog_columns.specs.declared.column_type.ColumnType.{ColumnType}
 use Rattle.binlog_columns.specs.declared.column_type.ColumnType.TheVariants.{MYSQL_TYPE_FLOAT, MYSQL_TYPE_DOUBLE, MYSQL_TYPE_TIMESTAMP, MYSQL_TYPE_DATE, MYSQL_TYPE_TIME, MYSQL_TYPE_DATETIME, MYSQL_TYPE_YEAR, MYSQL_TYPE_NEWDATE, MYSQL_TYPE_BLOB_COMPRESSED, MYSQL_TYPE_VARCHAR_COMPRESSED, MYSQL_TYPE_JSON, MYSQL_TYPE_ENUM, MYSQL_TYPE_SET, MYSQL_TYPE_STRING, MYSQL_TYPE_GEOMETRY}
 use Rattle.binlog_values.specs.Contents.{Content, nothing, of_number, of_bytes}
+use Rattle.binlog_values.specs.declared.fault.ValueFault.{ValueFault}
 use Rattle.binlog_values.specs.declared.value.Value.{Value}
 use Rattle.binlog_values.specs.declared.value.Value.TheVariants as values
 
@@ -39,6 +42,11 @@ content_of (values.Compressed s) = of_bytes s.now
 abbrev pub answer_content : Result Value Error → Result Content Error
 answer_content (Ok value) = Ok (content_of value)
 answer_content (Err e) = Err e
+
+-- The same, where a fault is given in place of an error.
+abbrev pub decoded_content : Result Value ValueFault → Result Content ValueFault
+decoded_content (Ok value) = Ok (content_of value)
+decoded_content (Err fault) = Err fault
 
 -- What a value means: its type, and the numbers that the column's metadata states for it.
 pub data Meaning : Type 0 where
@@ -130,3 +138,27 @@ meaning_by (layouts.Vector prefix) column_type metadata = vector
 -- The meaning of the values of a column.
 abbrev pub meaning_in : Typed → Meaning
 meaning_in column = meaning_by (layout_of column) column.0 column.1
+
+-- The meaning of the values that a decoder reads.
+abbrev pub decoded_meaning : Decoder → Meaning
+decoded_meaning decoders.Nothing = null
+decoded_meaning (decoders.Integer size) = integer size
+decoded_meaning decoders.Float = float
+decoded_meaning decoders.Double = double
+decoded_meaning decoders.Date = date
+decoded_meaning decoders.Year = year
+decoded_meaning decoders.Timestamp = timestamp
+decoded_meaning decoders.Time = time
+decoded_meaning decoders.DateTime = datetime
+decoded_meaning (decoders.Enum size) = enumeration
+decoded_meaning (decoders.Set size) = members
+decoded_meaning (decoders.Bits count) = bit count
+decoded_meaning (decoders.Timestamp2 digits) = timestamp2 digits
+decoded_meaning (decoders.DateTime2 digits) = datetime2 digits
+decoded_meaning (decoders.Time2 digits) = time2 digits
+decoded_meaning (decoders.Decimal precision scale) = decimal precision scale
+decoded_meaning (decoders.Bytes prefix max) = string
+decoded_meaning (decoders.Json prefix max) = json
+decoded_meaning (decoders.Geometry prefix max) = geometry
+decoded_meaning (decoders.Compressed prefix max) = compressed
+decoded_meaning (decoders.Vector prefix) = vector

@@ -2,27 +2,25 @@
 ghost use Rattle.std.specs.Prelude.{◌≡◌, ◌≤◌, ◌<◌, ◌+◌, ◌*◌, ◌/◌, ◌%◌, ◌^◌, ◌==◌, IfOk, true, length, nat_le};
 ghost use Rattle.byteorder.specs.Endian.{little_number, big_number};
 ghost use Rattle.binlog_wire.specs.Fields.{number_at, block_at};
-ghost use Rattle.binlog_wire.specs.Reading.{Gives, result_now};
 ghost use Rattle.binlog_values.specs.BigNumbers.{big_at};
+ghost use Rattle.binlog_values.specs.Faults.{Decodes, bytes_now};
 ghost use Rattle.binlog_values.specs.Contents.{counted, fraction_len, before_fraction, is_below_second, is_datetime2, is_time2, time2_zero, time2_distance, bits, timestamp2, datetime2, time2, decimal, decimal_len, is_decimal_bytes};
 
 use crate::digits::{decimal_len, is_decimal};
-use binlog_wire::{Error, Invalid, ParseBuf};
+use crate::fault::ValueFault;
+use binlog_wire::ParseBuf;
 use byteorder::{BigEndian, ByteOrder, LittleEndian};
-
-/// The error for a value that is complete and out of range.
-const OUT_OF_RANGE: Error = Error::InvalidData(Invalid::FieldRange(0));
 
 /// Takes a little-endian number of `len` bytes, 1 to 8, from the start of `buf`.
 #[inline(always)]
-pub(crate) fn read_number(len: usize, buf: &mut ParseBuf<'_>) -> Result<u64, Error>
+pub(crate) fn read_number(len: usize, buf: &mut ParseBuf<'_>) -> Result<u64, ValueFault>
     requires low { 1 ≤ len }
     requires high { len ≤ 8 }
-    ensures number { Gives ⊥ buf.new result (number_at len buf.old) }
+    ensures number { Decodes buf.new result (number_at len buf.old) }
     ensures small { IfOk result (λ number. number < 256 ^ len) }
 {
     if buf.0.len() < len {
-        return Err(Error::EndOfBody);
+        return Err(ValueFault::EndOfBody);
     }
     let number = little_number(buf.0, len);
     buf.0 = &buf.0[len..];
@@ -65,13 +63,13 @@ fn big_number(bytes: &[u8], len: usize) -> u64
 
 /// Takes a number of `len` bytes, 1 to 8, most significant byte first, from the start of `buf`.
 #[inline(always)]
-fn read_big(len: usize, buf: &mut ParseBuf<'_>) -> Result<u64, Error>
+fn read_big(len: usize, buf: &mut ParseBuf<'_>) -> Result<u64, ValueFault>
     requires low { 1 ≤ len }
     requires high { len ≤ 8 }
-    ensures { Gives ⊥ buf.new result (big_at len buf.old) }
+    ensures { Decodes buf.new result (big_at len buf.old) }
 {
     if buf.0.len() < len {
-        return Err(Error::EndOfBody);
+        return Err(ValueFault::EndOfBody);
     }
     let number = big_number(buf.0, len);
     buf.0 = &buf.0[len..];
@@ -210,67 +208,67 @@ fn is_time2(digits: u8, number: u64) -> bool
 
 /// Takes this many bits, 1 to 64, from the start of `buf`.
 #[inline(always)]
-pub(crate) fn read_bits(count: u8, buf: &mut ParseBuf<'_>) -> Result<u64, Error>
+pub(crate) fn read_bits(count: u8, buf: &mut ParseBuf<'_>) -> Result<u64, ValueFault>
     requires low { 1 ≤ count }
     requires high { count ≤ 64 }
-    ensures { Gives ⊥ buf.new result ((bits count).reads buf.old) }
+    ensures { Decodes buf.new result ((bits count).reads buf.old) }
 {
     let number = read_big(usize::from(count).div_ceil(8), buf)?;
     if count == 64 || number < 1 << count {
         Ok(number)
     } else {
-        Err(OUT_OF_RANGE)
+        Err(ValueFault::OutOfRange)
     }
 }
 
 /// Takes the number of a TIMESTAMP2 from the start of `buf`.
 #[inline(always)]
-pub(crate) fn read_timestamp2(digits: u8, buf: &mut ParseBuf<'_>) -> Result<u64, Error>
+pub(crate) fn read_timestamp2(digits: u8, buf: &mut ParseBuf<'_>) -> Result<u64, ValueFault>
     requires { digits ≤ 6 }
-    ensures { Gives ⊥ buf.new result ((timestamp2 digits).reads buf.old) }
+    ensures { Decodes buf.new result ((timestamp2 digits).reads buf.old) }
 {
     let number = read_big(4 + fraction_len(digits), buf)?;
     if is_below_second(digits, number) {
         Ok(number)
     } else {
-        Err(OUT_OF_RANGE)
+        Err(ValueFault::OutOfRange)
     }
 }
 
 /// Takes the number of a DATETIME2 from the start of `buf`.
 #[inline(always)]
-pub(crate) fn read_datetime2(digits: u8, buf: &mut ParseBuf<'_>) -> Result<u64, Error>
+pub(crate) fn read_datetime2(digits: u8, buf: &mut ParseBuf<'_>) -> Result<u64, ValueFault>
     requires { digits ≤ 6 }
-    ensures { Gives ⊥ buf.new result ((datetime2 digits).reads buf.old) }
+    ensures { Decodes buf.new result ((datetime2 digits).reads buf.old) }
 {
     let number = read_big(5 + fraction_len(digits), buf)?;
     if is_datetime2(digits, number) {
         Ok(number)
     } else {
-        Err(OUT_OF_RANGE)
+        Err(ValueFault::OutOfRange)
     }
 }
 
 /// Takes the number of a TIME2 from the start of `buf`.
 #[inline(always)]
-pub(crate) fn read_time2(digits: u8, buf: &mut ParseBuf<'_>) -> Result<u64, Error>
+pub(crate) fn read_time2(digits: u8, buf: &mut ParseBuf<'_>) -> Result<u64, ValueFault>
     requires { digits ≤ 6 }
-    ensures { Gives ⊥ buf.new result ((time2 digits).reads buf.old) }
+    ensures { Decodes buf.new result ((time2 digits).reads buf.old) }
 {
     let number = read_big(3 + fraction_len(digits), buf)?;
     if is_time2(digits, number) {
         Ok(number)
     } else {
-        Err(OUT_OF_RANGE)
+        Err(ValueFault::OutOfRange)
     }
 }
 
 /// Takes this many bytes from the start of `buf`.
 #[inline(always)]
-fn take<'a>(count: usize, buf: &mut ParseBuf<'a>) -> Result<&'a [u8], Error>
-    ensures { Gives ⊥ buf.new (result_now result) (block_at count buf.old) }
+fn take<'a>(count: usize, buf: &mut ParseBuf<'a>) -> Result<&'a [u8], ValueFault>
+    ensures { Decodes buf.new (bytes_now result) (block_at count buf.old) }
 {
-    buf.checked_eat(count).ok_or(Error::EndOfBody)
+    buf.checked_eat(count).ok_or(ValueFault::EndOfBody)
 }
 
 /// Takes bytes, at most `max`, after their length in `prefix` bytes, from the start of `buf`.
@@ -279,28 +277,28 @@ pub(crate) fn read_counted<'a>(
     prefix: usize,
     max: u64,
     buf: &mut ParseBuf<'a>,
-) -> Result<&'a [u8], Error>
+) -> Result<&'a [u8], ValueFault>
     requires low { 1 ≤ prefix }
     requires high { prefix ≤ 4 }
-    ensures { Gives ⊥ buf.new (result_now result) ((counted prefix (λ n. nat_le n max)).reads buf.old) }
+    ensures { Decodes buf.new (bytes_now result) ((counted prefix (λ n. nat_le n max)).reads buf.old) }
 {
     let len = read_number(prefix, buf)?;
     if len > max {
-        return Err(OUT_OF_RANGE);
+        return Err(ValueFault::OutOfRange);
     }
     take(len as usize, buf)
 }
 
 /// Takes bytes, a multiple of four, after their length in `prefix` bytes, from the start of `buf`.
 #[inline(always)]
-pub(crate) fn read_vector<'a>(prefix: usize, buf: &mut ParseBuf<'a>) -> Result<&'a [u8], Error>
+pub(crate) fn read_vector<'a>(prefix: usize, buf: &mut ParseBuf<'a>) -> Result<&'a [u8], ValueFault>
     requires low { 1 ≤ prefix }
     requires high { prefix ≤ 4 }
-    ensures { Gives ⊥ buf.new (result_now result) ((counted prefix (λ n. n % 4 == 0)).reads buf.old) }
+    ensures { Decodes buf.new (bytes_now result) ((counted prefix (λ n. n % 4 == 0)).reads buf.old) }
 {
     let len = read_number(prefix, buf)?;
     if len % 4 != 0 {
-        return Err(OUT_OF_RANGE);
+        return Err(ValueFault::OutOfRange);
     }
     take(len as usize, buf)
 }
@@ -311,11 +309,11 @@ pub(crate) fn read_decimal<'a>(
     precision: u8,
     scale: u8,
     buf: &mut ParseBuf<'a>,
-) -> Result<&'a [u8], Error>
+) -> Result<&'a [u8], ValueFault>
     requires low { 1 ≤ precision }
     requires high { precision ≤ 65 }
     requires scale { scale ≤ precision }
-    ensures decimal { Gives ⊥ buf.new (result_now result) ((decimal precision scale).reads buf.old) }
+    ensures decimal { Decodes buf.new (bytes_now result) ((decimal precision scale).reads buf.old) }
     ensures whole { IfOk result (λ bytes. length bytes.now ≡ decimal_len precision scale) }
     ensures fits { IfOk result (λ bytes. is_decimal_bytes precision scale bytes.now ≡ true) }
 {
@@ -323,6 +321,6 @@ pub(crate) fn read_decimal<'a>(
     if is_decimal(precision, scale, bytes) {
         Ok(bytes)
     } else {
-        Err(OUT_OF_RANGE)
+        Err(ValueFault::OutOfRange)
     }
 }

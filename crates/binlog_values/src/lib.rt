@@ -8,7 +8,9 @@ mod content;
 mod decimal;
 mod decimal_number;
 mod decimal_text;
+mod decoding;
 mod digits;
+mod fault;
 mod floats;
 pub mod laws;
 mod numbers;
@@ -17,6 +19,7 @@ mod times;
 mod value;
 
 pub use decimal::Decimal;
+pub use fault::ValueFault;
 pub use floats::{Double, Float};
 pub use numbers::{Bit, Integer};
 pub use times::{Date, DateTime, DateTime2, Time, Time2, Timestamp2, Year};

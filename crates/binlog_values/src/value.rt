@@ -1,21 +1,25 @@
 //! The values of columns.
-ghost use Rattle.std.specs.Prelude.{◌≡◌, ◌<◌, ◌≤◌, ◌^◌, IfOk};
+ghost use Rattle.std.specs.Prelude.{◌≡◌, IfOk};
 ghost use Rattle.binlog_wire.specs.Reading.{Gives};
 ghost use Rattle.binlog_columns.specs.Columns.{typed_of};
-ghost use Rattle.binlog_columns.specs.Layouts.{layout_of};
-ghost use Rattle.binlog_columns.specs.declared.layout.Layout.TheVariants.{Number};
-ghost use Rattle.binlog_values.specs.Contents.{of_number, of_bytes, content_in};
-ghost use Rattle.binlog_values.specs.Values.{answer_content, content_of, meaning_of, meaning_in, number_meaning, bytes_meaning, listed};
+ghost use Rattle.binlog_columns.specs.Decoders.{layout_in};
+ghost use Rattle.binlog_columns.specs.Layouts.{layout_of, IsLayout};
+ghost use Rattle.binlog_values.specs.Contents.{content_in};
+ghost use Rattle.binlog_values.specs.Decoding.{DecodesBy};
+ghost use Rattle.binlog_values.specs.Faults.{Decodes};
+ghost use Rattle.binlog_values.specs.Values.{answer_content, decoded_content, meaning_of, meaning_in};
 
-use crate::content::{
-    read_bits, read_counted, read_datetime2, read_decimal, read_number, read_time2,
-    read_timestamp2, read_vector,
-};
 use crate::decimal::Decimal;
+use crate::decoding::{
+    read_bits, read_bytes, read_compressed, read_date, read_datetime, read_datetime2, read_decimal,
+    read_double, read_enum, read_float, read_geometry, read_integer, read_json, read_set,
+    read_time, read_time2, read_timestamp, read_timestamp2, read_vector, read_year,
+};
+use crate::fault::ValueFault;
 use crate::floats::{Double, Float};
 use crate::numbers::{Bit, Integer};
 use crate::times::{Date, DateTime, DateTime2, Time, Time2, Timestamp2, Year};
-use binlog_columns::{Column, ColumnType, Layout};
+use binlog_columns::{Column, Decoder};
 use binlog_wire::{Error, ParseBuf};
 
 /// The value of a column. It borrows its bytes and allocates nothing.
@@ -73,109 +77,61 @@ impl<'a> Value<'a> {
     ///
     /// - [`Error::EndOfBody`] if the bytes end within the value.
     /// - [`Error::InvalidData`] if the value is complete and out of its range.
+    #[tactic(auto, using(crate::specs::Faults::refused_as))]
     #[inline(always)]
     pub fn read(column: &Column, buf: &mut ParseBuf<'a>) -> Result<Self, Error>
         ensures content { Gives ⊥ buf.new (answer_content result) ((content_in (layout_of (typed_of column.now))).reads buf.old) }
         ensures meaning { IfOk result (λ value. meaning_of value ≡ meaning_in (typed_of column.now)) }
     {
-        match column.layout() {
-            Layout::Nothing => Ok(Value::Null),
-            Layout::Number(len) => {
-                let number = read_number(usize::from(len), buf)?;
-                Ok(number_value(column, len, number))
-            }
-            Layout::Bits(count) => {
-                let bits = read_bits(count, buf)?;
-                Ok(Value::Bit(Bit { bits, count }))
-            }
-            Layout::Timestamp2(digits) => {
-                let number = read_timestamp2(digits, buf)?;
-                Ok(Value::Timestamp2(Timestamp2::new(number, digits)))
-            }
-            Layout::DateTime2(digits) => {
-                let number = read_datetime2(digits, buf)?;
-                Ok(Value::DateTime2(DateTime2::new(number, digits)))
-            }
-            Layout::Time2(digits) => {
-                let number = read_time2(digits, buf)?;
-                Ok(Value::Time2(Time2::new(number, digits)))
-            }
-            Layout::Decimal { precision, scale } => {
-                let bytes = read_decimal(precision, scale, buf)?;
-                Ok(Value::Decimal(Decimal {
-                    bytes,
-                    precision,
-                    scale,
-                }))
-            }
-            Layout::Counted { prefix, max } => {
-                let bytes = read_counted(usize::from(prefix), u64::from(max), buf)?;
-                Ok(bytes_value(column.column_type(), bytes))
-            }
-            Layout::Vector(prefix) => {
-                let bytes = read_vector(usize::from(prefix), buf)?;
-                Ok(Value::Vector(bytes))
-            }
+        match Value::decode(column, buf) {
+            Ok(value) => Ok(value),
+            Err(fault) => Err(fault.into()),
         }
     }
-}
 
-/// The value of a column that is a number of `len` bytes.
-#[inline(always)]
-fn number_value<'a>(column: &Column, len: u8, number: u64) -> Value<'a>
-    requires layout { layout_of (typed_of column.now) ≡ Number len }
-    requires some { 1 ≤ len }
-    requires most { len ≤ 8 }
-    requires fits { number < 256 ^ len }
-    ensures content { content_of result ≡ of_number number }
-    ensures meaning { meaning_of result ≡ number_meaning len (typed_of column.now).0 (typed_of column.now).1 }
-{
-    match column.column_type() {
-        ColumnType::MYSQL_TYPE_FLOAT => Value::Float(Float {
-            bits: number as u32,
-        }),
-        ColumnType::MYSQL_TYPE_DOUBLE => Value::Double(Double { bits: number }),
-        ColumnType::MYSQL_TYPE_DATE | ColumnType::MYSQL_TYPE_NEWDATE => {
-            Value::Date(Date { bits: number })
-        }
-        ColumnType::MYSQL_TYPE_YEAR => Value::Year(Year { byte: number as u8 }),
-        ColumnType::MYSQL_TYPE_TIMESTAMP => Value::Timestamp(number),
-        ColumnType::MYSQL_TYPE_TIME => Value::Time(Time { bits: number }),
-        ColumnType::MYSQL_TYPE_DATETIME => Value::DateTime(DateTime { digits: number }),
-        ColumnType::MYSQL_TYPE_STRING | ColumnType::MYSQL_TYPE_ENUM | ColumnType::MYSQL_TYPE_SET =>
-            listed_value(column, number),
-        _ => Value::Integer(Integer {
-            bits: number,
-            size: len,
-        }),
+    /// Takes a value of this column from the start of `buf`, as [`Value::read`] does.
+    ///
+    /// # Errors
+    ///
+    /// - [`ValueFault::EndOfBody`] if the bytes end within the value.
+    /// - [`ValueFault::OutOfRange`] if the value is complete and out of its range.
+    #[tactic(auto, using(crate::specs::DecoderLaws::decoder_means))]
+    #[inline(always)]
+    pub fn decode(column: &Column, buf: &mut ParseBuf<'a>) -> Result<Self, ValueFault>
+        ensures content { Decodes buf.new (decoded_content result) ((content_in (layout_of (typed_of column.now))).reads buf.old) }
+        ensures meaning { IfOk result (λ value. meaning_of value ≡ meaning_in (typed_of column.now)) }
+    {
+        Value::decode_by(column.decoder(), buf)
     }
-}
 
-/// The value of an ENUM or a SET.
-#[inline(always)]
-fn listed_value<'a>(column: &Column, number: u64) -> Value<'a>
-    ensures content { content_of result ≡ of_number number }
-    ensures meaning { meaning_of result ≡ listed (typed_of column.now).1 }
-{
-    if column.states_enum() {
-        Value::Enum(number)
-    } else {
-        Value::Set(number)
-    }
-}
-
-/// The value of a column of this type that is bytes.
-#[inline(always)]
-fn bytes_value<'a>(column_type: ColumnType, bytes: &'a [u8]) -> Value<'a>
-    ensures content { content_of result ≡ of_bytes bytes.now }
-    ensures meaning { meaning_of result ≡ bytes_meaning column_type }
-{
-    match column_type {
-        ColumnType::MYSQL_TYPE_JSON => Value::Json(bytes),
-        ColumnType::MYSQL_TYPE_GEOMETRY => Value::Geometry(bytes),
-        ColumnType::MYSQL_TYPE_BLOB_COMPRESSED | ColumnType::MYSQL_TYPE_VARCHAR_COMPRESSED => {
-            Value::Compressed(bytes)
+    /// Takes the value that a decoder reads from the start of `buf`.
+    #[inline(always)]
+    fn decode_by(decoder: Decoder, buf: &mut ParseBuf<'a>) -> Result<Self, ValueFault>
+        requires { IsLayout (layout_in decoder) }
+        ensures { DecodesBy decoder buf.old result buf.new }
+    {
+        match decoder {
+            Decoder::Nothing => Ok(Value::Null),
+            Decoder::Integer(size) => read_integer(size, buf),
+            Decoder::Float => read_float(buf),
+            Decoder::Double => read_double(buf),
+            Decoder::Date => read_date(buf),
+            Decoder::Year => read_year(buf),
+            Decoder::Timestamp => read_timestamp(buf),
+            Decoder::Time => read_time(buf),
+            Decoder::DateTime => read_datetime(buf),
+            Decoder::Enum(size) => read_enum(size, buf),
+            Decoder::Set(size) => read_set(size, buf),
+            Decoder::Bits(count) => read_bits(count, buf),
+            Decoder::Timestamp2(digits) => read_timestamp2(digits, buf),
+            Decoder::DateTime2(digits) => read_datetime2(digits, buf),
+            Decoder::Time2(digits) => read_time2(digits, buf),
+            Decoder::Decimal { precision, scale } => read_decimal(precision, scale, buf),
+            Decoder::Bytes { prefix, max } => read_bytes(prefix, max, buf),
+            Decoder::Json { prefix, max } => read_json(prefix, max, buf),
+            Decoder::Geometry { prefix, max } => read_geometry(prefix, max, buf),
+            Decoder::Compressed { prefix, max } => read_compressed(prefix, max, buf),
+            Decoder::Vector(prefix) => read_vector(prefix, buf),
         }
-        _ => Value::Bytes(bytes),
     }
 }

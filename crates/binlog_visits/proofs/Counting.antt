@@ -4,8 +4,8 @@ use Rattle.binlog_ends.specs.Counts.{FailureCount, borrowed_count, count_of}
 use Rattle.binlog_wire.specs.declared.error.Error.{Error}
 use Rattle.binlog_wire.specs.declared.error.Error.TheVariants.{Memory, Reader, ReaderInFrame, Writer}
 use Rattle.binlog_wire.specs.Errors.{is_environment_error}
-use Rattle.binlog_events.specs.Reading.{CountsReader, reader_count}
-use Rattle.binlog_events.specs.Writing.{CountsWriter, writer_count}
+use Rattle.binlog_file.specs.EventReading.{CountsReader, reader_count}
+use Rattle.binlog_file.specs.Writing.{CountsWriter, writer_count}
 use Rattle.binlog_visits.specs.KnownCounts.{CountsKnown}
 use Rattle.binlog_visits.specs.Lines.{listed}
 

@@ -7,7 +7,7 @@ use Rattle.binlog_ends.specs.Counts.{AppendsFront}
 use Rattle.binlog_wire.specs.declared.error.Error.{Error}
 use Rattle.binlog_wire.specs.declared.error.Error.TheVariants.{EndOfInput, InvalidFileHeader, Memory, Reader, Writer}
 use Rattle.binlog_wire.specs.Errors.{is_environment_error}
-use Rattle.binlog_events.specs.Events.{EventView}
+use Rattle.binlog_file.specs.Events.{EventView}
 use Rattle.binlog_file.specs.TableMapsInForce.{TableMaps}
 use Rattle.binlog_file.specs.Verifications.{Handling}
 use Rattle.binlog_visits.specs.Places.{Place, first_place, Left}

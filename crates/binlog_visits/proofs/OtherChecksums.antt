@@ -2,7 +2,7 @@
 -- same.
 use Rattle.std.proofs.Common.{inl, inr, ℕ, ◌<◌, ◌^◌, List, [], ◌∷◌, ◌++◌, length, Option, Some, None, IfSome, Result, Ok, Err}
 use Rattle.binlog_wire.specs.declared.error.Error.{Error}
-use Rattle.binlog_events.specs.Events.{EventView}
+use Rattle.binlog_file.specs.Events.{EventView}
 use Rattle.binlog_file.specs.Verifications.{HandlesVerified}
 use Rattle.binlog_file.proofs.OtherChecksums.{handles_other, gives_other}
 use Rattle.binlog_visits.specs.Places.{Place, first_place, LeavesVerified, AreFirst}

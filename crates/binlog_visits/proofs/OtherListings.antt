@@ -3,7 +3,7 @@
 use Rattle.std.proofs.Common.{inl, inr, ℕ, ◌<◌, ◌^◌, Bool, true, false, List, [], ◌∷◌, ◌++◌, length, Option, Some, None, IfSome, Result, Ok, Err}
 use Rattle.binlog_wire.specs.declared.error.Error.{Error}
 use Rattle.binlog_wire.specs.declared.error.Error.TheVariants.{EndOfInput, InvalidFileHeader, Memory, Reader, Writer}
-use Rattle.binlog_events.specs.Events.{EventView}
+use Rattle.binlog_file.specs.Events.{EventView}
 use Rattle.binlog_file.specs.State.{StreamState}
 use Rattle.binlog_file.specs.Verifications.{HandlesVerified}
 use Rattle.binlog_file.proofs.OtherChecksums.{handles_other, items_other, gives_other}

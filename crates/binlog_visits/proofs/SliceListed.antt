@@ -10,9 +10,9 @@ use Rattle.std.proofs.KnownBytes.{Appends-nil, Appends-trans}
 use Rattle.binlog_wire.specs.declared.error.Error.{Error}
 use Rattle.binlog_wire.specs.declared.error.Error.TheVariants.{Memory, Writer}
 use Rattle.binlog_wire.specs.Errors.{is_environment_error}
-use Rattle.binlog_events.specs.Events.{EventView}
-use Rattle.binlog_events.specs.EventRefs.{item_view}
-use Rattle.binlog_events.specs.declared.event_ref.EventRef.{EventRef}
+use Rattle.binlog_file.specs.Events.{EventView}
+use Rattle.binlog_file.specs.EventRefs.{item_view}
+use Rattle.binlog_file.specs.Types.{EventRef}
 use Rattle.binlog_file.specs.declared.slice.BinlogSlice.{BinlogSlice}
 use Rattle.binlog_file.specs.Slices.{SliceGives}
 use Rattle.binlog_file.specs.State.{Handles}

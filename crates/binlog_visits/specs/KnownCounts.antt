@@ -2,7 +2,7 @@
 use Rattle.std.specs.Prelude.{◌≡◌, Option, Some, None, Result, MatchResult, ⊤}
 use Rattle.binlog_ends.specs.Counts.{FailureCount}
 use Rattle.binlog_wire.specs.declared.error.Error.{Error}
-use Rattle.binlog_events.specs.Writing.{writer_count}
+use Rattle.binlog_file.specs.Writing.{writer_count}
 
 -- A call with this result counts one failure of the writer for `Writer`, and none for any other result. Nothing is stated of a
 -- count that isn't known.

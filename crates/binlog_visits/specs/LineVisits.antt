@@ -3,7 +3,7 @@ use Rattle.std.specs.Prelude.{◌≡◌, ◌⊎◌, ℕ, List, Option, Result}
 use Rattle.std.specs.Io.KnownBytes.{Appends}
 use Rattle.binlog_wire.specs.declared.error.Error.{Error}
 use Rattle.binlog_wire.specs.declared.error.Error.TheVariants.{Memory, Writer}
-use Rattle.binlog_events.specs.Events.{EventView}
+use Rattle.binlog_file.specs.Events.{EventView}
 use Rattle.binlog_ends.specs.Counts.{AppendsFront}
 
 -- The line of the item is written.

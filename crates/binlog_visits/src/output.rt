@@ -2,7 +2,7 @@
 ghost use Rattle.std.specs.Prelude.{◌≡◌, OnOk, OnErr, IfErr};
 ghost use Rattle.std.specs.Io.KnownBytes.{Appends};
 ghost use Rattle.binlog_ends.specs.Counts.{AppendsFront};
-ghost use Rattle.binlog_events.specs.Writing.{CountsWriter};
+ghost use Rattle.binlog_file.specs.Writing.{CountsWriter};
 
 use binlog_file::{Error, Failed, WriteCounted};
 

@@ -2,8 +2,8 @@
 ghost use Rattle.std.specs.Prelude.{◌≡◌, ◌⊎◌, false, Some, IfErr};
 ghost use Rattle.binlog_wire.specs.Errors.{is_environment_error};
 ghost use Rattle.binlog_wire.specs.declared.error.Error.TheVariants.{Memory, Writer};
-ghost use Rattle.binlog_events.specs.EventRefs.{item_view};
-ghost use Rattle.binlog_events.specs.Writing.{CountsWriter};
+ghost use Rattle.binlog_file.specs.EventRefs.{item_view};
+ghost use Rattle.binlog_file.specs.Writing.{CountsWriter};
 ghost use Rattle.binlog_visits.specs.Lines.{Lists, ListsItem};
 ghost use Rattle.binlog_visits.specs.SliceLines.{ListsSlice, IsSliceError, answered};
 

@@ -2,7 +2,7 @@
 ghost use Rattle.std.specs.Prelude.{◌≡◌, Ok, Err, Option, None, false, OnOk, IfErr};
 ghost use Rattle.binlog_ends.specs.Counts.{FailureCount};
 ghost use Rattle.binlog_wire.specs.Errors.{is_environment_error};
-ghost use Rattle.binlog_events.specs.EventRefs.{view_of};
+ghost use Rattle.binlog_file.specs.EventRefs.{view_of};
 ghost use Rattle.binlog_file.specs.State.{state_of};
 ghost use Rattle.binlog_visits.specs.KnownCounts.{CountsKnown};
 ghost use Rattle.binlog_visits.specs.Visits.{VisitRelation, RefusalRelation, IsNoReaderError};

@@ -28,8 +28,8 @@
 //!   the type, the size of the data, and whether a table map is in force for the id with which the data begin, or the error; and with
 //!   the number of bytes that are left: `16:8:false 0`.
 //! - `statement`, `role`, `gtid`, `marks` and `written` are questions of transactions; the head of `transactions.rt` lists them.
-//! - `events BYTES`, `rows BYTES` and `undo BYTES` are answered with the lines that the mode of that name prints of a binary log; `undo`
-//!   for tables without a primary key.
+//! - `events BYTES`, `rows BYTES`, `row-sums BYTES` and `undo BYTES` are answered with the lines that the mode of that name prints of a
+//!   binary log; `undo` for tables without a primary key.
 //!
 //! Bytes are hexadecimal digits, and no bytes are `-`. Any other line is answered with `unknown`.
 mod built;
@@ -65,7 +65,7 @@ fn answer<W: Write>(
         "file" | "type" => columns::write_answer(alloc, kind, asked, output),
         "inflate" => zlib::write_answer(alloc, asked, output),
         "payload" | "inner" => payloads::write_answer(alloc, kind, asked, output),
-        "events" | "rows" | "undo" => logs::write_answer(alloc, kind, asked, output),
+        "events" | "rows" | "row-sums" | "undo" => logs::write_answer(alloc, kind, asked, output),
         "text" | "name" | "collation" | "mariadb" => {
             characters::write_answer(alloc, kind, asked, output)
         }

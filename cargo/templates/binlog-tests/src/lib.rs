@@ -26,6 +26,4 @@ impl AsStr for Cow<'_, str> {
 }
 
 pub mod examples;
-pub mod test_base;
-pub mod test_bodies;
-pub mod test_logs;
+pub mod library_tests;

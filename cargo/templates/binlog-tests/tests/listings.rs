@@ -1,11 +1,13 @@
-//! Listings of logs: with verified checksums, the statuses of their answers, and a line of JSON that no log has without `--verify`.
+//! Listings of logs: with verified checksums, the statuses of their answers, a line of JSON that no log has without `--verify`, and
+//! that lines of JSON are flushed by the caller.
 
 use std::io::{self, ErrorKind, Read, Write};
 
+use binlog::counted::SliceReader;
 use binlog::{BinlogFileHeader, Error};
-use binlog_tools::binlog_json_lines::JsonLines;
+use binlog_tools::binlog_json_lines::{JsonLines, JsonWriter, LineOptions};
 use binlog_tools::binlog_listing::{list, list_slice, list_verified};
-use binlog_tools::binlog_visits::exit_status;
+use binlog_tools::binlog_visits::{exit_status, visit_counted};
 
 /// A format description of server 5.6.1 without its algorithm byte and its checksum.
 const DESCRIPTION: &[u8] = b"\0\0\0\0\x0f\x01\0\0\0\x51\0\0\0\0\0\0\0\0\0\
@@ -122,4 +124,37 @@ fn each_answer_has_its_status() {
     for answer in [no_reader, no_reader_in_event, no_writer, of_slice] {
         assert_eq!(exit_status(&answer), 3);
     }
+}
+
+/// Counts its flushes.
+#[derive(Default)]
+struct Flushed(u64);
+
+impl Write for Flushed {
+    fn write(&mut self, bytes: &[u8]) -> io::Result<usize> {
+        Ok(bytes.len())
+    }
+
+    fn flush(&mut self) -> io::Result<()> {
+        self.0 += 1;
+        Ok(())
+    }
+}
+
+/// Whether lines of JSON of a log have errors, and how often they are flushed.
+fn json_errors(log: &[u8]) -> (bool, u64) {
+    let mut lines = JsonWriter::new(Flushed::default(), LineOptions::new());
+    visit_counted(&mut SliceReader::new(log), &mut lines).unwrap();
+    let has_errors = lines.has_errors();
+    (has_errors, lines.into_output().0)
+}
+
+#[test]
+fn lines_of_json_are_flushed_by_the_caller() {
+    let plain = [&BinlogFileHeader::VALUE, PLAIN_XID, PLAIN_XID].concat();
+    // A header that states a size of 18.
+    let short = b"\0\0\0\0\x03\x01\0\0\0\x12\0\0\0\0\0\0\0\0\0";
+    let broken_off = [&BinlogFileHeader::VALUE, PLAIN_XID, short].concat();
+    assert_eq!(json_errors(&plain), (false, 0));
+    assert_eq!(json_errors(&broken_off), (true, 0));
 }

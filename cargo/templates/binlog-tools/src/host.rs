@@ -4,7 +4,8 @@ use binlog::Error;
 use std::fmt;
 use std::io;
 use std::io::{Read, Seek, Stderr, StdinLock, Stdout, Write};
-use std::time::Duration;
+use std::sync::LazyLock;
+use std::time::{Duration, Instant};
 
 /// Writes to standard error.
 pub trait Eprint {
@@ -73,6 +74,9 @@ pub trait Files {
 
 /// Has a clock.
 pub trait Clock {
+    /// The time since its first call.
+    fn monotonic(&self) -> io::Result<Duration>;
+
     /// Waits.
     fn sleep(&self, duration: Duration);
 }
@@ -178,7 +182,14 @@ impl Files for Host {
     }
 }
 
+/// When the time was asked for first.
+static FIRST: LazyLock<Instant> = LazyLock::new(Instant::now);
+
 impl Clock for Host {
+    fn monotonic(&self) -> io::Result<Duration> {
+        Ok(FIRST.elapsed())
+    }
+
     fn sleep(&self, duration: Duration) {
         std::thread::sleep(duration);
     }

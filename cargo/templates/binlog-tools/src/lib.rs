@@ -10,7 +10,6 @@ pub mod binlog_commands;
 pub mod binlog_event_types;
 pub mod binlog_filters;
 #[doc(hidden)]
-pub mod binlog_continuation;
 // The allocator, which some functions take of the machine alone, isn't passed here.
 #[allow(unused_variables)]
 #[doc(hidden)]
@@ -34,6 +33,7 @@ pub mod binlog_summaries;
 pub mod binlog_transaction_gtids;
 #[doc(hidden)]
 pub mod binlog_undo_command;
+#[allow(unused_variables)]
 pub mod binlog_undo_log;
 pub mod binlog_visits;
 /// Statistics of changes, from facts of events.

@@ -53,11 +53,10 @@ mod binlog_file;
 mod binlog_gtid_sets;
 mod binlog_gtid_text;
 mod binlog_gtids;
+#[allow(unused_variables)]
 mod binlog_images;
 mod binlog_maria_gtids;
 mod binlog_mariadb;
-// What reads a payload for the reader of a stream asks its callers for something, and so isn't public here.
-#[allow(dead_code)]
 mod binlog_payloads;
 mod binlog_variable_fields;
 // Of the counts of columns by their class two are of no use yet.
@@ -74,6 +73,7 @@ mod binlog_transactions;
 #[allow(unused_variables)]
 mod binlog_undo;
 mod binlog_undo_index;
+#[allow(unused_variables)]
 mod binlog_undo_writing;
 mod binlog_values;
 mod binlog_wire;
@@ -222,7 +222,8 @@ pub mod zstd {
 /// [`RowsEventExt::rows`](values::RowsEventExt::rows) gives the rows of an event beside its table map, and
 /// [`Value::display`](values::Value::display) shows a value.
 pub mod values {
-    pub use crate::binlog_columns::{Column, ColumnError, ColumnErrorKind, ColumnType, Layout};
+    pub use crate::binlog_columns::{Column, ColumnError, ColumnErrorKind, ColumnType};
+    pub use crate::binlog_columns::{Decoder, Layout};
     pub use crate::binlog_columns::{TableColumns, UnknownColumnType};
     pub use crate::binlog_images::{ColumnValue, ColumnVisitor, HasWholeRows, Image, ImageKind};
     pub use crate::binlog_images::{Row, Rows, RowsError, RowsErrorKind, RowsEventError, RowsEventExt};
@@ -231,7 +232,7 @@ pub mod values {
     pub use crate::binlog_optional_metadata::{ColumnFacts, TableFacts, TableMapColumns};
     pub use crate::binlog_optional_metadata::{OptionalMetadataError, OptionalMetadataErrorKind};
     pub use crate::binlog_values::{Bit, Date, DateTime, DateTime2, Decimal, Double, Float, Integer};
-    pub use crate::binlog_values::{Time, Time2, Timestamp2, Value, Year};
+    pub use crate::binlog_values::{Time, Time2, Timestamp2, Value, ValueFault, Year};
     pub use crate::character_sets::{CHARACTER_SETS, CharacterSet, Characters};
     #[doc(hidden)]
     pub use crate::binlog_values::text;
@@ -276,9 +277,11 @@ pub mod jsondiff {
     pub use crate::binary_json_writing::{JsonPath, JsonPathError, JsonPathLeg};
 }
 
-/// Lines of JSON in memory that is reused, for `binlog-tools`.
+/// What asks its callers for something, for `binlog-tools`: lines of JSON in memory that is reused, and events that are read from a
+/// payload for the reader of a stream.
 #[doc(hidden)]
 pub mod json_lines {
+    pub use crate::binlog_payloads::{content_description, read_decompressed};
     pub use crate::binlog_json_values::{KeptColumns, RowImages, ValueWriter};
     pub use crate::json_line::Line;
 }

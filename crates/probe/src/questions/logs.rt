@@ -1,7 +1,7 @@
 //! Binary logs in a question.
 use crate::questions::bytes::{bytes_of, write_unknown};
 use crate::streams::{events, rows};
-use crate::undone;
+use crate::{measured, undone};
 use binlog_file::Error;
 use std::alloc::Global;
 use std::io;
@@ -34,6 +34,7 @@ fn write_lines<W: Write>(
     match kind {
         "events" => events::write_items(alloc, log, output),
         "rows" => rows::print_log(alloc, log, output),
+        "row-sums" => measured::rows::write_sums(alloc, log, output),
         _ => undone::print_log(alloc, log, &[], output),
     }
 }

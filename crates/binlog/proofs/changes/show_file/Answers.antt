@@ -6,7 +6,7 @@ use Rattle.binlog.proofs.changes.show_file.Goals as goal
 pub returns-then-goes_on : goal.returns-then-goes_on
 returns-then-goes_on g c =
     shows_followed g.T.Visitor.visits g.T.Visitor.refuses g.T.Refusing.refusals c.args.reading.is_verified c.args.reading.is_followed (g.S.Inputs.bytes c.args.inputs.now c.args.name.now)
-    c.args.visitor c.follow-read.result.0 c.follow-read.result.1.filtered.visitor c.new-all.result c.follow-read.result.1 (c.if-goes_on.ensures refl) (rw c.new-all.ensures.filter c.new-every.ensures) c.new-all.ensures.visitor refl
+    c.args.visitor c.follow-read.result.0 c.follow-read.result.1.filtered.visitor c.new-all.result c.follow-read.result.1 ((c.if-goes_on.ensures.0 refl).0) (rw c.new-all.ensures.filter c.new-every.ensures) c.new-all.ensures.visitor refl
 
 pub returns : goal.returns
 returns g c = record {

@@ -1,5 +1,5 @@
 use Rattle.std.proofs.Common.{◌++◌, refl}
-use Rattle.binlog_cli.proofs.WrittenTexts.{on_ok, appends_both}
+use Rattle.binlog_summaries.proofs.WrittenTexts.{on_ok, appends_both}
 use Rattle.binlog_summaries.specs.InnerTypes.{inner_text}
 use Rattle.binlog.proofs.type_statistics.write_text.Goals as goal
 

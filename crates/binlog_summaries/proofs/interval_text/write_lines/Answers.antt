@@ -1,7 +1,7 @@
 use Rattle.std.proofs.Common.{◌≡◌, List, map, rules, subst}
 use Rattle.std.proofs.lemmas.Map.Iter.{iter_end}
 use Rattle.std.specs.Map.Iter.{deref_pair}
-use Rattle.binlog_cli.specs.StatsText.{Writes}
+use Rattle.binlog_summaries.specs.StatsText.{Writes}
 use Rattle.binlog_summaries.specs.IntervalText.{AreIntervalLines}
 use Rattle.binlog_summaries.proofs.IntervalLines.{Entry, interval_written, no_interval_written}
 use Rattle.binlog_summaries.proofs.interval_text.write_lines.Goals as goal

@@ -1,6 +1,6 @@
 use Rattle.std.proofs.Common.{map}
 use Rattle.std.specs.Map.Iter.{deref_pair}
-use Rattle.binlog_cli.specs.StatsText.{Writes}
+use Rattle.binlog_summaries.specs.StatsText.{Writes}
 use Rattle.binlog_summaries.specs.IntervalText.{AreIntervalLines}
 use Rattle.binlog_summaries.proofs.interval_text.write_lines.Given as goal
 

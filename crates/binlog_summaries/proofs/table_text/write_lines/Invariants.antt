@@ -1,5 +1,5 @@
 use Rattle.std.proofs.Common.{take}
-use Rattle.binlog_cli.specs.StatsText.{Writes}
+use Rattle.binlog_summaries.specs.StatsText.{Writes}
 use Rattle.binlog_summaries.specs.TableText.{AreTableLines}
 use Rattle.binlog_summaries.proofs.table_text.write_lines.Given as goal
 

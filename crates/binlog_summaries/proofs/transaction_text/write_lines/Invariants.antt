@@ -1,5 +1,5 @@
 use Rattle.std.proofs.Common.{take}
-use Rattle.binlog_cli.specs.StatsText.{Writes}
+use Rattle.binlog_summaries.specs.StatsText.{Writes}
 use Rattle.binlog_summaries.specs.TransactionText.{AreTransactionTexts}
 use Rattle.binlog_summaries.proofs.transaction_text.write_lines.Given as goal
 

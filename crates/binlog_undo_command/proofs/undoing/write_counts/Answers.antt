@@ -1,13 +1,9 @@
-use Rattle.std.proofs.Common.{◌-◌, ◌^◌, min, Result, Ok, Err, OnOk}
+use Rattle.std.proofs.Common.{◌-◌, ◌^◌, min}
 use Rattle.std.proofs.KnownBytes.{Appends-kept}
 use Rattle.std.specs.Io.KnownBytes.{Appends}
 use Rattle.binlog_undo_command.specs.Undoing.{transactions_in, changes_in, counts_line}
-use Rattle.binlog_undo_command.proofs.Counts.{line_appended}
+use Rattle.binlog_undo_command.proofs.Counts.{line_appended, on_any}
 use Rattle.binlog_undo_command.proofs.undoing.write_counts.Goals as goal
-
-on_any : {T E : Type 0} (result : Result T E) (P : Type 0) → P → OnOk result P
-on_any (Ok value) P fact = fact
-on_any (Err error) P fact = tt
 
 pub returns : goal.returns
 returns g c =

@@ -1,6 +1,6 @@
 use Rattle.std.proofs.Common.{List, ℕ, [], ◌∷◌, inr, subst}
 use Rattle.std.proofs.lemmas.Result.{on_ok_weaker}
-use Rattle.binlog_undo_log.specs.FileChanges.{IsFrameIn}
+use Rattle.binlog_undo_log.specs.Places.{IsFrameIn}
 use Rattle.binlog_undo_log.specs.OneTransaction.{BeginsOne}
 use Rattle.binlog_undo_log.specs.Output.{Pushes}
 use Rattle.binlog_undo_log.specs.Undoing.{commit_event}

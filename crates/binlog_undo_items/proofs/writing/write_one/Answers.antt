@@ -1,5 +1,5 @@
 use Rattle.std.proofs.Common.{List, ℕ, OnOk, subst}
-use Rattle.binlog_undo_log.specs.FileChanges.{IsFrameIn}
+use Rattle.binlog_undo_log.specs.Places.{IsFrameIn}
 use Rattle.binlog_undo_log.specs.Files.{WritesFile}
 use Rattle.binlog_undo_items.proofs.writing.write_one.Goals as goal
 

@@ -1,4 +1,4 @@
-use Rattle.binlog_events.specs.EventRefs.{view_of}
+use Rattle.binlog_file.specs.EventRefs.{view_of}
 use Rattle.binlog_file.specs.State.{state_of}
 use Rattle.binlog_filters.proofs.Concerned.{concerned}
 use Rattle.binlog_filters.proofs.tables.TableFilter.concern.Goals as goal

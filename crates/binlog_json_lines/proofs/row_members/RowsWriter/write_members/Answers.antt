@@ -11,9 +11,9 @@ use Rattle.binlog_event_data.specs.declared.event_data.EventData.{EventData}
 use Rattle.binlog_rows.specs.declared.rows_event_data.RowsEventData.{RowsEventData}
 use Rattle.binlog_mariadb.specs.Flavour.{IsMariaVersion}
 use Rattle.binlog_json_lines.specs.RowMembers.{IsFlavour, AreBodyMembers}
-use Rattle.binlog_json_lines.specs.RowEvents.{is_of_rows, rows_event_of}
+use Rattle.binlog_filters.specs.RowEvents.{is_of_rows, rows_event_of}
 use Rattle.binlog_json_bodies.specs.Shown.{ShowsBy}
-use Rattle.binlog_json_lines.proofs.Reading.{of_other_type, read_some, read_error}
+use Rattle.binlog_filters.proofs.RowsRead.{of_other_type, read_some, read_error}
 use Rattle.binlog_json_lines.proofs.Rows.{no_members, members_of}
 use Rattle.binlog_json_lines.proofs.row_members.RowsWriter.write_members.Goals as goal
 

@@ -3,6 +3,4 @@ use Rattle.binlog_undo_log.proofs.scan.UndoScan.scan_event.Goals as goal
 
 pub returns-clause-ok : goal.returns-clause-ok
 returns-clause-ok c =
-    on_ok c.note_if.result
-    (λ h. (c.in_ok-seen.seen, record { wanted = c.in_ok-is_wanted.is_wanted; follows = c.in_ok-is_wanted.ensures; sees = c.in_ok-seen.ensures.ok; notes = h }))
-    c.note_if.ensures.ok
+    on_ok c.scan_any.result (λ h. record { wanted = c.in_ok-is_wanted.is_wanted; follows = c.in_ok-is_wanted.ensures; scans = h }) c.scan_any.ensures.ok

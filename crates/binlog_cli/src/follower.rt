@@ -1,0 +1,38 @@
+//! What is done while a log is followed, beside showing its items.
+ghost use Rattle.std.specs.Prelude.{◌≡◌, IfErr};
+ghost use Rattle.binlog_wire.specs.declared.error.Error.TheVariants.{Writer};
+
+use binlog_file::Error;
+use std::alloc::AllocError;
+
+/// What is done with a visitor while a log is followed, beside showing it the items.
+pub trait Follower<T> {
+    /// A file of this path begins, whose items are shown from this byte on.
+    ///
+    /// # Errors
+    ///
+    /// [`AllocError`] if an allocation fails.
+    fn begin_file(&mut self, visitor: &mut T, path: &str, start: u64) -> Result<(), AllocError>;
+
+    /// All that is there was shown, and more is waited for. This comes again and again.
+    ///
+    /// # Errors
+    ///
+    /// [`Error::Writer`] if the output failed.
+    fn rest(&mut self, visitor: &mut T) -> Result<(), Error>
+        ensures { IfErr result (λ error. error ≡ Writer) };
+}
+
+/// A follower that does nothing.
+#[derive(Clone, Copy, Debug)]
+pub struct NoFollower;
+
+impl<T> Follower<T> for NoFollower {
+    fn begin_file(&mut self, _visitor: &mut T, _path: &str, _start: u64) -> Result<(), AllocError> {
+        Ok(())
+    }
+
+    fn rest(&mut self, _visitor: &mut T) -> Result<(), Error> {
+        Ok(())
+    }
+}

@@ -1,2 +1,0 @@
-pub mod WholeContents
-pub mod WrittenLogs

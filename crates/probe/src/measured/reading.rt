@@ -1,0 +1,90 @@
+//! Counting the events of a log.
+use crate::BUFFER_SIZE;
+use binlog_file::{BinlogFile, BinlogSlice, BinlogVersion};
+use std::alloc::Global;
+use std::io::{BufRead, BufReader, Read};
+
+/// How events are read.
+#[derive(Clone, Copy)]
+pub(crate) enum Way {
+    /// Borrowed from a file.
+    Borrowed,
+    /// Owned.
+    Owned,
+    /// Of a slice, which is the log in memory.
+    Slice,
+    /// Not at all: the log is only taken into memory.
+    Memory,
+}
+
+/// Prints the number of events of the log on standard input, in this way; None if the reader, memory or the writer fails, or an item is
+/// an error.
+pub(crate) fn run(rt: &(impl Input + Print + AllocGlobal), way: Way) -> Option<()> {
+    let input = BufReader::with_capacity(rt.alloc(), BUFFER_SIZE, rt.reader()).ok()?;
+    let count = count(rt.alloc(), input, way)?;
+    println!(rt; "{count}").ok()
+}
+
+fn count<R: BufRead + Drop>(alloc: Global, input: R, way: Way) -> Option<u64> {
+    match way {
+        Way::Borrowed => count_borrowed(alloc, input),
+        Way::Owned => count_owned(alloc, input),
+        Way::Slice => count_in_memory(alloc, input, true),
+        Way::Memory => count_in_memory(alloc, input, false),
+    }
+}
+
+fn count_borrowed<R: BufRead + Drop>(alloc: Global, input: R) -> Option<u64> {
+    match BinlogFile::new(alloc, BinlogVersion::Version4, input) {
+        Ok(mut file) => count_events(&mut file),
+        Err(_) => None,
+    }
+}
+
+fn count_events<R: BufRead + Drop>(file: &mut BinlogFile<R>) -> Option<u64> {
+    // Bounded, so that the loop is proved to end; borrowed events can't be given by an iterator.
+    'events: for count in 0..u64::MAX {
+        match file.next_ref() {
+            Some(Ok(_)) => {}
+            Some(Err(_)) => return None,
+            None => return Some(count),
+        }
+    }
+    None
+}
+
+fn count_owned<R: BufRead + Drop>(alloc: Global, input: R) -> Option<u64> {
+    match BinlogFile::new(alloc, BinlogVersion::Version4, input) {
+        Ok(file) => count_items(file),
+        Err(_) => None,
+    }
+}
+
+fn count_items<R: BufRead + Drop>(file: BinlogFile<R>) -> Option<u64> {
+    let mut count: u64 = 0;
+    for item in file.items() {
+        item.ok()?;
+        count = count.checked_add(1)?;
+    }
+    Some(count)
+}
+
+// Takes the log into memory, and counts the events of its slice, or none.
+fn count_in_memory<R: BufRead + Drop>(alloc: Global, mut input: R, is_read: bool) -> Option<u64> {
+    let mut bytes = Vec::new(alloc);
+    input.read_to_end(&mut bytes).ok()?;
+    if is_read {
+        count_in_slice(&bytes)
+    } else {
+        Some(0)
+    }
+}
+
+fn count_in_slice(bytes: &[u8]) -> Option<u64> {
+    let mut count: u64 = 0;
+    for item in BinlogSlice::new(BinlogVersion::Version4, bytes).ok()? {
+        item.ok()?;
+        count = count.checked_add(1)?;
+    }
+    Some(count)
+}
