@@ -224,6 +224,18 @@ def another_between(files, other, follower):
     yield None if follower.state().read_bytes() == state else "the state is changed"
 
 
+def another_at_once(files, other, follower):
+    """A file is emptied and has more bytes than before at once, of another log whose events have the same places."""
+    write_front(files, follower, files.front)
+    with follower.run(FIRST):
+        yield follower.wrong_place(FIRST, files.front)
+        state = follower.state().read_bytes()
+        write_front(other, follower)
+        yield follower.stopped(1, OTHER_LOG.replace(b"byte 0", b"byte %d" % files.front))
+    yield follower.wrong_lines(files.lines(files.front))
+    yield None if follower.state().read_bytes() == state else "the state is changed"
+
+
 def preallocated(files, follower):
     """A file has zeros behind its end, in which its events are written; at last the zeros behind it go."""
     written(follower.logs / FIRST, files.first[: files.front] + bytes(len(files.first)))
@@ -269,7 +281,8 @@ def events_from(content, place):
 def scenes(files, other, step):
     for scene in (byte_by_byte, removed, renamed, removed_behind, made_again_at_once, preallocated):
         yield named(scene, files)
-    yield named(another_between, files, other)
+    for scene in (another_between, another_at_once):
+        yield named(scene, files, other)
     for cut in range(files.front, len(files.first), step):
         yield named(cut_at, files, cut)
     for cut in range(files.front, len(files.first), BYTES_BETWEEN_CUTS * step):

@@ -6,7 +6,7 @@ Usage: undo_command.py [--count N] FLAG
 FLAG is one of `programs.py`. N random logs (300 if not given) of one to three files have transactions of all kinds: with GTIDs or
 without, ended by an XID, a COMMIT or the last row event, with statements and events that can't be undone, cut off, or with rows that
 are damaged or have partial images. Some tables are chosen, some table maps state a primary key, and MariaDB's rows may be compressed, and
-transactions of MySQL's may be compressed as a whole. The model, written from `docs/UNDO.md`, makes the bytes of the
+transactions of MySQL's may be compressed as a whole. Behind them there may be later logs, some of which are cut off or damaged. The model, written from `docs/UNDO.md`, makes the bytes of the
 log that undoes them, and the lines of a dry run, or the refusals. Then wrong words and outputs that fail are tried: nothing is written. The last line is
 `N passed, M failed`; the exit status is 1 if something failed.
 """
@@ -141,7 +141,8 @@ def indexes_in(kind, content, count):
 
 
 def events_of(header, body, changes):
-    """The event itself, or those inside, one after another, and then their end. Of a transaction with changes outside it is the event itself."""
+    """The event itself, or those inside, one after another, and then their end. Of a transaction with changes outside it is the event itself, and
+    so it is of one that is too long."""
     if header[1] != PAYLOAD:
         yield header, body
         return
@@ -151,7 +152,10 @@ def events_of(header, body, changes):
             yield header, body
             return
         frames, fault = payload_model.inner_frames(payload_model.content_of(*stated, MOST_BYTES))
-    except payload_model.Refusal:
+    except payload_model.Refusal as refusal:
+        if refusal.args == ("Limit",):
+            yield header, body
+            return
         frames, fault = [], "the payload"
     for frame in frames:
         yield HEADER.unpack_from(frame), frame[HEADER.size :]
@@ -193,7 +197,7 @@ class Model:
                 except Damaged:
                     self.refused.append((name, index, place, "Damaged"))
                     return
-                change = change and (*change, header)
+                change = change and (*change, header, (place, number if is_inside else None))
                 told = len(reading.told)
                 reading.take(word)
                 turn, _, why = reading.told[told].partition(":")
@@ -297,12 +301,74 @@ class Model:
         tables = {}
         for _, kept in reversed(self.kept):
             for _, _, changes in reversed(kept):
-                for _, map_body, _, count, header in reversed(changes):
+                for _, map_body, _, count, header, _ in reversed(changes):
                     counts = tables.setdefault(table_of(map_body), [0, 0, 0, 0])
                     counts[0] += 1
                     counts[CHANGED_BY[UNCOMPRESSED.get(header[1], header[1])]] += count
         text = "table {} {} events {} inserted {} updated {} deleted\n"
         return "".join(text.format(name, *counts) for name, counts in tables.items())
+
+    def later_changes(self, logs, later):
+        """The first event behind what is undone that has rows of each of its tables, and the first one that may change any table: their logs, indexes and places, and
+        why. The logs are in front of those that are later."""
+        undone, found = set(), {}
+        for number, (name, content) in enumerate([*logs, *later]):
+            kept = self.kept[number][1] if number < len(logs) else []
+            own = {change[-1] for _, _, changes in kept for change in changes}
+            for index, place, key, table, why in self.causes_in(content):
+                if key in own:
+                    undone.add(table)
+                elif table in undone if table else undone:
+                    detail = f"{table}: its rows are changed behind those that are undone" if table else f"unknown: {PHRASES[why]}"
+                    found.setdefault(table, (name, index, place, detail))
+        return list(found.values())
+
+    def causes_in(self, content):
+        """The events of a log that have rows, each with the name of the table, and those that may change any table, with the reason: their indexes and places, and
+        the key of each, which is its place, and the number of an event inside. What is behind damage isn't looked at."""
+        place, index, maps, description = len(FILE_HEADER), 0, {}, self.description_of(content)
+        while place < len(content):
+            if len(content) - place < HEADER.size:
+                yield index, place, None, None, "Tail"
+                return
+            outer = HEADER.unpack_from(content, place)
+            end = place + outer[3]
+            frame, inside = content[place:end], {}
+            if HEADER.size <= outer[3] and end > len(content):
+                yield index, place, None, None, "Tail"
+                return
+            if outer[3] < HEADER.size or description[1] == 1 and frame[-CHECKSUM:] != crc32(frame[:17] + bytes([frame[17] & ~1]) + frame[18:-CHECKSUM]):
+                yield index, place, None, None, "Damaged"
+                return
+            body = frame[HEADER.size : len(frame) - (CHECKSUM if description[1] == 1 else 0)]
+            for number, (header, part) in enumerate(events_of(outer, body, [])):
+                is_inside = header is not outer
+                if header is DAMAGED or header and header[1] == 19 and not is_table_map(part):
+                    yield index, place, None, None, "Damaged"
+                    return
+                table, why = self.cause_of(header, part, inside if is_inside else maps)
+                if table or why:
+                    yield index, place, (place, number if is_inside else None), table, why
+            place, index = end, index + 1
+
+    def cause_of(self, header, body, maps):
+        """The table of which an event has rows, or why it may change any table. A table map is kept."""
+        if header is None:
+            return None, None
+        kind, table_id = header[1], int.from_bytes(body[:6], "little")
+        if kind == 19:
+            maps[table_id] = table_of(body)
+        if kind in ROWS_TYPES or kind in UNCOMPRESSED:
+            try:
+                event = event_data_model.fields(UNCOMPRESSED.get(kind, kind), body, POST_HEADER_LENGTHS)
+            except event_data_model.Fault:
+                return None, "Damaged"
+            if kind in ROWS_TYPES and not event["rows_data"].bytes:
+                return None, None
+            return (maps[table_id], None) if table_id in maps else (None, "NoTableMap")
+        if kind == 2 and transactions.kind_of(body[14:].decode()) == "Other":
+            return None, "Statement"
+        return None, {26: "Incident"}.get(kind)
 
     def described(self):
         """The descriptions of the logs in which something is undone, as they are written, and their transactions, the last log first."""
@@ -332,7 +398,7 @@ class Model:
                     head = lambda flags, last=last: (last[0], last[2], last[5] & 0x8000 | flags)
                     out += framed(2, BEGIN_BODY, len(out), head(8), algorithm == 1)
                     ends = [16, xid.to_bytes(8, "little"), head(0), algorithm == 1]
-                for map_header, map_body, (kind, inverse), _, rows_header in reversed(changes):
+                for map_header, map_body, (kind, inverse), _, rows_header, _ in reversed(changes):
                     for kind, body, source in ((19, map_body, map_header), (kind, bytes.fromhex(inverse), rows_header)):
                         out += framed(kind, body, len(out), (source[0], source[2], source[5] & ~0x61), algorithm == 1)
                 out += b"" if is_one else ended(out, ends)
@@ -448,6 +514,26 @@ def random_file(chance, kinds, is_sound):
     return log_of(events, algorithm, version)
 
 
+def whole_payloads(chance, kinds):
+    """Names and logs of compressed transactions that aren't decompressed: rows are in front of one, and one states more than 1 GiB."""
+    xid = HEADER.pack(0, 16, 1, HEADER.size + 8, 0, 0) + bytes(8)
+    front = [(2, query("BEGIN")), *statement_rows(chance, kinds, True, False)]
+    for name, events, size in (("rows in front", front, len(xid)), ("more than 1 GiB", [], MOST_BYTES + 1)):
+        own = [*events, (PAYLOAD, payload_model.written(255, size, xid))]
+        yield name, log_of([(kind, body, random_header(chance)) for kind, body in own], 1, "8.0.36")
+
+
+def later_file(chance, kinds, is_sound):
+    """A log behind others, some of which are cut off or damaged."""
+    content = random_file(chance, kinds, is_sound)
+    if chance.random() < 0.2:
+        content = content[: chance.randint(min(150, len(content)), len(content))]
+    elif chance.random() < 0.2 and len(content) > 200 and Model().description_of(content)[1] == 1:
+        place = chance.randrange(200, len(content))
+        content = content[:place] + bytes([content[place] ^ 16]) + content[place + 1 :]
+    return content
+
+
 def long_file(chance):
     """A log that is read in several parts: rows of a BLOB, some of which are longer than one."""
     table = encode.table_map(row_values.SPELLING, database=b"d", table=b"t", table_id=5, flags=1, types=b"\xfc", metadata=b"\4", nulls=[True], optional=b"")
@@ -469,6 +555,8 @@ def long_file(chance):
 
 PHRASES = {
     "Damaged": "a damaged event",
+    "Tail": "the file ends within an event",
+    "Incident": "an incident",
     "Unfinished": "the transaction isn't finished",
     "Statement": "a statement can't be undone",
     "Xa": "a part of an XA transaction",
@@ -477,10 +565,9 @@ PHRASES = {
     "Rows": "the rows can't be read",
     "OldTemporal": "a column of a date or time whose form isn't in the log",
     "Image": "the images of the rows lack columns",
-    "Payload": "the events of the transaction are within one event",
+    "Payload": "a compressed transaction is too long, or has row events in front of it",
     "Compressed": "the compressed rows are too long",
     "PartialJson": "partial updates of documents",
-    "Payload": "the events of the transaction are within one event",
     "Straddles": "a position is within the transaction, which ends at byte {}",
 }
 
@@ -518,10 +605,16 @@ def failure(words, seed, folder):
     options += ["--start-position", str(start)] if start else []
     options += [] if stop is None else ["--stop-position", str(stop)]
     options += ["--one-transaction"] if chance.random() < 0.3 else []
+    options += ["--skip", "LaterChanges"] if chance.random() < 0.3 else []
     for number, (name, content) in enumerate(zip(files, contents)):
         Path(name).write_bytes(content)
         model.take(name, content, start if number == 0 else 0, stop if number == len(contents) - 1 else None)
-    return difference(words, options, files, model, folder / f"{seed}.out", f"seed {seed}")
+    later = [(str(folder / f"{seed}-later-{number}.bin"), later_file(chance, kinds, is_sound)) for number in range(chance.choice((0, 0, 1, 2)))]
+    for name, content in later:
+        Path(name).write_bytes(content)
+        options += ["--later", name]
+    found = model.later_changes(list(zip(files, contents)), later) if later and not model.refused else []
+    return difference(words, options, files, model, folder / f"{seed}.out", f"seed {seed}", found)
 
 
 def long_failure(words, folder):
@@ -533,15 +626,28 @@ def long_failure(words, folder):
     return difference(words, [], [str(log)], model, folder / "long.out", "the long log")
 
 
-def difference(words, options, files, model, out, name):
-    """What is wrong with the undo of these files, if something is."""
+def payload_failure(words, folder, name, content):
+    """What is wrong with the undo of a log whose compressed transaction isn't decompressed, if something is."""
+    log, model = folder / "payload.bin", Model()
+    log.write_bytes(content)
+    model.take(str(log), content)
+    reasons = [reason for *_, reason in model.refused]
+    return difference(words, [], [str(log)], model, folder / "payload.out", name) if reasons == ["Payload"] else f"{name}: the model has {reasons}"
+
+
+def difference(words, options, files, model, out, name, later=()):
+    """What is wrong with the undo of these files, if something is. `later` is what is behind what is undone and in its way."""
     is_one = "--one-transaction" in options
     run = subprocess.run([*words, "undo", *options, "-o", str(out), *files], capture_output=True, text=True)
     messages = [f"binlog: {name}: event {index} at byte {place}: {reason}: {PHRASES[reason].format(*end)}" for name, index, place, reason, *end in model.refused]
     if is_one and not messages and not model.is_under_one():
         messages = [f"binlog: {model.other_log(files)}: event 0 at byte 4: Description: {OTHER_DESCRIPTION}"]
-    if run.stderr.splitlines() != messages:
-        return f"{name}: {run.stderr!r}, not {messages}"
+    is_skipped = "LaterChanges" in options
+    skipped = "skipped: " if is_skipped else ""
+    told = messages or [f"binlog: {skipped}{log}: event {index} at byte {place}: LaterChanges: {detail}" for log, index, place, detail in later]
+    messages = messages or ([] if is_skipped else told)
+    if run.stderr.splitlines() != told:
+        return f"{name}: {run.stderr!r}, not {told}"
     dry = subprocess.run([*words, "undo", *options, "--dry-run", *files], capture_output=True, text=True)
     lines = "" if messages else run.stdout + model.table_lines()
     if (dry.returncode, dry.stderr, dry.stdout) != (run.returncode, run.stderr, lines):
@@ -589,6 +695,8 @@ REFUSALS = [
     (lambda log: ["-o", str(log.parent / "none/out"), str(log)], 3, "none/out.part"),
     (lambda log: ["-o", str(log.parent / "out"), str(log.parent / "none.bin")], 1, "none.bin"),
     (lambda log: ["--dry-run", str(log), "-"], 1, "-: "),
+    (lambda log: ["--dry-run", "--later", str(log.parent / "none.bin"), str(log)], 1, "none.bin"),
+    (lambda log: ["-o", str(log.parent / "out"), "--later", str(log), str(log)], 2, "LaterChanges: d."),
 ]
 
 
@@ -605,6 +713,9 @@ def main():
             passed, failures = (passed, [*failures, wrong]) if wrong else (passed + 1, failures)
         wrong = long_failure(words, Path(folder))
         passed, failures = (passed, [*failures, wrong]) if wrong else (passed + 1, failures)
+        for log in whole_payloads(random.Random(0), list(row_events.kinds())):
+            wrong = payload_failure(words, Path(folder), *log)
+            passed, failures = (passed, [*failures, wrong]) if wrong else (passed + 1, failures)
         for refused in REFUSALS:
             wrong = refusal(words, Path(folder), *refused)
             passed, failures = (passed, [*failures, wrong]) if wrong else (passed + 1, failures)

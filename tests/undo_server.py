@@ -6,7 +6,8 @@ Usage: undo_server.py [--count N] FLAG
 FLAG is one of `programs.py`. A server makes tables, with keys and without, of integers, texts, decimals, times, blobs and bits, and
 fills them. At a checkpoint its tables are selected, and its log is closed. N random loads (4 if not given) of inserts, updates,
 deletes and transactions of several statements follow, over several files. `binlog undo` undoes them, every other load as one
-transaction; the server's programs apply that, and the tables are selected again. Then what undid them is undone. Where there is no server
+transaction; the server's programs apply that, and the tables are selected again. Then what undid them is undone. Logs behind all that are looked at: one that
+changes another table, one that changes a table that was undone, and one that makes a table. Where there is no server
 (`maria_daemon.py` and `mysql_daemon.py` say where they come from) nothing is done with it. The last line is `N passed, M failed`; the
 exit status is 1 if something failed.
 """
@@ -131,6 +132,25 @@ def undone(words, options, logs, out):
     return None if run.returncode == 0 else f"status {run.returncode}: {run.stderr[-300:]}"
 
 
+# What logs behind the load do, and what is said of it as a later log: nothing, or a table, or that any table may be changed.
+LATER = [
+    ("INSERT INTO apart VALUES (1);", None),
+    ("INSERT INTO keyless VALUES (1, 'b', 1.5, 'x');", "LaterChanges: s.keyless: "),
+    ("CREATE TABLE made (a INT);", "LaterChanges: unknown: a statement "),
+]
+
+
+def unlooked(words, server, logs):
+    """What is wrong with what is said of later logs, if something is. These logs are undone."""
+    server.run(("USE s;" + "".join(f"{statement} FLUSH BINARY LOGS;" for statement, _ in LATER)).encode())
+    for log, (statement, wanted) in zip(server.logs()[-1 - len(LATER) : -1], LATER):
+        run = subprocess.run([*words, "undo", "--dry-run", "--later", str(log), *map(str, logs)], capture_output=True, text=True)
+        said = run.stderr.splitlines()
+        if run.returncode != (2 if wanted else 0) or len(said) != bool(wanted) or wanted and wanted not in said[0]:
+            return f"behind {statement!r}: status {run.returncode}: {run.stderr[-300:]}"
+    return None
+
+
 def behind(server, count):
     """The logs that were closed behind the first ones."""
     return server.logs()[count:-1]
@@ -139,7 +159,7 @@ def behind(server, count):
 def failure(words, kind, folder, seed):
     chance, keys = random.Random(seed), dict.fromkeys(TABLES, 100)
     # A statement that fails in the middle, or is rolled back, would stay in tables that can't roll back.
-    made = "CREATE DATABASE s; USE s;" + "".join(f"CREATE TABLE {name} {form};" for name, form in TABLES.items()).replace("ENGINE=;", f"ENGINE={kind.engine};")
+    made = "CREATE DATABASE s; USE s;" + "".join(f"CREATE TABLE {name} {form};" for name, form in TABLES.items()).replace("ENGINE=;", f"ENGINE={kind.engine};") + "CREATE TABLE apart (a INT);"
     with kind.server(folder / f"{kind.name}-{seed}", [*kind.forms[seed % len(kind.forms)], *kind.options]) as server:
         server.run((made + load(chance, keys, 30).replace("ROLLBACK", "COMMIT")).encode())
         checkpoint, count = tables_of(server), len(server.logs()) - 1
@@ -155,7 +175,10 @@ def failure(words, kind, folder, seed):
         if wrong:
             return f"{kind.name}, seed {seed}, again: {wrong}"
         applied(kind, server, folder / f"{kind.name}-{seed}.back")
-        return None if tables_of(server) == end else f"{kind.name}, seed {seed}: the tables aren't those of the end"
+        if tables_of(server) != end:
+            return f"{kind.name}, seed {seed}: the tables aren't those of the end"
+        wrong = unlooked(words, server, logs)
+        return wrong and f"{kind.name}, seed {seed}, {wrong}"
 
 
 def main():

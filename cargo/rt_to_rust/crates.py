@@ -56,6 +56,7 @@ TOOLS = [
     "binlog_event_types",
     "binlog_json_bodies",
     "binlog_json_lines",
+    "binlog_later_changes",
     "binlog_undo_log",
     "binlog_change_lines",
     "binlog_payload_filters",

@@ -34,6 +34,7 @@ STAND_INS = {
     "std::fs::OpenFile": "TOOLS::host::OpenFile",
     "std::fs::OpenOptions": "TOOLS::host::fs::OpenOptions",
     "std::fs::TryLockError": "std::fs::TryLockError",
+    "std::os::unix::fs::FileExt": "std::os::unix::fs::FileExt",
     "std::os::unix::fs::MetadataExt": "std::os::unix::fs::MetadataExt",
     "std::rt::Files": "TOOLS::host::Files",
     "std::thread": "TOOLS::host::thread",

@@ -29,6 +29,7 @@ def undo(
     tables: Iterable[str] = (),
     exclude_tables: Iterable[str] = (),
     skip: Iterable[str] = (),
+    later: Union[Path, Iterable[Path]] = (),
     start: Optional[Time] = None,
     stop: Optional[Time] = None,
     server_id: Optional[int] = None,
@@ -48,6 +49,7 @@ def undo(
     out: the log that is written. It may not be there before, and is there whole or not at all.
     tables, exclude_tables: rows of these tables alone, and none of these, each as "shop.orders"; * stands for any bytes, ? for one.
     skip: the names of reasons: transactions that are refused for one of them are left as they are.
+    later: logs behind the others, in order, or one of them: where they, or what isn't undone of the others, may change what is undone, that is refused.
     start, stop: transactions that ended at this time or later, and before it: a datetime, or a text in UTC.
     server_id, include_gtids, exclude_gtids: transactions that this server created, and with one of these GTIDs, or with none of them.
     start_position, stop_position: transactions that begin at this byte of the first log or behind it, and before this byte of the last one.
@@ -55,17 +57,19 @@ def undo(
     foreign_key_checks: whether the server checks foreign keys while the log is applied.
     one_transaction: whether all that is undone is one transaction. The logs need the same format description then.
     program: the program `binlog`; if not given, the one that the variable BINLOG_PROGRAM names, or the one that the system finds.
-    library: whether the library makes the log, in memory, and no program is run. It doesn't choose by times, servers and GTIDs.
+    library: whether the library makes the log, in memory, and no program is run. It doesn't choose by times, servers and GTIDs, and takes no later logs.
 
     Raises UndoRefused where something can't be undone, FileExistsError if there is a file `out`, and ProgramError where the program isn't
     found, or fails; BinlogError or OSError in place of it where the library makes the log. Nothing is written then.
     """
-    paths = [files] if isinstance(files, (str, os.PathLike)) else list(files)
+    paths, behind = _listed(files), _listed(later)
     if out is not None and os.path.exists(out):
         raise FileExistsError(f"{os.fspath(out)}: there is a file of this name")
     if library:
         if any(option is not None for option in (start, stop, server_id, include_gtids, exclude_gtids)):
             raise ValueError("the library doesn't choose by times, servers and GTIDs")
+        if behind:
+            raise ValueError("the library takes no later logs")
         made = made_log(
             [FilePath(path).read_bytes() for path in paths],
             [os.fspath(path) for path in paths],
@@ -81,7 +85,7 @@ def undo(
         if out is not None:
             _write(made.log, os.fspath(out))
         return Undone(made.transactions, made.row_events, made.skipped)
-    given = [("--table", tables), ("--exclude-table", exclude_tables), ("--skip", skip)]
+    given = [("--table", tables), ("--exclude-table", exclude_tables), ("--skip", skip), ("--later", [_argument(path) for path in behind])]
     words = [word for option, texts in given for text in texts for word in (option, text)]
     stated = {
         "--start-position": start_position,
@@ -97,7 +101,12 @@ def undo(
     words += [] if foreign_key_checks else ["--no-foreign-key-checks"]
     words += ["--one-transaction"] if one_transaction else []
     words += ["--dry-run"] if out is None else ["--output", _argument(out)]
-    return _asked(program, words, [_argument(path) for path in paths])
+    return _asked(program, words, [_argument(path) for path in paths], [_argument(path) for path in behind])
+
+
+def _listed(files: Union[Path, Iterable[Path]]) -> list[Path]:
+    """Files, or one."""
+    return [files] if isinstance(files, (str, os.PathLike)) else list(files)
 
 
 def _write(log: bytes, out: str) -> None:
@@ -121,14 +130,14 @@ def _text(time: Optional[Time]) -> Optional[str]:
     return (time.astimezone(timezone.utc) if time.tzinfo else time).strftime("%Y-%m-%dT%H:%M:%S")
 
 
-def _asked(stated: Optional[Path], words: list[str], paths: list[str]) -> Undone:
+def _asked(stated: Optional[Path], words: list[str], paths: list[str], behind: list[str]) -> Undone:
     command = program_at(stated)
     try:
         ran = subprocess.run([command, "undo", *words, *paths], stdin=subprocess.DEVNULL, capture_output=True)
     except OSError as error:
         raise ProgramError(f"{command}: {error.strerror}") from error
     lines = os.fsdecode(ran.stderr).splitlines()
-    refusals = [refusal for line in lines for refusal in _refusals(line, paths)]
+    refusals = [refusal for line in lines for refusal in _refusals(line, [*paths, *behind])]
     if ran.returncode == _REFUSED and refusals:
         raise UndoRefused(refusals)
     if ran.returncode != 0:

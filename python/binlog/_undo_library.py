@@ -17,7 +17,7 @@ _REASONS = (
     ("Xa", "a part of an XA transaction"),
     ("Rollback", "changes were rolled back"),
     ("Incident", "an incident"),
-    ("Payload", "the events of the transaction are within one event"),
+    ("Payload", "a compressed transaction is too long, or has row events in front of it"),
     ("OldRows", "row events of a version before 5.1.16"),
     ("UnknownEvent", "an event of an unknown type"),
     ("Encrypted", "encrypted events"),

@@ -52,6 +52,19 @@ class Undoing(unittest.TestCase):
         options = ["--exclude-table", "s.q", "--start-position", "4", "--stop-position", "0", "--stop-datetime", "2024-01-01T10:00:00", "--include-gtids", "0-1-2", "--exclude-gtids", "0-1-3", "--plain-old-temporal", "--no-foreign-key-checks", "--one-transaction"]
         self.assertEqual(self.words(), ["undo", *options, "--dry-run", "./-1.bin"])
 
+    def test_later_logs(self):
+        line = "LaterChanges: s.t: its rows are changed behind those that are undone"
+        self.answer("", f"binlog: 3.bin: event 5 at byte 678: {line}\n", 2)
+        with self.assertRaises(binlog.UndoRefused) as raised:
+            self.undo("1.bin", self.folder / "out", later=["-2.bin", "3.bin"])
+        self.assertEqual(self.words()[:5], ["undo", "--later", "./-2.bin", "--later", "3.bin"])
+        (refusal,) = raised.exception.refusals
+        self.assertEqual((refusal.file, refusal.index, refusal.position, refusal.reason), ("3.bin", 5, 678, "LaterChanges"))
+        self.answer("transactions 1, row events 1\n", f"binlog: skipped: 3.bin: event 5 at byte 678: {line}\n")
+        self.assertTrue(self.undo("1.bin", later="3.bin", skip=["LaterChanges"]).skipped[0].skipped)
+        with self.assertRaises(ValueError):
+            binlog.undo([], later="3.bin", library=True)
+
     def test_counts(self):
         skipped = "binlog: skipped: a: event 1.bin: event 12 at byte 3456: Statement: a statement can't be undone\n"
         self.answer("transactions 5, row events 8\n", skipped)

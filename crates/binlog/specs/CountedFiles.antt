@@ -1,5 +1,5 @@
 -- What is counted of files, and written.
-use Rattle.std.specs.Prelude.{◌≡◌, ℕ, ◌^◌, Bool, List, Option, Some, None, ⊤}
+use Rattle.std.specs.Prelude.{◌≡◌, ℕ, ◌^◌, Bool, List, Option}
 use Rattle.binlog_visits.specs.Visits.{VisitRelation, RefusalRelation}
 use Rattle.binlog_payload_visits.specs.PartVisits.{PartVisitRelation, PartRefusalRelation}
 use Rattle.binlog_filters.specs.declared.filter.Filter.{Filter}
@@ -12,7 +12,7 @@ use Rattle.binlog_cli.specs.declared.exit_status.Status.{Status}
 use Rattle.binlog.specs.Commands.{bytes_of, Begins, Ends}
 use Rattle.binlog_change_lines.specs.InsideVisits.{Inside, visitor_of, VisitsInside, RefusesInside}
 use Rattle.binlog.specs.Reading.{ShowsTaken}
-use Rattle.binlog.specs.RepeatedStats.{WritesLast}
+use Rattle.binlog.specs.RepeatedStats.{WritesAll}
 use Rattle.binlog.specs.Requests.{StatesTablesOf}
 
 -- A visitor that counts is shown items and parts; no item of which a part is an error is counted yet. The parts are those of the tables that
@@ -26,11 +26,6 @@ pub record CountsFrom {T : Type 0} (found : Found) (counter : T) (start : Inside
 -- The options state the filter. The counts are written once, or again and again after so many seconds, until the log isn't followed any more.
 -- The files have these names and bytes; `old` and `new` are the bytes of the output's writer.
 module _ {B N : Type 0} (contents : B → Option (List ℕ)) (found : Found) (is_verified is_followed : Bool) (bytes : N → Option (List ℕ)) (names : List N) (period : Option ℕ) where
-  -- An output begins with the bytes of its writer, or has the counts before these.
-  abbrev pub BeginsCounts : (period : Option ℕ) (old : Option (List ℕ)) (output : Output B) → Type 0
-  BeginsCounts None old output = Begins contents old output
-  BeginsCounts (Some seconds) old output = ⊤
-
   -- A visitor that counts, as `counter` from the start on, is shown what the filter takes of the files, and of compressed transactions, and
   -- its counts are written. `writes` says what is written of counts, and with which outcome. An item of which a part is an error is one for
   -- its file.
@@ -44,8 +39,8 @@ module _ {B N : Type 0} (contents : B → Option (List ℕ)) (found : Found) (is
     pub counted : Inside T
     pub shown : ShowsTaken (VisitsInside visits visits_part) (RefusesInside visits visits_part refuses refuses_part) (λ inside. inside.visitor.damaged) filter is_verified is_followed bytes names start read counted
     pub output : Output B
-    pub begins : BeginsCounts period old output
+    pub begins : Begins contents old output
     pub outcome : Outcome
     pub behind : Output B
-    pub written : WritesLast period (writes (visitor_of counted)) outcome (bytes_of contents output) (bytes_of contents behind)
+    pub written : WritesAll writes period (visitor_of counted) outcome (bytes_of contents output) (bytes_of contents behind)
     pub ends : Ends contents behind (worse_outcome read outcome) status new

@@ -1,11 +1,12 @@
 -- The status behind a file that was followed, and the path of the next one.
-use Rattle.std.specs.Prelude.{ℕ, Option, Some, None, Result, Ok, Err, String}
+use Rattle.std.specs.Prelude.{◌≢◌, ℕ, Bool, ◌||◌, Option, Some, None, Result, Ok, Err, String}
 use Rattle.std.specs.Global.{Global}
 use Rattle.binlog_cli.specs.Statuses.{worse}
 use Rattle.binlog_cli.specs.declared.exit_status.Status.{Status}
 use Rattle.binlog_cli.specs.declared.exit_status.Status.TheVariants.{NotOpened, Damaged, Failed}
 use Rattle.binlog_commands.specs.declared.continuation.Continuation.{Continuation}
 use Rattle.binlog_commands.specs.declared.continuation.Continuation.TheVariants as continuations
+use Rattle.binlog_commands.specs.declared.marks.GtidMarks.{GtidMarks}
 use Rattle.binlog_following.specs.declared.file_behind.FileBehind.{FileBehind}
 use Rattle.binlog_following.specs.declared.file_behind.FileBehind.TheVariants as files
 use Rattle.binlog_following.specs.declared.waits.Missing.{Missing}
@@ -53,3 +54,11 @@ missing_by None = Some missings.List
 missing_by (Some continuations.Unlisted) = None
 missing_by (Some continuations.Differs) = Some missings.SameList
 missing_by (Some continuations.GoesOn) = None
+
+-- There is a list of GTIDs.
+abbrev pub has_list : GtidMarks → Bool
+has_list marks = marks.has_previous_gtids || marks.has_gtid_list
+
+-- A file was found to come behind the one before it: its list of GTIDs was compared, and doesn't differ. `has_told` says what was told.
+abbrev pub ComesNext : (has_told : Option Continuation → Type 0) → Type 0
+ComesNext has_told = (continuation : Continuation) × has_told (Some continuation) × (continuation ≢ continuations.Differs)

@@ -5,6 +5,7 @@ pub mod Verifying
 pub mod Commands
 pub mod Changes
 pub mod Columns
+pub mod Rests
 pub mod RepeatedStats
 pub mod Requests
 pub mod WrittenRows

@@ -116,6 +116,8 @@ fn write_file<'a, S: Inputs, R: Clock + Eprint + AllocGlobal, W: Write + Drop>(
 struct FileNames;
 
 impl<W> Follower<ChangeFilter<W>> for FileNames {
+    ghost rests = { λ old shown new after. (new ≡ old) × (after ≡ shown) };
+
     fn begin_file(
         &mut self,
         lines: &mut ChangeFilter<W>,

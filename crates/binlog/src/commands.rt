@@ -9,6 +9,7 @@ ghost use Rattle.binlog.specs.Columns.{AreColumnFiles, IsUnreadColumns};
 ghost use Rattle.binlog.specs.Commands.{outcome_of_text, WritesShown};
 ghost use Rattle.binlog.specs.Reading.{ShowsTaken};
 ghost use Rattle.binlog.specs.Requests.{StatesTablesOf, lines_capacity};
+ghost use Rattle.binlog.specs.Rests.{HasRested};
 
 use crate::columns::{read_columns, report_contradictions};
 use crate::inputs::Inputs;
@@ -125,6 +126,7 @@ pub(crate) fn read_all<
 }
 
 /// Shows a visitor what the filter of the words takes of all files. The follower is told of those that are followed.
+#[tactic(auto, using(crate::proofs::Rests::goes_not))]
 pub(crate) fn read_followed<
     'a,
     S: Inputs,
@@ -140,6 +142,7 @@ pub(crate) fn read_followed<
 ) -> Result<(Outcome, T), Status>
     ensures ok { IfOk result (λ shown. (filter : Filter) × StatesFilter (found_of request.now.options.now) filter × ShowsTaken T.visits T.refuses T.refusals filter request.now.reading.is_verified request.now.reading.is_followed
         (λ name. S.bytes inputs.now name.now) request.now.files.now visitor shown.0 shown.1) }
+    ensures rested { HasRested F.rests follower.old follower.new }
     ensures err { IfErr result (λ status. NeverBegins (found_of request.now.options.now) status) }
 {
     let filter = filter(rt, request.options)?;
@@ -170,7 +173,8 @@ pub(crate) fn read_taken<
     visitor: T,
     follower: &mut F,
 ) -> (Outcome, T)
-    ensures { ShowsTaken T.visits T.refuses T.refusals filter reading.is_verified reading.is_followed (λ name. S.bytes inputs.now name.now) files.now visitor result.0 result.1 }
+    ensures shown { ShowsTaken T.visits T.refuses T.refusals filter reading.is_verified reading.is_followed (λ name. S.bytes inputs.now name.now) files.now visitor result.0 result.1 }
+    ensures rested { HasRested F.rests follower.old follower.new }
 {
     let filtered = PayloadFiltered::new(rt.alloc(), CONTENT_LIMIT, filter, visitor);
     let reported = Reported::new(rt, filtered);

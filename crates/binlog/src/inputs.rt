@@ -1,5 +1,7 @@
 //! Where the files of a command come from.
 ghost use Rattle.std.specs.Prelude.{◌≡◌, ℕ, List, Option, None, IfOk, ⊤};
+ghost use Rattle.binlog_commands.specs.declared.continuation.Continuation.{Continuation};
+ghost use Rattle.binlog_commands.specs.declared.file_gtids.FileGtids.{FileGtids};
 
 use crate::file_behind::{continuation_in, file_behind};
 use binlog_commands::{Continuation, FileGtids};
@@ -10,6 +12,7 @@ use binlog_rotation::Checkpoint;
 use std::alloc::{AllocError, Global};
 use std::fs::File;
 use std::io::Read;
+use std::os::unix::fs::FileExt;
 use std::rt::Files;
 use std::{fs, io};
 
@@ -20,6 +23,9 @@ pub(crate) trait Inputs: LogFiles {
 
     /// The bytes of the file of this name, where they are known.
     ghost bytes: { Self → List ℕ → Option (List ℕ) };
+
+    /// It was asked what the list of GTIDs of the file of this name says of the file before it, which has these.
+    ghost has_told: { Self → List ℕ → FileGtids → Option Continuation → Type 0 };
 
     /// Opens a file.
     fn open(&self, name: &str) -> io::Result<Self::Opened>
@@ -32,7 +38,8 @@ pub(crate) trait Inputs: LogFiles {
     fn pauses(&self) -> &Pauses;
 
     /// What the list of GTIDs of the file of this path says of the file before it, which has these; None as long as it isn't there.
-    fn continuation_in(&self, path: &str, before: &FileGtids) -> Option<Continuation>;
+    fn continuation_in(&self, path: &str, before: &FileGtids) -> Option<Continuation>
+        ensures { has_told self.now path.now before.now result };
 }
 
 /// The files of the machine. What they have isn't known.
@@ -58,6 +65,8 @@ impl<'a, R: Files<File = File> + Input + AllocGlobal> Inputs for HostInputs<'a, 
     type Opened = HostInput<R::Reader, R::File>;
 
     ghost bytes = { λ inputs name. None };
+
+    ghost has_told = { λ inputs path before told. ⊤ };
 
     fn open(&self, name: &str) -> io::Result<HostInput<R::Reader, R::File>> {
         if name == "-" {
@@ -90,6 +99,10 @@ impl<'a, R: Files<File = File> + Input + AllocGlobal> Inputs for HostInputs<'a, 
 
 impl<'a, R: Files<File = File> + Input + AllocGlobal> LogFiles for HostInputs<'a, R> {
     type Log = HostLog<R::File>;
+
+    ghost has_found = { λ inputs path whole behind. ⊤ };
+
+    ghost has_saved = { λ inputs path place. ⊤ };
 
     fn open_log(&self, path: &str) -> io::Result<HostLog<R::File>> {
         match fs::open(self.rt, path) {
@@ -147,10 +160,14 @@ pub(crate) struct HostLog<F> {
     file: F,
 }
 
-impl<F: Read> OpenLog for HostLog<F> {
+impl<F: Read + FileExt> OpenLog for HostLog<F> {
     ghost has_given = { λ log bytes. ⊤ };
 
     fn read_log(&mut self, buf: &mut [u8]) -> io::Result<usize> {
         self.file.read(buf)
+    }
+
+    fn read_log_at(&self, buf: &mut [u8], place: u64) -> io::Result<usize> {
+        self.file.read_at(buf, place)
     }
 }

@@ -2,8 +2,11 @@
 ghost use Rattle.std.specs.Prelude.{◌≡◌, ◌↔◌, [], ◌∷◌, IfErr, IfOk, IsTrue, OnOk};
 ghost use Rattle.std.specs.Io.KnownBytes.{Appends};
 ghost use Rattle.binlog_wire.specs.declared.error.Error.TheVariants.{Writer};
-ghost use Rattle.binlog_cli.specs.declared.exit_status.Status.TheVariants.{Usage};
+ghost use Rattle.binlog_cli.specs.Outputs.{worse_outcome, written};
+ghost use Rattle.binlog_cli.specs.declared.exit_status.Outcome.{Outcome};
+ghost use Rattle.binlog_cli.specs.declared.exit_status.Status.TheVariants.{Fine, Usage};
 ghost use Rattle.binlog.specs.RepeatedStats.{FollowsFile, IsTable, RefusesPeriod, StatesPeriod};
+ghost use Rattle.binlog.specs.WrittenRows.{WritesText};
 
 use crate::commands::outcome_of_text;
 use crate::request::Request;
@@ -71,6 +74,8 @@ pub(crate) struct RepeatedStats<'a, R, B> {
     // When the counts are due again, by the clock; at once if it is None.
     next: Option<Duration>,
     output: Output<B>,
+    // The worst outcome of the tables so far.
+    outcome: Outcome,
 }
 
 impl<'a, R: Clock + Eprint + AllocGlobal, W: Write + Drop> RepeatedStats<
@@ -87,6 +92,7 @@ impl<'a, R: Clock + Eprint + AllocGlobal, W: Write + Drop> RepeatedStats<
     ) -> Self
         ensures options { result.options ≡ options }
         ensures output { result.output ≡ output }
+        ensures outcome { result.outcome ≡ written Fine }
     {
         RepeatedStats {
             rt,
@@ -94,29 +100,42 @@ impl<'a, R: Clock + Eprint + AllocGlobal, W: Write + Drop> RepeatedStats<
             period: Duration::from_secs(u64::from(seconds)),
             next: None,
             output,
+            outcome: Outcome::written(Status::Fine),
         }
     }
 
-    /// The output.
-    pub(crate) fn into_output(self) -> Output<BufWriter<Retrying<W>>>
-        ensures { result ≡ self.entry.output }
+    /// The worst outcome of all tables, and the output.
+    pub(crate) fn into_parts(self) -> (Outcome, Output<BufWriter<Retrying<W>>>)
+        ensures outcome { result.0 ≡ self.entry.outcome }
+        ensures output { result.1 ≡ self.entry.output }
     {
-        self.output
+        (self.outcome, self.output)
     }
 
-    /// Writes the counts so far as these options ask for them, and behind them an empty line, at once.
-    pub(crate) fn write<T: Statistics>(&mut self, options: StatsOptions, counter: &mut T) -> Outcome
-        ensures table { IsTable (T.writes options counter.old) result (⟦<BufWriter<Retrying<W>> as Write>⟧.contents self.old.output.inner) (⟦<BufWriter<Retrying<W>> as Write>⟧.contents self.new.output.inner) }
+    /// Writes a table at once: the counts so far, and behind them an empty line.
+    pub(crate) fn write<T: Statistics>(&mut self, counter: &mut T)
+        ensures table { (outcome : Outcome) × IsTable (T.writes self.old.options counter.old) outcome (⟦<BufWriter<Retrying<W>> as Write>⟧.contents self.old.output.inner) (⟦<BufWriter<Retrying<W>> as Write>⟧.contents self.new.output.inner)
+            × (self.new.outcome ≡ worse_outcome self.old.outcome outcome) }
         ensures counts { T.keeps counter.old counter.new }
-        ensures same { self.new ≡ record self.old { output = self.new.output } }
+        ensures same { self.new ≡ record self.old { output = self.new.output; outcome = self.new.outcome } }
     {
-        let counts = counter.write(self.rt, options, &mut self.output);
+        let counts = counter.write(self.rt, self.options, &mut self.output);
         let ended = self.end_table();
-        counts.worse(outcome_of_text(ended))
+        let table = counts.worse(ended);
+        self.outcome = self.outcome.worse(table);
     }
 
     // Writes the empty line behind counts.
-    fn end_table(&mut self) -> io::Result<()>
+    fn end_table(&mut self) -> Outcome
+        ensures line { WritesText (Appends (⟦<BufWriter<Retrying<W>> as Write>⟧.contents self.old.output.inner) (⟦<BufWriter<Retrying<W>> as Write>⟧.contents self.new.output.inner) (10 ∷ [])) result }
+        ensures same { self.new ≡ record self.old { output = self.new.output } }
+    {
+        let ended = self.end_line();
+        outcome_of_text(ended)
+    }
+
+    // Writes a line feed.
+    fn end_line(&mut self) -> io::Result<()>
         ensures line { OnOk result (Appends (⟦<BufWriter<Retrying<W>> as Write>⟧.contents self.old.output.inner) (⟦<BufWriter<Retrying<W>> as Write>⟧.contents self.new.output.inner) (10 ∷ [])) }
         ensures same { self.new ≡ record self.old { output = self.new.output } }
     {
@@ -144,6 +163,12 @@ impl<'a, R: Clock + Eprint + AllocGlobal, W: Write + Drop> RepeatedStats<
 impl<'a, R: Clock + Eprint + AllocGlobal, T: Statistics, W: Write + Drop> Follower<
     Spliced<Noted<TakenParts<T>>>,
 > for RepeatedStats<'a, R, BufWriter<Retrying<W>>> {
+    ghost use Rattle.binlog_change_lines.specs.InsideVisits.{visitor_of};
+    ghost use Rattle.binlog.specs.RepeatedStats.{MayWrite};
+
+    ghost rests = { λ old shown new after. (new.options ≡ old.options)
+        × MayWrite (T.writes old.options (visitor_of shown)) old.outcome (⟦<BufWriter<Retrying<W>> as Write>⟧.contents old.output.inner) new.outcome (⟦<BufWriter<Retrying<W>> as Write>⟧.contents new.output.inner) };
+
     fn begin_file(
         &mut self,
         _visitor: &mut Spliced<Noted<TakenParts<T>>>,
@@ -158,8 +183,7 @@ impl<'a, R: Clock + Eprint + AllocGlobal, T: Statistics, W: Write + Drop> Follow
             return Ok(());
         }
         let counter = &mut visitor.visitor.visitor.visitor;
-        // A failure is kept by the output, and comes again where it is flushed.
-        let _ = self.write(self.options, counter);
+        self.write(counter);
         if self.output.flush().is_err() {
             return Err(Error::Writer);
         }

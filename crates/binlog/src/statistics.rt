@@ -183,8 +183,9 @@ fn count_repeatedly<
     let mut repeated = RepeatedStats::new(rt, options, seconds, output);
     let (read, mut spliced) = read_followed(rt, inputs, request, start, &mut repeated)?;
     let counter = &mut spliced.visitor.visitor.visitor;
-    let written = repeated.write(options, counter);
-    Ok(repeated.into_output().finish(rt, read.worse(written)))
+    repeated.write(counter);
+    let (written, output) = repeated.into_parts();
+    Ok(output.finish(rt, read.worse(written)))
 }
 
 // A visitor that counts with this one, also inside compressed transactions, where of these the tables count that the options ask for.

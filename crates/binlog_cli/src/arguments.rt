@@ -24,7 +24,8 @@ pub fn command<'a>(alloc: Global) -> Result<Command<'a>, AllocError> {
         .arg_required_else_help(true)
         .subcommand_required(true);
     for text in COMMANDS {
-        command = command.subcommand(text.command(alloc)?)?;
+        let subcommand = text.command(alloc)?;
+        command = command.subcommand(subcommand)?;
     }
     Ok(command)
 }

@@ -114,6 +114,7 @@ impl<'a, E: Eprint, T> Reported<'a, E, PayloadFiltered<T>> {
     /// [`Error::Writer`] if the output failed.
     pub fn pause<F: Follower<T>>(&mut self, follower: &mut F) -> Result<(), Error>
         ensures same { self.new ≡ record self.old { visitor = with_visitor self.old.visitor self.new.visitor.filtered.visitor } }
+        ensures rests { F.rests follower.old self.old.visitor.filtered.visitor follower.new self.new.visitor.filtered.visitor }
         ensures err { IfErr result (λ error. error ≡ Writer) }
     {
         follower.rest(&mut self.visitor.filtered.visitor)

@@ -9,6 +9,7 @@
 mod checked_file;
 mod file_behind;
 mod growing_file;
+mod last_bytes;
 pub mod laws;
 mod log_files;
 mod paths;

@@ -1,7 +1,9 @@
 //! What is asked of a machine where a log is followed.
-ghost use Rattle.std.specs.Prelude.{◌≡◌, ◌==◌, ◌&&◌, ℕ, List, [], ◌++◌, take, IfOk, OnErr};
+ghost use Rattle.std.specs.Prelude.{◌≡◌, ◌==◌, ◌&&◌, ℕ, List, [], ◌++◌, take, IfOk, OnErr, OnOk};
 ghost use Rattle.std.specs.Io.{ReadsAtMost};
+ghost use Rattle.binlog_rotation.specs.declared.checkpoint.Checkpoint.{Checkpoint};
 ghost use Rattle.binlog_following.specs.Files.{named_file};
+ghost use Rattle.binlog_following.specs.declared.file_behind.FileBehind.{FileBehind};
 
 use crate::file_behind::FileBehind;
 use crate::waits::Missing;
@@ -77,12 +79,26 @@ pub trait OpenLog {
         ensures bound { ReadsAtMost result buf.new }
         ensures gives { IfOk result (λ count. (log : List ℕ) → has_given self.old log → has_given self.new (log ++ take count buf.new)) }
         ensures err { OnErr result ((log : List ℕ) → has_given self.old log → has_given self.new log) };
+
+    /// Reads bytes at a place again, which may be other ones by now; what is read next stays the same.
+    ///
+    /// # Errors
+    ///
+    /// Those of reading a file.
+    fn read_log_at(&self, buf: &mut [u8], place: u64) -> io::Result<usize>
+        ensures { ReadsAtMost result buf.new };
 }
 
 /// The files of a log that is followed, and its state.
 pub trait LogFiles {
     /// An open file.
     type Log: OpenLog + Drop;
+
+    /// It was asked what the file behind the one of a path is, where the events before a place are all of its whole transactions.
+    ghost has_found: { Self → List ℕ → Checkpoint → FileBehind → Type 0 };
+
+    /// The state was written, with the file of a path and a place in it.
+    ghost has_saved: { Self → List ℕ → Checkpoint → Type 0 };
 
     /// Opens a file of a log at its start.
     ///
@@ -97,7 +113,8 @@ pub trait LogFiles {
 
     /// What the file behind the one of this path is, which ends with no event that says so. The events before `whole` are all of its
     /// whole transactions.
-    fn behind(&self, path: &str, whole: Checkpoint) -> FileBehind;
+    fn behind(&self, path: &str, whole: Checkpoint) -> FileBehind
+        ensures { has_found self.now path.now whole result };
 
     /// Whether there is a state that says where to go on.
     fn has_state(&self) -> bool;
@@ -111,7 +128,8 @@ pub trait LogFiles {
     /// # Errors
     ///
     /// Those of writing files. The state is then the one before, or this one.
-    fn save(&self, path: &str, checkpoint: Checkpoint) -> io::Result<()>;
+    fn save(&self, path: &str, checkpoint: Checkpoint) -> io::Result<()>
+        ensures { OnOk result (has_saved self.now path.now checkpoint) };
 }
 
 /// What is missing of a file of which so much was read before: all of that, and at least a file header, has to be there.

@@ -22,7 +22,11 @@ pub(crate) fn add_gtids(
         return Ok(());
     }
     match event.read_data(alloc) {
-        Ok(Some(data)) => gtids.add_event(&data),
+        Ok(Some(data)) => {
+            let added = gtids.add_event(&data);
+            drop(data);
+            added
+        }
         Ok(None) => Ok(()),
         Err(error) => Err(error),
     }

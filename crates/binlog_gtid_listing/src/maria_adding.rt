@@ -30,7 +30,11 @@ pub(crate) fn add_maria_gtids(
     ensures { AddsMariaGtids (view_of event.now) gtids.old result gtids.new }
 {
     match read_data(alloc, event) {
-        Ok(Some(data)) => gtids.add_event(event.header().server_id(), &data),
+        Ok(Some(data)) => {
+            let added = gtids.add_event(event.header().server_id(), &data);
+            drop(data);
+            added
+        }
         Ok(None) => Ok(()),
         Err(error) => Err(error),
     }

@@ -17,7 +17,6 @@ use binlog_file::QueryEvent;
 use binlog_mariadb::{CompressionError, RowsCompressedEvent, uncompress};
 use json_line::Line;
 use std::alloc::{AllocError, Global};
-use std::borrow::CowSlice;
 
 /// The greatest size of an uncompressed text in bytes, 1 GiB, which is that of a packet of the server. A longer text is
 /// refused.
@@ -27,18 +26,23 @@ pub const MOST_BYTES: usize = 1_073_741_824;
 pub(crate) fn write_compressed_query(
     line: &mut Line,
     alloc: Global,
-    event: QueryEvent<'_>,
+    event: &QueryEvent<'_>,
 ) -> Result<(), AllocError>
-    ensures { Shows result line.old line.new (IsOfText event.entry.statement.texts.query (query_object event.entry)) }
+    ensures { Shows result line.old line.new (IsOfText event.now.statement.texts.query (query_object event.now)) }
 {
     match text_of(alloc, event.query_raw())? {
-        Some(text) => write_query(line, alloc, &event.with_query(CowSlice::Owned(text))),
+        Some(text) => write_query(line, alloc, event, &text),
         None => write_invalid(line),
     }
 }
 
-fn write_query(line: &mut Line, alloc: Global, event: &QueryEvent<'_>) -> Result<(), AllocError>
-    ensures { Adds result line.old line.new (query_object event.now event.now.statement.texts.query) }
+fn write_query(
+    line: &mut Line,
+    alloc: Global,
+    event: &QueryEvent<'_>,
+    query: &[u8],
+) -> Result<(), AllocError>
+    ensures { Adds result line.old line.new (query_object event.now query.now) }
 {
     line.begin_object()?;
     write_statement_head(
@@ -47,7 +51,7 @@ fn write_query(line: &mut Line, alloc: Global, event: &QueryEvent<'_>) -> Result
         event.execution_time(),
         event.error_code(),
     )?;
-    write_maria_query_texts(line, alloc, event)?;
+    write_maria_query_texts(line, alloc, event, query)?;
     write_compressed(line)?;
     line.end_object()?;
     Ok(())

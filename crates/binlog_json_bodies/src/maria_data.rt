@@ -33,7 +33,11 @@ pub fn write_maria_data(
 {
     let header = event.header();
     match read_maria_data(alloc, event.fde(), header.event_type_raw(), event.data()) {
-        Ok(Some(data)) => write_object(line, text, alloc, header.server_id(), data),
+        Ok(Some(data)) => {
+            let written = write_object(line, text, alloc, header.server_id(), &data);
+            drop(data);
+            written
+        }
         Ok(None) => unreachable!(),
         Err(error) => write_refusal(line, &error),
     }
@@ -45,17 +49,17 @@ fn write_object(
     text: &mut String,
     alloc: Global,
     server_id: u32,
-    data: MariaEventData<'_>,
+    data: &MariaEventData<'_>,
 ) -> Result<(), AllocError>
-    ensures { Shows result line.old line.new (IsObject server_id data.entry) }
+    ensures { Shows result line.old line.new (IsObject server_id data.now) }
 {
     match data {
-        MariaEventData::AnnotateRowsEvent(event) => write_annotate_rows(line, &event),
-        MariaEventData::BinlogCheckpointEvent(event) => write_binlog_checkpoint(line, &event),
-        MariaEventData::GtidEvent(event) => write_gtid(line, text, server_id, &event),
-        MariaEventData::GtidListEvent(event) => write_gtid_list(line, text, &event),
-        MariaEventData::StartEncryptionEvent(event) => write_start_encryption(line, &event),
+        MariaEventData::AnnotateRowsEvent(event) => write_annotate_rows(line, event),
+        MariaEventData::BinlogCheckpointEvent(event) => write_binlog_checkpoint(line, event),
+        MariaEventData::GtidEvent(event) => write_gtid(line, text, server_id, event),
+        MariaEventData::GtidListEvent(event) => write_gtid_list(line, text, event),
+        MariaEventData::StartEncryptionEvent(event) => write_start_encryption(line, event),
         MariaEventData::QueryCompressedEvent(event) => write_compressed_query(line, alloc, event),
-        MariaEventData::RowsCompressedEvent(event) => write_compressed_rows(line, alloc, &event),
+        MariaEventData::RowsCompressedEvent(event) => write_compressed_rows(line, alloc, event),
     }
 }

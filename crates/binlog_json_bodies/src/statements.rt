@@ -5,6 +5,7 @@ ghost use Rattle.std.specs.Prelude.{◌∷◌, [], true};
 ghost use Rattle.std.specs.Fmt.{signed_decimal};
 ghost use Rattle.json.specs.Token.{number};
 ghost use Rattle.binlog_file.specs.EventRefs.{view_of};
+ghost use Rattle.binlog_statements.specs.Statements.{with_query};
 ghost use Rattle.json_line.specs.Tokens.{Adds};
 ghost use Rattle.binlog_json_bodies.specs.ClientSets.{is_of_maria};
 ghost use Rattle.binlog_json_bodies.specs.Statements.{query_object, execute_load_query_object, loaded_file, user_var_object, user_var_value, head_members, statement_texts, texts_members, schema_and_query, value_type_number};
@@ -81,17 +82,18 @@ fn write_texts(
     Ok(())
 }
 
-/// Writes the status variables, the schema name and the text of a statement in a log that MariaDB wrote.
+/// Writes the status variables and the schema name of a statement in a log that MariaDB wrote, and this text in the place of its own.
 pub(crate) fn write_maria_query_texts(
     line: &mut Line,
     alloc: Global,
     statement: &QueryEvent<'_>,
+    query: &[u8],
 ) -> Result<(), AllocError>
-    ensures { Adds result line.old line.new (statement_texts true statement.now.statement) }
+    ensures { Adds result line.old line.new (statement_texts true (with_query statement.now.statement query.now)) }
 {
     let collation = write_status_vars(line, alloc, statement.status_vars_raw())?;
     let client = maria_client_set(collation);
-    write_schema_and_query(line, client, statement.schema_raw(), statement.query_raw())?;
+    write_schema_and_query(line, client, statement.schema_raw(), query)?;
     Ok(())
 }
 

@@ -12,6 +12,7 @@ use json_line::Line;
 use std::alloc::AllocError;
 
 /// Writes an ENUM: the text of the member with this index, or the index if no members are stated or it is beyond them.
+#[inline(always)]
 pub(crate) fn write_enum(
     line: &mut Line,
     character_set: Option<CharacterSet>,
@@ -27,6 +28,7 @@ pub(crate) fn write_enum(
 }
 
 /// The same, where these members are stated.
+#[inline(always)]
 fn write_stated_enum(
     line: &mut Line,
     character_set: Option<CharacterSet>,
@@ -42,6 +44,7 @@ fn write_stated_enum(
 }
 
 /// The text with this index, counted from 1; that of 0, the value of an error, is empty.
+#[inline(always)]
 fn enum_text<'a>(members: &[&'a [u8]], index: u64) -> Option<&'a [u8]>
     ensures { option_map (λ text. text.now) result ≡ enum_text index (texts_of members.now) }
 {

@@ -11,6 +11,7 @@ use ryu::Buffer;
 use std::alloc::AllocError;
 
 /// Writes an integer of an UNSIGNED column, or of a signed one.
+#[inline(always)]
 pub(crate) fn write_integer(
     line: &mut Line,
     is_unsigned: bool,
@@ -37,6 +38,7 @@ pub(crate) fn write_single(line: &mut Line, float: Float) -> Result<(), AllocErr
 }
 
 /// Writes a floating-point number of eight bytes; null if it isn't finite.
+#[inline(always)]
 pub(crate) fn write_double(line: &mut Line, double: Double) -> Result<(), AllocError>
     ensures { Writes result line.old line.new (double_parts double.bits) }
 {

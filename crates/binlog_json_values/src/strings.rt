@@ -10,6 +10,7 @@ use json_line::Line;
 use std::alloc::AllocError;
 
 /// Writes the bytes of a string of a column of which these facts are known.
+#[inline(always)]
 pub(crate) fn write_string(
     line: &mut Line,
     memory: &mut Vec<u8>,

@@ -10,6 +10,7 @@ use json_line::{DateParts, Line, TimeParts};
 use std::alloc::AllocError;
 
 /// Writes a date.
+#[inline(always)]
 pub(crate) fn write_date(line: &mut Line, date: &Date) -> Result<(), AllocError>
     ensures { Adds result line.old line.new (string (date_of date.now.bits) ∷ []) }
 {
@@ -22,6 +23,7 @@ pub(crate) fn write_date(line: &mut Line, date: &Date) -> Result<(), AllocError>
 }
 
 /// Writes a time without a fraction.
+#[inline(always)]
 pub(crate) fn write_time(line: &mut Line, time: &Time) -> Result<(), AllocError>
     ensures { Adds result line.old line.new (string (time_of time.now.bits) ∷ []) }
 {
@@ -36,6 +38,7 @@ pub(crate) fn write_time(line: &mut Line, time: &Time) -> Result<(), AllocError>
 }
 
 /// Writes a date and a time without a fraction.
+#[inline(always)]
 pub(crate) fn write_datetime(line: &mut Line, time: &DateTime) -> Result<(), AllocError>
     ensures { Adds result line.old line.new (string (datetime_of time.now.digits) ∷ []) }
 {
@@ -55,6 +58,7 @@ pub(crate) fn write_datetime(line: &mut Line, time: &DateTime) -> Result<(), All
 }
 
 /// Writes a date and a time with a fraction.
+#[inline(always)]
 pub(crate) fn write_datetime2(line: &mut Line, time: &DateTime2) -> Result<(), AllocError>
     ensures { Adds result line.old line.new (string (datetime2_of time.now.digits time.now.number) ∷ []) }
 {
@@ -74,6 +78,7 @@ pub(crate) fn write_datetime2(line: &mut Line, time: &DateTime2) -> Result<(), A
 }
 
 /// Writes a time with a fraction.
+#[inline(always)]
 pub(crate) fn write_time2(line: &mut Line, time: &Time2) -> Result<(), AllocError>
     ensures { Adds result line.old line.new (string (time2_of time.now.digits time.now.number) ∷ []) }
 {

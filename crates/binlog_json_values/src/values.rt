@@ -89,6 +89,7 @@ impl ValueWriter {
     /// # Errors
     ///
     /// [`AllocError`] if an allocation fails. Some tokens of the value may then have been written.
+    #[inline(always)]
     pub fn write(
         &mut self,
         line: &mut Line,
@@ -110,6 +111,7 @@ impl ValueWriter {
     }
 
     /// Writes a value whose text is fixed; nothing for any other.
+    #[inline(always)]
     fn write_fixed(
         &mut self,
         line: &mut Line,
@@ -128,7 +130,7 @@ impl ValueWriter {
             | Value::Json(_) => Ok(()),
             Value::Null => line.null(),
             Value::Integer(integer) => write_integer(line, facts.is_unsigned, integer),
-            Value::Decimal(decimal) => write_decimal(line, text, decimal),
+            Value::Decimal(decimal) => write_decimal(line, text, *decimal),
             Value::Date(date) => write_date(line, date),
             Value::Year(year) => line.number(u64::from(year.year())),
             Value::Time(time) => write_time(line, time),
@@ -147,14 +149,11 @@ impl ValueWriter {
     }
 }
 
-/// Writes a decimal number.
+/// Writes a decimal number. It is a call, and is passed a copy, so that no address of a value is taken where others are written.
+#[inline(never)]
 #[tactic(auto, using(crate::proofs::PlainTexts::plain_decimal_text))]
-fn write_decimal(
-    line: &mut Line,
-    text: &mut String,
-    decimal: &Decimal<'_>,
-) -> Result<(), AllocError>
-    ensures { Adds result line.old line.new (string (decimal_text decimal.now.precision decimal.now.scale decimal.now.bytes.now) ∷ []) }
+fn write_decimal(line: &mut Line, text: &mut String, decimal: Decimal<'_>) -> Result<(), AllocError>
+    ensures { Adds result line.old line.new (string (decimal_text decimal.entry.precision decimal.entry.scale decimal.entry.bytes.now) ∷ []) }
 {
     text.clear();
     decimal.push_to(text)?;

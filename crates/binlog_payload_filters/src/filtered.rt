@@ -1,5 +1,5 @@
 //! A visitor that is shown the events that a filter takes, by what is inside compressed transactions.
-ghost use Rattle.std.specs.Prelude.{◌≡◌, true, None, OnOk, IfErr, IfOk};
+ghost use Rattle.std.specs.Prelude.{◌≡◌, true, None, Ok, OnOk, IfErr, IfOk};
 ghost use Rattle.binlog_wire.specs.declared.error.Error.TheVariants.{Memory};
 ghost use Rattle.binlog_events.specs.EventRefs.{view_of};
 ghost use Rattle.binlog_file.specs.State.{state_of};
@@ -7,7 +7,7 @@ ghost use Rattle.binlog_visits.specs.Visits.{IsNoReaderError};
 ghost use Rattle.binlog_filters.specs.Filtering.{begun};
 ghost use Rattle.binlog_payload_filters.specs.Payloads.{is_payload};
 ghost use Rattle.binlog_payload_filters.specs.Taking.{TakesIfMet};
-ghost use Rattle.binlog_payload_filters.specs.Filtering.{ShowsPayload, RefusesPayload};
+ghost use Rattle.binlog_payload_filters.specs.Filtering.{FiltersPayloads, RefusesTaken, ShowsPayload, RefusesPayload};
 
 use crate::concerned::takes_content;
 use binlog_consts::EventType;
@@ -55,6 +55,29 @@ impl<T> PayloadFiltered<T> {
 }
 
 impl<T: Visitor> PayloadFiltered<T> {
+    // Shows an event with a payload, if the filter takes it. It isn't inlined, so that a visit of other events is made in one place.
+    #[inline(never)]
+    fn visit_with_payload(
+        &mut self,
+        index: u64,
+        event: &EventRef<'_>,
+        reader: &EventStreamReader,
+    ) -> Result<(), Error>
+        requires { is_payload (view_of event.now) ≡ true }
+        ensures ok { OnOk result (FiltersPayloads T.visits self.old (state_of reader.now).table_maps index (Ok (view_of event.now)) self.new) }
+        ensures err { IfErr result (λ e. RefusesTaken T.refuses self.old (state_of reader.now).table_maps index (Ok (view_of event.now)) e self.new) }
+        ensures reader { IfErr result IsNoReaderError }
+    {
+        match self.filtered.filter.tables.take() {
+            None => self.filtered.visit_event(index, event, reader),
+            Some(tables) => {
+                let answer = self.visit_payload(&tables, index, event, reader);
+                self.filtered.filter.tables = Some(tables);
+                answer
+            }
+        }
+    }
+
     // Shows an event with a payload, if each condition takes it. The filter's conditions of tables are passed apart.
     fn visit_payload(
         &mut self,
@@ -124,17 +147,10 @@ impl<T: Visitor> Visitor for PayloadFiltered<T> {
         event: &EventRef<'_>,
         reader: &EventStreamReader,
     ) -> Result<(), Error> {
-        if !is_payload(event) {
-            return self.filtered.visit_event(index, event, reader);
+        if is_payload(event) {
+            return self.visit_with_payload(index, event, reader);
         }
-        match self.filtered.filter.tables.take() {
-            None => self.filtered.visit_event(index, event, reader),
-            Some(tables) => {
-                let answer = self.visit_payload(&tables, index, event, reader);
-                self.filtered.filter.tables = Some(tables);
-                answer
-            }
-        }
+        self.filtered.visit_event(index, event, reader)
     }
 
     fn visit_error(

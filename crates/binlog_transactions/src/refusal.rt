@@ -22,8 +22,8 @@ pub enum Refusal {
     /// Something happened to the server, as events that were lost.
     #[error("an incident")]
     Incident,
-    /// Its events are within one event, which isn't looked into.
-    #[error("the events of the transaction are within one event")]
+    /// It is compressed, and isn't decompressed: it is too long, or row events of it are in front.
+    #[error("a compressed transaction is too long, or has row events in front of it")]
     Payload,
     /// It has row events of a form that isn't read.
     #[error("row events of a version before 5.1.16")]

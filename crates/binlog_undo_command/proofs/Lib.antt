@@ -5,3 +5,4 @@ mod RowCounts
 mod LogsSoFar
 mod LogsWritten
 mod UndoneLogs
+mod LaterFound

@@ -5,5 +5,6 @@ pub mod Scanned
 pub mod Descriptions
 pub mod Written
 pub mod RowCounts
+pub mod LaterLogs
 pub mod Undoing
 pub mod UndoneLogs

@@ -1,5 +1,5 @@
 -- The names of the reasons for which something isn't undone.
-use Rattle.std.specs.Prelude.{◌≡◌, ℕ, Bool, true, ◌&&◌, List, bytes_eq, codes}
+use Rattle.std.specs.Prelude.{◌≡◌, ◌⊎◌, ℕ, Bool, true, ◌&&◌, List, bytes_eq, codes}
 use Rattle.std.specs.List.{AllByRecursion, list_any}
 use Rattle.binlog_transactions.specs.declared.refusal.Refusal.{Refusal}
 use Rattle.binlog_transactions.specs.declared.refusal.Refusal.TheVariants as refusals
@@ -63,8 +63,12 @@ is_among word words = list_any (λ other. bytes_eq other word) words
 abbrev pub IsSkipName : List ℕ → Type 0
 IsSkipName word = (reason : Reason) × (is_skipped all_skips reason ≡ true) × (word ≡ reason_name reason)
 
+-- So is the name of the reason that something behind what is undone may be in its way.
+abbrev pub IsSkipWord : List ℕ → Type 0
+IsSkipWord word = IsSkipName word ⊎ (word ≡ codes "LaterChanges")
+
 abbrev pub AreSkipNames : List (List ℕ) → Type 0
-AreSkipNames words = AllByRecursion IsSkipName words
+AreSkipNames words = AllByRecursion IsSkipWord words
 
 -- The reasons are skipped that can be, and whose names are among the words.
 abbrev pub StatesSkips : List (List ℕ) → Skips → Type 0

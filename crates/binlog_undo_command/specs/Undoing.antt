@@ -6,6 +6,7 @@ use Rattle.clap.specs.Matches.{one_text}
 use Rattle.binlog_cli.specs.TableWords.{texts_given}
 use Rattle.binlog_summaries.specs.RowText.{rows_line}
 use Rattle.binlog_undo_command.specs.Descriptions.{HaveOneDescription, HaveDescriptions}
+use Rattle.binlog_undo_command.specs.LaterLogs.{LeavesNothing, HasLater}
 use Rattle.binlog_undo_command.specs.Options.{StatesFlag}
 use Rattle.binlog_undo_command.specs.RowCounts.{CountsRows}
 use Rattle.binlog_undo_command.specs.Scanned.{AreUndone, HasRefused}
@@ -27,7 +28,7 @@ counts_line logs =
     codes "transactions " ++ decimal (min (transactions_in logs) (2 ^ 64 - 1)) ++ codes ", row events " ++ decimal (min (changes_in logs) (2 ^ 64 - 1)) ++ codes "\n"
 
 -- Nothing is refused in the logs that the words name, and if all that is undone is to be one transaction, it is under one description.
-pub record AreUndoneAs {F : Type 0} (bytes : List ℕ → Option (List ℕ)) (has_frames : List ℕ → F → Type 0) (is_at : F → ℕ → List ℕ → Type 0) (found : Found) (is_one : Bool)
+pub record AreScannedAs {F : Type 0} (bytes : List ℕ → Option (List ℕ)) (has_frames : List ℕ → F → Type 0) (is_at : F → ℕ → List ℕ → Type 0) (found : Found) (is_one : Bool)
     (logs : List ScannedLog) : Type 0 where
   pub undone : AreUndone bytes found (texts_given found (codes "FILE")) logs
   pub flag : StatesFlag (one_text found (codes "one-transaction")) is_one
@@ -40,9 +41,26 @@ pub record HaveOtherDescriptions {F : Type 0} (bytes : List ℕ → Option (List
   pub flag : StatesFlag (one_text found (codes "one-transaction")) true
   pub descriptions : HaveDescriptions has_frames is_at logs
 
+-- Something is refused in them.
+abbrev pub AreRefused : {F : Type 0} → (List ℕ → Option (List ℕ)) → (List ℕ → F → Type 0) → (F → ℕ → List ℕ → Type 0) → Found → Type 0
+AreRefused bytes has_frames is_at found = HasRefused bytes found (texts_given found (codes "FILE")) ⊎ HaveOtherDescriptions bytes has_frames is_at found
+
+-- Nothing is refused in them, and nothing behind what is undone is in the way of it in them and in the later logs that the words name.
+pub record AreUndoneAs {F : Type 0} (bytes : List ℕ → Option (List ℕ)) (has_frames : List ℕ → F → Type 0) (is_at : F → ℕ → List ℕ → Type 0) (found : Found) (is_one : Bool)
+    (logs : List ScannedLog) : Type 0 where
+  pub scanned : AreScannedAs bytes has_frames is_at found is_one logs
+  pub leaves : LeavesNothing bytes has_frames is_at found logs
+
+-- Nothing is refused in them, but something behind what is undone is in the way of it.
+pub record HaveLater {F : Type 0} (bytes : List ℕ → Option (List ℕ)) (has_frames : List ℕ → F → Type 0) (is_at : F → ℕ → List ℕ → Type 0) (found : Found) : Type 0 where
+  pub is_one : Bool
+  pub logs : List ScannedLog
+  pub scanned : AreScannedAs bytes has_frames is_at found is_one logs
+  pub later : HasLater bytes has_frames is_at found logs
+
 -- Something is refused.
 abbrev pub IsRefusedAs : {F : Type 0} → (List ℕ → Option (List ℕ)) → (List ℕ → F → Type 0) → (F → ℕ → List ℕ → Type 0) → Found → Type 0
-IsRefusedAs bytes has_frames is_at found = HasRefused bytes found (texts_given found (codes "FILE")) ⊎ HaveOtherDescriptions bytes has_frames is_at found
+IsRefusedAs bytes has_frames is_at found = AreRefused bytes has_frames is_at found ⊎ HaveLater bytes has_frames is_at found
 
 -- Nothing is refused in the logs that the words name, and their counts are written, those of their tables too. `bytes` are those of the
 -- log of a name.

@@ -57,6 +57,12 @@ const WRITING: &[OptionText] = &[
         takes: Takes::Texts("REASON"),
         help: "Leaves transactions as they are that are refused for this reason; may be given again",
     },
+    OptionText {
+        name: "later",
+        short: None,
+        takes: Takes::Texts("LOG"),
+        help: "A log behind the FILEs: it must not change the tables of which rows are undone; may be given again",
+    },
 ];
 
 // Which transactions and tables are undone.

@@ -3,6 +3,7 @@
 
 mod arguments;
 mod descriptions;
+mod later_logs;
 pub mod laws;
 mod log_place;
 mod logs;

@@ -3,11 +3,12 @@ ghost use Rattle.std.specs.Prelude.{◌≡◌, [], codes, map, IfErr, IfOk, IsNo
 ghost use Rattle.clap.specs.Matches.{found_of, one_text};
 ghost use Rattle.binlog_cli.specs.TableWords.{texts_given, StatesTables};
 ghost use Rattle.binlog_cli.specs.declared.exit_status.Status.TheVariants.{Usage};
+ghost use Rattle.binlog_undo_command.specs.LaterLogs.{skips_later};
 ghost use Rattle.binlog_undo_command.specs.Options.{StatesChecks, StatesChoice, StatesFlag, StatesScan, RefusesOptions};
 ghost use Rattle.binlog_undo_command.specs.Reasons.{AreSkipNames, StatesSkips};
 
 use crate::log_place::LogPlace;
-use crate::reasons::{is_skip_name, skips_of};
+use crate::reasons::{has_later_changes, is_skip_word, skips_of};
 use binlog_cli::{Status, filter, tables_of_option};
 use binlog_filters::TableFilter;
 use binlog_undo::ForeignKeyChecks;
@@ -89,7 +90,7 @@ fn unknown_in<'a>(words: &[&'a str]) -> Option<&'a str>
     ensures some { IsSome result → ¬ (AreSkipNames (map (λ word. word.now) words.now)) }
 {
     for word in words {
-        if !is_skip_name(word) {
+        if !is_skip_word(word) {
             return Some(word);
         }
     }
@@ -108,6 +109,20 @@ pub(crate) fn is_one_transaction(options: &ArgMatches<'_>) -> bool
     ensures { StatesFlag (one_text (found_of options.now) (codes "one-transaction")) result }
 {
     flag(options, "one-transaction")
+}
+
+/// Whether changes behind what is undone are accepted.
+pub(crate) fn skips_later(options: &ArgMatches<'_>) -> bool
+    ensures { result ≡ skips_later (found_of options.now) }
+{
+    has_later_changes(options.get_strs("skip").unwrap_or(&[]))
+}
+
+/// For which reasons transactions are left as they are that can't be undone.
+pub(crate) fn skips_in(options: &ArgMatches<'_>) -> Skips
+    ensures { StatesSkips (texts_given (found_of options.now) (codes "skip")) result }
+{
+    skips_of(options.get_strs("skip").unwrap_or(&[]))
 }
 
 // How foreign keys are checked while the log is applied.

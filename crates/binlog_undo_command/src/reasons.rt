@@ -1,6 +1,6 @@
 //! The names of the reasons for which something isn't undone.
-ghost use Rattle.std.specs.Prelude.{◌≡◌, true, false, map};
-ghost use Rattle.binlog_undo_command.specs.Reasons.{refusal_name, reason_name, is_among, IsSkipName, StatesSkips};
+ghost use Rattle.std.specs.Prelude.{◌≡◌, true, false, codes, map};
+ghost use Rattle.binlog_undo_command.specs.Reasons.{refusal_name, reason_name, is_among, IsSkipName, IsSkipWord, StatesSkips};
 
 use binlog_transactions::Refusal;
 use binlog_undo_index::{Reason, Skips};
@@ -42,21 +42,45 @@ pub fn reason_name(reason: Reason) -> &'static str
     }
 }
 
-// Whether one of these words is the name of a reason.
-fn has_name(words: &[&str], reason: Reason) -> bool
-    ensures { result ≡ is_among (reason_name reason) (map (λ word. word.now) words.now) }
+/// The name of the reason that something behind what is undone may be in its way.
+const LATER_CHANGES: &str = "LaterChanges";
+
+// Whether one of these words is this one.
+fn has_word(words: &[&str], wanted: &str) -> bool
+    ensures { result ≡ is_among wanted.now (map (λ word. word.now) words.now) }
 {
-    let name = reason_name(reason);
     for word in words {
-        if *word == name {
+        if *word == wanted {
             return true;
         }
     }
     false
 }
 
-/// Whether a word is the name of a reason that can be skipped.
-pub(crate) fn is_skip_name(word: &str) -> bool
+// Whether one of these words is the name of a reason.
+fn has_name(words: &[&str], reason: Reason) -> bool
+    ensures { result ≡ is_among (reason_name reason) (map (λ word. word.now) words.now) }
+{
+    has_word(words, reason_name(reason))
+}
+
+/// Whether one of these words is the name of the reason that something behind what is undone may be in its way.
+pub(crate) fn has_later_changes(words: &[&str]) -> bool
+    ensures { result ≡ is_among (codes "LaterChanges") (map (λ word. word.now) words.now) }
+{
+    has_word(words, LATER_CHANGES)
+}
+
+/// Whether a word is a name that `--skip` takes.
+pub(crate) fn is_skip_word(word: &str) -> bool
+    ensures known { result ≡ true → IsSkipWord word.now }
+    ensures unknown { result ≡ false → ¬ (IsSkipWord word.now) }
+{
+    word == LATER_CHANGES || is_skip_name(word)
+}
+
+// Whether a word is the name of a reason of an event or a transaction that can be skipped.
+fn is_skip_name(word: &str) -> bool
     ensures known { result ≡ true → IsSkipName word.now }
     ensures unknown { result ≡ false → ¬ (IsSkipName word.now) }
 {

@@ -7,9 +7,10 @@ ghost use Rattle.binlog_cli.specs.declared.exit_status.Status.TheVariants.{Fine,
 ghost use Rattle.binlog_summaries.specs.RowText.{rows_line};
 ghost use Rattle.binlog_undo_command.specs.Options.{RefusesOptions, StatesFlag};
 ghost use Rattle.binlog_undo_command.specs.Scanned.{AreUndone, HasRefused};
-ghost use Rattle.binlog_undo_command.specs.Undoing.{transactions_in, changes_in, counts_line, AreUndoneAs, IsRefusedAs, CountsLogs, PutsLog, Undoes};
+ghost use Rattle.binlog_undo_command.specs.Undoing.{transactions_in, changes_in, counts_line, AreScannedAs, AreRefused, AreUndoneAs, IsRefusedAs, CountsLogs, PutsLog, Undoes};
 
 use crate::descriptions::check_descriptions;
+use crate::later_logs::check_later;
 use crate::logs::Logs;
 use crate::new_file::NewFile;
 use crate::options::is_one_transaction;
@@ -122,7 +123,7 @@ fn count_logs<'a, L: Logs, R: Eprint + AllocGlobal, W: Write>(
     }
 }
 
-// The first pass over all logs. As one transaction they have to be under one description.
+// The first pass over all logs. As one transaction they have to be under one description. Behind it nothing may be in the way in later logs.
 fn scan_as<'a, L: Logs, R: Eprint + AllocGlobal>(
     rt: &R,
     logs: &L,
@@ -133,6 +134,26 @@ fn scan_as<'a, L: Logs, R: Eprint + AllocGlobal>(
     ensures ok { IfOk result (λ scanned. AreUndoneAs (L.bytes logs.now) (L.has_frames logs.now) L.Sought.is_at (found_of options.now) is_one scanned.items) }
     ensures err { IfErr result (λ status. status ≢ Fine) }
     ensures refused { IfErr result (λ status. status ≡ Damaged → IsRefusedAs (L.bytes logs.now) (L.has_frames logs.now) L.Sought.is_at (found_of options.now)) }
+    ensures usage { IfErr result (λ status. status ≡ Usage → RefusesOptions (found_of options.now) Usage) }
+{
+    let scanned = scan_described(rt, logs, options, is_one)?;
+    match check_later(rt, logs, options, scanned.as_slice()) {
+        Ok(()) => Ok(scanned),
+        Err(status) => Err(status),
+    }
+}
+
+// The first pass over all logs. As one transaction they have to be under one description.
+fn scan_described<'a, L: Logs, R: Eprint + AllocGlobal>(
+    rt: &R,
+    logs: &L,
+    options: &ArgMatches<'a>,
+    is_one: bool,
+) -> Result<Vec<ScannedLog<'a>>, Status>
+    requires one { StatesFlag (one_text (found_of options.now) (codes "one-transaction")) is_one }
+    ensures ok { IfOk result (λ scanned. AreScannedAs (L.bytes logs.now) (L.has_frames logs.now) L.Sought.is_at (found_of options.now) is_one scanned.items) }
+    ensures err { IfErr result (λ status. status ≢ Fine) }
+    ensures refused { IfErr result (λ status. status ≡ Damaged → AreRefused (L.bytes logs.now) (L.has_frames logs.now) L.Sought.is_at (found_of options.now)) }
     ensures usage { IfErr result (λ status. status ≡ Usage → RefusesOptions (found_of options.now) Usage) }
 {
     let scanned = scan_files(rt, logs, options)?;

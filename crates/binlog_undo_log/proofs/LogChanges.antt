@@ -73,7 +73,7 @@ module _ (d : FormatDescriptionEvent) where
   log_as events others changes same h = subst (λ (e : List Event). AreLogChanges d e changes) same h
 
 -- Rows that are written are read under the post-header length of binlog version 4.
-length_of_rows : (event : RowsEventData) → rows_length (type_of event) ≡ default_length (form_in event)
+pub length_of_rows : (event : RowsEventData) → rows_length (type_of event) ≡ default_length (form_in event)
 length_of_rows (types.WriteRowsEventV1 event) = refl
 length_of_rows (types.UpdateRowsEventV1 event) = refl
 length_of_rows (types.DeleteRowsEventV1 event) = refl

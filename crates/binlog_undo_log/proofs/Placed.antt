@@ -144,12 +144,12 @@ own_frame d frame item event (inr h) ok =
 abbrev all_of : List (List ℕ) → List ℕ
 all_of frames = flat_map (λ (frame : List ℕ). frame) frames
 
-drop_all : (front s : List ℕ) → drop (length front) (front ++ s) ≡ s
+pub drop_all : (front s : List ℕ) → drop (length front) (front ++ s) ≡ s
 drop_all [] s = refl
 drop_all (x ∷ front) s = drop_all front s
 
 -- What is behind the last frame is no event.
-tail_is_no_event : (is : Bool) (size : ℕ) (item : Result EventView Error) (event : EventView) (more : List (Result EventView Error))
+pub tail_is_no_event : (is : Bool) (size : ℕ) (item : Result EventView Error) (event : EventView) (more : List (Result EventView Error))
     → ◌≡◌ {A = List (Result EventView Error)} (if is then Err (errors.EventSizeTooSmall size) ∷ [] else []) (item ∷ more) → item ≡ Ok event → ⊥
 tail_is_no_event true size item event more is ok =
     let wrong : ◌≡◌ {A = Result EventView Error} (Err (errors.EventSizeTooSmall size)) (Ok event) = cc in cc

@@ -44,7 +44,7 @@ module _ (d : FormatDescriptionEvent) where
       ap (λ (x : FormatDescriptionEvent). data_read x (data_of x.footer event.frame) type) is.fde ∙ ap (λ (s : List ℕ). data_read d s type) is.body ∙ reads in
       inr (own, (Ok (Some content), (Ok type, found, read), refl))
 
-  map_read : (written : Event) (event : EventView) (map : TableMapEvent) → IsReadAs d written event → written.event_type ≡ TABLE_MAP_EVENT
+  pub map_read : (written : Event) (event : EventView) (map : TableMapEvent) → IsReadAs d written event → written.event_type ≡ TABLE_MAP_EVENT
       → (table_map (post_header d TABLE_MAP_EVENT)).reads written.body ≡ Ok (map, []) → ReadsLogData event (Ok (Some (Mysql (mysql.TableMapEvent map))))
   map_read written event map is kind reads =
       read_of written event TABLE_MAP_EVENT (mysql.TableMapEvent map) is kind refl refl (ap (read_as mysql.TableMapEvent) reads)
@@ -73,7 +73,7 @@ module _ (d : FormatDescriptionEvent) where
       let content : RowsEventData = types.PartialUpdateRowsEvent x in
       ap (read_as (λ e. mysql.RowsEvent (types.PartialUpdateRowsEvent e))) ((rows (form_in content) (post_header d (type_of content))).keeps.complete s x [] spells)
 
-  rows_read : (written : Event) (event : EventView) (content : RowsEventData) → IsReadAs d written event → written.event_type ≡ type_of content
+  pub rows_read : (written : Event) (event : EventView) (content : RowsEventData) → IsReadAs d written event → written.event_type ≡ type_of content
       → (rows (form_in content) (post_header d (type_of content))).spells written.body (event_in content) [] → ReadsLogData event (Ok (Some (Mysql (mysql.RowsEvent content))))
   rows_read written event (types.WriteRowsEventV1 x) is kind spells =
       read_of written event (type_of (types.WriteRowsEventV1 x)) (mysql.RowsEvent (types.WriteRowsEventV1 x)) is kind refl refl (rows_data written.body (types.WriteRowsEventV1 x) spells)

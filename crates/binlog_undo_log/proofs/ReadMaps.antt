@@ -19,7 +19,7 @@ use Rattle.binlog_rows.specs.declared.table_map_event.TableMapEvent.{TableMapEve
 use Rattle.binlog_wire.specs.Reading.{Read, read_as}
 
 -- The event data is made of a body that was read.
-abbrev IsMadeIn : Body → List ℕ → EventData → Type 0
+abbrev pub IsMadeIn : Body → List ℕ → EventData → Type 0
 IsMadeIn (typed {V} format data_of) s event = (v : V) × (event ≡ data_of v) × (format.reads s ≡ Ok (v, []))
 IsMadeIn (raw data_of) s event = Unit {0} × (event ≡ data_of s) × Unit {0}
 IsMadeIn (empty value) s event = Unit {0} × (event ≡ value) × Unit {0}
@@ -37,7 +37,7 @@ whole_value value event is =
     let both : ◌≡◌ {A = EventData × List ℕ} (value, []) (event, []) = cc in
     sym (ap (λ (p : EventData × List ℕ). p.0) both)
 
-made_in : (content : Body) (s : List ℕ) (event : EventData) → reads_in content s ≡ Ok (event, []) → IsMadeIn content s event
+pub made_in : (content : Body) (s : List ℕ) (event : EventData) → reads_in content s ≡ Ok (event, []) → IsMadeIn content s event
 made_in (typed format data_of) s event is = value_read data_of (format.reads s) event is
 made_in (raw data_of) s event is = (tt, whole_value (data_of s) event is, tt)
 made_in (empty value) s event is = (tt, whole_value value event is, tt)

@@ -109,11 +109,11 @@ notes_fine (Some seen) index event old new goes h =
 
 -- ---- what the index is told of
 
-abbrev AreTold : UndoIndex → List SeenEvent → UndoIndex → Type 0
+abbrev pub AreTold : UndoIndex → List SeenEvent → UndoIndex → Type 0
 AreTold old [] new = new ≡ old
 AreTold old (event ∷ events) new = (mid : UndoIndex) × NotesIn event old mid × AreTold mid events new
 
-told_more : (events : List SeenEvent) (last : SeenEvent) (old mid new : UndoIndex) → AreTold old events mid → NotesIn last mid new → AreTold old (events ++ last ∷ []) new
+pub told_more : (events : List SeenEvent) (last : SeenEvent) (old mid new : UndoIndex) → AreTold old events mid → NotesIn last mid new → AreTold old (events ++ last ∷ []) new
 told_more [] last old mid new h k = (new, subst (λ (i : UndoIndex). NotesIn last i new) h k, refl)
 told_more (event ∷ events) last old mid new h k = (h.0, h.1, told_more events last h.0 mid new h.2 k)
 
@@ -137,7 +137,7 @@ note_told index event seen old new goes h =
     let same : h.between.index ≡ h.told = described_if_index (is_description event.frame) index (record old { index = h.told }) h.between between h.describes in
     subst (λ (i : UndoIndex). NotesIn seen old.index i) (sym (ap (λ (s : UndoScan). s.index) h.is ∙ same)) h.notes
 
-told_over : (events others : List SeenEvent) (old mid new : UndoIndex) → AreTold old events mid → AreTold mid others new → AreTold old (events ++ others) new
+pub told_over : (events others : List SeenEvent) (old mid new : UndoIndex) → AreTold old events mid → AreTold mid others new → AreTold old (events ++ others) new
 told_over [] others old mid new h k = subst (λ (i : UndoIndex). AreTold i others new) h k
 told_over (event ∷ events) others old mid new h k = (h.0, h.1, told_over events others h.0 mid new h.2 k)
 
@@ -345,7 +345,7 @@ end_stays false tail_len old new was h = absurd cc
 -- ---- the whole file
 
 -- Behind these events the index has what was kept and what was refused of their groups.
-parts_behind : (rules : Rules) (events : List SeenEvent) (start new : UndoIndex) → start.automaton.current ≡ None → parts_of start ≡ no_parts rules → AreTold start events new
+pub parts_behind : (rules : Rules) (events : List SeenEvent) (start new : UndoIndex) → start.automaton.current ≡ None → parts_of start ≡ no_parts rules → AreTold start events new
     → parts_of new ≡ parts_for rules (groups_of events) (open_behind [] (told_events None events))
 parts_behind rules events start new first parts h =
     told_parts events start new h ∙ ap (λ (c : Option Transaction). noted_all c events (parts_of start)) first

@@ -101,6 +101,23 @@ module _ (d : FormatDescriptionEvent) (written : Event) (event : EventView) (is 
       ap (λ (x : FormatDescriptionEvent). data_read x (data_of x.footer event.frame) type) is.fde ∙ ap (λ (s : List ℕ). data_read d s type) is.body ∙ reads in
       h.1.2 ∙ ap (answer_as Mysql) (reads_one event.fde (data_of event.fde.footer event.frame) type h.1.0 content whole none at)
 
+  pub rows_are_read : (content : RowsEventData) → written.event_type ≡ type_of content → (rows (form_in content) (post_header d (type_of content))).spells written.body (event_in content) []
+      → (read : Result (Option LogEventData) Error) → ReadsLogData event read → read ≡ Ok (Some (Mysql (mysql.RowsEvent content)))
+  rows_are_read (types.WriteRowsEventV1 x) kind spells read h =
+      let c : RowsEventData = types.WriteRowsEventV1 x in one_read (type_of c) (mysql.RowsEvent c) read kind refl refl (λ none. none) (rows_data d written.body c spells) h
+  rows_are_read (types.UpdateRowsEventV1 x) kind spells read h =
+      let c : RowsEventData = types.UpdateRowsEventV1 x in one_read (type_of c) (mysql.RowsEvent c) read kind refl refl (λ none. none) (rows_data d written.body c spells) h
+  rows_are_read (types.DeleteRowsEventV1 x) kind spells read h =
+      let c : RowsEventData = types.DeleteRowsEventV1 x in one_read (type_of c) (mysql.RowsEvent c) read kind refl refl (λ none. none) (rows_data d written.body c spells) h
+  rows_are_read (types.WriteRowsEvent x) kind spells read h =
+      let c : RowsEventData = types.WriteRowsEvent x in one_read (type_of c) (mysql.RowsEvent c) read kind refl refl (λ none. none) (rows_data d written.body c spells) h
+  rows_are_read (types.UpdateRowsEvent x) kind spells read h =
+      let c : RowsEventData = types.UpdateRowsEvent x in one_read (type_of c) (mysql.RowsEvent c) read kind refl refl (λ none. none) (rows_data d written.body c spells) h
+  rows_are_read (types.DeleteRowsEvent x) kind spells read h =
+      let c : RowsEventData = types.DeleteRowsEvent x in one_read (type_of c) (mysql.RowsEvent c) read kind refl refl (λ none. none) (rows_data d written.body c spells) h
+  rows_are_read (types.PartialUpdateRowsEvent x) kind spells read h =
+      let c : RowsEventData = types.PartialUpdateRowsEvent x in one_read (type_of c) (mysql.RowsEvent c) read kind refl refl (λ none. none) (rows_data d written.body c spells) h
+
   role_is : (type : EventType) (role wanted : Role) → written.event_type ≡ type → ((maria ignorable : Bool) → role_of maria ignorable (event_number type) ≡ wanted)
       → IsRole event role → role ≡ wanted
   role_is type role wanted kind all h =

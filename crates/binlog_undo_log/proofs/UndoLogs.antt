@@ -141,7 +141,7 @@ module _ (d : FormatDescriptionEvent) where
               (own_follow h.event changes h.undone (same_post_header d h.event_at.frame h.event TABLE_MAP_EVENT h.event_at.is) h.undoes) (commit_follows header h.xid, tt),
         )
 
-    all_follow : (transactions : List TransactionPlace) (changes : List ChangePlace) (events : List Event) → UndoesAll is_at d checks transactions changes events
+    pub all_follow : (transactions : List TransactionPlace) (changes : List ChangePlace) (events : List Event) → UndoesAll is_at d checks transactions changes events
         → AllByRecursion Follows events
     all_follow [] changes events h = subst (λ (e : List Event). AllByRecursion Follows e) (sym h.1) tt
     all_follow (transaction ∷ transactions) changes events h =
@@ -150,7 +150,7 @@ module _ (d : FormatDescriptionEvent) where
 
 -- ---- the bytes
 
-all_shown : (events : List Event) → shown true events ≡ events
+pub all_shown : (events : List Event) → shown true events ≡ events
 all_shown [] = refl
 all_shown (event ∷ events) = ap (λ (e : List Event). event ∷ e) (all_shown events)
 
@@ -162,7 +162,7 @@ appended (Some xs) (Some ys) (Some zs) front s t is h k =
     let same : xs ≡ front = cc in
     k ∙ ap (λ (l : List ℕ). l ++ t) h ∙ append_assoc xs s t ∙ ap (λ (l : List ℕ). l ++ (s ++ t)) same
 
-and_so : (P Q : List ℕ → Type 0) (o : Option (List ℕ)) → ((bytes : List ℕ) → P bytes → Q bytes) → IsSomeAnd o P → IsSomeAnd o Q
+pub and_so : (P Q : List ℕ → Type 0) (o : Option (List ℕ)) → ((bytes : List ℕ) → P bytes → Q bytes) → IsSomeAnd o P → IsSomeAnd o Q
 and_so P Q (Some bytes) to h = to bytes h
 and_so P Q None to h = absurd h
 
@@ -170,14 +170,14 @@ its_footer : (description : Bool) (own : BinlogEventFooter) (start : FormatDescr
 its_footer true own start is = refl
 its_footer false own start is = absurd cc
 
-source_footer : (event : EventView) (start : FormatDescriptionEvent) (frame : List ℕ) → event_at start frame ≡ Some event → is_description event.frame ≡ true
+pub source_footer : (event : EventView) (start : FormatDescriptionEvent) (frame : List ℕ) → event_at start frame ≡ Some event → is_description event.frame ≡ true
     → event.fde.footer ≡ footer_of (body event.frame)
 source_footer event start frame at is =
     let same : event ≡ event_of start frame = event_is _ (event_of start frame) event at in
     let kind : is_description frame ≡ true = ap (λ (e : EventView). is_description e.frame) (sym same) ∙ is in
     ap (λ (e : EventView). e.fde.footer) same ∙ its_footer (is_description frame) (footer_of (body frame)) start kind ∙ ap (λ (e : EventView). footer_of (body e.frame)) (sym same)
 
-no_description_yet : (found : Option (Vec ℕ)) (written : List ℕ) → found ≡ None → option_map (λ bytes. bytes.items) found ≡ Some written → ⊥
+pub no_description_yet : (found : Option (Vec ℕ)) (written : List ℕ) → found ≡ None → option_map (λ bytes. bytes.items) found ≡ Some written → ⊥
 no_description_yet None written none is = cc
 no_description_yet (Some bytes) written none is = absurd (let e : ◌≡◌ {A = Option (Vec ℕ)} (Some bytes) None = none in cc)
 
@@ -188,7 +188,7 @@ module _ {W : Type 0} (contents : W → Option (List ℕ)) (is_at : FramesOf) (c
       absurd (no_description_yet old.description (description_body d) none h.0.body_is)
   new_described header d old new none (inr h) = h
 
-  described_log : (place : ℕ) (transactions : List TransactionPlace) (changes : List ChangePlace) (old new : UndoOutput W) → IsNewLog contents old
+  pub described_log : (place : ℕ) (transactions : List TransactionPlace) (changes : List ChangePlace) (old new : UndoOutput W) → IsNewLog contents old
       → (h : WritesDescribed contents is_at checks place transactions changes old new)
       → IsSomeAnd (contents new.writer) (IsLogUnder (written_description h.d) h.undoes.0)
   described_log place transactions changes old new fresh h =
@@ -239,7 +239,7 @@ module _ {W : Type 0} (contents : W → Option (List ℕ)) (is_at : FramesOf) (c
 
   -- ---- its changes
 
-  changes_of_log : (kept : List Kept) (transactions : List TransactionPlace) (changes : List ChangePlace) (d : FormatDescriptionEvent) (events : List Event) (bytes : List ℕ)
+  pub changes_of_log : (kept : List Kept) (transactions : List TransactionPlace) (changes : List ChangePlace) (d : FormatDescriptionEvent) (events : List Event) (bytes : List ℕ)
       → Keeps kept transactions changes → UndoesAll is_at d checks transactions changes events → IsLogUnder (written_description d) events bytes
       → (found : List LogChange) × AreKeptChanges is_at d kept found × IsLogOfChanges (inverse found) bytes
   changes_of_log kept transactions changes d events bytes keeps undoes log =

@@ -42,7 +42,7 @@ front_version code version more long =
     ap (take 49) (drop_at (little_bytes 2 code) (version ++ more) 2 (length-little_bytes 2 code)) ∙ take-append-le 49 version more (omega (arith, long))
 
 -- The bytes are a description, and others are behind them.
-record HasVersion (version bytes : List ℕ) : Type 0 where
+pub record HasVersion (version bytes : List ℕ) : Type 0 where
   pub text : version_text bytes ≡ take 49 version
   pub long : 52 ≤ length bytes
 
@@ -71,7 +71,7 @@ spelled_version found s more h =
       },
     )
 
-written_version : (d : FormatDescriptionEvent) (more : List ℕ) → length d.server_version ≡ 50 → HasVersion d.server_version (format_description.written d ++ more)
+pub written_version : (d : FormatDescriptionEvent) (more : List ℕ) → length d.server_version ≡ 50 → HasVersion d.server_version (format_description.written d ++ more)
 written_version d more long =
     let code : ℕ = version_number d.binlog_version in
     let version : List ℕ = padded 50 d.server_version in
@@ -137,7 +137,7 @@ item_is false false event read found other long kind is = absurd cc
 -- A description whose data is that of a frame, of which this was read.
 module _ (d found : FormatDescriptionEvent) (source : List ℕ) (spelled : IsFormatDescription (data_of (footer_of (body source)) source) found [])
     (is : d ≡ record found { footer = footer_of (body source) }) where
-  sized : length d.server_version ≡ 50
+  pub sized : length d.server_version ≡ 50
   sized = ap (λ (x : FormatDescriptionEvent). length x.server_version) is ∙ (spelled_version found (data_of (footer_of (body source)) source) [] spelled).0
 
   source_version : HasVersion d.server_version (body source)
@@ -148,7 +148,7 @@ module _ (d found : FormatDescriptionEvent) (source : List ℕ) (spelled : IsFor
       (subst (λ (v : List ℕ). HasVersion v (front ++ drop count (body source))) (sym (ap (λ (x : FormatDescriptionEvent). x.server_version) is))
       (spelled_version found front (drop count (body source)) spelled).1)
 
-  its_algorithm : d.footer.checksum_alg ≡ cond (has_checksums (split_of (take 49 d.server_version))) (Some (get_or (body source) (length (body source) - 5) 0)) None
+  pub its_algorithm : d.footer.checksum_alg ≡ cond (has_checksums (split_of (take 49 d.server_version))) (Some (get_or (body source) (length (body source) - 5) 0)) None
   its_algorithm =
       ap (λ (x : FormatDescriptionEvent). x.footer.checksum_alg) is ∙ ap (λ (f : BinlogEventFooter). f.checksum_alg) (footer_by d.server_version (body source) source_version)
 
@@ -171,7 +171,7 @@ module _ (d found : FormatDescriptionEvent) (source : List ℕ) (spelled : IsFor
       (stated_last (has_checksums (split_of (take 49 d.server_version))) (get_or (body source) (length (body source) - 5) 0) d.footer.checksum_alg bare covered its_algorithm)
       ∙ ap (footer d.footer.checksum_alg) (sym is_enabled)
 
-  read_again : format_description.reads bare ≡ Ok (record (written_description d) { footer = default_footer }, [])
+  pub read_again : format_description.reads bare ≡ Ok (record (written_description d) { footer = default_footer }, [])
   read_again =
       let fits : format_description.Fits (written_description d) = ((tt, (tt, (lit< tt, (lit< tt, refl)))), tt) in
       format_description.keeps.complete bare (format_description.normal (written_description d)) [] ((canonical_in format_description (written_description d)).reads_back fits)

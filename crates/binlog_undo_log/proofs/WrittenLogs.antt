@@ -43,44 +43,44 @@ abbrev pub views_of : FormatDescriptionEvent → List (List ℕ) → List EventV
 views_of d [] = []
 views_of d (frame ∷ frames) = record { fde = d; frame = frame } ∷ views_of d frames
 
-bytes_of : (has : Bool) (place : ℕ) (events : List Event) → events_bytes has place events ≡ flat_map (λ frame. frame) (frames_of has place events)
+pub bytes_of : (has : Bool) (place : ℕ) (events : List Event) → events_bytes has place events ≡ flat_map (λ frame. frame) (frames_of has place events)
 bytes_of has place [] = refl
 bytes_of has place (event ∷ events) =
     ap (λ (s : List ℕ). event_bytes has place event.heading event.event_type event.body ++ s) (bytes_of has (place + event_size has event.body) events)
 
-view_frames : (d : FormatDescriptionEvent) (frames : List (List ℕ)) → flat_map (λ event. event.frame) (views_of d frames) ≡ flat_map (λ frame. frame) frames
+pub view_frames : (d : FormatDescriptionEvent) (frames : List (List ℕ)) → flat_map (λ event. event.frame) (views_of d frames) ≡ flat_map (λ frame. frame) frames
 view_frames d [] = refl
 view_frames d (frame ∷ frames) = ap (λ (s : List ℕ). frame ++ s) (view_frames d frames)
 
-nothing_left : HasNoFrame []
+pub nothing_left : HasNoFrame []
 nothing_left count h = omega (arith, h.header, length-take {A = ℕ} count [])
 
 -- The length and the log position of an event.
-size_of : (has : Bool) (place : ℕ) (event : Event)
+pub size_of : (has : Bool) (place : ℕ) (event : Event)
     → HasHeader (header_written has place event.heading event.event_type event.body) (behind_header has place event.heading event.event_type event.body)
     (event_bytes has place event.heading event.event_type event.body)
     → length (event_bytes has place event.heading event.event_type event.body) ≡ event_size has event.body
 size_of has place event h = omega (arith, h.long, length-behind has place event.heading event.event_type event.body)
 
-position_of : (has : Bool) (place : ℕ) (event : Event)
+pub position_of : (has : Bool) (place : ℕ) (event : Event)
     → (h : HasHeader (header_written has place event.heading event.event_type event.body) (behind_header has place event.heading event.event_type event.body)
     (event_bytes has place event.heading event.event_type event.body))
     → (header_of (event_bytes has place event.heading event.event_type event.body)).log_pos ≡ (place + length (event_bytes has place event.heading event.event_type event.body)) % 2 ^ 32
 position_of has place event h = ap (λ (x : BinlogEventHeader). x.log_pos) h.is ∙ ap (λ (n : ℕ). (place + n) % 2 ^ 32) (sym (size_of has place event h))
 
 module _ (d : FormatDescriptionEvent) (has : Bool) (due : (d.footer.checksum_enabled && is_on d.footer.checksum_alg) ≡ has) where
-  headed : (place : ℕ) (event : Event) → FitsHeader has place event.heading event.body → CanFollow d event
+  pub headed : (place : ℕ) (event : Event) → FitsHeader has place event.heading event.body → CanFollow d event
       → HasHeader (header_written has place event.heading event.event_type event.body) (behind_header has place event.heading event.event_type event.body)
       (event_bytes has place event.heading event.event_type event.body)
   headed place event fits can = written_header has place event.heading event.event_type event.body fits can.small
 
-  all_frames : (place : ℕ) (events : List Event) → AllFit has place events → AllByRecursion (CanFollow d) events → All IsFrame (frames_of has place events)
+  pub all_frames : (place : ℕ) (events : List Event) → AllFit has place events → AllByRecursion (CanFollow d) events → All IsFrame (frames_of has place events)
   all_frames place [] fit can = All-nil IsFrame
   all_frames place (event ∷ events) fit can =
       All-cons IsFrame _ _ (written_frame has place event.heading event.event_type event.body (headed place event fit.0 can.0))
       (all_frames (place + event_size has event.body) events fit.1 can.1)
 
-  all_verified : (start : FormatDescriptionEvent) (before : List (List ℕ)) (place : ℕ) (events : List Event) → in_force start before ≡ d → AllFit has place events
+  pub all_verified : (start : FormatDescriptionEvent) (before : List (List ℕ)) (place : ℕ) (events : List Event) → in_force start before ≡ d → AllFit has place events
       → AllByRecursion (CanFollow d) events → AreVerifiedBehind IsCrc32 start before (frames_of has place events) (map Ok (views_of d (frames_of has place events)))
   all_verified start before place [] now fit can = tt
   all_verified start before place (event ∷ events) now fit can =
@@ -95,7 +95,7 @@ module _ (d : FormatDescriptionEvent) (has : Bool) (due : (d.footer.checksum_ena
         all_verified start (before ++ frame ∷ []) (place + event_size has event.body) events next fit.1 can.1,
       )
 
-  all_placed : (place : ℕ) (events : List Event) → AllFit has place events → AllByRecursion (CanFollow d) events → ArePlaced place (views_of d (frames_of has place events))
+  pub all_placed : (place : ℕ) (events : List Event) → AllFit has place events → AllByRecursion (CanFollow d) events → ArePlaced place (views_of d (frames_of has place events))
   all_placed place [] fit can = tt
   all_placed place (event ∷ events) fit can =
       let h = headed place event fit.0 can.0 in (
@@ -104,7 +104,7 @@ module _ (d : FormatDescriptionEvent) (has : Bool) (due : (d.footer.checksum_ena
             (all_placed (place + event_size has event.body) events fit.1 can.1),
       )
 
-  all_read : (place : ℕ) (events : List Event) → AllFit has place events → AllByRecursion (CanFollow d) events → AreReadAs d events (views_of d (frames_of has place events))
+  pub all_read : (place : ℕ) (events : List Event) → AllFit has place events → AllByRecursion (CanFollow d) events → AreReadAs d events (views_of d (frames_of has place events))
   all_read place [] fit can = refl
   all_read place (event ∷ events) fit can =
       let h = headed place event fit.0 can.0 in
@@ -135,7 +135,7 @@ due_by d (Some (suc zero)) true known is = refl
 due_by d (Some (suc (suc n))) true known is = absurd (omega (arith, leb-true (suc (suc n)) 1 known))
 
 -- Events under a description have a CRC-32 where it is due.
-due_under : (d : FormatDescriptionEvent) → is_writable d ≡ true → d.footer.checksum_enabled ≡ true
+pub due_under : (d : FormatDescriptionEvent) → is_writable d ≡ true → d.footer.checksum_enabled ≡ true
     → (d.footer.checksum_enabled && is_on d.footer.checksum_alg) ≡ has_checksums_under d.footer.checksum_alg
 due_under d writable enabled = due_by d d.footer.checksum_alg d.footer.checksum_enabled (both_true _ _ (both_true _ _ writable).1).0 enabled
 

@@ -15,5 +15,8 @@ pub mod Visiting
 pub mod LogChanges
 pub mod OneTransaction
 pub mod FileChanges
+pub mod FullImages
 pub mod WholeLogs
+pub mod UndoneTwice
+pub mod GrowingLogs
 pub mod SeenWritten

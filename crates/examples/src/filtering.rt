@@ -1,5 +1,5 @@
 //! How to copy some events of a log into another log.
-use binlog_file::{BinlogFile, BinlogFileHeader, BinlogVersion, Error, EventType};
+use binlog_file::{BinlogFile, BinlogFileHeader, BinlogVersion, Error, Event, EventType};
 use crc32_ieee::Crc32;
 use std::alloc::Global;
 use std::io::{BufRead, Write};
@@ -21,12 +21,24 @@ pub fn copy_events<R: BufRead + Drop, W: Write>(
     BinlogFileHeader.write(BinlogVersion::Version4, output)?;
     for item in file.items() {
         let event = item?;
-        if is_copied(event.header().event_type().ok(), types) {
-            let checksum = |bytes: &[u8]| crc32.checksum(bytes);
-            event.write(alloc, BinlogVersion::Version4, checksum, output)?;
-        }
+        copy_event(alloc, &crc32, &event, types, output)?;
     }
     Ok(())
+}
+
+// Copies an event if it is of these types, or a format description.
+fn copy_event<W: Write>(
+    alloc: Global,
+    crc32: &Crc32,
+    event: &Event<'_>,
+    types: &[EventType],
+    output: &mut W,
+) -> Result<(), Error> {
+    if !is_copied(event.header().event_type().ok(), types) {
+        return Ok(());
+    }
+    let checksum = |bytes: &[u8]| crc32.checksum(bytes);
+    event.write(alloc, BinlogVersion::Version4, checksum, output)
 }
 
 // Whether events of this type are copied. Events of an unknown type aren't.

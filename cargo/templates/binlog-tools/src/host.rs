@@ -240,6 +240,7 @@ pub mod fs {
     use std::fs::{Metadata, TryLockError};
     use std::io;
     use std::io::{Read, Seek, SeekFrom, Write};
+    use std::os::unix::fs::FileExt;
 
     /// An open file.
     #[derive(Debug)]
@@ -280,6 +281,16 @@ pub mod fs {
 
         fn flush(&mut self) -> io::Result<()> {
             self.0.flush()
+        }
+    }
+
+    impl FileExt for File {
+        fn read_at(&self, buf: &mut [u8], offset: u64) -> io::Result<usize> {
+            self.0.read_at(buf, offset)
+        }
+
+        fn write_at(&self, buf: &[u8], offset: u64) -> io::Result<usize> {
+            self.0.write_at(buf, offset)
         }
     }
 

@@ -21,6 +21,8 @@ pub mod binlog_gtid_listing;
 pub mod binlog_json_bodies;
 #[allow(unused_variables)]
 pub mod binlog_json_lines;
+#[doc(hidden)]
+pub mod binlog_later_changes;
 pub mod binlog_listing;
 pub mod binlog_payload_checks;
 pub mod binlog_payload_filters;

@@ -6,6 +6,6 @@ returns g c = record {
   begun = record { output = c.write-header.new.output };
   header = search rules;
   copied = c.read_taken-copier.result.1;
-  shown = c.read_taken-copier.ensures;
+  shown = c.read_taken-copier.ensures.shown;
   ends = refl;
 }

@@ -9,6 +9,6 @@ returns g c = record {
   none = c.new-collector.ensures.refused;
   read = c.read_taken-found.result.0;
   found = c.read_taken-found.result.1;
-  shown = rw c.to_end.ensures at c.read_taken-found.ensures;
+  shown = rw c.to_end.ensures at c.read_taken-found.ensures.shown;
   writes = rw (c.is_unread.ensures, c.status_read-status.ensures) at c.write_unless.ensures;
 }

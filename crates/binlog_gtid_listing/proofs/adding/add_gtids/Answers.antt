@@ -8,7 +8,7 @@ returns-then-not-has_gtids c = adds_none _ _ (sym c.has_gtids.ensures ∙ c.if-n
 pub returns-in-Ok-Some : goal.returns-in-Ok-Some
 returns-in-Ok-Some c =
     adds_data _ c.in-Ok-Some.data _ _ _ (sym c.has_gtids.ensures ∙ c.if-not-has_gtids.false) (rw c.in-Ok-Some.field-0-is at c.in-Ok-Some.ensures)
-    c.add_event.ensures.ok c.add_event.ensures.bad c.add_event.ensures.err
+    c.add_event-added.ensures.ok c.add_event-added.ensures.bad c.add_event-added.ensures.err
 
 pub returns-in-Err : goal.returns-in-Err
 returns-in-Err c = adds_unread _ _ c.in-Err.error (sym c.has_gtids.ensures ∙ c.if-not-has_gtids.false) c.in-Err.ensures

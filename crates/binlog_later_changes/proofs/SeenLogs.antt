@@ -1,0 +1,116 @@
+-- What is seen of a whole log.
+use Rattle.std.proofs.Common.{◌≡◌, ℕ, ◌+◌, ◌<◌, ◌^◌, Bool, List, [], ◌∷◌, ◌++◌, length, IfSome, Option, Some, None, Result, Ok, Err, refl, sym, ap, subst, ◌∙◌, append_assoc, append-nil}
+use Rattle.binlog_wire.specs.declared.error.Error.{Error}
+use Rattle.binlog_events.specs.Events.{EventView}
+use Rattle.binlog_file.specs.TableMapsInForce.{TableMaps, no_table_maps}
+use Rattle.binlog_visits.specs.TableMaps.{maps_behind}
+use Rattle.binlog_visits.specs.Places.{first_place}
+use Rattle.binlog_visits.specs.Visits.{VisitsVerifiedLog}
+use Rattle.binlog_payload_visits.specs.Parts.{Part, maps_behind_part}
+use Rattle.binlog_payload_visits.specs.Splicing.{Shown, outside, inside, AreSpliced, VisitsShown}
+use Rattle.binlog_payload_visits.specs.declared.spliced.Spliced.{Spliced}
+use Rattle.binlog_payload_visits.proofs.Splicing.{all_spliced}
+use Rattle.crc32_ieee.specs.Checksums.{IsCrc32}
+use Rattle.binlog_undo_index.specs.declared.skips.Skips.{Skips}
+use Rattle.binlog_later_changes.specs.Later.{Look}
+use Rattle.binlog_later_changes.specs.Looks.{At, at_of, in_front, SeesItemIf, SeesPartIf, AreSeen, tail_looks}
+use Rattle.binlog_later_changes.specs.Logs.{most_bytes, sees, refuses, visits_part, SeesLog, FindsLater}
+use Rattle.binlog_later_changes.specs.Tables.{Holds, Grows}
+use Rattle.binlog_later_changes.specs.Visits.{Sees, VisitsItem, VisitsOne, EndsLog}
+use Rattle.binlog_later_changes.specs.declared.later_scan.LaterScan.{LaterScan}
+use Rattle.binlog_later_changes.specs.declared.later_tables.LaterTables.{LaterTables}
+use Rattle.binlog_later_changes.specs.declared.undone_events.RowsPlace.{RowsPlace}
+
+pub grows_none : (tables : LaterTables) → Grows [] tables tables
+grows_none tables = λ looks h. subst (λ (l : List Look). Holds l tables) (sym (append-nil looks)) h
+
+pub grows_both : (one two : List Look) (old mid new : LaterTables) → Grows one old mid → Grows two mid new → Grows (one ++ two) old new
+grows_both one two old mid new a b = λ looks h. subst (λ (l : List Look). Holds l new) (append_assoc looks one two) (b (looks ++ one) (a looks h))
+
+-- These are seen of what was shown.
+record SeesShown (skips : Skips) (log : ℕ) (at : At) (maps part_maps : TableMaps) (shown : List Shown) (old new : LaterScan) : Type 0 where
+  looks : List Look
+  each : AreSeen skips log at maps part_maps shown looks (at_of new)
+  is_skips : new.skips ≡ skips
+  is_log : new.log ≡ log
+  grows : Grows looks old.tables new.tables
+
+shown_seen : (skips : Skips) (log : ℕ) (at : At) (maps part_maps : TableMaps) (shown : List Shown) (old new : LaterScan) → old.skips ≡ skips → old.log ≡ log → at_of old ≡ at
+    → VisitsShown VisitsItem visits_part maps part_maps shown old new → SeesShown skips log at maps part_maps shown old new
+shown_seen skips log at maps part_maps [] old new is_skips is_log is_at same = record {
+  looks = [];
+  each = (refl, ap at_of same ∙ is_at);
+  is_skips = ap (λ (s : LaterScan). s.skips) same ∙ is_skips;
+  is_log = ap (λ (s : LaterScan). s.log) same ∙ is_log;
+  grows = subst (λ (t : LaterTables). Grows [] old.tables t) (sym (ap (λ (s : LaterScan). s.tables) same)) (grows_none old.tables);
+}
+shown_seen skips log at maps part_maps (outside index item ∷ shown) old new is_skips is_log is_at (mid, one, visited) =
+    let seen = subst (λ (s : Skips). SeesItemIf s log at.is_stopped at (maps_behind maps item) index item one.looks (at_of mid)) is_skips
+    (subst (λ (n : ℕ). SeesItemIf old.skips n at.is_stopped at (maps_behind maps item) index item one.looks (at_of mid)) is_log
+    (subst (λ (a : At). SeesItemIf old.skips old.log a.is_stopped a (maps_behind maps item) index item one.looks (at_of mid)) is_at
+    (subst (λ (a : At). SeesItemIf old.skips old.log old.is_stopped (at_of old) (maps_behind maps item) index item one.looks a) (sym one.sees.at) one.seen))) in
+    let rest = shown_seen skips log (at_of mid) (maps_behind maps item) no_table_maps shown mid new (one.sees.skips ∙ is_skips) (one.sees.log ∙ is_log) refl visited in
+    record {
+      looks = one.looks ++ rest.looks;
+      each = (one.looks, rest.looks, at_of mid, seen, rest.each, refl);
+      is_skips = rest.is_skips;
+      is_log = rest.is_log;
+      grows = grows_both one.looks rest.looks old.tables mid.tables new.tables one.sees.grows rest.grows;
+    }
+shown_seen skips log at maps part_maps (inside index number part ∷ shown) old new is_skips is_log is_at (mid, one, visited) =
+    let seen = subst (λ (s : Skips). SeesPartIf s log at.is_stopped at (maps_behind_part part_maps part) part one.looks (at_of mid)) is_skips
+    (subst (λ (n : ℕ). SeesPartIf old.skips n at.is_stopped at (maps_behind_part part_maps part) part one.looks (at_of mid)) is_log
+    (subst (λ (a : At). SeesPartIf old.skips old.log a.is_stopped a (maps_behind_part part_maps part) part one.looks (at_of mid)) is_at
+    (subst (λ (a : At). SeesPartIf old.skips old.log old.is_stopped (at_of old) (maps_behind_part part_maps part) part one.looks a) (sym one.sees.at) one.seen))) in
+    let rest = shown_seen skips log (at_of mid) maps (maps_behind_part part_maps part) shown mid new (one.sees.skips ∙ is_skips) (one.sees.log ∙ is_log) refl visited in
+    record {
+      looks = one.looks ++ rest.looks;
+      each = (one.looks, rest.looks, at_of mid, seen, rest.each, refl);
+      is_skips = rest.is_skips;
+      is_log = rest.is_log;
+      grows = grows_both one.looks rest.looks old.tables mid.tables new.tables one.sees.grows rest.grows;
+    }
+
+pub finds_later : (skips : Skips) (log : ℕ) (undone : List RowsPlace) (bytes : List ℕ) (tables : LaterTables) (old between : Spliced LaterScan) (ended : LaterScan) (tail_len : Option ℕ)
+    → old.limit ≡ most_bytes → old.visitor.skips ≡ skips → old.visitor.log ≡ log → at_of old.visitor ≡ in_front undone → old.visitor.tables ≡ tables
+    → VisitsVerifiedLog IsCrc32 sees refuses bytes old (Ok tail_len) between → EndsLog tail_len between.visitor ended → (at_of ended).left ≡ []
+    → FindsLater skips log undone bytes tables ended.tables
+finds_later skips log undone bytes tables old between ended tail_len limit is_skips is_log is_at is_tables visits ends met =
+    let visited = visits.visited in
+    let spliced = all_spliced VisitsItem visits_part (first_place visits.stream).state.table_maps 0 visited.items old between visited.visited in
+    let seen = shown_seen skips log (in_front undone) (first_place visits.stream).state.table_maps no_table_maps spliced.0.shown old.visitor between.visitor is_skips is_log is_at spliced.0.visited in
+    let tail = tail_looks skips log (at_of between.visitor).is_stopped tail_len (at_of between.visitor) in
+    let tail_grows : Grows tail between.visitor.tables ended.tables =
+    subst (λ (s : Skips). Grows (tail_looks s log (at_of between.visitor).is_stopped tail_len (at_of between.visitor)) between.visitor.tables ended.tables) seen.is_skips
+    (subst (λ (n : ℕ). Grows (tail_looks between.visitor.skips n (at_of between.visitor).is_stopped tail_len (at_of between.visitor)) between.visitor.tables ended.tables) seen.is_log ends.sees.grows) in
+    record {
+      looks = seen.looks ++ tail;
+      sees = record {
+        stream = visits.stream;
+        file = visits.file;
+        items = visited.items;
+        are = visited.are;
+        shown = spliced.0.shown;
+        spliced = subst (λ (l : ℕ). AreSpliced l 0 visited.items spliced.0.shown) limit spliced.0.are;
+        seen = seen.looks;
+        end = at_of between.visitor;
+        each = seen.each;
+        met = sym ends.left ∙ ap (λ (a : At). a.left) (sym ends.sees.at) ∙ met;
+        tail_len = tail_len;
+        tail = visited.tail;
+        is = refl;
+      };
+      grows = subst (λ (t : LaterTables). Grows (seen.looks ++ tail) t ended.tables) is_tables
+          (grows_both seen.looks tail old.visitor.tables between.visitor.tables ended.tables seen.grows tail_grows);
+    }
+
+pub later_if : (found : Option LaterTables) (remaining : Option (List ℕ)) (skips : Skips) (log : ℕ) (undone : List RowsPlace) (tables : LaterTables) (old between : Spliced LaterScan) (ended : LaterScan) (tail_len : Option ℕ)
+    → old.limit ≡ most_bytes → old.visitor.skips ≡ skips → old.visitor.log ≡ log → at_of old.visitor ≡ in_front undone → old.visitor.tables ≡ tables
+    → IfSome remaining (λ bytes. length bytes < 2 ^ 64 → VisitsVerifiedLog IsCrc32 sees refuses bytes old (Ok tail_len) between) → EndsLog tail_len between.visitor ended
+    → IfSome found (λ own. (own ≡ ended.tables) × ((at_of ended).left ≡ []))
+    → IfSome found (λ own. IfSome remaining (λ bytes. length bytes < 2 ^ 64 → FindsLater skips log undone bytes tables own))
+later_if None remaining skips log undone tables old between ended tail_len limit is_skips is_log is_at is_tables visits ends found = tt
+later_if (Some own) None skips log undone tables old between ended tail_len limit is_skips is_log is_at is_tables visits ends found = tt
+later_if (Some own) (Some bytes) skips log undone tables old between ended tail_len limit is_skips is_log is_at is_tables visits ends (same, met) =
+    λ small. subst (λ (t : LaterTables). FindsLater skips log undone bytes tables t) (sym same)
+    (finds_later skips log undone bytes tables old between ended tail_len limit is_skips is_log is_at is_tables (visits small) ends met)
