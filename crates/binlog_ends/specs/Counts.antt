@@ -3,7 +3,7 @@ use Rattle.std.specs.Prelude.{◌≡◌, ℕ, ◌+◌, ◌-◌, ◌^◌, ◌<◌
 use Rattle.std.specs.Io.KnownBytes.{Appends}
 
 -- The number of failures of a reader or a writer, and the ghost names of the borrows that it holds. No call replaces
--- such a borrow, so what was lent is known when it ends.
+-- such a borrow, so what was borrowed is known when it ends.
 pub record FailureCount : Type 0 where
   pub failures : ℕ
   pub held : List ℕ

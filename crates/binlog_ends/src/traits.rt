@@ -8,7 +8,7 @@ use crate::failed::Failed;
 /// Counts its own failures.
 pub trait CountsFailures {
     /// The number of failures, at most `u64::MAX`, and the names of the borrows that are held. No call changes these, so
-    /// what was lent to a reader or a writer is known when the borrow ends.
+    /// what a reader or a writer borrowed is known when the borrow ends.
     ghost count: { Self → FailureCount };
 
     /// The number of failures. It rises by one at each failure, and isn't above `u64::MAX`.

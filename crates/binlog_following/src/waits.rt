@@ -13,7 +13,7 @@ const SOON: u64 = 5;
 const AT_REST: u64 = 50;
 
 /// How long there is nothing new before the state is written, in milliseconds.
-const QUIET: u64 = 50;
+const IDLE: u64 = 50;
 
 /// How long there is nothing new before a message, in milliseconds.
 const LONG: u64 = 10_000;
@@ -102,10 +102,10 @@ impl Waits {
     }
 
     /// Whether there is nothing new for a while, so that there is time for other work.
-    pub(crate) fn is_quiet(self) -> bool
+    pub(crate) fn is_idle(self) -> bool
         ensures { result ≡ nat_le 50 self.waited }
     {
-        self.waited >= QUIET
+        self.waited >= IDLE
     }
 
     /// Whether this is one look of each second without anything new.

@@ -105,15 +105,15 @@ fn a_copy_and_a_borrowed_event_are_as_the_event() {
     let event = checksummed(COUNTED_XID).unwrap();
     let copy = event.clone();
     assert_eq!(copy, event);
-    for lent in [event.as_ref(), copy.as_ref()] {
-        assert_eq!(lent.header(), event.header());
-        assert_eq!(lent.footer(), BinlogEventFooter::new(CRC32));
-        assert_eq!(lent.fde(), event.fde().as_ref());
+    for borrowed in [event.as_ref(), copy.as_ref()] {
+        assert_eq!(borrowed.header(), event.header());
+        assert_eq!(borrowed.footer(), BinlogEventFooter::new(CRC32));
+        assert_eq!(borrowed.fde(), event.fde().as_ref());
         assert_eq!(
-            (lent.data(), lent.checksum()),
+            (borrowed.data(), borrowed.checksum()),
             (XID_BODY, Some([27, 0, 0, 0]))
         );
-        assert_eq!(lent.read_event::<XidEvent>().unwrap().xid, 11);
+        assert_eq!(borrowed.read_event::<XidEvent>().unwrap().xid, 11);
     }
     // The data outlive the borrowed event.
     let data = event.as_ref().data();
