@@ -88,6 +88,11 @@ class Follower:
         members = dict(line.split(" ", 1) for line in state.read_text().splitlines())
         return members["file"], int(members["position"])
 
+    def is_behind(self, name):
+        """Whether the state has a later file than that of this name."""
+        place = self.place()
+        return place is not None and place[0] > name
+
     def wrong_place(self, *wanted):
         """None if the state comes to have this file and position, else what is wrong."""
         is_over = lambda: self.place() == wanted or self.wrong_end() is not None

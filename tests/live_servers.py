@@ -15,8 +15,8 @@ Then a mirror on a small file system has no room for some events, and has it aga
 the place in front of the missing bytes, and has printed what is in front of it; with the mirror begun again it goes on. Where no file system can be
 mounted, a line says so.
 
-Where there is no server (`maria_daemon.py` and `mysql_daemon.py` say where they come from) a line says so. The last line is `N passed, M
-failed`; the exit status is 1 if something failed.
+Where there is no server (`maria_daemon.py` and `mysql_daemon.py` say where they come from) a line says so. An exception ends the tests of its
+server, and is a failed one. The last line is `N passed, M failed`; the exit status is 1 if something failed.
 """
 
 import argparse
@@ -42,7 +42,7 @@ from follower import PATIENCE, WAITING, Follower
 from maria_daemon import LeftOut, is_within
 from mirrors import Maria, Mirror, Mysql, bytes_of
 
-OPTIONS = ["--binlog-row-metadata=FULL", "--max-binlog-size=65536", "--innodb-lock-wait-timeout=1", "--lock-wait-timeout=2"]
+OPTIONS = ["--binlog-row-metadata=FULL", "--max-binlog-size=65536", "--lock-wait-timeout=100"]
 TRANSACTIONS_OF_A_ROUND = 80
 
 
@@ -58,6 +58,10 @@ use shop;
 """
 
 
+# How long the load waits for locks. What a server does by itself, and what else it is asked for, waits longer.
+WAITS_FOR_LOCKS = "set innodb_lock_wait_timeout = 1, lock_wait_timeout = 2;"
+
+
 class Client:
     """A client's statements. Its ids and the tables that it makes are its own; the tables of all, and their rows, aren't."""
 
@@ -69,7 +73,7 @@ class Client:
         """As many transactions, statements alone, or definitions."""
         ways = [self.transaction] * 6 + [self.change] * 3 + [self.definition]
         parts = (f"{self.chance.choice(ways)()}\ndo sleep({self.chance.random() * 0.03:.3f});" for _ in range(count))
-        return ("use shop;\n" + "\n".join(parts) + "\n").encode()
+        return "\n".join((WAITS_FOR_LOCKS, "use shop;", *parts, "")).encode()
 
     def transaction(self):
         changes = " ".join(self.change() for _ in range(self.chance.randint(1, 4)))
@@ -164,6 +168,8 @@ class Tables:
 
     def apply(self, line):
         """None, or how the row isn't the one that was there."""
+        if "op" not in line:
+            return f"no line of a row: {line}"
         rows, before, after = self.rows.setdefault(line["table"], {}), line.get("before"), line.get("after")
         was = rows.pop(before["id"], None) if before else None
         is_right = before is None or (was is not None and all(was.get(name) == value for name, value in before.items()))
@@ -246,18 +252,13 @@ class Scene:
             self.mirror.kill()
             self.mirror.begin()
         elif way < 0.75:
-            self.rotate()
-
-    def rotate(self):
-        """Asks for a new file of the log."""
-        words = self.kind.client(self.server)
-        subprocess.run(words, input=b"flush binary logs;", stdout=subprocess.DEVNULL, stderr=subprocess.DEVNULL)
+            rotates(self.server)
 
     def wrong_lines(self):
-        """None if the follower comes to have all lines of the mirror's files."""
+        """None if the follower comes to have all lines of the server's files."""
         if not self.mirror.is_whole():
             return "the mirror's files aren't the server's"
-        return self.follower.wrong_lines(lines_of_all(self.mirror.logs()))
+        return self.follower.wrong_lines(lines_of_all(self.mirror.sources()))
 
     def shut_down(self):
         self.server.stop()
@@ -269,22 +270,31 @@ class Scene:
         with self.load():
             time.sleep(self.chance.uniform(0.3, 0.8))
             self.server.kill()
-            crashed = self.server.logs()[-1].name
         self.server.restart()
+        # The server begins one file. A file that it had begun when it was killed, and not put into its index, it removes first, and gives
+        # the name again.
+        *before, begun = self.mirror.sources()
         if not self.mirror.is_whole():
             return "the mirror's files aren't the server's behind a crash"
-        if self.kind.tells_of_none or has_transactions(self.mirror.folder / crashed):
-            goes_on = is_within(PATIENCE, lambda: self.follower.place()[0] > crashed)
+        if self.kind.tells_of_none or has_transactions(before[-1]):
+            is_over = lambda: self.follower.is_behind(before[-1].name) or self.follower.wrong_end() is not None
+            goes_on = is_within(PATIENCE, is_over) and self.follower.wrong_end() is None
             return None if goes_on else f"it doesn't go on behind a crash: {self.follower.said()[-300:]!r}"
-        return self.begin_behind(crashed)
+        return self.begin_with(begun, before)
 
-    def begin_behind(self, crashed):
-        """Begins with the file behind one of which no list tells that it is whole. None if that was read, else what is wrong."""
-        before = [log for log in self.mirror.logs() if log.name <= crashed]
+    def begin_with(self, log, before):
+        """Begins with the file behind others, of the last of which no list tells that it is whole. None if these were read, else what is
+        wrong."""
         wrong = self.follower.wrong_lines(lines_of_all(before))
         self.follower.kill()
-        self.follower.begin(self.mirror.logs()[len(before)].name)
+        self.follower.begin(log.name)
         return wrong
+
+
+def rotates(server):
+    """Asks for a new file of the log. Whether the server begins one: it may refuse to."""
+    how = {"stdout": subprocess.DEVNULL, "stderr": subprocess.DEVNULL}
+    return subprocess.run(server.client(), input=b"flush binary logs;", **how).returncode == 0
 
 
 def followed(program, kind, folder, seed, rounds):
@@ -295,7 +305,7 @@ def followed(program, kind, folder, seed, rounds):
         with Mirror(kind, server, folder / "mirror") as mirror, Follower(program, mirror.folder, folder / "followed") as follower:
             scene = Scene(kind, server, mirror, follower, chance)
             yield None if mirror.has_begun() else "no mirror"
-            follower.begin(mirror.logs()[0].name)
+            follower.begin(mirror.first)
             yield from load_failures(scene, rounds)
             yield from (None, *follower.wrong_ends)
             yield None if re.fullmatch(WAITING, follower.said()) else f"it said {follower.said()[-500:]!r}"
@@ -312,7 +322,15 @@ def load_failures(scene, rounds):
     scene.disturbed_rounds(rounds)
     yield scene.crash()
     scene.disturbed_rounds(rounds)
-    yield scene.wrong_lines()
+    wrong = scene.wrong_lines()
+    yield wrong
+    # Of other lines nothing is built.
+    if wrong is None:
+        yield from row_failures(scene)
+
+
+def row_failures(scene):
+    """For each line, None or how its row isn't the one that was there; then for each table of the server, how its rows are other ones."""
     tables = Tables()
     for line in map(json.loads, scene.follower.lines.read_bytes().splitlines()):
         yield tables.apply(line)
@@ -335,7 +353,8 @@ def small_disk(folder):
     try:
         yield folder
     finally:
-        subprocess.run(["umount", folder], check=True)
+        # It goes once nothing uses it any more.
+        subprocess.run(["umount", "-l", folder], check=True)
 
 
 def fill(path):
@@ -355,7 +374,8 @@ def rows(first, count):
 
 def full_disk_failures(program, kind, server, folder, disk):
     """A mirror that has no room for a while: for each test of what follows it, None or what is wrong."""
-    server.run(b"set global max_binlog_size = 1073741824; flush binary logs;")
+    server.run(b"set global max_binlog_size = 1073741824;")
+    yield None if is_within(PATIENCE, lambda: rotates(server)) else "the server begins no file"
     (*_, source) = server.logs()
     with Mirror(kind, server, disk / "mirror", source.name) as mirror, Follower(program, mirror.folder, folder / "full", "--sync") as follower:
         yield None if mirror.has_begun() else "no mirror on a small disk"
@@ -402,14 +422,17 @@ def common_length(one, other):
 
 
 def server_failures(program, made, seed, rounds):
-    """For each test of a kind of server, None or what is wrong. Without a server a line says so."""
-    with tempfile.TemporaryDirectory() as name:
+    """For each test of a kind of server, None or what is wrong; an exception is wrong, too. Without a server a line says so."""
+    found = []
+    with tempfile.TemporaryDirectory(ignore_cleanup_errors=True) as name:
         try:
-            kind = made(Path(name))
-            return [wrong and f"{kind.name}: {wrong}" for wrong in followed(program, kind, Path(name), seed, rounds)]
+            for wrong in followed(program, made(Path(name)), Path(name), seed, rounds):
+                found.append(wrong and f"{made.name}: {wrong}")
         except LeftOut as reason:
             print(f"{reason}: no log of it is followed")
-            return []
+        except Exception as error:
+            found.append(f"{made.name}: {results.of_exception(error)}")
+    return found
 
 
 def main():

@@ -8,6 +8,7 @@ import os
 import shutil
 import subprocess
 import time
+from contextlib import suppress
 from pathlib import Path
 
 PROGRAM = "mariadbd"
@@ -20,8 +21,8 @@ VERSION = b"Ver 10.11."
 # The server's package, the one with its plugins, and the libraries that it needs and others seldom do.
 PACKAGES = ["mariadb-server-core", "mariadb-server", "libaio1", "liburing2", "libnuma1"]
 SECONDS_TO_DOWNLOAD = 60
-SECONDS_TO_START = 60
-SECONDS_TO_RUN = 120
+SECONDS_TO_START = 300
+SECONDS_TO_RUN = 600
 
 OPTIONS = [
     "--no-defaults",
@@ -121,7 +122,8 @@ class Server:
 
     def __exit__(self, *raised):
         try:
-            self.stop()
+            with suppress(subprocess.TimeoutExpired):
+                self.stop()
         finally:
             self.kill()
 

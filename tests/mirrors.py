@@ -117,8 +117,13 @@ class Mirror:
         return self.running.poll() is not None
 
     def writes(self):
-        """How often the mirror has written, or tried to."""
-        return int(re.search(r"^syscw: (\d+)$", Path(f"/proc/{self.running.pid}/io").read_text(), re.MULTILINE)[1])
+        """How often the mirror has written, or tried to; 0 if that isn't known."""
+        try:
+            counts = Path(f"/proc/{self.running.pid}/io").read_text()
+        except OSError:
+            return 0
+        found = re.search(r"^syscw: (\d+)$", counts, re.MULTILINE)
+        return int(found[1]) if found else 0
 
     def kill(self):
         self.running.kill()
@@ -132,8 +137,12 @@ class Mirror:
         return [log for log in self.server.logs() if log.name >= self.first]
 
     def has_begun(self):
-        """Whether there is a first file."""
-        return is_within(SECONDS_TO_MIRROR, lambda: any(log.stat().st_size for log in self.folder.iterdir()))
+        """Whether there comes to be a first file."""
+        return is_within(SECONDS_TO_MIRROR, self.has_bytes)
+
+    def has_bytes(self):
+        self.keep()
+        return any(log.stat().st_size for log in self.logs())
 
     def is_whole(self):
         """Whether the mirror's files come to be the server's."""

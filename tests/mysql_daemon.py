@@ -213,6 +213,9 @@ class Server:
         self.kill()
 
     def start(self, *options):
+        # Those of a server that was killed: the lock has the number of its process, which another one may have by now.
+        for left in (self.socket, self.folder / "socket.lock"):
+            left.unlink(missing_ok=True)
         command = [*self.programs.server(self.data, self.folder), f"--socket={self.socket}", f"--pid-file={self.folder / 'pid'}"]
         with open(self.said, "ab") as said:
             self.process = subprocess.Popen(

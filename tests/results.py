@@ -1,8 +1,12 @@
 """What a script says of its tests: what is wrong, and at the end how many passed and failed."""
 
 import re
+import traceback
+from pathlib import Path
 
 SHOWN_FAILURES = 20
+# Of an exception that ends tests: how many places are told of, and how much of its text.
+TOLD_PLACES, TOLD_TEXT = 6, 200
 CLOSING = re.compile(r"^(\d+) passed, (\d+) failed", re.MULTILINE)
 
 
@@ -20,6 +24,13 @@ def report_counts(passed, failures):
     if len(failures) > SHOWN_FAILURES:
         print(f"and {len(failures) - SHOWN_FAILURES} more")
     return close(passed, len(failures))
+
+
+def of_exception(error):
+    """The message of a test that an exception ended: its type, from where it comes, the innermost place first, and its text, in one line."""
+    frames = traceback.extract_tb(error.__traceback__)[: -TOLD_PLACES - 1 : -1]
+    places = " < ".join(f"{frame.name} ({Path(frame.filename).name}:{frame.lineno})" for frame in frames)
+    return f"{type(error).__name__} in {places}: {' '.join(str(error).split())[-TOLD_TEXT:]}"
 
 
 def left_out(reason):
