@@ -14,6 +14,7 @@ from ._log import Cursor, Damage, Event, Log, open
 from ._payloads import PayloadEvent
 from ._program import ProgramError
 from ._refusals import Refusal, Undone, UndoneTable, UndoRefused
+from ._rows import Row, rows
 from ._types import EventType, MariaEventType
 from ._undo import undo
 from ._undo_library import UndoLog, undo_logs
@@ -39,6 +40,7 @@ __all__ = [
     "PayloadEvent",
     "ProgramError",
     "Refusal",
+    "Row",
     "RowsError",
     "Stats",
     "TypeStats",
@@ -51,6 +53,7 @@ __all__ = [
     "gtid_set",
     "library_version",
     "open",
+    "rows",
     "stats",
     "undo",
     "undo_logs",
