@@ -38,7 +38,7 @@ COLUMNS = [
     "Allocations / event",
 ]
 
-READING_COLUMNS = ["Input", "Lent by a file", "Of a slice"]
+READING_COLUMNS = ["Input", "Borrowed from a file", "Of a slice"]
 
 SLICE_COLUMNS = ["Input", "Listing of a slice", "Baseline's", "Listing / baseline's"]
 
@@ -237,8 +237,8 @@ def reading_row(bench, lister, folder, kind):
     counted = [counts_per_event([bench, "reading", *way], lister, folder, kind, "reading") for way in ways]
     if None in counted:
         return [kind, "not counted", "not counted"]
-    lent, sliced, memory = (one[0] for one in counted)
-    return [kind, f"{lent:,.0f}", f"{sliced - memory:,.0f}"]
+    borrowed, sliced, memory = (one[0] for one in counted)
+    return [kind, f"{borrowed:,.0f}", f"{sliced - memory:,.0f}"]
 
 
 def measure_reading(bench, lister, folder):

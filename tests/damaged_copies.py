@@ -105,7 +105,7 @@ def undersized_tails():
     yield "70,000 zero bytes", bytes(70_000)
 
 
-def quiet_tails():
+def incomplete_tails():
     yield "one byte", b"\0"
     yield "18 zero bytes", bytes(18)
     yield "18 bytes, size 18", frame(18, 18)
@@ -119,7 +119,7 @@ def quiet_tails():
 
 
 def with_tails(sample):
-    for kind, tails in (("undersized", undersized_tails), ("quiet", quiet_tails)):
+    for kind, tails in (("undersized", undersized_tails), ("incomplete", incomplete_tails)):
         for name, tail in tails():
             yield f"{kind} tail ({name}) alone", MAGIC + tail
             yield f"{kind} tail ({name}) behind the sample", sample + tail
