@@ -142,7 +142,8 @@ LATER = [
 
 def unlooked(words, server, logs):
     """What is wrong with what is said of later logs, if something is. These logs are undone."""
-    server.run(("USE s;" + "".join(f"{statement} FLUSH BINARY LOGS;" for statement, _ in LATER)).encode())
+    # The log that is open has what was applied.
+    server.run(("USE s; FLUSH BINARY LOGS;" + "".join(f"{statement} FLUSH BINARY LOGS;" for statement, _ in LATER)).encode())
     for log, (statement, wanted) in zip(server.logs()[-1 - len(LATER) : -1], LATER):
         run = subprocess.run([*words, "undo", "--dry-run", "--later", str(log), *map(str, logs)], capture_output=True, text=True)
         said = run.stderr.splitlines()
