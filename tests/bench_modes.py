@@ -23,9 +23,10 @@ def stored(crate):
 
 LOG = stored("binlog_list")
 
-# The last log of the questions of `probe`: rows with values of most types.
-ROWS = bytes.fromhex(stored("probe").split(b"row-sums ")[1].split()[0].decode())
 SAMPLES = programs.REPOSITORY / "tests/samples"
+
+# Rows with values of most types.
+ROWS = (SAMPLES / "values.binlog").read_bytes()
 CHECKSUMMED = (SAMPLES / "checksummed.binlog").read_bytes()
 
 # A log of a MariaDB server.

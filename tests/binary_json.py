@@ -3,7 +3,7 @@
 
 Usage: binary_json.py FLAG [--count N] [--seed N]
 
-FLAG is one of `programs.py`: its program answers questions, which `crates/probe/src/questions.rt` lists. The cases are those of
+FLAG is one of `programs.py`: its program answers questions, which `questions.rs` of the packages' `probe` lists. The cases are those of
 tests/cases/documents.txt. The model is `binary_json_model.py`: random documents as a server writes them, N damaged ones (100,000
 if it isn't stated), documents whose offsets name the same bytes again and again, 99 to 101 arrays within one another, offsets into
 headers, the greatest counts, and lengths of up to six bytes; and lists of diffs that are applied, by `json_diff_model.py`. The
@@ -473,8 +473,8 @@ def main():
     programs.add_flags(parser)
     parser.add_argument("--count", type=int, default=100_000, help="how many damaged documents")
     parser.add_argument("--seed", type=int, default=1)
-    arguments = programs.parsed(parser, "documents")
-    return results.report(all_failures(arguments.build.command("documents"), arguments.count, arguments.seed))
+    arguments = programs.parsed(parser, "questions")
+    return results.report(all_failures(arguments.build.command("questions"), arguments.count, arguments.seed))
 
 
 if __name__ == "__main__":

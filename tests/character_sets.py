@@ -4,7 +4,7 @@
 Usage: character_sets.py FLAG
        character_sets.py --tables
 
-FLAG is one of `programs.py`: its program answers questions, which `crates/probe/src/questions.rt` lists. Each byte of each
+FLAG is one of `programs.py`: its program answers questions, which `questions.rs` of the packages' `probe` lists. Each byte of each
 single-byte set is compared with tests/cases/character_sets.tsv, and so is a text of all characters of each set, and one of a byte that is
 none; with Python's codecs where these are known to be as the servers'. Texts of the Unicode sets are compared with Python's codecs:
 all single units, edges of the planes and of the surrogates, random texts, and damaged ones. All numbers of collations are compared with
@@ -210,7 +210,7 @@ def main():
     if parser.parse_known_args()[0].tables:
         print_tables()
         return 0
-    words = programs.parsed(parser, "characters").build.command("characters")
+    words = programs.parsed(parser, "questions").build.command("questions")
     return results.report(all_failures(words))
 
 

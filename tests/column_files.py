@@ -3,7 +3,7 @@
 
 Usage: column_files.py [--count N] FLAG
 
-FLAG is one of `programs.py`: its program answers questions, which `crates/probe/src/questions.rt` lists. The cases are
+FLAG is one of `programs.py`: its program answers questions, which `questions.rs` of the packages' `probe` lists. The cases are
 `tests/cases/column_files.txt`. The model reads N random texts (20,000 if not given): files of random columns, most of them damaged.
 The last line is `N passed, M failed`; the exit status is 1 if something failed.
 """
@@ -185,8 +185,8 @@ def main():
     parser = argparse.ArgumentParser(description="Compares what is read of files of columns with cases and a model.")
     programs.add_flags(parser)
     parser.add_argument("--count", type=int, default=20_000)
-    arguments = programs.parsed(parser, "columns")
-    return results.report(faults(arguments.build.command("columns"), arguments.count))
+    arguments = programs.parsed(parser, "questions")
+    return results.report(faults(arguments.build.command("questions"), arguments.count))
 
 
 if __name__ == "__main__":

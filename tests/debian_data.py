@@ -150,7 +150,7 @@ def plugin_results(command, data, folder):
 
 def all_results(build, data, folder):
     yield from log_results(build, data)
-    for command in build.commands("documents"):
+    for command in build.commands("questions"):
         for path in sorted(data.glob(TABLES)):
             yield from table_results(command, path)
         try:

@@ -4,7 +4,7 @@
 Usage: payloads.py [--count N] FLAG
 
 FLAG is one of `programs.py`: its program answers the questions `payload LIMIT BYTES` and `inner BYTES BYTES`, which
-`crates/probe/src/questions.rt` lists. The cases are `tests/cases/payloads.txt`, one of a server and one for each refusal, and below
+`questions.rs` of the packages' `probe` lists. The cases are `tests/cases/payloads.txt`, one of a server and one for each refusal, and below
 what the reader of a stream reads of a content. The model, `payload_model.py`, reads the cases and N random events
 (20,000 if not given), most of them damaged. Each refusal comes up. The last line of the output is `N passed, M failed`; the exit
 status is 1 if something failed.
@@ -234,8 +234,8 @@ def main():
     parser = argparse.ArgumentParser(description="Compares what is read of payloads with cases and a model.")
     programs.add_flags(parser)
     parser.add_argument("--count", type=int, default=20_000)
-    arguments = programs.parsed(parser, "payloads")
-    return results.report(faults(arguments.build.command("payloads"), arguments.count))
+    arguments = programs.parsed(parser, "questions")
+    return results.report(faults(arguments.build.command("questions"), arguments.count))
 
 
 if __name__ == "__main__":

@@ -55,15 +55,9 @@ PROVED = Build(
         "verify": [proved("probe", "verifying")],
         "write back": [proved("probe", "write-back"), proved("binlog", "copy", "--output", "-")],
         "benchmark": [proved("probe")],
-        "rows": [proved("probe", "rows")],
-        "undone rows": [proved("probe", "undo")],
-        "transactions": [proved("probe", "questions")],
+        "rows": [proved("binlog", "json")],
         "texts": [proved("probe", "inflate")],
-        "characters": [proved("probe", "questions")],
-        "columns": [proved("probe", "questions")],
-        "documents": [proved("probe", "questions")],
         "frames": [proved("probe", "frames")],
-        "payloads": [proved("probe", "questions")],
         "events": [proved("probe", "events")],
     },
     making="proved",
@@ -76,7 +70,10 @@ CARGO = Build(
         "gtids": [packaged("binlog", "gtids")],
         "binlog": [packaged("binlog")],
         "write back": [packaged("write-back"), packaged("binlog", "copy", "--output", "-")],
-        "rows": [packaged("probe", "rows"), packaged("displayed-rows")],
+        "rows": [packaged("binlog", "json"), packaged("displayed-rows")],
+        "undone rows": [packaged("probe", "undo")],
+        # Answers a question of each line.
+        "questions": [packaged("probe", "questions")],
         "texts": [packaged("probe", "inflate")],
         "frames": [packaged("probe", "frames")],
         "events": [packaged("probe", "events")],
@@ -94,7 +91,7 @@ def is_command(words):
 def given(command):
     """A build of which each program is this command."""
     words = shlex.split(command)
-    return Build("given", dict.fromkeys(PROVED.programs, [words]), making=".*")
+    return Build("given", dict.fromkeys(PROVED.programs | CARGO.programs, [words]), making=".*")
 
 
 def add_flags(parser, compares=False):

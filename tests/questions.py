@@ -1,4 +1,4 @@
-"""Compares what a program answers to questions, a line each, with what is wanted (`crates/probe/src/questions.rt` lists them)."""
+"""Compares what a program answers to questions, a line each, with what is wanted (`questions.rs` of the packages' `probe` lists them)."""
 
 import subprocess
 

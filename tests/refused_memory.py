@@ -120,13 +120,25 @@ def failure_fault(_content):
     return lambda run: status_fault(run, FAILURE)
 
 
+def bodies_fault(content):
+    """What is written for bodies and for their copies is right, up to the event whose allocation is refused."""
+    lines, _ = programs.run(programs.proved("probe", "events"), content)
+
+    def fault(run):
+        if not lines.startswith(run.output) or not (b"\n" + run.output).endswith(b"\n"):
+            return f"{len(run.output)} bytes that are no first lines of all bodies"
+        return status_fault(run, FAILURE)
+
+    return fault
+
+
 # What is wrong with a run of each program, a crate's with its arguments.
 PROGRAMS = {
     "binlog_list": listing_fault,
     "probe slice-listing": mode_listing_fault,
     "probe write-back": written_back_fault,
     "probe typed": failure_fault,
-    "probe events": failure_fault,
+    "probe events": bodies_fault,
     "probe reading owned": failure_fault,
     "probe maria-gtids": failure_fault,
     "probe row-sums": failure_fault,

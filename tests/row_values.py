@@ -3,7 +3,7 @@
 
 Usage: row_values.py [--count N] FLAG
 
-FLAG is one of `programs.py`: its programs print the rows of each row event of a log. The encoder gives events of every type of
+FLAG is one of `programs.py`: its programs print the rows of each row event of a log, `json` among other lines. The encoder gives events of every type of
 column, with extremes, and the rows that they have, which each program has to print; the model gives those of N damaged events
 (1,000,000 if not given), for the first program. The last line is `N passed, M failed`; the exit status is 1 if something failed.
 """
@@ -40,6 +40,8 @@ SPELLING = encode.Spelling(id_width=6)
 ROW_TYPES = {kind[0]: kind[2:] for kind in encode.ROWS_KINDS}
 WHOLE = [kind for kind in encode.ROWS_KINDS if kind[0] != 39]
 (PARTIAL,) = [kind for kind in encode.ROWS_KINDS if kind[0] == 39]
+# Why an event has no rows: its table's columns, or their number.
+NO_ROWS = (("error", "Columns"), ("error", "ColumnCount"))
 JSON = 245
 
 
@@ -572,10 +574,23 @@ def lines_of(events, is_maria):
             yield [("index", index + 1), *wanted]
 
 
+def of_row_event(line):
+    """The members of a row event's line of `json`: its index, and its rows or why there are none; the line says more of both."""
+    members = dict(line)
+    rows = members["rows"]
+    return [("index", members["index"]), rows[0][0] if rows and rows[0][0] in NO_ROWS else ("rows", rows)]
+
+
 def printed(words, version, events):
+    """The status, and the lines of row events: of `json` those that have a table."""
     content = start(version) + b"".join(framed(kind, body) for kind, body in events)
     finished = subprocess.run(words, input=content, stdout=subprocess.PIPE)
-    return finished.returncode, [json.loads(line, object_pairs_hook=list) for line in finished.stdout.splitlines()]
+    parsed = functools.partial(json.loads, object_pairs_hook=list)
+    if not programs.is_command(words):
+        return finished.returncode, [parsed(line) for line in finished.stdout.splitlines()]
+    # With status 2 a table map can't be read.
+    status = 0 if finished.returncode == 2 else finished.returncode
+    return status, [of_row_event(parsed(line)) for line in finished.stdout.splitlines() if b',"table":' in line]
 
 
 def failure(name, words, version, events, wanted):

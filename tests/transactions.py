@@ -3,7 +3,7 @@
 
 Usage: transactions.py [--count N] FLAG
 
-FLAG is one of `programs.py`: its program answers questions, which `crates/probe/src/questions/transactions.rt` lists. The cases are those of
+FLAG is one of `programs.py`: its program answers questions, which `questions/transactions.rs` of the packages' `probe` lists. The cases are those of
 `tests/cases/transactions.txt`. The model tells the kinds of N random texts and the transactions of N random lists of events (20,000
 of each if not given). The last line is `N passed, M failed`; the exit status is 1 if something failed.
 """
@@ -188,9 +188,9 @@ def main():
     parser = argparse.ArgumentParser(description="Compares the transactions of logs with cases and with a model.")
     programs.add_flags(parser)
     parser.add_argument("--count", type=int, default=20_000)
-    arguments = programs.parsed(parser, "transactions")
+    arguments = programs.parsed(parser, "questions")
     asked = [*cases(), *random_questions(arguments.count)]
-    return results.report(questions.compared(arguments.build.command("transactions"), asked))
+    return results.report(questions.compared(arguments.build.command("questions"), asked))
 
 
 if __name__ == "__main__":

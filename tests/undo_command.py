@@ -6,7 +6,8 @@ Usage: undo_command.py [--count N] FLAG
 FLAG is one of `programs.py`. N random logs (300 if not given) of one to three files have transactions of all kinds: with GTIDs or
 without, ended by an XID, a COMMIT or the last row event, with statements and events that can't be undone, cut off, or with rows that
 are damaged or have partial images. Some tables are chosen, some table maps state a primary key, and MariaDB's rows may be compressed, and
-transactions of MySQL's may be compressed as a whole. Behind them there may be later logs, some of which are cut off or damaged. The model, written from `docs/UNDO.md`, makes the bytes of the
+transactions of MySQL's may be compressed as a whole. Behind them there may be later logs, some of which are cut off or damaged, and rows may be checked; some logs have few
+different rows. The model, written from `docs/UNDO.md`, makes the bytes of the
 log that undoes them, and the lines of a dry run, or the refusals. Then wrong words and outputs that fail are tried: nothing is written. The last line is
 `N passed, M failed`; the exit status is 1 if something failed.
 """
@@ -16,6 +17,7 @@ import random
 import subprocess
 import sys
 import tempfile
+from collections import Counter
 from pathlib import Path
 
 import encoded_events as encode
@@ -43,6 +45,26 @@ COMPRESSED = {plain: kind for kind, plain in UNCOMPRESSED.items()}
 SIMPLE_PRIMARY_KEY, PRIMARY_KEY_WITH_PREFIX = 8, 9
 # Which count of a table's line has the rows of an event: the one behind its events of the inserted, the updated or the deleted ones.
 CHANGED_BY = {23: 1, 30: 1, 24: 2, 31: 2, 39: 2, 25: 3, 32: 3}
+# The words of events by their types. A type without one is an unknown event, or nothing if its header has this flag.
+WORDS = {
+    **dict.fromkeys((3, 4, 15), "border"),
+    **dict.fromkeys((1, 5, 13, 14, 27, 28, 29, 35, 36, 37), "nothing"),
+    **dict.fromkeys((33, 34, 42), "gtid"),
+    **dict.fromkeys((6, 10, 11, 12, 18), "load"),
+    **dict.fromkeys((8, 9, 17), "load-part"),
+    **dict.fromkeys((20, 21, 22), "old-rows"),
+    16: "xid", 19: "map", 26: "incident", 38: "xa-prepare", 40: "payload",
+}
+IGNORABLE = 0x80
+# Events whose bodies have to be read.
+READ = (2, 16, 19, 33, 34, 42)
+# The words of the texts of statements, by their kinds.
+STATEMENTS = {
+    "Begin": "BEGIN", "Commit": "COMMIT", "Rollback": "ROLLBACK", "RollbackToSavepoint": "ROLLBACK-TO",
+    "Harmless": "SAVEPOINT", "XaStart": "XA-START", "XaEnd": "XA-COMMIT", "Xa": "XA-END", "Other": "STATEMENT",
+}
+# Why an event with one of these words may change any table.
+CAUSES = {"incident": "Incident", "load": "LoadData", "load-part": "LoadData", "old-rows": "OldRows", "unknown-event": "UnknownEvent"}
 # A compressed transaction, the most bytes inside, and what is in place of an event inside that can't be read.
 PAYLOAD, MOST_BYTES, DAMAGED = 40, 2**30, "damaged"
 
@@ -109,13 +131,24 @@ def uncompressed(kind, body):
     return UNCOMPRESSED[kind], body[: len(body) - len(stored)] + maria_json_model.uncompressed(stored)
 
 
-def is_table_map(body):
-    """Whether these bytes are those of a table map."""
+def is_read(kind, body):
+    """Whether these bytes are the body of an event of this type."""
     try:
-        event_data_model.fields(19, body, POST_HEADER_LENGTHS)
+        event_data_model.fields(kind, body, POST_HEADER_LENGTHS)
     except event_data_model.Fault:
         return False
     return True
+
+
+def word_by_type(header):
+    """The word of an event whose type says it."""
+    return WORDS.get(header[1], "nothing" if header[5] & IGNORABLE else "unknown-event")
+
+
+def kind_of_statement(body):
+    """The kind of the text of a statement with this body."""
+    text = event_data_model.fields(2, body, POST_HEADER_LENGTHS)["query"].bytes
+    return transactions.kind_of(text.decode(errors="replace"))
 
 
 def key_in(map_body):
@@ -138,6 +171,29 @@ def indexes_in(kind, content, count):
         if kind == PRIMARY_KEY_WITH_PREFIX:
             content.lenenc()
         yield index
+
+
+def known_rows(kind, body, map_body, is_maria):
+    """The rows of an event, each as its images, which have the bytes of each value, or None for NULL. None if the rows aren't known."""
+    if kind in UNCOMPRESSED or kind == row_values.PARTIAL[0]:
+        return None
+    event = event_data_model.fields(kind, body, POST_HEADER_LENGTHS)
+    table = event_data_model.fields(19, map_body, POST_HEADER_LENGTHS)
+    types, images = table["columns_type"].bytes, [event[f"columns_{name}_image"] for name in ("before", "after")]
+    if is_maria and set(types) & {7, 11, 12} or event["num_columns"] != len(types) or not all(present is None or all(present) for present in images):
+        return None
+    data, rows = row_model.Bytes(event["rows_data"].bytes), []
+    try:
+        found = row_model.columns(types, table["columns_metadata"].bytes)
+        stated, _ = row_model.facts(found, table["optional_metadata"].bytes, is_maria)
+        while data.left():
+            start = data.place
+            rows.append([None if present is None else tuple(undone_rows.image(found, stated, present, data)[1].values()) for present in images])
+            if data.place == start:
+                return None
+    except row_model.Fault:
+        return None
+    return rows
 
 
 def events_of(header, body, changes):
@@ -202,7 +258,8 @@ class Model:
                 reading.take(word)
                 turn, _, why = reading.told[told].partition(":")
                 if turn.endswith("!"):
-                    refuse(cut_off(place))
+                    # What is cut off inside a compressed transaction ends with the event that has it.
+                    refuse(cut_off(end if is_inside and number > 0 else place))
                     changes, maps, found = [], {}, []
                 turn = turn.rstrip("!")
                 if turn in ("First", "Alone"):
@@ -245,19 +302,11 @@ class Model:
         if header is DAMAGED:
             raise Damaged
         kind = header[1]
-        if kind in ROWS_TYPES or kind in UNCOMPRESSED:
+        if kind in ROWS_TYPES or kind in UNCOMPRESSED and "MariaDB" in description[3]:
             return self.rows_of(kind, body, maps, description)
-        if kind == 19 and not is_table_map(body):
+        if kind in READ and not is_read(kind, body):
             raise Damaged
-        if kind == 2:
-            kind_of_text = transactions.kind_of(body[14:].decode())
-            words = {
-                "Begin": "BEGIN", "Commit": "COMMIT", "Rollback": "ROLLBACK", "RollbackToSavepoint": "ROLLBACK-TO",
-                "Harmless": "SAVEPOINT", "XaStart": "XA-START", "XaEnd": "XA-COMMIT", "Xa": "XA-END", "Other": "STATEMENT",
-            }
-            return words[kind_of_text], None, None
-        words = {4: "border", 15: "border", 3: "border", 16: "xid", 19: "map", 33: "gtid", 34: "gtid", 38: "xa-prepare", 26: "incident", 29: "nothing", 40: "payload"}
-        return words[kind], None, None
+        return STATEMENTS[kind_of_statement(body)] if kind == 2 else word_by_type(header), None, None
 
     def rows_of(self, kind, body, maps, description):
         flags = int.from_bytes(body[6:8], "little")
@@ -308,57 +357,67 @@ class Model:
         text = "table {} {} events {} inserted {} updated {} deleted\n"
         return "".join(text.format(name, *counts) for name, counts in tables.items())
 
-    def later_changes(self, logs, later):
+    def later_changes(self, logs, later, checks_rows):
         """The first event behind what is undone that has rows of each of its tables, and the first one that may change any table: their logs, indexes and places, and
-        why. The logs are in front of those that are later."""
-        undone, found = set(), {}
+        why. The logs are in front of those that are later. Where rows are checked, events are left out that remove none of the rows that are left behind."""
+        undone, unknown, left, found = set(), set(), Counter(), {}
         for number, (name, content) in enumerate([*logs, *later]):
             kept = self.kept[number][1] if number < len(logs) else []
             own = {change[-1] for _, _, changes in kept for change in changes}
-            for index, place, key, table, why in self.causes_in(content):
+            for index, place, key, table, why, rows in self.causes_in(content):
+                removed = [(table, before) for before, _ in rows or () if before is not None]
                 if key in own:
                     undone.add(table)
+                    unknown |= {table} if rows is None else set()
+                    for before, after in rows or ():
+                        left[table, before] -= before is not None and left[table, before] > 0
+                        left[table, after] += after is not None
                 elif table in undone if table else undone:
+                    is_apart = table and rows is not None and table not in unknown and not any(left[row] for row in removed)
                     detail = f"{table}: its rows are changed behind those that are undone" if table else f"unknown: {PHRASES[why]}"
-                    found.setdefault(table, (name, index, place, detail))
+                    if not (checks_rows and is_apart):
+                        found.setdefault(table, (name, index, place, detail))
         return list(found.values())
 
     def causes_in(self, content):
         """The events of a log that have rows, each with the name of the table, and those that may change any table, with the reason: their indexes and places, and
-        the key of each, which is its place, and the number of an event inside. What is behind damage isn't looked at."""
+        the key of each, which is its place, and the number of an event inside; and the rows, if they are known. What is behind damage isn't looked at."""
         place, index, maps, description = len(FILE_HEADER), 0, {}, self.description_of(content)
         while place < len(content):
             if len(content) - place < HEADER.size:
-                yield index, place, None, None, "Tail"
+                yield index, place, None, None, "Tail", None
                 return
             outer = HEADER.unpack_from(content, place)
             end = place + outer[3]
             frame, inside = content[place:end], {}
             if HEADER.size <= outer[3] and end > len(content):
-                yield index, place, None, None, "Tail"
+                yield index, place, None, None, "Tail", None
                 return
             if outer[3] < HEADER.size or description[1] == 1 and frame[-CHECKSUM:] != crc32(frame[:17] + bytes([frame[17] & ~1]) + frame[18:-CHECKSUM]):
-                yield index, place, None, None, "Damaged"
+                yield index, place, None, None, "Damaged", None
                 return
             body = frame[HEADER.size : len(frame) - (CHECKSUM if description[1] == 1 else 0)]
             for number, (header, part) in enumerate(events_of(outer, body, [])):
                 is_inside = header is not outer
-                if header is DAMAGED or header and header[1] == 19 and not is_table_map(part):
-                    yield index, place, None, None, "Damaged"
+                if header is DAMAGED or header and header[1] == 19 and not is_read(19, part):
+                    yield index, place, None, None, "Damaged", None
                     return
-                table, why = self.cause_of(header, part, inside if is_inside else maps)
-                if table or why:
-                    yield index, place, (place, number if is_inside else None), table, why
+                map_body, why = self.cause_of(header, part, inside if is_inside else maps, "MariaDB" in description[3])
+                key = place, number if is_inside else None
+                if map_body:
+                    yield index, place, key, table_of(map_body), None, known_rows(header[1], part, map_body, "MariaDB" in description[3])
+                elif why:
+                    yield index, place, key, None, why, None
             place, index = end, index + 1
 
-    def cause_of(self, header, body, maps):
-        """The table of which an event has rows, or why it may change any table. A table map is kept."""
+    def cause_of(self, header, body, maps, is_maria):
+        """The table map of the table of which an event has rows, or why it may change any table. A table map is kept."""
         if header is None:
             return None, None
         kind, table_id = header[1], int.from_bytes(body[:6], "little")
         if kind == 19:
-            maps[table_id] = table_of(body)
-        if kind in ROWS_TYPES or kind in UNCOMPRESSED:
+            maps[table_id] = body
+        if kind in ROWS_TYPES or kind in UNCOMPRESSED and is_maria:
             try:
                 event = event_data_model.fields(UNCOMPRESSED.get(kind, kind), body, POST_HEADER_LENGTHS)
             except event_data_model.Fault:
@@ -366,9 +425,9 @@ class Model:
             if kind in ROWS_TYPES and not event["rows_data"].bytes:
                 return None, None
             return (maps[table_id], None) if table_id in maps else (None, "NoTableMap")
-        if kind == 2 and transactions.kind_of(body[14:].decode()) == "Other":
-            return None, "Statement"
-        return None, {26: "Incident"}.get(kind)
+        if kind == 2:
+            return None, ("Statement" if kind_of_statement(body) == "Other" else None) if is_read(2, body) else "Damaged"
+        return None, CAUSES.get(word_by_type(header))
 
     def described(self):
         """The descriptions of the logs in which something is undone, as they are written, and their transactions, the last log first."""
@@ -437,9 +496,21 @@ def compressed(chance, kind, body, is_sound):
     return COMPRESSED[kind], body[: len(body) - len(rows)] + stored
 
 
+# Columns of few values.
+FEW = [row_events.Kind(1, b"", [(bytes([value]), value) for value in (0, 1, 2)])]
+
+
+def random_table(chance, kinds):
+    """Columns of these kinds, and their table map; few columns of few values."""
+    if kinds is not FEW:
+        return row_values.random_table(chance, kinds)
+    chosen = FEW * chance.choice((1, 1, 2))
+    return chosen, row_values.table_map(chance.randrange(4), bytes(kind.type for kind in chosen), b"")
+
+
 def statement_rows(chance, kinds, is_sound, is_maria):
     """A table map and row events, the last one of which ends a statement."""
-    chosen, table = row_values.random_table(chance, kinds)
+    chosen, table = random_table(chance, kinds)
     count = chance.randint(1, 3)
     keys = b"".join(random_key(chance, len(chosen)) for _ in range(chance.choice((0, 0, 1, 2))))
     events = [(table[0], named(table[1], chance.choice(TABLES)) + keys)]
@@ -557,6 +628,9 @@ PHRASES = {
     "Damaged": "a damaged event",
     "Tail": "the file ends within an event",
     "Incident": "an incident",
+    "LoadData": "a file was loaded by a statement",
+    "OldRows": "row events of a version before 5.1.16",
+    "UnknownEvent": "an event of an unknown type",
     "Unfinished": "the transaction isn't finished",
     "Statement": "a statement can't be undone",
     "Xa": "a part of an XA transaction",
@@ -594,9 +668,12 @@ def random_options(chance):
 
 def failure(words, seed, folder):
     """What is wrong with the undo of one set of logs, if something is."""
-    chance, kinds = random.Random(seed), list(row_events.kinds())
+    chance, checks = random.Random(seed), random.Random(f"rows {seed}")
+    kinds = FEW if checks.random() < 0.4 else list(row_events.kinds())
     is_sound = chance.random() < 0.5
     options, *tables = random_options(chance)
+    checks_rows = checks.random() < 0.5
+    options += ["--check-rows"] * checks_rows
     contents = [random_file(chance, kinds, is_sound) for _ in range(chance.randint(1, 3))]
     files, model = [str(folder / f"{seed}-{number}.bin") for number in range(len(contents))], Model(*tables)
     # The start position is one of the first file, and the stop position of the last one.
@@ -613,7 +690,7 @@ def failure(words, seed, folder):
     for name, content in later:
         Path(name).write_bytes(content)
         options += ["--later", name]
-    found = model.later_changes(list(zip(files, contents)), later) if later and not model.refused else []
+    found = model.later_changes(list(zip(files, contents)), later, checks_rows) if (later or checks_rows) and not model.refused else []
     return difference(words, options, files, model, folder / f"{seed}.out", f"seed {seed}", found)
 
 

@@ -15,7 +15,6 @@ LIBRARY = [
     "binlog_values",
     "binlog_optional_metadata",
     "column_files",
-    "column_file_reading",
     "binlog_declared_columns",
     "binlog_images",
     "binlog_row_writing",
@@ -38,20 +37,17 @@ LIBRARY = [
     "binlog_undo",
     "binlog_transactions",
     "binlog_undo_index",
-    "binlog_undo_writing",
 ]
 TOOLS = [
     "binlog_rotation",
     "binlog_following",
     "binlog_visits",
     "binlog_payload_visits",
-    "binlog_payload_checks",
     "binlog_listing",
     "binlog_gtid_listing",
     "binlog_filters",
     "binlog_commands",
     "change_statistics",
-    "binlog_transaction_gtids",
     "binlog_statistics",
     "binlog_event_types",
     "binlog_json_bodies",
@@ -63,14 +59,17 @@ TOOLS = [
     "binlog_cli",
     "binlog_undo_command",
     "binlog_summaries",
+    "binlog_inputs",
+    "binlog_statistics_command",
+    "binlog_event_commands",
 ]
 
 # The crates of programs, and the programs' names; and that of the program that the scripts of `tests` run.
 PROGRAMS = {"binlog": "binlog"}
 PROBES = {"probe": "probe"}
 
-# Modules of these that the packages don't have, since they are of crates that the packages lack.
-LEFT_OUT = {"probe": ("measured", "questions", "undone")}
+# Modules of these that the packages don't have: the benchmark measures the proved program.
+LEFT_OUT = {"probe": ("measured",)}
 
 # The crate of tests, and what only it uses: the recipes of CALLING.md.
 TESTKITS = ["examples"]

@@ -30,6 +30,7 @@ def undo(
     exclude_tables: Iterable[str] = (),
     skip: Iterable[str] = (),
     later: Union[Path, Iterable[Path]] = (),
+    check_rows: bool = False,
     start: Optional[Time] = None,
     stop: Optional[Time] = None,
     server_id: Optional[int] = None,
@@ -50,6 +51,7 @@ def undo(
     tables, exclude_tables: rows of these tables alone, and none of these, each as "shop.orders"; * stands for any bytes, ? for one.
     skip: the names of reasons: transactions that are refused for one of them are left as they are.
     later: logs behind the others, in order, or one of them: where they, or what isn't undone of the others, may change what is undone, that is refused.
+    check_rows: whether it is refused only if it removes a row that what is undone has left behind, or if rows aren't known; also without later logs.
     start, stop: transactions that ended at this time or later, and before it: a datetime, or a text in UTC.
     server_id, include_gtids, exclude_gtids: transactions that this server created, and with one of these GTIDs, or with none of them.
     start_position, stop_position: transactions that begin at this byte of the first log or behind it, and before this byte of the last one.
@@ -57,7 +59,8 @@ def undo(
     foreign_key_checks: whether the server checks foreign keys while the log is applied.
     one_transaction: whether all that is undone is one transaction. The logs need the same format description then.
     program: the program `binlog`; if not given, the one that the variable BINLOG_PROGRAM names, or the one that the system finds.
-    library: whether the library makes the log, in memory, and no program is run. It doesn't choose by times, servers and GTIDs, and takes no later logs.
+    library: whether the library makes the log, in memory, and no program is run. It doesn't choose by times, servers and GTIDs, takes no later logs,
+        and checks no rows.
 
     Raises UndoRefused where something can't be undone, FileExistsError if there is a file `out`, and ProgramError where the program isn't
     found, or fails; BinlogError or OSError in place of it where the library makes the log. Nothing is written then.
@@ -70,6 +73,8 @@ def undo(
             raise ValueError("the library doesn't choose by times, servers and GTIDs")
         if behind:
             raise ValueError("the library takes no later logs")
+        if check_rows:
+            raise ValueError("the library checks no rows")
         made = made_log(
             [FilePath(path).read_bytes() for path in paths],
             [os.fspath(path) for path in paths],
@@ -100,6 +105,7 @@ def undo(
     words += ["--plain-old-temporal"] if plain_old_temporal else []
     words += [] if foreign_key_checks else ["--no-foreign-key-checks"]
     words += ["--one-transaction"] if one_transaction else []
+    words += ["--check-rows"] if check_rows else []
     words += ["--dry-run"] if out is None else ["--output", _argument(out)]
     return _asked(program, words, [_argument(path) for path in paths], [_argument(path) for path in behind])
 

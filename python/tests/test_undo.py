@@ -64,6 +64,10 @@ class Undoing(unittest.TestCase):
         self.assertTrue(self.undo("1.bin", later="3.bin", skip=["LaterChanges"]).skipped[0].skipped)
         with self.assertRaises(ValueError):
             binlog.undo([], later="3.bin", library=True)
+        self.undo("1.bin", check_rows=True)
+        self.assertEqual(self.words(), ["undo", "--check-rows", "--dry-run", "1.bin"])
+        with self.assertRaises(ValueError):
+            binlog.undo([], check_rows=True, library=True)
 
     def test_counts(self):
         skipped = "binlog: skipped: a: event 1.bin: event 12 at byte 3456: Statement: a statement can't be undone\n"

@@ -4,36 +4,17 @@
 ghost use Rattle.std.specs.Prelude.{◌≡◌};
 ghost use Rattle.binlog_cli.specs.declared.exit_status.Status.TheVariants.{Usage, Failed};
 ghost use Rattle.clap.specs.Values.{kind_of};
-ghost use Rattle.binlog.specs.Ends.{EndsRefused, EndsUnread, status_of};
-ghost use Rattle.binlog.specs.Requests.{IsNoCommand};
-
-mod changes;
-mod columns;
-mod commands;
-mod copying;
-mod file_behind;
-mod files;
-mod following;
-mod growing;
-mod gtids;
-mod inputs;
-mod interval_statistics;
-mod repeated_stats;
-mod request;
-mod rotations;
-mod statistics;
-mod table_statistics;
-mod transaction_statistics;
-mod type_statistics;
-mod verifying;
+ghost use Rattle.binlog_inputs.specs.Requests.{EndsUnread};
+ghost use Rattle.binlog.specs.Ends.{EndsRefused, IsNoCommand, status_of};
 
 use binlog_cli::{Status, out_of_memory};
+use binlog_event_commands::{changes, commands, copying, gtids, verifying};
 use binlog_following::{StateFile, StateFileError};
+use binlog_inputs::{HostInputs, Request, Terminals};
+use binlog_statistics_command::stats;
 use binlog_undo_command::{command, run_undo};
 use clap::ArgMatches;
 use clap::error::ErrorKind;
-use inputs::HostInputs;
-use request::{Request, Terminals};
 use std::env::Env;
 use std::fs::File;
 use std::io::{IsTerminal, Write};
@@ -117,7 +98,7 @@ fn run_command<'a, R: Files<File = File> + Clock + Input + Print + Eprint + Allo
         "json" => run_lines(rt, name, &request, output),
         "gtids" => status_of(gtids::gtids(rt, &inputs, &request, output)),
         "verify" => status_of(verifying::verify(rt, &inputs, &request, output)),
-        "stats" => status_of(statistics::stats(rt, &inputs, &request, output)),
+        "stats" => status_of(stats(rt, &inputs, &request, output)),
         "copy" => match copying::copy(rt, &inputs, &request, output) {
             Ok(status) | Err(status) => status,
         },

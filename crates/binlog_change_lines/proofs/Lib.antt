@@ -3,5 +3,6 @@ pub mod Lines
 pub mod SameRows
 pub mod Events
 pub mod Shown
+pub mod ReadRows
 pub mod Refused
 pub mod WholeLines

@@ -121,7 +121,7 @@ members_of files event is_maria_log body table all_read column tokens items flav
 
 -- An object with these members in its middle.
 line_has : (files : List DeclaredTables) (is_maria_log : Bool) (table : TableMapEvent) (items : List (Result RowCells RowsError)) (head tokens behind : List Token) (line : List ℕ)
-    → EndWithRows files is_maria_log table items tokens → line ≡ print (object (head ++ tokens ++ behind)) ++ codes "\n" → HasRows files is_maria_log table items line
+    → EndWithRows files is_maria_log table items tokens → line ≡ print (object (head ++ (tokens ++ behind))) ++ codes "\n" → HasRows files is_maria_log table items line
 line_has files is_maria_log table items head tokens behind line ends is = record {
   front = head ++ tokens;
   rows = record {
@@ -135,7 +135,7 @@ line_has files is_maria_log table items head tokens behind line ends is = record
     is = ap (λ (l : List Token). head ++ l) ends.is ∙ sym (append_assoc head ends.front (member (codes "rows") ends.rows));
   };
   behind = behind;
-  is = is;
+  is = is ∙ ap (λ (l : List Token). print (object l) ++ codes "\n") (sym (append_assoc head tokens behind));
 }
 
 -- ---- the lines of rows
@@ -198,10 +198,10 @@ outside options place map index event contradiction found line text rows whole a
     let own : IsRowsLine options map index event contradiction line = subst (λ (b : Bool). IsLineOf b options map index event contradiction line) rows whole in
     by_shown options.files place map event line
     (λ is_maria_log body table items mapped flavour is all.
-    line_has options.files is_maria_log table items (event_head index event) own.are.rows (data_member (options.keeps_stored || not own.are.shown.all_read) event) line
-    (members_of options.files event is_maria_log body table own.are.shown.all_read own.are.shown.contradiction own.are.rows items flavour is all
-    (subst (λ (m : Option TableMapEvent). AreMembers options.files event m own.are.shown own.are.rows) mapped own.are.read))
-    (own.is ∙ ap (λ (tokens : List Token). print tokens ++ codes "\n") own.are.is))
+    line_has options.files is_maria_log table items (event_head index event) own.are.are.rows (data_member (options.keeps_stored || not own.are.are.shown.all_read) event) line
+    (members_of options.files event is_maria_log body table own.are.are.shown.all_read own.are.are.shown.contradiction own.are.are.rows items flavour is all
+    (subst (λ (m : Option TableMapEvent). AreMembers options.files event m own.are.are.shown own.are.are.rows) mapped own.are.are.read))
+    (own.is ∙ ap (λ (tokens : List Token). print tokens ++ codes "\n") (own.are.is ∙ ap (λ (members : List Token). object (event_head index event ++ members)) own.are.are.is)))
     (λ c t. IsLineWith options map index event c t) at.shown at.lines found text rows at.shows at.is
 
 -- The same inside a compressed transaction.
@@ -212,8 +212,8 @@ pub inside : (options : RowOptions) (place : Place) (map : Option TableMapEvent)
 inside options place map index number event contradiction found line text rows own at =
     by_shown options.files place map event line
     (λ is_maria_log body table items mapped flavour is all.
-    line_has options.files is_maria_log table items (part_head index number event) own.are.rows (data_member (options.keeps_stored || not own.are.shown.all_read) event) line
-    (members_of options.files event is_maria_log body table own.are.shown.all_read own.are.shown.contradiction own.are.rows items flavour is all
-    (subst (λ (m : Option TableMapEvent). AreMembers options.files event m own.are.shown own.are.rows) mapped own.are.read))
-    (own.is ∙ ap (λ (tokens : List Token). print tokens ++ codes "\n") own.are.is))
+    line_has options.files is_maria_log table items (part_head index number event) own.are.are.rows (data_member (options.keeps_stored || not own.are.are.shown.all_read) event) line
+    (members_of options.files event is_maria_log body table own.are.are.shown.all_read own.are.are.shown.contradiction own.are.are.rows items flavour is all
+    (subst (λ (m : Option TableMapEvent). AreMembers options.files event m own.are.are.shown own.are.are.rows) mapped own.are.are.read))
+    (own.is ∙ ap (λ (tokens : List Token). print tokens ++ codes "\n") (own.are.is ∙ ap (λ (members : List Token). object (part_head index number event ++ members)) own.are.are.is)))
     (λ c t. IsPartEventLine options map index number event c t) at.shown at.lines found text rows at.shows at.is

@@ -3,8 +3,8 @@ use Rattle.std.specs.Prelude.{◌≡◌}
 use Rattle.binlog_visits.specs.Visits.{VisitRelation, RefusalRelation}
 use Rattle.binlog_payload_visits.specs.PartVisits.{PartVisitRelation, PartRefusalRelation, VisitsSpliced, RefusesSpliced}
 use Rattle.binlog_payload_visits.specs.declared.spliced.Spliced.{Spliced}
-use Rattle.binlog_payload_checks.specs.Noting.{NotesItem, NotesPart, RefusesNoted, RefusesNotedPart}
-use Rattle.binlog_payload_checks.specs.declared.noted.Noted.{Noted}
+use Rattle.binlog_payload_visits.specs.Noting.{NotesItem, NotesPart, RefusesNoted, RefusesNotedPart}
+use Rattle.binlog_payload_visits.specs.declared.noted.Noted.{Noted}
 use Rattle.binlog_payload_filters.specs.PartFiltering.{ShowsTaken, RefusesTaken}
 use Rattle.binlog_payload_filters.specs.declared.taken_parts.TakenParts.{TakenParts}
 

@@ -3,6 +3,7 @@ pub mod RowLines
 pub mod RowsHeads
 pub mod Mapped
 pub mod EventTexts
+pub mod ReadRows
 pub mod InsideVisits
 pub mod Written
 pub mod WholeLines

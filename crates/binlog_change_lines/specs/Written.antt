@@ -21,7 +21,7 @@ use Rattle.binlog_payload_filters.specs.Filtering.{FiltersPayloads, RefusesTaken
 use Rattle.binlog_payload_filters.specs.declared.filtered.PayloadFiltered.{PayloadFiltered}
 use Rattle.binlog_payload_filters.specs.declared.taken_parts.TakenParts.{TakenParts}
 use Rattle.binlog_change_lines.specs.EventTexts.{IsEventText, IsPartText}
-use Rattle.binlog_transaction_gtids.specs.Gtids.{FollowsGtid}
+use Rattle.binlog_statistics.specs.TransactionGtids.{FollowsGtid}
 use Rattle.binlog_change_lines.specs.Heads.{Place}
 use Rattle.binlog_change_lines.specs.InsideVisits.{Inside, VisitsInside, RefusesInside}
 use Rattle.binlog_change_lines.specs.declared.change_filter.ChangeFilter.{ChangeFilter}

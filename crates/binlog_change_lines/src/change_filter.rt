@@ -7,10 +7,9 @@ use binlog_declared_columns::Contradictions;
 use binlog_file::{Error, EventRef, EventStreamReader};
 use binlog_filters::{Filter, Place, TableFilter};
 use binlog_json_lines::LineOptions;
-use binlog_payload_checks::Noted;
 use binlog_payload_filters::{PayloadFiltered, TakenParts};
-use binlog_payload_visits::Spliced;
-use binlog_transaction_gtids::follow;
+use binlog_payload_visits::{Noted, Spliced};
+use binlog_statistics::follow_gtid;
 use binlog_visits::{Refusing, Visitor};
 use std::alloc::{AllocError, Global};
 use std::io::Write;
@@ -131,7 +130,7 @@ impl<W: Write> Visitor for ChangeFilter<W> {
         let position = self.filtered.filtered.place.of_event(event);
         let writer = &mut self.filtered.filtered.visitor.visitor.visitor.visitor;
         writer.position = position;
-        follow(&mut writer.gtid, self.alloc, event)?;
+        follow_gtid(&mut writer.gtid, self.alloc, event)?;
         self.filtered.visit_event(index, event, reader)
     }
 

@@ -7,6 +7,7 @@ ghost use Rattle.binlog_columns.specs.Columns.{typed_of};
 ghost use Rattle.binlog_columns.specs.Refusals.{refusal};
 ghost use Rattle.binlog_columns.specs.TableColumns.{columns_of};
 ghost use Rattle.binlog_events.specs.EventRefs.{view_of};
+ghost use Rattle.binlog_file.specs.LogData.{ReadsLogData};
 ghost use Rattle.binlog_images.specs.Events.{mapped_columns, event_error};
 ghost use Rattle.binlog_images.specs.EventRows.{is_partial, AreRowsOf};
 ghost use Rattle.binlog_rows.specs.RowsData.{event_in};
@@ -113,7 +114,28 @@ impl ChangeLines {
         ensures text { IfOk result (λ line. IsEventText (options_of options.now) (place_of place.now) (option_copied table_map.entry) index (view_of event.now) line.contradiction line.text.now) }
         ensures memory { IfErr result (λ e. e ≡ Memory) }
     {
-        let shown = self.show_event(alloc, place, event, table_map, &options.files)?;
+        let read = read_log_data(alloc, event);
+        let text = self.read_text(alloc, place, index, event, &read, table_map, options);
+        drop(read);
+        text
+    }
+
+    /// The same of an event of whose data this was read.
+    pub(crate) fn read_text(
+        &mut self,
+        alloc: Global,
+        place: &EventPlace<'_>,
+        index: u64,
+        event: &EventRef<'_>,
+        read: &Result<Option<LogEventData<'_>>, Error>,
+        table_map: Option<&TableMapEvent<'_>>,
+        options: &LineOptions,
+    ) -> Result<EventLine<'_>, Error>
+        requires { ReadsLogData (view_of event.now) read.now }
+        ensures text { IfOk result (λ line. IsEventText (options_of options.now) (place_of place.now) (option_copied table_map.entry) index (view_of event.now) line.contradiction line.text.now) }
+        ensures memory { IfErr result (λ e. e ≡ Memory) }
+    {
+        let shown = self.show_event(alloc, place, event, read, table_map, &options.files)?;
         match shown {
             Shown::Nothing => Ok(EventLine {
                 text: &[],
@@ -148,7 +170,28 @@ impl ChangeLines {
         ensures text { IfOk result (λ line. IsPartText (options_of options.now) (place_of place.now) (option_copied table_map.entry) part.index part.number (view_of event.now) line.contradiction line.text.now) }
         ensures memory { IfErr result (λ e. e ≡ Memory) }
     {
-        let shown = self.show_event(alloc, place, event, table_map, &options.files)?;
+        let read = read_log_data(alloc, event);
+        let text = self.read_part_text(alloc, place, part, event, &read, table_map, options);
+        drop(read);
+        text
+    }
+
+    /// The same of an event of whose data this was read.
+    pub(crate) fn read_part_text(
+        &mut self,
+        alloc: Global,
+        place: &EventPlace<'_>,
+        part: PartPlace,
+        event: &EventRef<'_>,
+        read: &Result<Option<LogEventData<'_>>, Error>,
+        table_map: Option<&TableMapEvent<'_>>,
+        options: &LineOptions,
+    ) -> Result<EventLine<'_>, Error>
+        requires { ReadsLogData (view_of event.now) read.now }
+        ensures text { IfOk result (λ line. IsPartText (options_of options.now) (place_of place.now) (option_copied table_map.entry) part.index part.number (view_of event.now) line.contradiction line.text.now) }
+        ensures memory { IfErr result (λ e. e ≡ Memory) }
+    {
+        let shown = self.show_event(alloc, place, event, read, table_map, &options.files)?;
         match shown {
             Shown::Nothing => Ok(EventLine {
                 text: &[],
@@ -186,25 +229,25 @@ impl ChangeLines {
         self.lines.part_error_line(part, error)
     }
 
-    // Finds out what is shown of an event, and makes the lines of its rows. The only error is [`Error::Memory`].
+    // Finds out what is shown of an event of whose data this was read, and makes the lines of its rows. The only error is
+    // [`Error::Memory`].
     fn show_event(
         &mut self,
         alloc: Global,
         place: &EventPlace<'_>,
         event: &EventRef<'_>,
+        read: &Result<Option<LogEventData<'_>>, Error>,
         table_map: Option<&TableMapEvent<'_>>,
         files: &[DeclaredTables],
     ) -> Result<Shown, Error>
+        requires { ReadsLogData (view_of event.now) read.now }
         ensures shown { IfOk result (λ shown. ShowsEvent files.now (place_of place.now) (view_of event.now) (option_copied table_map.entry) shown self.new.rows.text.items) }
         ensures memory { IfErr result (λ e. e ≡ Memory) }
     {
-        let read = read_log_data(alloc, event);
-        let shown = self.show_read(alloc, place, event, &read, table_map, files);
-        drop(read);
-        shown
+        self.show_read(alloc, place, event, read, table_map, files)
     }
 
-    // The same, by what was read of the event's data.
+    // The same, where it isn't said that the data was read so.
     fn show_read(
         &mut self,
         alloc: Global,

@@ -1,17 +1,23 @@
 //! A visitor that writes what is written for each item.
-ghost use Rattle.std.specs.Prelude.{◌≡◌, [], None, option_copied, IfErr, OnOk};
+ghost use Rattle.std.specs.Prelude.{◌≡◌, [], None, Ok, option_copied, IfErr, OnOk};
 ghost use Rattle.binlog_wire.specs.declared.error.Error.TheVariants.{Memory};
 ghost use Rattle.binlog_events.specs.EventRefs.{view_of};
+ghost use Rattle.binlog_file.specs.LogData.{ReadsLogData};
 ghost use Rattle.binlog_file.specs.State.{state_of};
+ghost use Rattle.binlog_visits.specs.Visits.{IsNoReaderError};
 ghost use Rattle.binlog_json_lines.specs.Contradicted.{NotesIf};
-ghost use Rattle.binlog_json_lines.specs.Lines.{map_of_event};
-ghost use Rattle.binlog_change_lines.specs.Written.{BeginsFile, KeepsWritten};
+ghost use Rattle.binlog_json_lines.specs.ReadRows.{map_of_rows};
+ghost use Rattle.binlog_change_lines.specs.Written.{BeginsFile, KeepsWritten, WritesItem, RefusesItem};
 
 use crate::change_lines::ChangeLines;
 use crate::heads::EventPlace;
+use crate::rows_read::rows_read;
 use binlog_declared_columns::Contradictions;
-use binlog_file::{CountedRef, Error, EventRef, EventStreamReader, TableMapEvent};
-use binlog_json_lines::{LineOptions, table_id};
+use binlog_file::{
+    CountedRef, Error, EventRef, EventStreamReader, LogEventData, RowsEventData, TableMapEvent,
+    read_log_data,
+};
+use binlog_json_lines::LineOptions;
 use binlog_visits::{Refusing, Visitor, write_line};
 use std::alloc::{AllocError, Global};
 use std::io::Write;
@@ -68,16 +74,15 @@ impl<W> ChangeWriter<W> {
     }
 }
 
-// The table map in force for the table id of a row event.
+// The table map in force for the table id of a row event, if one was read.
 fn table_map<'a>(
-    alloc: Global,
-    event: &EventRef<'_>,
+    rows: Option<&RowsEventData<'_>>,
     reader: &'a EventStreamReader,
 ) -> Option<&'a TableMapEvent<'static>>
-    ensures { option_copied result ≡ map_of_event (state_of reader.now).table_maps (view_of event.now) }
+    ensures { option_copied result ≡ map_of_rows (state_of reader.now).table_maps (option_copied rows.entry) }
 {
-    match table_id(alloc, event) {
-        Some(table_id) => reader.get_tme(table_id),
+    match rows {
+        Some(rows) => reader.get_tme(rows.table_id()),
         None => None,
     }
 }
@@ -102,6 +107,42 @@ pub(crate) fn note(
     Ok(())
 }
 
+impl<W: Write> ChangeWriter<W> {
+    // Visits an event of whose data this was read.
+    fn visit_read(
+        &mut self,
+        index: u64,
+        event: &EventRef<'_>,
+        read: &Result<Option<LogEventData<'_>>, Error>,
+        reader: &EventStreamReader,
+    ) -> Result<(), Error>
+        requires { ReadsLogData (view_of event.now) read.now }
+        ensures ok { OnOk result (WritesItem W.contents self.old (state_of reader.now).table_maps index (Ok (view_of event.now)) self.new) }
+        ensures err { IfErr result (λ e. RefusesItem W.contents self.old (state_of reader.now).table_maps index (Ok (view_of event.now)) e self.new) }
+        ensures reader { IfErr result IsNoReaderError }
+    {
+        let table_map = table_map(rows_read(event, read), reader);
+        let place = EventPlace {
+            file: self.file.as_str(),
+            position: self.position,
+            part: None,
+            gtid: self.gtid.as_str(),
+        };
+        let line = self.lines.read_text(
+            self.alloc,
+            &place,
+            index,
+            event,
+            read,
+            table_map,
+            &self.options,
+        )?;
+        note(&mut self.contradictions, table_map, line.contradiction)?;
+        let mut output = CountedRef::new(&mut self.output);
+        write_line(&mut output, line.text)
+    }
+}
+
 /// A visit writes the text of the item. It is refused with [`Error::Writer`] if the writer failed, which then has a prefix of the text,
 /// or with [`Error::Memory`] if an allocation failed for the text; nothing is written then.
 impl<W: Write> Visitor for ChangeWriter<W> {
@@ -118,19 +159,10 @@ impl<W: Write> Visitor for ChangeWriter<W> {
         event: &EventRef<'_>,
         reader: &EventStreamReader,
     ) -> Result<(), Error> {
-        let table_map = table_map(self.alloc, event, reader);
-        let place = EventPlace {
-            file: self.file.as_str(),
-            position: self.position,
-            part: None,
-            gtid: self.gtid.as_str(),
-        };
-        let line = self
-            .lines
-            .event_text(self.alloc, &place, index, event, table_map, &self.options)?;
-        note(&mut self.contradictions, table_map, line.contradiction)?;
-        let mut output = CountedRef::new(&mut self.output);
-        write_line(&mut output, line.text)
+        let read = read_log_data(self.alloc, event);
+        let visited = self.visit_read(index, event, &read, reader);
+        drop(read);
+        visited
     }
 
     fn visit_error(

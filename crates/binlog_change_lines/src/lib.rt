@@ -13,6 +13,7 @@ mod heads;
 pub mod laws;
 mod part_writer;
 mod row_lines;
+mod rows_read;
 
 pub use change_filter::ChangeFilter;
 pub use change_lines::ChangeLines;

@@ -1,4 +1,3 @@
-pub mod Reporting
 mod NamedTypes
 mod CivilInstants
 pub mod TableNames

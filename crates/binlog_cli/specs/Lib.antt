@@ -1,6 +1,5 @@
 pub mod Statuses
 pub mod Outputs
-pub mod Reports
 pub mod Times
 pub mod GtidWords
 pub mod TableWords

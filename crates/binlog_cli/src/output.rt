@@ -40,7 +40,7 @@ impl<W: Write + Drop> Output<BufWriter<Retrying<W>>> {
     }
 
     /// Flushes the output, and gives back its writer with the status of the run: that of its outcome, and at least
-    /// [`Status::Failed`] if the output failed. A pipe that nobody reads any more ends a run quietly.
+    /// [`Status::Failed`] if the output failed. A pipe that nobody reads any more ends a run without a message.
     ///
     /// The writer has all bytes of the output, or a front of them if the output failed.
     pub fn finish<E: Eprint>(self, rt: &E, outcome: Outcome) -> (Status, W)

@@ -1,188 +1,76 @@
 -- The copy of the events that a filter takes is a log of these events.
-use Rattle.std.specs.Prelude.{nat_lt, ⊤}
-use Rattle.std.proofs.Common.{◌≡◌, ◌⊎◌, inl, inr, ℕ, ◌+◌, ◌-◌, ◌<◌, Bool, true, false, cond, ◌&&◌, ◌||◌, List, [], ◌∷◌, ◌++◌, length, Option, Some, None, Result, Ok, Err, refl, sym, ap, subst, ◌∙◌, unwrap_or, arith, length-take}
-use Rattle.std.specs.Io.KnownBytes.{Appends}
-use Rattle.std.proofs.KnownBytes.{Appends-nil, Appends-trans}
+use Rattle.std.proofs.Common.{◌≡◌, ℕ, ◌+◌, Bool, true, false, List, ◌++◌, Option, Result, Ok, Err, refl, ap, subst, ◌∙◌}
 use Rattle.binlog_wire.specs.declared.error.Error.{Error}
-use Rattle.binlog_wire.specs.declared.error.Error.TheVariants.{TooShortForChecksum, EventSizeTooSmall}
 use Rattle.binlog_consts.specs.declared.version.BinlogVersion.TheVariants.{Version4}
-use Rattle.binlog_event_format.specs.declared.footer.BinlogEventFooter.{BinlogEventFooter}
-use Rattle.binlog_event_format.specs.declared.format_description.FormatDescriptionEvent.{FormatDescriptionEvent}
-use Rattle.binlog_event_format.specs.FormatDescription.{format_description_at, default_description}
-use Rattle.binlog_event_format.specs.Footers.{footer_of}
+use Rattle.binlog_event_format.specs.FormatDescription.{default_description}
 use Rattle.binlog_events.specs.FileHeader.{file_header}
-use Rattle.binlog_events.specs.Frames.{is_undersized, stated_size}
-use Rattle.binlog_events.specs.Events.{EventView, event_of}
-use Rattle.binlog_events.specs.Parts.{is_description, body, data_of, suffix_len, has_checksum, footer_under, is_too_short}
-use Rattle.binlog_file.specs.Descriptions.{read_description, described, accepted, in_force}
-use Rattle.binlog_file.specs.Items.{unless_refused, checked_event, item_of}
-use Rattle.binlog_file.specs.State.{Looks}
-use Rattle.binlog_file.specs.Streams.{tail_items, AreHandled}
-use Rattle.binlog_file.specs.StreamItems.{AreItems, items_behind}
-use Rattle.binlog_file.proofs.OwnFrames.{event_is}
-use Rattle.binlog_file.proofs.AcceptedDescriptions.{error_is_none}
-use Rattle.binlog_file.proofs.StreamItems.{items_looked}
+use Rattle.binlog_events.specs.Events.{EventView}
+use Rattle.binlog_file.specs.StreamItems.{AreItems}
 use Rattle.binlog_file.specs.TableMapsInForce.{TableMaps, no_table_maps}
 use Rattle.binlog_visits.specs.TableMaps.{maps_behind}
 use Rattle.binlog_visits.specs.Visits.{VisitRelation, Visits}
 use Rattle.binlog_filters.specs.Concerns.{is_concerned}
-use Rattle.binlog_filters.specs.Places.{behind}
-use Rattle.binlog_filters.specs.Taking.{Takes, TakesEvents, with_taken, is_taken, meets_conditions}
+use Rattle.binlog_filters.specs.Places.{start_of, behind}
+use Rattle.binlog_filters.specs.Taking.{Takes, TakesEvents}
 use Rattle.binlog_filters.specs.Filtering.{Filters, VisitsIf}
 use Rattle.binlog_filters.specs.declared.filter.Filter.{Filter}
-use Rattle.binlog_filters.specs.declared.state.FilterState.{FilterState}
 use Rattle.binlog_filters.specs.declared.filtered.Filtered.{Filtered}
-use Rattle.binlog_commands.specs.Copying.{CopiesItem}
-use Rattle.binlog_commands.specs.Parts.{ArePart, event_bytes}
+use Rattle.binlog_filters.specs.Copying.{CopiesItem}
+use Rattle.binlog_filters.proofs.CopiedItems.{left_out, CopiesTaken, IsStep, copied_items}
 use Rattle.binlog_commands.specs.FilteredCopies.{IsFilteredCopy}
-use Rattle.binlog_commands.proofs.CopiedLogs.{copied_log}
-
--- The events that are taken of these items, and the bytes that are written of them.
-record IsCopied (d : FormatDescriptionEvent) (frames : List (List ℕ)) (filter : Filter) (maps : TableMaps) (position : Option ℕ) (was : FilterState) (items : List (Result EventView Error)) (old new : Option (List ℕ)) : Type 0 where
-  events : List EventView
-  part : ArePart d frames events
-  taken : TakesEvents filter maps position was items events
-  written : Appends old new (event_bytes events)
-
--- ---- frames that aren't taken
-
-no_description : (t b m : Bool) → t ≡ true → false ≡ ((t && b) || m) → b ≡ false
-no_description true true m is out = absurd cc
-no_description true false m is out = refl
-no_description false b m is out = absurd cc
-
-brings_none : (b : Bool) (found : Option FormatDescriptionEvent) (d : FormatDescriptionEvent) → b ≡ false → unwrap_or (cond b found None) d ≡ d
-brings_none false found d is = refl
-brings_none true found d is = absurd cc
-
--- An event that isn't taken, though all descriptions are, brings no description into force.
-left_out : (d : FormatDescriptionEvent) (frame : List ℕ) (event : EventView) (filter : Filter) (start : Option ℕ) (wanted concerned : Bool) → item_of d frame ≡ Ok event
-    → filter.is_for_copy ≡ true → false ≡ is_taken filter start event wanted concerned → unwrap_or (accepted frame) d ≡ d
-left_out d frame event filter start wanted concerned item all out =
-    let own : event.frame ≡ frame = ap (λ (e : EventView). e.frame) (event_is d frame event item).1 in
-    let none = no_description filter.is_for_copy (is_description event.frame) (concerned && meets_conditions filter start event wanted) all out in
-    brings_none (is_description frame) _ d (ap (λ (f : List ℕ). is_description f) (sym own) ∙ none)
-
--- ---- one item
-
--- These items are errors.
-abbrev AreErrors : List (Result EventView Error) → Type 0
-AreErrors [] = ⊤
-AreErrors (Ok event ∷ items) = ⊥
-AreErrors (Err error ∷ items) = AreErrors items
-
-tail_by : (is : Bool) (size : ℕ) → AreErrors (cond is (Err (EventSizeTooSmall size) ∷ []) [])
-tail_by true size = tt
-tail_by false size = tt
-
-without_error : (taken : Bool) (error : Error) (others : List EventView) → others ≡ with_taken taken (Err error) others
-without_error true error others = refl
-without_error false error others = refl
 
 module _ {T : Type 0} (contents : T → Option (List ℕ)) where
+  abbrev contents_of : Filtered T → Option (List ℕ)
+  contents_of filtered = contents filtered.visitor
+
+  abbrev IsForCopy : Filtered T → Type 0
+  IsForCopy filtered = filtered.filter.is_for_copy ≡ true
+
+  abbrev TakesItems : Filtered T → TableMaps → List (Result EventView Error) → List EventView → Type 0
+  TakesItems filtered maps items events = TakesEvents filtered.filter maps filtered.place.position filtered.state items events
+
   -- A visit writes the bytes of the item's event.
   abbrev Copies : VisitRelation T
   Copies old maps index item new = CopiesItem item (contents old) (contents new)
 
   -- The same filter goes on behind an item.
   goes_on : (maps : TableMaps) (index : ℕ) (item : Result EventView Error) (items : List (Result EventView Error)) (old mid : Filtered T) (events : List EventView) → Filters Copies old maps index item mid
-      → TakesEvents mid.filter maps mid.place.position mid.state items events → TakesEvents old.filter maps (behind old.place.position item) mid.state items events
+      → TakesItems mid maps items events → TakesEvents old.filter maps (behind old.place.position item) mid.state items events
   goes_on maps index item items old mid events one rest =
       subst (λ (f : Filter). TakesEvents f maps (behind old.place.position item) mid.state items events) one.same
       (subst (λ (p : Option ℕ). TakesEvents mid.filter maps p mid.state items events) one.place rest)
 
-  error_by : (taken : Bool) (maps : TableMaps) (index : ℕ) (error : Error) (old new : T) → taken ≡ true → VisitsIf Copies taken old maps index (Err error) new → contents new ≡ contents old
-  error_by true maps index error old new is does = does
-  error_by false maps index error old new is does = absurd cc
+  is_copied : (taken : Bool) (maps : TableMaps) (index : ℕ) (item : Result EventView Error) (old mid : Filtered T) → IsForCopy old → Takes old.filter maps old.place.position old.state item mid.state taken
+      → VisitsIf Copies taken old.visitor maps index item mid.visitor → CopiesTaken item taken (contents_of old) (contents_of mid)
+  is_copied true maps index (Ok event) old mid all takes does = does
+  is_copied false maps index (Ok event) old mid all takes does = (
+    ap contents does,
+    λ d frame item. left_out d frame event old.filter (start_of old.place.position event) mid.state.is_wanted (is_concerned old.filter.is_for_copy old.state.is_in_statement takes.concern) item all takes.is,
+  )
+  is_copied true maps index (Err error) old mid all takes does = does
+  is_copied false maps index (Err error) old mid all takes does = absurd (let is = takes.1 in cc)
 
-  -- Nothing is written for an error.
-  error_visited : (maps : TableMaps) (index : ℕ) (error : Error) (old mid : Filtered T) → Filters Copies old maps index (Err error) mid → contents mid.visitor ≡ contents old.visitor
-  error_visited maps index error old mid one = error_by one.taken maps index error old.visitor mid.visitor one.takes.1 one.does
-
-  taken_event : (taken : Bool) (d : FormatDescriptionEvent) (frame : List ℕ) (frames : List (List ℕ)) (event : EventView) (items : List (Result EventView Error)) (maps : TableMaps) (index : ℕ) (old mid new : Filtered T)
-      → old.filter.is_for_copy ≡ true → Ok event ≡ item_of d frame
-      → Takes old.filter (maps_behind maps (Ok event)) old.place.position old.state (Ok event) mid.state taken → VisitsIf Copies taken old.visitor (maps_behind maps (Ok event)) index (Ok event) mid.visitor
-      → (rest : IsCopied (unwrap_or (accepted frame) d) frames mid.filter (maps_behind maps (Ok event)) mid.place.position mid.state items (contents mid.visitor) (contents new.visitor))
-      → TakesEvents old.filter (maps_behind maps (Ok event)) (behind old.place.position (Ok event)) mid.state items rest.events
-      → IsCopied d (frame ∷ frames) old.filter maps old.place.position old.state (Ok event ∷ items) (contents old.visitor) (contents new.visitor)
-  taken_event true d frame frames event items maps index old mid new all item takes does rest taken = record {
-    events = event ∷ rest.events;
-    part = inr (event, rest.events, refl, sym item, rest.part);
-    taken = (mid.state, true, takes, rest.events, taken, refl);
-    written = Appends-trans (contents old.visitor) (contents mid.visitor) (contents new.visitor) event.frame (event_bytes rest.events) does rest.written;
+  one_step : (old : Filtered T) (maps : TableMaps) (index : ℕ) (item : Result EventView Error) (mid : Filtered T) → IsForCopy old → Filters Copies old (maps_behind maps item) index item mid
+      → IsStep contents_of IsForCopy TakesItems old maps item mid
+  one_step old maps index item mid all one = record {
+    taken = one.taken;
+    does = is_copied one.taken (maps_behind maps item) index item old mid all one.takes one.does;
+    goes_on = λ items events others is rest. (mid.state, one.taken, one.takes, others, goes_on (maps_behind maps item) index item items old mid others one rest, is);
+    for_copy = ap (λ (f : Filter). f.is_for_copy) one.same ∙ all;
   }
-  taken_event false d frame frames event items maps index old mid new all item takes does rest taken =
-      let stays = left_out d frame event old.filter _ mid.state.is_wanted (is_concerned old.filter.is_for_copy old.state.is_in_statement takes.concern) (sym item) all takes.is in
-      record {
-        events = rest.events;
-        part = inl (stays, subst (λ (x : FormatDescriptionEvent). ArePart x frames rest.events) stays rest.part);
-        taken = (mid.state, false, takes, rest.events, taken, refl);
-        written = subst (λ (t : T). Appends (contents t) (contents new.visitor) (event_bytes rest.events)) does rest.written;
-      }
-
-  -- One more frame.
-  one_frame : (d : FormatDescriptionEvent) (frame : List ℕ) (frames : List (List ℕ)) (item : Result EventView Error) (items : List (Result EventView Error)) (maps : TableMaps) (index : ℕ) (old mid new : Filtered T)
-      → old.filter.is_for_copy ≡ true → item ≡ item_of d frame → Filters Copies old (maps_behind maps item) index item mid
-      → IsCopied (unwrap_or (accepted frame) d) frames mid.filter (maps_behind maps item) mid.place.position mid.state items (contents mid.visitor) (contents new.visitor)
-      → IsCopied d (frame ∷ frames) old.filter maps old.place.position old.state (item ∷ items) (contents old.visitor) (contents new.visitor)
-  one_frame d frame frames (Ok event) items maps index old mid new all item one rest =
-      taken_event one.taken d frame frames event items maps index old mid new all item one.takes one.does rest (goes_on (maps_behind maps (Ok event)) index (Ok event) items old mid rest.events one rest.taken)
-  one_frame d frame frames (Err error) items maps index old mid new all item one rest =
-      let stays = ap (λ (found : Option FormatDescriptionEvent). unwrap_or found d) (error_is_none d frame error item) in
-      record {
-        events = rest.events;
-        part = inl (stays, subst (λ (x : FormatDescriptionEvent). ArePart x frames rest.events) stays rest.part);
-        taken = (mid.state, one.taken, one.takes, rest.events, goes_on (maps_behind maps (Err error)) index (Err error) items old mid rest.events one rest.taken, without_error one.taken error rest.events);
-        written = subst (λ (w : Option (List ℕ)). Appends w (contents new.visitor) (event_bytes rest.events)) (error_visited (maps_behind maps (Err error)) index error old mid one) rest.written;
-      }
-
-  -- ---- all items
-
-  copied_tail : (d : FormatDescriptionEvent) (items : List (Result EventView Error)) (maps : TableMaps) (index : ℕ) (old new : Filtered T) → AreErrors items → Visits (Filters Copies) maps index items old new
-      → IsCopied d [] old.filter maps old.place.position old.state items (contents old.visitor) (contents new.visitor)
-  copied_tail d [] maps index old new errors visited = record {
-    events = [];
-    part = refl;
-    taken = refl;
-    written = subst (λ (t : Filtered T). Appends (contents old.visitor) (contents t.visitor) []) (sym visited) (Appends-nil (contents old.visitor));
-  }
-  copied_tail d (Ok event ∷ items) maps index old new errors visited = absurd errors
-  copied_tail d (Err error ∷ items) maps index old new errors visited =
-      let rest = copied_tail d items maps (index + 1) visited.0 new errors visited.2 in
-      record {
-        events = rest.events;
-        part = rest.part;
-        taken = (visited.0.state, visited.1.taken, visited.1.takes, rest.events, goes_on (maps_behind maps (Err error)) index (Err error) items old visited.0 rest.events visited.1 rest.taken, without_error visited.1.taken error rest.events);
-        written = subst (λ (w : Option (List ℕ)). Appends w (contents new.visitor) (event_bytes rest.events)) (error_visited (maps_behind maps (Err error)) index error old visited.0 visited.1) rest.written;
-      }
-
-  copied_frames : (d e : FormatDescriptionEvent) (frames : List (List ℕ)) (items tail : List (Result EventView Error)) (maps : TableMaps) (index : ℕ) (old new : Filtered T) → AreErrors tail
-      → old.filter.is_for_copy ≡ true → AreHandled Looks d e frames items → Visits (Filters Copies) maps index (items ++ tail) old new
-      → IsCopied d frames old.filter maps old.place.position old.state (items ++ tail) (contents old.visitor) (contents new.visitor)
-  copied_frames d e [] [] tail maps index old new errors all handled visited = copied_tail d tail maps index old new errors visited
-  copied_frames d e [] (item ∷ items) tail maps index old new errors all handled visited = absurd handled
-  copied_frames d e (frame ∷ frames) [] tail maps index old new errors all handled visited = absurd handled
-  copied_frames d e (frame ∷ frames) (item ∷ items) tail maps index old new errors all handled visited =
-      let mid = visited.0 in
-      let one = visited.1 in
-      let behind_it = subst (λ (x : FormatDescriptionEvent). AreHandled Looks x e frames items) handled.1.1 handled.2 in
-      let rest = copied_frames (unwrap_or (accepted frame) d) e frames items tail (maps_behind maps item) (index + 1) mid new errors (ap (λ (f : Filter). f.is_for_copy) one.same ∙ all) behind_it visited.2 in
-      one_frame d frame frames item (items ++ tail) maps index old mid new all handled.1.0 one rest
 
   pub filtered_copy : (bytes stream : List ℕ) (items : List (Result EventView Error)) (old new : Filtered T) → old.filter.is_for_copy ≡ true → bytes ≡ file_header ++ stream
       → AreItems (default_description Version4) stream items → Visits (Filters Copies) no_table_maps 0 items old new
       → IsFilteredCopy old.filter old.place.position old.state bytes (contents old.visitor) (contents new.visitor)
   filtered_copy bytes stream items old new all file are visited =
-      let d : FormatDescriptionEvent = default_description Version4 in
-      let copied = copied_frames d (in_force d are.frames) are.frames (items_behind d [] are.frames) (tail_items are.tail) no_table_maps 0 old new (tail_by (is_undersized are.tail) (stated_size are.tail)) all
-      (items_looked d are.frames) (subst (λ (l : List (Result EventView Error)). Visits (Filters Copies) no_table_maps 0 l old new) are.all visited) in
+      let copied = copied_items contents_of IsForCopy TakesItems (Filters Copies) (λ old maps. refl) one_step stream items old new all are visited in
       record {
         stream = stream;
         file = file;
         items = items;
         are = are;
-        events = copied.events;
-        taken = subst (λ (l : List (Result EventView Error)). TakesEvents old.filter no_table_maps old.place.position old.state l copied.events) (sym are.all) copied.taken;
-        written = copied.written;
-        log = copied_log d are.frames copied.events are.split.each copied.part;
+        events = copied.0;
+        taken = copied.1;
+        written = copied.2;
+        log = copied.3;
       }

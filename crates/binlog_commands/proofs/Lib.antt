@@ -1,6 +1,6 @@
-pub mod CopiedLogs
 pub mod FilteredCopies
 pub mod TakenCounts
 pub mod CollectedGtids
 pub mod WholeCounts
 pub mod Wholes
+mod SplicedTypes

@@ -11,7 +11,7 @@ use Rattle.binlog_file.specs.TableMapsInForce.{no_table_maps}
 use Rattle.binlog_filters.specs.Taking.{TakesEvents}
 use Rattle.binlog_filters.specs.declared.filter.Filter.{Filter}
 use Rattle.binlog_filters.specs.declared.state.FilterState.{FilterState}
-use Rattle.binlog_commands.specs.Parts.{event_bytes}
+use Rattle.binlog_filters.specs.CopiedParts.{event_bytes}
 
 -- The bytes are a log, and the output grew by all bytes of the events that the filter takes of its items. As a stream, they
 -- have these events for their items, in order, each under the description under which it was read. The first item is at

@@ -1,7 +1,5 @@
 pub mod Counting
 pub mod Collecting
-pub mod Copying
-pub mod Parts
 pub mod Statistics
 pub mod WholeCounts
 pub mod TakenCounts
@@ -9,3 +7,4 @@ pub mod FilteredCopies
 pub mod Marks
 pub mod Continuations
 pub mod Wholes
+pub mod SplicedCounts

@@ -12,25 +12,29 @@ ghost use Rattle.binlog_mariadb.specs.declared.maria_gtid.MariaGtid.{MariaGtid};
 ghost use Rattle.binlog_visits.specs.Visits.{Visits, VisitsLog};
 ghost use Rattle.binlog_gtid_listing.specs.LogItems.{log_gtids};
 ghost use Rattle.binlog_filters.specs.declared.filtered.Filtered.{Filtered};
-ghost use Rattle.binlog_commands.specs.declared.copying.Copier.{Copier};
+ghost use Rattle.binlog_filters.specs.declared.copying.Copier.{Copier};
 ghost use Rattle.binlog_commands.specs.declared.gtids.GtidCollector.{GtidCollector};
+ghost use Rattle.binlog_commands.specs.declared.spliced_stats.SplicedStats.{SplicedStats};
 ghost use Rattle.binlog_commands.specs.declared.stats.Stats.{Stats};
+ghost use Rattle.binlog_payload_visits.specs.declared.spliced.Spliced.{Spliced};
 ghost use Rattle.binlog_commands.specs.declared.tally.Tally.{Tally};
 ghost use Rattle.binlog_commands.specs.Collecting.{collected, CollectsAll};
 ghost use Rattle.binlog_commands.specs.Counting.{none_counted};
+ghost use Rattle.binlog_commands.specs.SplicedCounts.{AreSplicedCounts, nothing_counted};
 ghost use Rattle.binlog_commands.specs.Statistics.{no_items};
 ghost use Rattle.binlog_commands.specs.WholeCounts.{AreCounted, AreTallied};
 ghost use Rattle.binlog_commands.specs.TakenCounts.{AreTakenCounted, AreTakenTallied};
-ghost use Rattle.binlog_commands.specs.Parts.{ArePart, event_bytes};
+ghost use Rattle.binlog_filters.specs.CopiedParts.{ArePart, event_bytes};
 ghost use Rattle.binlog_commands.specs.FilteredCopies.{IsFilteredCopy};
 ghost use Rattle.binlog_commands.specs.Wholes.{Gtid, is_known, AreNew, AreNewer};
 
-use crate::copying::Copier;
 use crate::gtids::GtidCollector;
+use crate::spliced_stats::SplicedStats;
 use crate::stats::Stats;
 use crate::tally::Tally;
 use binlog_file::WriteCounted;
-use binlog_filters::Filtered;
+use binlog_filters::{Copier, Filtered};
+use binlog_payload_visits::Spliced;
 use binlog_visits::Visitor;
 use std::io::Write;
 
@@ -49,6 +53,13 @@ pub fn gtids_are_collected<W: WriteCounted>()
 pub fn counts_are_of_all_items()
     ensures { (maps : TableMaps) (items : List (Result EventView Error)) (new : Stats)
         → Visits ⟦<Stats as Visitor>⟧.visits maps 0 items no_items new → AreCounted items new }
+{}
+
+/// The statistics by type are those of all items that were shown, as of a log without compressed transactions; and apart from them those of
+/// all events inside, and of all errors there.
+pub fn spliced_type_counts_are_of_all_items()
+    ensures { (maps : TableMaps) (items : List (Result EventView Error)) (old new : Spliced SplicedStats) → old.visitor ≡ nothing_counted
+        → Visits ⟦<Spliced<SplicedStats> as Visitor>⟧.visits maps 0 items old new → AreSplicedCounts old.limit items new.visitor }
 {}
 
 /// The tally is that of all items that were shown: the number of events, of their bytes, of those with a checksum, and of

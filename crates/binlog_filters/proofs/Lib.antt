@@ -4,3 +4,5 @@ pub mod PassedOn
 pub mod RowsRead
 pub mod Patterns
 pub mod TakenLines
+pub mod CopiedItems
+pub mod CopiedLogs

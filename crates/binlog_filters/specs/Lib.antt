@@ -8,3 +8,5 @@ pub mod Tables
 pub mod Taking
 pub mod Filtering
 pub mod TakenLines
+pub mod Copying
+pub mod CopiedParts

@@ -1,8 +1,9 @@
 //! Takes some of the events of a log: by their positions, their times, their server, their type, the GTIDs of their transactions,
-//! and their tables. Which events are row events, and of which table.
+//! and their tables. Which events are row events, and of which table. A visitor that copies events.
 #![tactic(auto)]
 
 mod concern;
+mod copying;
 mod filter;
 mod filtered;
 mod gtid_set;
@@ -14,6 +15,7 @@ mod state;
 mod tables;
 
 pub use concern::{Concern, RowsConcern};
+pub use copying::Copier;
 pub use filter::{Filter, begins_transaction};
 pub use filtered::Filtered;
 pub use gtid_set::GtidSet;

@@ -203,8 +203,8 @@ impl TableFilter {
         }
     }
 
-    // Whether the table of a table map is asked for.
-    fn asks_for_map(&self, map: &TableMapEvent<'_>) -> bool
+    /// Whether the table of a table map is asked for: both conditions take it.
+    pub fn asks_for_map(&self, map: &TableMapEvent<'_>) -> bool
         ensures { result ≡ asks_for_map self.now map.now }
     {
         let database = map.database_name_raw();

@@ -3,6 +3,7 @@ pub mod Agreement
 pub mod AlikeBits
 pub mod Counts
 pub mod Events
+pub mod NullBits
 pub mod Placing
 pub mod Reading
 pub mod Splits

@@ -76,7 +76,7 @@ is_row_as index true images s y bytes is =
     spelled_by (partial_row images) cells_in_partial_row s (row_at index (partial images) s) y bytes (partial_row_agrees index images s) is
 
 -- A row that is taken is one.
-is_row : (index : ℕ) (shape : RowsShape) (s : List ℕ) (y : RowCells × List ℕ) → IsBytes s → row_at index shape s ≡ Ok y → IsRow shape s y.0 y.1 × IsBytes y.1
+pub is_row : (index : ℕ) (shape : RowsShape) (s : List ℕ) (y : RowCells × List ℕ) → IsBytes s → row_at index shape s ≡ Ok y → IsRow shape s y.0 y.1 × IsBytes y.1
 is_row index shape s y bytes is = is_row_as index shape.is_partial shape.images s y bytes is
 
 row_is_taken_as : (index : ℕ) (is_partial : Bool) (images : RowShape) (s r : List ℕ) (cells : RowCells) → IsRowAs is_partial images s cells r

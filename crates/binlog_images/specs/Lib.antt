@@ -14,6 +14,7 @@ pub mod ImageCells
 pub mod ImageShapes
 pub mod Images
 pub mod Kinds
+pub mod NullBits
 pub mod NullWords
 pub mod Placing
 pub mod RowCells

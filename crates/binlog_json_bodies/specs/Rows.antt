@@ -1,5 +1,5 @@
 -- The objects of table maps and of row events.
-use Rattle.std.specs.Prelude.{ℕ, List, [], ◌++◌, length, take, codes, Option, Some, None}
+use Rattle.std.specs.Prelude.{ℕ, Bool, true, false, List, [], ◌++◌, length, take, codes, Option, Some, None}
 use Rattle.json.specs.Token.{Token}
 use Rattle.binlog_rows.specs.Columns.{Bitmap}
 use Rattle.binlog_file.specs.RowsData.{event_in}
@@ -59,3 +59,8 @@ rows_object e = object (rows_table (event_in e) ++ rows_columns (event_in e) ++ 
 -- The same without its stored rows.
 abbrev pub short_rows_object : RowsEventData → List Token
 short_rows_object e = object (rows_table (event_in e) ++ rows_columns (event_in e))
+
+-- The object of a row event, with its stored rows or without them.
+abbrev pub row_event_object : (has_stored_rows : Bool) → RowsEventData → List Token
+row_event_object true e = rows_object e
+row_event_object false e = short_rows_object e

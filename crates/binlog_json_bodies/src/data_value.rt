@@ -10,15 +10,16 @@ ghost use Rattle.binlog_file.specs.EventRefs.{view_of};
 ghost use Rattle.binlog_file.specs.Parts.{data_of};
 ghost use Rattle.json_line.specs.Tokens.{Adds};
 ghost use Rattle.binlog_json_bodies.specs.ClientSets.{is_of_maria};
-ghost use Rattle.binlog_json_bodies.specs.Data.{empty_object, raw_object, error_object, data_object, short_data_object, name_value, data_value, short_data_value};
+ghost use Rattle.binlog_json_bodies.specs.Data.{empty_object, raw_object, error_object, data_object, name_value, data_value};
 
 use crate::bodies::{
     write_begin_load_query, write_description, write_incident, write_intvar, write_rand,
     write_rotate, write_rows_query, write_xid,
 };
 use crate::gtids::{write_gtid, write_previous_gtids};
-use crate::rows::{write_rows, write_short_rows, write_table_map};
-use crate::statements::{write_execute_load_query, write_query, write_user_var};
+use crate::kept_status_vars::KeptStatusVars;
+use crate::rows::{write_rows, write_table_map};
+use crate::statements::{write_execute_load_query, write_next_query, write_query, write_user_var};
 use binlog_event_types::name_of;
 use binlog_file::{Error, EventData, EventRef, EventType, QueryEvent, UnknownEventType};
 use json_line::Line;
@@ -52,8 +53,26 @@ pub fn write_data(line: &mut Line, alloc: Global, event: &EventRef<'_>) -> Resul
     ensures { Adds result line.old line.new (data_value (view_of event.now).fde
         (data_of (view_of event.now).fde.footer (view_of event.now).frame) (event_type_of (header_of (view_of event.now).frame).event_type)) }
 {
+    let mut none_kept = KeptStatusVars::new(alloc);
+    write_next_data(line, &mut none_kept, alloc, event)
+}
+
+/// Writes the same of an event behind others. The status variables of a statement are copied where they are kept.
+///
+/// # Errors
+///
+/// Those of [`write_data`].
+pub fn write_next_data(
+    line: &mut Line,
+    kept: &mut KeptStatusVars,
+    alloc: Global,
+    event: &EventRef<'_>,
+) -> Result<(), AllocError>
+    ensures { Adds result line.old line.new (data_value (view_of event.now).fde
+        (data_of (view_of event.now).fde.footer (view_of event.now).frame) (event_type_of (header_of (view_of event.now).frame).event_type)) }
+{
     if matches!(event.header().event_type(), Ok(EventType::QUERY_EVENT)) {
-        return write_statement(line, alloc, event);
+        return write_statement(line, kept, alloc, event);
     }
     write_other_data(line, alloc, event)
 }
@@ -75,38 +94,19 @@ fn write_other_data(line: &mut Line, alloc: Global, event: &EventRef<'_>) -> Res
     }
 }
 
-/// Writes the data of an event, that of a row event without its stored rows.
-///
-/// # Errors
-///
-/// [`AllocError`] if an allocation fails. Some tokens may then have been written.
-pub fn write_data_without_rows(
+// Writes the data of a QUERY event. Most events are of this type, and reading it directly is cheaper than filling an
+// `EventData`.
+fn write_statement(
     line: &mut Line,
+    kept: &mut KeptStatusVars,
     alloc: Global,
     event: &EventRef<'_>,
 ) -> Result<(), AllocError>
-    ensures { Adds result line.old line.new (short_data_value (view_of event.now).fde
-        (data_of (view_of event.now).fde.footer (view_of event.now).frame) (event_type_of (header_of (view_of event.now).frame).event_type)) }
-{
-    match event.read_data(alloc) {
-        Ok(Some(body)) => {
-            let written = write_short_object(line, alloc, event, &body);
-            drop(body);
-            written
-        }
-        Ok(None) => line.null(),
-        Err(error) => write_refusal(line, &error),
-    }
-}
-
-// Writes the data of a QUERY event. Most events are of this type, and reading it directly is cheaper than filling an
-// `EventData`.
-fn write_statement(line: &mut Line, alloc: Global, event: &EventRef<'_>) -> Result<(), AllocError>
     ensures { Adds result line.old line.new (data_value (view_of event.now).fde
         (data_of (view_of event.now).fde.footer (view_of event.now).frame) (Ok QUERY_EVENT)) }
 {
     match event.read_event::<QueryEvent<'_>>(alloc) {
-        Ok(statement) => write_query(line, alloc, event, &statement),
+        Ok(statement) => write_next_query(line, kept, alloc, event, &statement),
         Err(refusal) => write_refusal(line, &refusal),
     }
 }
@@ -142,21 +142,6 @@ fn write_raw(line: &mut Line, bytes: &[u8]) -> Result<(), AllocError>
     line.bytes_member("raw", bytes)?;
     line.end_object()?;
     Ok(())
-}
-
-// Writes event data, that of a row event without its stored rows.
-fn write_short_object(
-    line: &mut Line,
-    alloc: Global,
-    event: &EventRef<'_>,
-    body: &EventData<'_>,
-) -> Result<(), AllocError>
-    ensures { Adds result line.old line.new (short_data_object (is_of_maria (view_of event.now).fde) body.now) }
-{
-    match body {
-        EventData::RowsEvent(rows) => write_short_rows(line, rows),
-        _ => write_object(line, alloc, event, body),
-    }
 }
 
 // Writes event data, by its variant.

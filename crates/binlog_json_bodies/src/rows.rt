@@ -5,7 +5,7 @@ ghost use Rattle.std.specs.Prelude.{option_map};
 ghost use Rattle.binlog_file.specs.Images.{bitmap_of};
 ghost use Rattle.json_line.specs.Tokens.{Adds, or_null};
 ghost use Rattle.binlog_json_bodies.specs.Bits.{bits_value};
-ghost use Rattle.binlog_json_bodies.specs.Rows.{mapped_table, mapped_columns, table_map_object, extra_data_member, rows_table, images_members, rows_object, short_rows_object};
+ghost use Rattle.binlog_json_bodies.specs.Rows.{mapped_table, mapped_columns, table_map_object, extra_data_member, rows_table, images_members, rows_object, short_rows_object, row_event_object};
 
 use crate::bits::write_bits;
 use binlog_file::{BitView, RowsEvent, RowsEventData, TableMapEvent};
@@ -45,6 +45,25 @@ fn write_columns(line: &mut Line, event: &TableMapEvent<'_>) -> Result<(), Alloc
     Ok(())
 }
 
+/// Writes the object of a row event, with its stored rows or without them.
+///
+/// # Errors
+///
+/// [`AllocError`] if an allocation fails. Some tokens may then have been written.
+pub fn write_row_event(
+    line: &mut Line,
+    event: &RowsEventData<'_>,
+    has_stored_rows: bool,
+) -> Result<(), AllocError>
+    ensures { Adds result line.old line.new (row_event_object has_stored_rows event.now) }
+{
+    if has_stored_rows {
+        write_rows(line, event)
+    } else {
+        write_short_rows(line, event)
+    }
+}
+
 /// Writes the object of a row event.
 pub(crate) fn write_rows(line: &mut Line, event: &RowsEventData<'_>) -> Result<(), AllocError>
     ensures { Adds result line.old line.new (rows_object event.now) }
@@ -63,8 +82,8 @@ pub(crate) fn write_rows(line: &mut Line, event: &RowsEventData<'_>) -> Result<(
     Ok(())
 }
 
-/// Writes the object of a row event without its stored rows.
-pub(crate) fn write_short_rows(line: &mut Line, event: &RowsEventData<'_>) -> Result<(), AllocError>
+// Writes the object of a row event without its stored rows.
+fn write_short_rows(line: &mut Line, event: &RowsEventData<'_>) -> Result<(), AllocError>
     ensures { Adds result line.old line.new (short_rows_object event.now) }
 {
     let event = event.event();

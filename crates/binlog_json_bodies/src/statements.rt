@@ -11,6 +11,7 @@ ghost use Rattle.binlog_json_bodies.specs.ClientSets.{is_of_maria};
 ghost use Rattle.binlog_json_bodies.specs.Statements.{query_object, execute_load_query_object, loaded_file, user_var_object, user_var_value, head_members, statement_texts, texts_members, schema_and_query, value_type_number};
 
 use crate::client_sets::{client_set, maria_client_set};
+use crate::kept_status_vars::KeptStatusVars;
 use crate::status_vars::write_status_vars;
 use binlog_file::{
     EventRef, ExecuteLoadQueryEvent, ItemResult, QueryEvent, UnknownItemResultType, UserVarEvent,
@@ -20,9 +21,24 @@ use json_line::Line;
 use std::alloc::{AllocError, Global};
 
 /// Writes the object of a QUERY event with this statement.
-#[inline(always)]
+#[inline(never)]
 pub(crate) fn write_query(
     line: &mut Line,
+    alloc: Global,
+    event: &EventRef<'_>,
+    statement: &QueryEvent<'_>,
+) -> Result<(), AllocError>
+    ensures { Adds result line.old line.new (query_object (is_of_maria (view_of event.now).fde) statement.now) }
+{
+    let mut none_kept = KeptStatusVars::new(alloc);
+    write_next_query(line, &mut none_kept, alloc, event, statement)
+}
+
+/// The same of a statement behind others, whose status variables may be kept.
+#[inline(always)]
+pub(crate) fn write_next_query(
+    line: &mut Line,
+    kept: &mut KeptStatusVars,
     alloc: Global,
     event: &EventRef<'_>,
     statement: &QueryEvent<'_>,
@@ -38,6 +54,7 @@ pub(crate) fn write_query(
     )?;
     write_texts(
         line,
+        kept,
         alloc,
         event,
         statement.status_vars_raw(),
@@ -68,6 +85,7 @@ pub(crate) fn write_statement_head(
 #[inline(always)]
 fn write_texts(
     line: &mut Line,
+    kept: &mut KeptStatusVars,
     alloc: Global,
     event: &EventRef<'_>,
     status_vars: &[u8],
@@ -76,7 +94,7 @@ fn write_texts(
 ) -> Result<(), AllocError>
     ensures { Adds result line.old line.new (texts_members (is_of_maria (view_of event.now).fde) status_vars.now schema.now query.now) }
 {
-    let collation = write_status_vars(line, alloc, status_vars)?;
+    let collation = kept.write(line, alloc, status_vars)?;
     let client = client_set(event, collation);
     write_schema_and_query(line, client, schema, query)?;
     Ok(())
@@ -130,8 +148,10 @@ pub(crate) fn write_execute_load_query(
         statement.error_code(),
     )?;
     write_loaded_file(line, statement)?;
+    let mut none_kept = KeptStatusVars::new(alloc);
     write_texts(
         line,
+        &mut none_kept,
         alloc,
         event,
         statement.status_vars_raw(),

@@ -6,3 +6,5 @@ pub mod Answered
 pub mod PartOutput
 pub mod KeptTables
 pub mod Images
+pub mod ReadRows
+pub mod ShownItems

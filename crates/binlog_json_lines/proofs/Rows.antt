@@ -1,10 +1,9 @@
 -- The rows of an event as the value of a member.
-use Rattle.std.proofs.Common.{◌≡◌, Bool, List, [], ◌∷◌, ◌++◌, codes, Option, None, Some, Result, Ok, Err, IfOk, refl, sym, ap, subst, ◌∙◌, append_assoc, append-nil}
+use Rattle.std.proofs.Common.{◌≡◌, ◌||◌, Bool, true, false, not, List, [], ◌∷◌, ◌++◌, codes, Option, None, Some, Result, Ok, Err, IfOk, refl, sym, ap, subst, ◌∙◌, append_assoc}
 use Rattle.json.specs.Token.{Token, key}
 use Rattle.json_line.specs.Tokens.{text_value, member}
 use Rattle.binlog_events.specs.Events.{EventView}
-use Rattle.binlog_event_data.specs.declared.event_data.EventData.{EventData}
-use Rattle.binlog_event_data.specs.declared.event_data.EventData.TheVariants.{RowsEvent}
+use Rattle.binlog_rows.specs.RowsData.{event_in}
 use Rattle.binlog_rows.specs.declared.rows_event_data.RowsEventData.{RowsEventData}
 use Rattle.binlog_optional_metadata.specs.declared.column_facts.ColumnFacts.{ColumnFacts}
 use Rattle.binlog_json_values.specs.Written.{ShowsRows}
@@ -15,11 +14,16 @@ use Rattle.binlog_images.specs.declared.rows.Rows.{Rows}
 use Rattle.binlog_images.specs.declared.rows_error.RowsEventError.{RowsEventError}
 use Rattle.column_files.specs.declared.tables.DeclaredTables.{DeclaredTables}
 use Rattle.binlog_json_lines.specs.declared.row_members.ShownRows.{ShownRows}
-use Rattle.binlog_json_lines.specs.RowMembers.{name_of, nothing_shown, rows_error, StatesColumns, AreReadRows, ShowsStatedRows, AreRowsMembers, AreMappedMembers, IsFlavour, AreBodyMembers, AreMembersOf}
+use Rattle.binlog_json_lines.specs.RowMembers.{name_of, nothing_shown, rows_error, StatesColumns, AreReadRows, ShowsStatedRows, AreRowsMembers, AreMappedMembers, map_for, AreEventMembers, IsFlavour, AreMembersOf}
+use Rattle.binlog_json_lines.specs.ItemLines.{data_member}
+use Rattle.binlog_json_lines.specs.Options.{RowOptions}
+use Rattle.binlog_json_lines.specs.RowsAndData.{AreRowsAndData}
 use Rattle.binlog_json_lines.specs.Refusals.{refusal_value, metadata_member}
-use Rattle.binlog_filters.specs.RowEvents.{rows_in}
+use Rattle.binlog_filters.specs.RowEvents.{rows_event_of}
 use Rattle.binlog_optional_metadata.specs.declared.metadata_error.OptionalMetadataError.{OptionalMetadataError}
+use Rattle.binlog_json_bodies.specs.Rows.{row_event_object}
 use Rattle.binlog_json_bodies.specs.Shown.{Appended, ShowsBy}
+use Rattle.binlog_json_lines.proofs.ReadRows.{data_of_rows}
 
 -- The rows that are written are those of the event.
 pub rows_value : {E : Type 0} (result : Result ShownRows E) (files : List DeclaredTables) (is_maria_log is_partial : Bool) (map : TableMapEvent) (event : rows_events.RowsEvent) (rows : Rows) (old new : List Token)
@@ -67,32 +71,48 @@ mapped_members (Ok shown) files is_maria_log body map old named first new name t
 }
 mapped_members (Err e) files is_maria_log body map old named first new name table appended = appended
 
--- What isn't a row event has no members.
-pub none_in : (body : EventData) → ((event : RowsEventData) → body ≡ RowsEvent event → ⊥) → rows_in body ≡ None
-none_in (RowsEvent event) other = absurd (other event refl)
-none_in body other = refl
+-- ---- the data behind the rows
 
-pub no_members : (files : List DeclaredTables) (event : EventView) (map : Option TableMapEvent) (found : Option RowsEventData) (old : List Token) → found ≡ None
-    → Appended (AreMembersOf files event map found nothing_shown) old old
-no_members files event map None old none = record { tokens = []; are = (refl, refl); is = sym (append-nil old) }
-no_members files event map (Some body) old none = absurd cc
+or_true : (a : Bool) → (a || true) ≡ true
+or_true true = refl
+or_true false = refl
 
-pub no_body_members : (files : List DeclaredTables) (is_maria_log : Bool) (map : Option TableMapEvent) (found : Option RowsEventData) (old : List Token) → found ≡ None
-    → Appended (AreBodyMembers files is_maria_log map found nothing_shown) old old
-no_body_members files is_maria_log map None old none = record { tokens = []; are = (refl, refl); is = sym (append-nil old) }
-no_body_members files is_maria_log map (Some body) old none = absurd cc
+-- What isn't a row event has data alone.
+pub data_alone : (options : RowOptions) (event : EventView) (map : Option TableMapEvent) (old new : List Token) → rows_event_of event ≡ None → new ≡ old ++ data_member true event
+    → Appended (AreRowsAndData options map event None) old new
+data_alone options event map old new none added = record {
+  tokens = data_member true event;
+  are = record {
+    shown = nothing_shown;
+    rows = [];
+    read = subst (λ (found : Option RowsEventData). AreMembersOf options.files event map found nothing_shown []) (sym none) (refl, refl);
+    found = refl;
+    is = ap (λ (has : Bool). data_member has event) (sym (or_true options.keeps_stored));
+  };
+  is = added;
+}
 
-members_by : (files : List DeclaredTables) (event : EventView) (is_maria_log : Bool) (map : Option TableMapEvent) (found : Option RowsEventData) (shown : ShownRows) (tokens : List Token) → IsFlavour event is_maria_log
-    → AreBodyMembers files is_maria_log map found shown tokens → AreMembersOf files event map found shown tokens
-members_by files event is_maria_log map None shown tokens flavour are = are
-members_by files event is_maria_log map (Some body) shown tokens flavour are = (is_maria_log, flavour, are)
-
--- The members of what was read of an event.
-pub members_of : {E : Type 0} (result : Result ShownRows E) (files : List DeclaredTables) (event : EventView) (is_maria_log : Bool) (map : Option TableMapEvent) (found : Option RowsEventData) (old new : List Token)
-    → IsFlavour event is_maria_log → ShowsBy result old new (AreBodyMembers files is_maria_log map found) → ShowsBy result old new (AreMembersOf files event map found)
-members_of (Ok shown) files event is_maria_log map found old new flavour appended =
-    record { tokens = appended.tokens; are = members_by files event is_maria_log map found shown appended.tokens flavour appended.are; is = appended.is }
-members_of (Err e) files event is_maria_log map found old new flavour appended = appended
+-- The members of a row event, and its data behind them.
+pub rows_and_data : (options : RowOptions) (event : EventView) (is_maria_log : Bool) (map : Option TableMapEvent) (body : RowsEventData) (shown : ShownRows) (has_stored_rows : Bool) (old named keyed new : List Token)
+    → rows_event_of event ≡ Some body → IsFlavour event is_maria_log → has_stored_rows ≡ (options.keeps_stored || not shown.all_read)
+    → Appended (AreEventMembers options.files is_maria_log body (map_for (event_in body) map) shown) old named
+    → keyed ≡ named ++ key (codes "data") ∷ [] → new ≡ keyed ++ row_event_object has_stored_rows body
+    → Appended (AreRowsAndData options map event shown.contradiction) old new
+rows_and_data options event is_maria_log map body shown has_stored_rows old named keyed new is flavour has members keys added =
+    let object : List Token = row_event_object has_stored_rows body in
+    record {
+      tokens = members.tokens ++ data_member has_stored_rows event;
+      are = record {
+        shown = shown;
+        rows = members.tokens;
+        read = subst (λ (found : Option RowsEventData). AreMembersOf options.files event map found shown members.tokens) (sym is) (is_maria_log, flavour, members.are);
+        found = refl;
+        is = ap (λ (b : Bool). members.tokens ++ data_member b event) has;
+      };
+      is = added ∙ ap (λ (l : List Token). l ++ object) (keys ∙ ap (λ (l : List Token). l ++ key (codes "data") ∷ []) members.is)
+          ∙ append_assoc (old ++ members.tokens) (key (codes "data") ∷ []) object ∙ append_assoc old members.tokens (key (codes "data") ∷ object)
+          ∙ ap (λ (l : List Token). old ++ (members.tokens ++ key (codes "data") ∷ l)) (sym (data_of_rows has_stored_rows event body is));
+    }
 
 -- The member `rows` with what is in the place of the rows.
 pub refused_members : {E : Type 0} (result : Result ShownRows E) (files : List DeclaredTables) (is_maria_log : Bool) (body : RowsEventData) (map : TableMapEvent) (error : RowsEventError) (found : Option RowsEventError)

@@ -9,8 +9,10 @@ use Rattle.binlog_visits.specs.TableMaps.{maps_behind}
 use Rattle.binlog_declared_columns.specs.Contradictions.{NotesColumn}
 use Rattle.binlog_declared_columns.specs.declared.contradictions.Contradictions.{Contradictions}
 use Rattle.binlog_json_lines.specs.Lines.{IsLineAt, map_of_event}
+use Rattle.binlog_json_lines.specs.PartLines.{IsPartLineAt, map_of_part}
 use Rattle.binlog_json_lines.specs.Options.{RowOptions}
 use Rattle.binlog_json_lines.specs.RowMembers.{schema_in, table_in}
+use Rattle.binlog_payload_visits.specs.Parts.{Part}
 
 -- The table map of the rows of an item.
 abbrev pub map_of_item : TableMaps → Result EventView Error → Option TableMapEvent
@@ -22,6 +24,18 @@ abbrev pub NotesIf : (contradiction : Option ℕ) → Option TableMapEvent → (
 NotesIf None map old new = new ≡ old
 NotesIf (Some column) None old new = new ≡ old
 NotesIf (Some column) (Some map) old new = NotesColumn old new (schema_in map) (table_in map) column
+
+-- The text is the line of an item, and the column of its table that contradicts the files, if one does, is noted.
+pub record ShowsItem (options : RowOptions) (maps : TableMaps) (index : ℕ) (item : Result EventView Error) (old new : Contradictions) (text : List ℕ) : Type 0 where
+  pub contradiction : Option ℕ
+  pub line : IsLineAt options maps index item contradiction text
+  pub noted : NotesIf contradiction (map_of_item maps item) old new
+
+-- The same of a part of the item with this index.
+pub record ShowsPart (options : RowOptions) (maps : TableMaps) (index number : ℕ) (part : Part) (old new : Contradictions) (text : List ℕ) : Type 0 where
+  pub contradiction : Option ℕ
+  pub line : IsPartLineAt options maps index number part contradiction text
+  pub noted : NotesIf contradiction (map_of_part maps part) old new
 
 -- The same as the column of the table with these names.
 abbrev pub own_column : Option TableMapEvent → (schema table : List ℕ) → (contradiction : Option ℕ) → Option ℕ

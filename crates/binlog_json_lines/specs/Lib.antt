@@ -6,6 +6,8 @@ pub mod RowMembers
 pub mod Stated
 pub mod KeptTables
 pub mod KeptRows
+pub mod ReadRows
+pub mod RowsAndData
 pub mod Lines
 pub mod Output
 pub mod Contradicted

@@ -1,5 +1,5 @@
 -- The lines of JSON of a log, with MariaDB's own events.
-use Rattle.std.specs.Prelude.{◌≡◌, ◌⊎◌, ◌||◌, ℕ, Bool, true, false, not, List, [], ◌∷◌, ◌++◌, codes, take, Option, None, Some, Result, Ok, Err}
+use Rattle.std.specs.Prelude.{◌≡◌, ◌⊎◌, ℕ, Bool, true, false, List, [], ◌∷◌, ◌++◌, codes, take, Option, None, Some, Result, Ok, Err}
 use Rattle.std.specs.Io.KnownBytes.{Appends}
 use Rattle.std.specs.Option.{option_and_then}
 use Rattle.json.specs.Print.{print}
@@ -11,7 +11,7 @@ use Rattle.binlog_ends.specs.Counts.{AppendsFront}
 use Rattle.binlog_event_format.specs.Headers.{header_of}
 use Rattle.binlog_events.specs.Events.{EventView}
 use Rattle.binlog_events.specs.Parts.{checksum_of}
-use Rattle.binlog_json_lines.specs.ItemLines.{header_members, event_head, data_member, item_line}
+use Rattle.binlog_json_lines.specs.ItemLines.{header_members, event_head, item_line}
 use Rattle.binlog_consts.specs.EventTypes.{event_type_of}
 use Rattle.binlog_rows.specs.declared.table_map_event.TableMapEvent.{TableMapEvent}
 use Rattle.binlog_json_lines.specs.Options.{RowOptions}
@@ -19,8 +19,7 @@ use Rattle.binlog_json_lines.specs.PayloadLines.{payload_line}
 use Rattle.binlog_payloads.specs.Events.{payload_in}
 use Rattle.binlog_payloads.specs.Fields.{Payload}
 use Rattle.binlog_payloads.specs.declared.error.PayloadError.{PayloadError}
-use Rattle.binlog_json_lines.specs.RowMembers.{AreMembers}
-use Rattle.binlog_json_lines.specs.declared.row_members.ShownRows.{ShownRows}
+use Rattle.binlog_json_lines.specs.RowsAndData.{AreRowsAndData}
 use Rattle.binlog_filters.specs.RowEvents.{is_of_rows, table_id_of}
 use Rattle.binlog_file.specs.TableMapsInForce.{TableMaps}
 use Rattle.binlog_mariadb.specs.EventTypes.{maria_event_number, maria_event_type_of}
@@ -72,15 +71,12 @@ abbrev pub IsLine : ℕ → Result EventView Error → List ℕ → Type 0
 IsLine index (Ok event) text = IsEventLine index event (maria_event_type_of (header_of event.frame).event_type) text
 IsLine index (Err error) text = text ≡ item_line index (Err error)
 
--- The tokens are the object of a row event with its rows, by this table map: the members of its rows are before its data. The data
--- has the stored rows exactly if they are kept in all lines, or if not all rows are read. In this and in the relations below,
--- `contradiction` is the column of the event's table that contradicts the files of columns.
+-- The tokens are the object of a row event with its rows, by this table map: the members of its rows are before its data. In this and in
+-- the relations below, `contradiction` is the column of the event's table that contradicts the files of columns.
 pub record IsRowsObject (options : RowOptions) (map : Option TableMapEvent) (index : ℕ) (event : EventView) (contradiction : Option ℕ) (tokens : List Token) : Type 0 where
-  pub shown : ShownRows
-  pub rows : List Token
-  pub read : AreMembers options.files event map shown rows
-  pub found : contradiction ≡ shown.contradiction
-  pub is : tokens ≡ object (event_head index event ++ rows ++ data_member (options.keeps_stored || not shown.all_read) event)
+  pub members : List Token
+  pub are : AreRowsAndData options map event contradiction members
+  pub is : tokens ≡ object (event_head index event ++ members)
 
 -- The text is the line of a row event with its rows.
 pub record IsRowsLine (options : RowOptions) (map : Option TableMapEvent) (index : ℕ) (event : EventView) (contradiction : Option ℕ) (text : List ℕ) : Type 0 where

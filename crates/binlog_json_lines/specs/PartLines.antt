@@ -1,5 +1,5 @@
 -- The lines of compressed transactions: that of the event with the payload, and those of the events inside.
-use Rattle.std.specs.Prelude.{◌≡◌, ◌⊎◌, ◌||◌, ℕ, not, List, ◌++◌, codes, Option, None, Ok, Err}
+use Rattle.std.specs.Prelude.{◌≡◌, ◌⊎◌, ℕ, List, ◌++◌, codes, Option, None, Ok, Err}
 use Rattle.std.specs.Io.KnownBytes.{Appends}
 use Rattle.json.specs.Print.{print}
 use Rattle.json.specs.Token.{Token}
@@ -12,12 +12,11 @@ use Rattle.binlog_file.specs.TableMapsInForce.{TableMaps}
 use Rattle.binlog_rows.specs.declared.table_map_event.TableMapEvent.{TableMapEvent}
 use Rattle.binlog_payloads.specs.declared.error.PayloadError.{PayloadError}
 use Rattle.binlog_payload_visits.specs.Parts.{Part}
-use Rattle.binlog_json_lines.specs.ItemLines.{event_fields, data_member}
+use Rattle.binlog_json_lines.specs.ItemLines.{event_fields}
 use Rattle.binlog_json_lines.specs.Lines.{map_of_event}
 use Rattle.binlog_json_lines.specs.Options.{RowOptions}
 use Rattle.binlog_json_lines.specs.PayloadRefusals.{refusal_members}
-use Rattle.binlog_json_lines.specs.RowMembers.{AreMembers}
-use Rattle.binlog_json_lines.specs.declared.row_members.ShownRows.{ShownRows}
+use Rattle.binlog_json_lines.specs.RowsAndData.{AreRowsAndData}
 
 -- ---- the events inside
 
@@ -29,15 +28,12 @@ place_members index number = member (codes "index") (number_value index) ++ memb
 abbrev pub part_head : ℕ → ℕ → EventView → List Token
 part_head index number event = place_members index number ++ event_fields event
 
--- The tokens are the object of an event inside. A row event has the members of its rows before its data, by this table map, as outside:
--- the data has the stored rows exactly if they are kept in all lines, or if not all rows are read. `contradiction` is the column of its
--- table that contradicts the files of columns.
+-- The tokens are the object of an event inside. A row event has the members of its rows before its data, by this table map, as outside.
+-- `contradiction` is the column of its table that contradicts the files of columns.
 pub record IsPartObject (options : RowOptions) (map : Option TableMapEvent) (index number : ℕ) (event : EventView) (contradiction : Option ℕ) (tokens : List Token) : Type 0 where
-  pub shown : ShownRows
-  pub rows : List Token
-  pub read : AreMembers options.files event map shown rows
-  pub found : contradiction ≡ shown.contradiction
-  pub is : tokens ≡ object (part_head index number event ++ rows ++ data_member (options.keeps_stored || not shown.all_read) event)
+  pub members : List Token
+  pub are : AreRowsAndData options map event contradiction members
+  pub is : tokens ≡ object (part_head index number event ++ members)
 
 -- The text is the line of an event inside.
 pub record IsPartEventLine (options : RowOptions) (map : Option TableMapEvent) (index number : ℕ) (event : EventView) (contradiction : Option ℕ) (text : List ℕ) : Type 0 where

@@ -1,12 +1,13 @@
 //! The members of the object of an event, and the object of an error.
 #![tactic(auto, using(std::proofs::Common::append_assoc))]
 
+ghost use Rattle.std.specs.Prelude.{true};
 ghost use Rattle.binlog_file.specs.EventRefs.{view_of};
 ghost use Rattle.json_line.specs.Tokens.{Adds};
 ghost use Rattle.binlog_json_lines.specs.ItemLines.{type_members, header_members, checksum_member, event_fields, event_head, data_member, event_members, event_object, error_object, mismatch_members};
 
 use binlog_file::{BinlogEventHeader, Error, EventRef};
-use binlog_json_bodies::{write_data, write_data_without_rows, write_name};
+use binlog_json_bodies::{KeptStatusVars, write_data, write_name, write_next_data};
 use json_line::Line;
 use std::alloc::{AllocError, Global};
 
@@ -14,6 +15,7 @@ use std::alloc::{AllocError, Global};
 #[inline(always)]
 pub(crate) fn write_event(
     line: &mut Line,
+    kept: &mut KeptStatusVars,
     alloc: Global,
     index: u64,
     event: &EventRef<'_>,
@@ -21,7 +23,7 @@ pub(crate) fn write_event(
     ensures { Adds result line.old line.new (event_object index (view_of event.now)) }
 {
     line.begin_object()?;
-    write_event_members(line, alloc, index, event)?;
+    write_event_members(line, kept, alloc, index, event)?;
     line.end_object()?;
     Ok(())
 }
@@ -30,6 +32,7 @@ pub(crate) fn write_event(
 #[inline(always)]
 fn write_event_members(
     line: &mut Line,
+    kept: &mut KeptStatusVars,
     alloc: Global,
     index: u64,
     event: &EventRef<'_>,
@@ -37,7 +40,7 @@ fn write_event_members(
     ensures { Adds result line.old line.new (event_members index (view_of event.now)) }
 {
     write_event_head(line, index, event)?;
-    write_data_member(line, alloc, event, true)?;
+    write_next_data_member(line, kept, alloc, event)?;
     Ok(())
 }
 
@@ -85,8 +88,7 @@ fn write_checksum(line: &mut Line, event: &EventRef<'_>) -> Result<(), AllocErro
     Ok(())
 }
 
-/// Writes the member `data` of the object of an event. Without stored rows, that of a row event has no `rows_data`; nothing else
-/// changes.
+/// Writes the member `data` of the object of an event.
 ///
 /// # Errors
 ///
@@ -96,16 +98,25 @@ pub(crate) fn write_data_member(
     line: &mut Line,
     alloc: Global,
     event: &EventRef<'_>,
-    has_stored_rows: bool,
 ) -> Result<(), AllocError>
-    ensures { Adds result line.old line.new (data_member has_stored_rows (view_of event.now)) }
+    ensures { Adds result line.old line.new (data_member true (view_of event.now)) }
 {
     line.key("data")?;
-    if has_stored_rows {
-        write_data(line, alloc, event)
-    } else {
-        write_data_without_rows(line, alloc, event)
-    }
+    write_data(line, alloc, event)
+}
+
+// The same of an event behind others, whose status variables may be kept.
+#[inline(always)]
+fn write_next_data_member(
+    line: &mut Line,
+    kept: &mut KeptStatusVars,
+    alloc: Global,
+    event: &EventRef<'_>,
+) -> Result<(), AllocError>
+    ensures { Adds result line.old line.new (data_member true (view_of event.now)) }
+{
+    line.key("data")?;
+    write_next_data(line, kept, alloc, event)
 }
 
 // Writes the raw type and the type's name.

@@ -17,6 +17,7 @@ mod part_writer;
 mod payload_refusals;
 mod refusals;
 mod row_members;
+mod rows_read;
 mod writer;
 
 pub use binlog_filters::{is_row_event, table_id};

@@ -1,13 +1,14 @@
 //! The line of an item.
 #![tactic(auto, using(std::proofs::Common::append_assoc))]
 
-ghost use Rattle.std.specs.Prelude.{◌≡◌, ◌||◌, ◌++◌, ℕ, IfErr, IfOk, MatchOption, Ok, Err, codes, option_copied, true, not};
+ghost use Rattle.std.specs.Prelude.{◌≡◌, ◌++◌, ℕ, IfErr, IfOk, MatchOption, Ok, Err, codes, option_copied};
 ghost use Rattle.json.specs.Print.{print};
 ghost use Rattle.json_line.specs.Tokens.{Adds};
 ghost use Rattle.binlog_wire.specs.declared.error.Error.TheVariants.{Memory};
 ghost use Rattle.binlog_event_format.specs.Headers.{header_of};
 ghost use Rattle.binlog_events.specs.EventRefs.{view_of};
 ghost use Rattle.binlog_mariadb.specs.EventTypes.{maria_event_type_of};
+ghost use Rattle.binlog_filters.specs.RowEvents.{rows_event_of};
 ghost use Rattle.binlog_json_lines.specs.ItemLines.{item_line};
 ghost use Rattle.binlog_json_lines.specs.Options.{options_of};
 ghost use Rattle.binlog_json_bodies.specs.Shown.{Shows, ShowsBy};
@@ -16,16 +17,15 @@ ghost use Rattle.binlog_json_lines.specs.PartLines.{IsPartEventLine, part_error_
 ghost use Rattle.binlog_json_lines.specs.PayloadLines.{payload_line};
 ghost use Rattle.binlog_payloads.specs.Events.{payload_in, payload_of};
 
-use crate::event_members::{
-    write_data_member, write_error, write_event, write_event_head, write_header,
-};
+use crate::event_members::{write_error, write_event, write_event_head, write_header};
 use crate::options::LineOptions;
 use crate::part_members::{PartPlace, write_part, write_part_error, write_payload_event};
 use crate::row_members::RowsWriter;
+use crate::rows_read::{read_rows, rows_of_read};
 use binlog_event_types::maria_name_of;
-use binlog_file::{Error, EventRef, TableMapEvent};
+use binlog_file::{Error, EventRef, RowsEventData, TableMapEvent};
 use binlog_filters::is_row_event;
-use binlog_json_bodies::write_maria_data;
+use binlog_json_bodies::{KeptStatusVars, write_maria_data};
 use binlog_mariadb::{MariaEventType, is_maria_log};
 use binlog_payloads::{PayloadError, TransactionPayloadEvent};
 use json_line::Line;
@@ -37,6 +37,7 @@ pub struct JsonLines {
     line: Line,
     text: String,
     rows: RowsWriter,
+    status_vars: KeptStatusVars,
 }
 
 /// The line of an event, its line feed included.
@@ -56,6 +57,7 @@ impl JsonLines {
             line: Line::new(alloc),
             text: String::new(alloc),
             rows: RowsWriter::new(alloc),
+            status_vars: KeptStatusVars::new(alloc),
         }
     }
 
@@ -103,7 +105,7 @@ impl JsonLines {
         ensures memory { IfErr result (λ e. e ≡ Memory) }
     {
         if is_row_event(event) {
-            self.rows_line(alloc, index, event, table_map, options)
+            self.read_rows_line(alloc, index, event, table_map, options)
         } else {
             Ok(EventLine {
                 text: self.line_without_rows(alloc, index, event, options.keeps_stored)?,
@@ -112,10 +114,10 @@ impl JsonLines {
         }
     }
 
-    // The line of an event that is no row event. Where its data are those of a payload, they are shown with the payload's stored bytes
-    // or without them.
+    /// The line of an event that is no row event. Where its data are those of a payload, they are shown with the payload's stored bytes
+    /// or without them.
     #[inline(always)]
-    fn line_without_rows(
+    pub(crate) fn line_without_rows(
         &mut self,
         alloc: Global,
         index: u64,
@@ -165,6 +167,27 @@ impl JsonLines {
         ensures line { IfOk result (λ line. IsPartEventLine (options_of options.now) (option_copied table_map.entry) place.index place.number (view_of event.now) line.contradiction line.text.now) }
         ensures memory { IfErr result (λ e. e ≡ Memory) }
     {
+        let read = read_rows(alloc, event);
+        let rows = rows_of_read(&read);
+        let line = self.part_line_of(alloc, place, event, rows, table_map, options);
+        drop(read);
+        line
+    }
+
+    /// The same of an event of whose data these rows were read.
+    pub(crate) fn part_line_of(
+        &mut self,
+        alloc: Global,
+        place: PartPlace,
+        event: &EventRef<'_>,
+        rows: Option<&RowsEventData<'_>>,
+        table_map: Option<&TableMapEvent<'_>>,
+        options: &LineOptions,
+    ) -> Result<EventLine<'_>, Error>
+        requires { option_copied rows ≡ rows_event_of (view_of event.now) }
+        ensures line { IfOk result (λ line. IsPartEventLine (options_of options.now) (option_copied table_map.entry) place.index place.number (view_of event.now) line.contradiction line.text.now) }
+        ensures memory { IfErr result (λ e. e ≡ Memory) }
+    {
         self.line.clear();
         let contradiction = write_part(
             &mut self.line,
@@ -172,6 +195,7 @@ impl JsonLines {
             alloc,
             place,
             event,
+            rows,
             table_map,
             options,
         )?;
@@ -201,7 +225,7 @@ impl JsonLines {
 
     // The line of a row event with its rows.
     #[inline(never)]
-    fn rows_line(
+    fn read_rows_line(
         &mut self,
         alloc: Global,
         index: u64,
@@ -212,6 +236,27 @@ impl JsonLines {
         ensures line { IfOk result (λ line. IsRowsLine (options_of options.now) (option_copied table_map.entry) index (view_of event.now) line.contradiction line.text.now) }
         ensures memory { IfErr result (λ e. e ≡ Memory) }
     {
+        let read = read_rows(alloc, event);
+        let rows = rows_of_read(&read);
+        let line = self.rows_line(alloc, index, event, rows, table_map, options);
+        drop(read);
+        line
+    }
+
+    /// The line of a row event, of whose data these rows were read, with its rows.
+    pub(crate) fn rows_line(
+        &mut self,
+        alloc: Global,
+        index: u64,
+        event: &EventRef<'_>,
+        rows: Option<&RowsEventData<'_>>,
+        table_map: Option<&TableMapEvent<'_>>,
+        options: &LineOptions,
+    ) -> Result<EventLine<'_>, Error>
+        requires { option_copied rows ≡ rows_event_of (view_of event.now) }
+        ensures line { IfOk result (λ line. IsRowsLine (options_of options.now) (option_copied table_map.entry) index (view_of event.now) line.contradiction line.text.now) }
+        ensures memory { IfErr result (λ e. e ≡ Memory) }
+    {
         self.line.clear();
         let contradiction = write_rows_event(
             &mut self.line,
@@ -219,6 +264,7 @@ impl JsonLines {
             alloc,
             index,
             event,
+            rows,
             table_map,
             options,
         )?;
@@ -279,7 +325,7 @@ impl JsonLines {
         ensures memory { IfErr result (λ e. e ≡ Memory) }
     {
         self.line.clear();
-        write_event(&mut self.line, alloc, index, event)?;
+        write_event(&mut self.line, &mut self.status_vars, alloc, index, event)?;
         Ok(self.line.end()?)
     }
 }
@@ -320,32 +366,26 @@ fn write_own_event(
     Ok(())
 }
 
-// Writes the object of a row event with its rows. The result is the column of its table that contradicts the files of columns.
+// Writes the object of a row event, of whose data these rows were read, with its rows. The result is the column of its table that
+// contradicts the files of columns.
 fn write_rows_event(
     line: &mut Line,
-    rows: &mut RowsWriter,
+    writer: &mut RowsWriter,
     alloc: Global,
     index: u64,
     event: &EventRef<'_>,
+    rows: Option<&RowsEventData<'_>>,
     table_map: Option<&TableMapEvent<'_>>,
     options: &LineOptions,
 ) -> Result<Option<usize>, AllocError>
+    requires { option_copied rows ≡ rows_event_of (view_of event.now) }
     ensures { ShowsBy result line.old line.new (IsRowsObject (options_of options.now) (option_copied table_map.entry) index (view_of event.now)) }
 {
     line.begin_object()?;
     write_event_head(line, index, event)?;
-    let shown = rows.write_members(line, alloc, event, table_map, &options.files)?;
-    let has_stored_rows = has_stored_rows(options.keeps_stored, shown.all_read);
-    write_data_member(line, alloc, event, has_stored_rows)?;
+    let contradiction = writer.write_members(line, alloc, event, rows, table_map, options)?;
     line.end_object()?;
-    Ok(shown.contradiction)
-}
-
-/// Whether the data of a row event has the stored bytes of its rows.
-pub(crate) fn has_stored_rows(keeps_stored: bool, all_read: bool) -> bool
-    ensures { result ≡ (keeps_stored || not all_read) }
-{
-    keeps_stored || !all_read
+    Ok(contradiction)
 }
 
 // Writes the members before the data.

@@ -5,20 +5,20 @@ ghost use Rattle.std.specs.Prelude.{◌≡◌, option_copied};
 ghost use Rattle.json_line.specs.Lines.{IsPlainText};
 ghost use Rattle.json_line.specs.Tokens.{Adds, number_value, object, or_null};
 ghost use Rattle.binlog_events.specs.EventRefs.{view_of};
+ghost use Rattle.binlog_filters.specs.RowEvents.{rows_event_of};
 ghost use Rattle.binlog_payloads.specs.Events.{payload_of};
 ghost use Rattle.binlog_json_bodies.specs.Shown.{ShowsBy};
 ghost use Rattle.binlog_json_lines.specs.Options.{options_of};
 ghost use Rattle.binlog_json_lines.specs.PartLines.{IsPartObject, part_error_object, part_head, place_members};
 ghost use Rattle.binlog_json_lines.specs.PayloadLines.{compression_name, payload_members, payload_object, stored_payload};
 
-use crate::event_members::{write_data_member, write_event_fields, write_event_head};
-use crate::lines::has_stored_rows;
+use crate::event_members::{write_event_fields, write_event_head};
 use crate::options::LineOptions;
 use crate::payload_refusals::write_payload_refusal;
 use crate::row_members::RowsWriter;
 use binlog_events::EventRef;
 use binlog_payloads::{PayloadError, TransactionPayloadCompressionType, TransactionPayloadEvent};
-use binlog_rows::TableMapEvent;
+use binlog_rows::{RowsEventData, TableMapEvent};
 use json_line::Line;
 use std::alloc::{AllocError, Global};
 
@@ -31,30 +31,30 @@ pub struct PartPlace {
     pub number: u64,
 }
 
-/// Writes the object of an event inside, with the rows of a row event. The result is the column of its table that contradicts the
-/// files of columns.
+/// Writes the object of an event inside, of whose data these rows were read, with the rows of a row event. The result is the column
+/// of its table that contradicts the files of columns.
 ///
 /// # Errors
 ///
 /// [`AllocError`] if an allocation fails. Some tokens may then have been written.
 pub(crate) fn write_part(
     line: &mut Line,
-    rows: &mut RowsWriter,
+    writer: &mut RowsWriter,
     alloc: Global,
     place: PartPlace,
     event: &EventRef<'_>,
+    rows: Option<&RowsEventData<'_>>,
     table_map: Option<&TableMapEvent<'_>>,
     options: &LineOptions,
 ) -> Result<Option<usize>, AllocError>
+    requires { option_copied rows ≡ rows_event_of (view_of event.now) }
     ensures { ShowsBy result line.old line.new (IsPartObject (options_of options.now) (option_copied table_map.entry) place.index place.number (view_of event.now)) }
 {
     line.begin_object()?;
     write_part_head(line, place, event)?;
-    let shown = rows.write_members(line, alloc, event, table_map, &options.files)?;
-    let has_stored_rows = has_stored_rows(options.keeps_stored, shown.all_read);
-    write_data_member(line, alloc, event, has_stored_rows)?;
+    let contradiction = writer.write_members(line, alloc, event, rows, table_map, options)?;
     line.end_object()?;
-    Ok(shown.contradiction)
+    Ok(contradiction)
 }
 
 // Writes the members of an event inside before its rows and its data.

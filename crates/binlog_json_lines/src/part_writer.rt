@@ -1,31 +1,88 @@
 //! Writes the lines of the events inside compressed transactions.
-ghost use Rattle.std.specs.Prelude.{◌≡◌, option_copied};
+ghost use Rattle.std.specs.Prelude.{◌≡◌, option_copied, Ok, IfErr, IfOk};
+ghost use Rattle.binlog_wire.specs.declared.error.Error.TheVariants.{Memory};
 ghost use Rattle.binlog_events.specs.EventRefs.{view_of};
-ghost use Rattle.binlog_json_lines.specs.Lines.{map_of_event};
+ghost use Rattle.binlog_filters.specs.RowEvents.{rows_event_of};
+ghost use Rattle.binlog_json_lines.specs.Contradicted.{ShowsPart};
+ghost use Rattle.binlog_json_lines.specs.Options.{options_of};
+ghost use Rattle.binlog_json_lines.specs.ReadRows.{map_of_rows};
 ghost use Rattle.binlog_payload_visits.specs.PartMaps.{maps_of};
 
+use crate::lines::JsonLines;
+use crate::options::LineOptions;
 use crate::part_members::PartPlace;
+use crate::rows_read::{read_rows, rows_of_read};
 use crate::writer::{JsonWriter, note};
-use binlog_file::{CountedRef, Error, EventRef, TableMapEvent};
-use binlog_filters::table_id;
+use binlog_declared_columns::Contradictions;
+use binlog_file::{CountedRef, Error, EventRef, RowsEventData, TableMapEvent};
 use binlog_payload_visits::{PartTableMaps, PartVisitor};
 use binlog_payloads::PayloadError;
 use binlog_visits::write_line;
 use std::alloc::Global;
 use std::io::Write;
 
-// The table map in force inside a compressed transaction for the table id of a row event.
+// The table map in force inside a compressed transaction for the table id of a row event, if one was read.
 fn part_table_map<'a, 'c>(
-    alloc: Global,
-    event: &EventRef<'_>,
+    rows: Option<&RowsEventData<'_>>,
     maps: &'a PartTableMaps<'c>,
 ) -> Option<&'a TableMapEvent<'c>>
-    ensures { option_copied result ≡ map_of_event (maps_of maps.now) (view_of event.now) }
+    ensures { option_copied result ≡ map_of_rows (maps_of maps.now) (option_copied rows.entry) }
 {
-    match table_id(alloc, event) {
-        Some(table_id) => maps.get(table_id),
+    match rows {
+        Some(rows) => maps.get(rows.table_id()),
         None => None,
     }
+}
+
+// The line of an event inside, of whose data these rows were read, by the table map in force. The column of its table that contradicts
+// the files is noted.
+fn line_of_rows<'a>(
+    lines: &'a mut JsonLines,
+    contradictions: &mut Contradictions,
+    alloc: Global,
+    place: PartPlace,
+    event: &EventRef<'_>,
+    rows: Option<&RowsEventData<'_>>,
+    maps: &PartTableMaps<'_>,
+    options: &LineOptions,
+) -> Result<&'a [u8], Error>
+    requires { option_copied rows ≡ rows_event_of (view_of event.now) }
+    ensures shown { IfOk result (λ text. ShowsPart (options_of options.now) (maps_of maps.now) place.index place.number (Ok (view_of event.now)) contradictions.old contradictions.new text.now) }
+    ensures memory { IfErr result (λ e. e ≡ Memory) }
+{
+    let table_map = part_table_map(rows, maps);
+    let line = lines.part_line_of(alloc, place, event, rows, table_map, options)?;
+    note(contradictions, table_map, line.contradiction)?;
+    Ok(line.text)
+}
+
+// The same, of an event whose data is read if it is a row event.
+fn part_line<'a>(
+    lines: &'a mut JsonLines,
+    contradictions: &mut Contradictions,
+    alloc: Global,
+    place: PartPlace,
+    event: &EventRef<'_>,
+    maps: &PartTableMaps<'_>,
+    options: &LineOptions,
+) -> Result<&'a [u8], Error>
+    ensures shown { IfOk result (λ text. ShowsPart (options_of options.now) (maps_of maps.now) place.index place.number (Ok (view_of event.now)) contradictions.old contradictions.new text.now) }
+    ensures memory { IfErr result (λ e. e ≡ Memory) }
+{
+    let read = read_rows(alloc, event);
+    let rows = rows_of_read(&read);
+    let line = line_of_rows(
+        lines,
+        contradictions,
+        alloc,
+        place,
+        event,
+        rows,
+        maps,
+        options,
+    );
+    drop(read);
+    line
 }
 
 /// A visit writes the line of the part, and notes an error, and a table that contradicts the files of columns. It is refused as the
@@ -52,14 +109,18 @@ impl<W: Write> PartVisitor for JsonWriter<W> {
         event: &EventRef<'_>,
         maps: &PartTableMaps<'_>,
     ) -> Result<(), Error> {
-        let table_map = part_table_map(self.alloc, event, maps);
         let place = PartPlace { index, number };
-        let line = self
-            .lines
-            .part_line(self.alloc, place, event, table_map, &self.options)?;
-        note(&mut self.contradictions, table_map, line.contradiction)?;
+        let text = part_line(
+            &mut self.lines,
+            &mut self.contradictions,
+            self.alloc,
+            place,
+            event,
+            maps,
+            &self.options,
+        )?;
         let mut output = CountedRef::new(&mut self.output);
-        write_line(&mut output, line.text)
+        write_line(&mut output, text)
     }
 
     fn visit_part_error(

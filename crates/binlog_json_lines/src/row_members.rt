@@ -1,7 +1,7 @@
-//! The members `table`, `metadata` and `rows`.
+//! The members `table`, `metadata` and `rows`, and `data` behind them.
 #![tactic(auto, using(std::proofs::Common::append_assoc))]
 
-ghost use Rattle.std.specs.Prelude.{◌≡◌, ◌++◌, [], ◌∷◌, codes, Bool, map, None, option_copied, IfOk};
+ghost use Rattle.std.specs.Prelude.{◌≡◌, ◌||◌, ◌++◌, [], ◌∷◌, codes, Bool, map, not, None, Some, option_copied, IfOk};
 ghost use Rattle.json.specs.Token.{key};
 ghost use Rattle.json_line.specs.Tokens.{Adds, member, text_value};
 ghost use Rattle.binlog_wire.specs.Fields.{IsBytes};
@@ -13,19 +13,22 @@ ghost use Rattle.binlog_columns.specs.TableColumns.{columns_of};
 ghost use Rattle.binlog_images.specs.Events.{mapped_columns};
 ghost use Rattle.binlog_json_values.specs.Written.{HasImages};
 ghost use Rattle.binlog_rows.specs.declared.table_map_event.TableMapEvent.{TableMapEvent};
-ghost use Rattle.binlog_json_lines.specs.RowMembers.{name_of, nothing_shown, unmapped_members, rows_error, map_for, ShowsStatedRows, AreRowsMembers, AreEventMembers, AreBodyMembers, AreMembers};
+ghost use Rattle.binlog_json_lines.specs.RowMembers.{name_of, nothing_shown, unmapped_members, rows_error, map_for, ShowsStatedRows, AreRowsMembers, AreEventMembers};
+ghost use Rattle.binlog_json_lines.specs.RowsAndData.{AreRowsAndData};
+ghost use Rattle.binlog_json_lines.specs.Options.{options_of};
 ghost use Rattle.binlog_json_lines.specs.Refusals.{metadata_member, refusal_value};
-ghost use Rattle.binlog_filters.specs.RowEvents.{rows_in};
+ghost use Rattle.binlog_filters.specs.RowEvents.{rows_event_of};
 ghost use Rattle.binlog_json_bodies.specs.Shown.{ShowsBy};
 
+use crate::event_members::write_data_member;
 use crate::kept_tables::{KeptTable, KeptTables, collected};
+use crate::options::LineOptions;
 use crate::refusals::{write_metadata_refusal, write_refusal};
 use binlog_columns::{Column, TableColumns};
 use binlog_declared_columns::table_facts;
-use binlog_event_data::EventData;
 use binlog_events::EventRef;
-use binlog_filters::is_row_event;
 use binlog_images::{Rows, RowsEventError, RowsEventExt};
+use binlog_json_bodies::write_row_event;
 use binlog_json_values::{RowImages, ValueWriter};
 use binlog_mariadb::is_maria_log;
 use binlog_optional_metadata::{OptionalMetadataError, TableMapColumns};
@@ -116,6 +119,13 @@ fn write_refused(line: &mut Line, error: &RowsEventError) -> Result<ShownRows, A
     Ok(ShownRows::nothing())
 }
 
+// Whether the data of a row event has the stored bytes of its rows.
+fn has_stored_rows(keeps_stored: bool, all_read: bool) -> bool
+    ensures { result ≡ (keeps_stored || not all_read) }
+{
+    keeps_stored || !all_read
+}
+
 impl RowsWriter {
     ghost use Rattle.binlog_json_lines.specs.KeptTables.{IsOf};
     ghost use Rattle.binlog_json_lines.specs.KeptRows.{ShowsKept};
@@ -130,66 +140,63 @@ impl RowsWriter {
     }
 
     /// Writes the members `table` and `rows` of a row event, and between them `metadata` where a field of the table map's
-    /// optional metadata is refused; nothing for an event of another type, or one whose data isn't that of a row event. The
-    /// table map is the one in force for the event's table id; one of another table id counts as none. The memory that is
-    /// taken is that of a value's text, and of columns and their facts, which are kept for at most 16 tables.
+    /// optional metadata is refused, and behind them `data`; `data` alone of an event of another type, or one whose data isn't that
+    /// of a row event. `rows` is what was read of its data. The table map is the one in force for the event's table id; one of
+    /// another table id counts as none. The memory that is taken is that of a value's text, and of columns and their facts, which
+    /// are kept for at most 16 tables.
     ///
-    /// What the table map doesn't state of columns is what these files declare of them, unless the table contradicts that. The result
-    /// says whether `rows` has all rows of the event, and which column contradicts the files.
+    /// What the table map doesn't state of columns is what the options' files declare of them, unless the table contradicts that. The
+    /// result is the column that does.
     ///
     /// # Errors
     ///
     /// [`AllocError`] if an allocation fails. Some tokens may then have been written.
-    pub fn write_members(
+    pub(crate) fn write_members(
         &mut self,
         line: &mut Line,
         alloc: Global,
         event: &EventRef<'_>,
+        rows: Option<&RowsEventData<'_>>,
         table_map: Option<&TableMapEvent<'_>>,
-        files: &[DeclaredTables],
-    ) -> Result<ShownRows, AllocError>
-        ensures { ShowsBy result line.old line.new (AreMembers files.now (view_of event.now) (option_copied table_map.entry)) }
+        options: &LineOptions,
+    ) -> Result<Option<usize>, AllocError>
+        requires { option_copied rows ≡ rows_event_of (view_of event.now) }
+        ensures { ShowsBy result line.old line.new (AreRowsAndData (options_of options.now) (option_copied table_map.entry) (view_of event.now)) }
     {
-        if !is_row_event(event) {
-            return Ok(ShownRows::nothing());
-        }
-        match event.read_data(alloc) {
-            Ok(Some(body)) => {
-                let is_maria_log = is_maria_log(&event.fde());
-                let written = self.write_body(line, alloc, &body, table_map, is_maria_log, files);
-                drop(body);
-                written
+        match rows {
+            Some(body) => self.write_read_rows(line, alloc, event, body, table_map, options),
+            None => {
+                write_data_member(line, alloc, event)?;
+                Ok(None)
             }
-            Ok(None) => Ok(ShownRows::nothing()),
-            Err(_) => Ok(ShownRows::nothing()),
         }
     }
 
-    // Writes the members of a body, if it is a row event.
-    fn write_body(
+    // Writes the members of a row event whose data is this body.
+    fn write_read_rows(
         &mut self,
         line: &mut Line,
         alloc: Global,
-        body: &EventData<'_>,
+        event: &EventRef<'_>,
+        body: &RowsEventData<'_>,
         table_map: Option<&TableMapEvent<'_>>,
-        is_maria_log: bool,
-        files: &[DeclaredTables],
-    ) -> Result<ShownRows, AllocError>
-        ensures { ShowsBy result line.old line.new (AreBodyMembers files.now is_maria_log (option_copied table_map.entry) (rows_in body.now)) }
+        options: &LineOptions,
+    ) -> Result<Option<usize>, AllocError>
+        requires { rows_event_of (view_of event.now) ≡ Some body.now }
+        ensures { ShowsBy result line.old line.new (AreRowsAndData (options_of options.now) (option_copied table_map.entry) (view_of event.now)) }
     {
-        match body {
-            EventData::RowsEvent(event) => {
-                self.write_event(
-                    line,
-                    alloc,
-                    event,
-                    map_for(event, table_map),
-                    is_maria_log,
-                    files,
-                )
-            }
-            _ => Ok(ShownRows::nothing()),
-        }
+        let shown = self.write_event(
+            line,
+            alloc,
+            body,
+            map_for(body, table_map),
+            is_maria_log(&event.fde()),
+            &options.files,
+        )?;
+        let has_stored_rows = has_stored_rows(options.keeps_stored, shown.all_read);
+        line.key("data")?;
+        write_row_event(line, body, has_stored_rows)?;
+        Ok(shown.contradiction)
     }
 
     // Writes the members of a row event.

@@ -1,16 +1,21 @@
 //! A visitor that writes the line of each item.
-ghost use Rattle.std.specs.Prelude.{◌≡◌, false, [], option_copied, IfErr, OnOk};
+ghost use Rattle.std.specs.Prelude.{◌≡◌, true, false, [], option_copied, Ok, IfErr, IfOk, OnOk};
 ghost use Rattle.binlog_wire.specs.declared.error.Error.TheVariants.{Memory};
+ghost use Rattle.binlog_consts.specs.EventTypes.{event_type_of};
+ghost use Rattle.binlog_event_format.specs.Headers.{header_of};
 ghost use Rattle.binlog_events.specs.EventRefs.{view_of};
 ghost use Rattle.binlog_file.specs.State.{state_of};
-ghost use Rattle.binlog_json_lines.specs.Lines.{map_of_event};
-ghost use Rattle.binlog_json_lines.specs.Contradicted.{NotesIf};
+ghost use Rattle.binlog_filters.specs.RowEvents.{is_of_rows, rows_event_of};
+ghost use Rattle.binlog_json_lines.specs.Contradicted.{NotesIf, ShowsItem};
+ghost use Rattle.binlog_json_lines.specs.Options.{options_of};
+ghost use Rattle.binlog_json_lines.specs.ReadRows.{map_of_rows};
 
 use crate::lines::JsonLines;
 use crate::options::LineOptions;
+use crate::rows_read::{read_rows, rows_of_read};
 use binlog_declared_columns::Contradictions;
-use binlog_file::{CountedRef, Error, EventRef, EventStreamReader, TableMapEvent};
-use binlog_filters::table_id;
+use binlog_file::{CountedRef, Error, EventRef, EventStreamReader, RowsEventData, TableMapEvent};
+use binlog_filters::is_row_event;
 use binlog_visits::{Refusing, Visitor, write_line};
 use std::alloc::Global;
 use std::io::Write;
@@ -67,17 +72,15 @@ impl<W> JsonWriter<W> {
     }
 }
 
-// The table map in force for the table id of a row event.
-#[inline(always)]
+// The table map in force for the table id of a row event, if one was read.
 fn table_map<'a>(
-    alloc: Global,
-    event: &EventRef<'_>,
+    rows: Option<&RowsEventData<'_>>,
     reader: &'a EventStreamReader,
 ) -> Option<&'a TableMapEvent<'static>>
-    ensures { option_copied result ≡ map_of_event (state_of reader.now).table_maps (view_of event.now) }
+    ensures { option_copied result ≡ map_of_rows (state_of reader.now).table_maps (option_copied rows.entry) }
 {
-    match table_id(alloc, event) {
-        Some(table_id) => reader.get_tme(table_id),
+    match rows {
+        Some(rows) => reader.get_tme(rows.table_id()),
         None => None,
     }
 }
@@ -101,6 +104,81 @@ pub(crate) fn note(
     let (schema, table) = (table_map.database_name_raw(), table_map.table_name_raw());
     contradictions.note(schema, table, column)?;
     Ok(())
+}
+
+// The line of a row event, of whose data these rows were read, by the table map in force. The column of its table that contradicts the
+// files is noted.
+fn line_of_rows<'a>(
+    lines: &'a mut JsonLines,
+    contradictions: &mut Contradictions,
+    alloc: Global,
+    index: u64,
+    event: &EventRef<'_>,
+    rows: Option<&RowsEventData<'_>>,
+    reader: &EventStreamReader,
+    options: &LineOptions,
+) -> Result<&'a [u8], Error>
+    requires rows { is_of_rows (event_type_of (header_of (view_of event.now).frame).event_type) ≡ true }
+    requires read { option_copied rows ≡ rows_event_of (view_of event.now) }
+    ensures shown { IfOk result (λ text. ShowsItem (options_of options.now) (state_of reader.now).table_maps index (Ok (view_of event.now)) contradictions.old contradictions.new text.now) }
+    ensures memory { IfErr result (λ e. e ≡ Memory) }
+{
+    let table_map = table_map(rows, reader);
+    let line = lines.rows_line(alloc, index, event, rows, table_map, options)?;
+    note(contradictions, table_map, line.contradiction)?;
+    Ok(line.text)
+}
+
+// The same, of a row event whose data is read.
+#[inline(never)]
+fn line_with_rows<'a>(
+    lines: &'a mut JsonLines,
+    contradictions: &mut Contradictions,
+    alloc: Global,
+    index: u64,
+    event: &EventRef<'_>,
+    reader: &EventStreamReader,
+    options: &LineOptions,
+) -> Result<&'a [u8], Error>
+    requires { is_of_rows (event_type_of (header_of (view_of event.now).frame).event_type) ≡ true }
+    ensures shown { IfOk result (λ text. ShowsItem (options_of options.now) (state_of reader.now).table_maps index (Ok (view_of event.now)) contradictions.old contradictions.new text.now) }
+    ensures memory { IfErr result (λ e. e ≡ Memory) }
+{
+    let read = read_rows(alloc, event);
+    let rows = rows_of_read(&read);
+    let line = line_of_rows(
+        lines,
+        contradictions,
+        alloc,
+        index,
+        event,
+        rows,
+        reader,
+        options,
+    );
+    drop(read);
+    line
+}
+
+// The line of an event, where a row event has its rows. No data but that of row events is looked at before it is written.
+#[inline(always)]
+fn event_line<'a>(
+    lines: &'a mut JsonLines,
+    contradictions: &mut Contradictions,
+    alloc: Global,
+    index: u64,
+    event: &EventRef<'_>,
+    reader: &EventStreamReader,
+    options: &LineOptions,
+) -> Result<&'a [u8], Error>
+    ensures shown { IfOk result (λ text. ShowsItem (options_of options.now) (state_of reader.now).table_maps index (Ok (view_of event.now)) contradictions.old contradictions.new text.now) }
+    ensures memory { IfErr result (λ e. e ≡ Memory) }
+{
+    if is_row_event(event) {
+        line_with_rows(lines, contradictions, alloc, index, event, reader, options)
+    } else {
+        lines.line_without_rows(alloc, index, event, options.keeps_stored)
+    }
 }
 
 /// A visit writes the line of the item, and notes an error, and a table that contradicts the files of columns. It is refused with [`Error::Writer`] if the writer failed, which
@@ -128,13 +206,17 @@ impl<W: Write> Visitor for JsonWriter<W> {
         event: &EventRef<'_>,
         reader: &EventStreamReader,
     ) -> Result<(), Error> {
-        let table_map = table_map(self.alloc, event, reader);
-        let line = self
-            .lines
-            .event_line_with_rows(self.alloc, index, event, table_map, &self.options)?;
-        note(&mut self.contradictions, table_map, line.contradiction)?;
+        let text = event_line(
+            &mut self.lines,
+            &mut self.contradictions,
+            self.alloc,
+            index,
+            event,
+            reader,
+            &self.options,
+        )?;
         let mut output = CountedRef::new(&mut self.output);
-        write_line(&mut output, line.text)
+        write_line(&mut output, text)
     }
 
     fn visit_error(

@@ -4,6 +4,7 @@ mod FixedValues
 mod RowTexts
 mod Padding
 mod PlainTexts
+mod FixedDecimals
 mod SetTexts
 mod EnumTexts
 mod Commas

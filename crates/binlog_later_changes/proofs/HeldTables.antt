@@ -10,7 +10,7 @@ use Rattle.binlog_later_changes.specs.Tables.{known_of, known_if, known_behind, 
 use Rattle.binlog_later_changes.specs.declared.later_change.EventPlace.{EventPlace}
 use Rattle.binlog_later_changes.specs.declared.later_tables.LaterTables.{LaterTables}
 use Rattle.binlog_later_changes.proofs.LaterLists.{any_more, later_more, firsts_more, first_more}
-use Rattle.binlog_later_changes.proofs.NamedTables.{same_name, own_name}
+use Rattle.change_statistics.proofs.NamedTables.{same_name, own_name}
 
 abbrev looked : EventPlace → What → Look
 looked event what = record { event = event; what = what }

@@ -11,12 +11,14 @@ use Rattle.binlog_payload_visits.specs.Splicing.{Shown, outside, inside, AreSpli
 use Rattle.binlog_payload_visits.specs.declared.spliced.Spliced.{Spliced}
 use Rattle.binlog_payload_visits.proofs.Splicing.{all_spliced}
 use Rattle.crc32_ieee.specs.Checksums.{IsCrc32}
-use Rattle.binlog_undo_index.specs.declared.skips.Skips.{Skips}
 use Rattle.binlog_later_changes.specs.Later.{Look}
 use Rattle.binlog_later_changes.specs.Looks.{At, at_of, in_front, SeesItemIf, SeesPartIf, AreSeen, tail_looks}
 use Rattle.binlog_later_changes.specs.Logs.{most_bytes, sees, refuses, visits_part, SeesLog, FindsLater}
+use Rattle.binlog_later_changes.specs.RowsLeft.{Left, left_of}
 use Rattle.binlog_later_changes.specs.Tables.{Holds, Grows}
 use Rattle.binlog_later_changes.specs.Visits.{Sees, VisitsItem, VisitsOne, EndsLog}
+use Rattle.binlog_later_changes.specs.declared.later_changes.LaterChanges.{LaterChanges}
+use Rattle.binlog_later_changes.specs.declared.later_rules.LaterRules.{LaterRules}
 use Rattle.binlog_later_changes.specs.declared.later_scan.LaterScan.{LaterScan}
 use Rattle.binlog_later_changes.specs.declared.later_tables.LaterTables.{LaterTables}
 use Rattle.binlog_later_changes.specs.declared.undone_events.RowsPlace.{RowsPlace}
@@ -28,61 +30,61 @@ pub grows_both : (one two : List Look) (old mid new : LaterTables) → Grows one
 grows_both one two old mid new a b = λ looks h. subst (λ (l : List Look). Holds l new) (append_assoc looks one two) (b (looks ++ one) (a looks h))
 
 -- These are seen of what was shown.
-record SeesShown (skips : Skips) (log : ℕ) (at : At) (maps part_maps : TableMaps) (shown : List Shown) (old new : LaterScan) : Type 0 where
+record SeesShown (rules : LaterRules) (log : ℕ) (at : At) (maps part_maps : TableMaps) (shown : List Shown) (old new : LaterScan) : Type 0 where
   looks : List Look
-  each : AreSeen skips log at maps part_maps shown looks (at_of new)
-  is_skips : new.skips ≡ skips
+  each : AreSeen rules log at maps part_maps shown looks (at_of new)
+  is_rules : new.rules ≡ rules
   is_log : new.log ≡ log
   grows : Grows looks old.tables new.tables
 
-shown_seen : (skips : Skips) (log : ℕ) (at : At) (maps part_maps : TableMaps) (shown : List Shown) (old new : LaterScan) → old.skips ≡ skips → old.log ≡ log → at_of old ≡ at
-    → VisitsShown VisitsItem visits_part maps part_maps shown old new → SeesShown skips log at maps part_maps shown old new
-shown_seen skips log at maps part_maps [] old new is_skips is_log is_at same = record {
+shown_seen : (rules : LaterRules) (log : ℕ) (at : At) (maps part_maps : TableMaps) (shown : List Shown) (old new : LaterScan) → old.rules ≡ rules → old.log ≡ log → at_of old ≡ at
+    → VisitsShown VisitsItem visits_part maps part_maps shown old new → SeesShown rules log at maps part_maps shown old new
+shown_seen rules log at maps part_maps [] old new is_rules is_log is_at same = record {
   looks = [];
   each = (refl, ap at_of same ∙ is_at);
-  is_skips = ap (λ (s : LaterScan). s.skips) same ∙ is_skips;
+  is_rules = ap (λ (s : LaterScan). s.rules) same ∙ is_rules;
   is_log = ap (λ (s : LaterScan). s.log) same ∙ is_log;
   grows = subst (λ (t : LaterTables). Grows [] old.tables t) (sym (ap (λ (s : LaterScan). s.tables) same)) (grows_none old.tables);
 }
-shown_seen skips log at maps part_maps (outside index item ∷ shown) old new is_skips is_log is_at (mid, one, visited) =
-    let seen = subst (λ (s : Skips). SeesItemIf s log at.is_stopped at (maps_behind maps item) index item one.looks (at_of mid)) is_skips
-    (subst (λ (n : ℕ). SeesItemIf old.skips n at.is_stopped at (maps_behind maps item) index item one.looks (at_of mid)) is_log
-    (subst (λ (a : At). SeesItemIf old.skips old.log a.is_stopped a (maps_behind maps item) index item one.looks (at_of mid)) is_at
-    (subst (λ (a : At). SeesItemIf old.skips old.log old.is_stopped (at_of old) (maps_behind maps item) index item one.looks a) (sym one.sees.at) one.seen))) in
-    let rest = shown_seen skips log (at_of mid) (maps_behind maps item) no_table_maps shown mid new (one.sees.skips ∙ is_skips) (one.sees.log ∙ is_log) refl visited in
+shown_seen rules log at maps part_maps (outside index item ∷ shown) old new is_rules is_log is_at (mid, one, visited) =
+    let seen = subst (λ (s : LaterRules). SeesItemIf s log at.is_stopped at (maps_behind maps item) index item one.looks (at_of mid)) is_rules
+    (subst (λ (n : ℕ). SeesItemIf old.rules n at.is_stopped at (maps_behind maps item) index item one.looks (at_of mid)) is_log
+    (subst (λ (a : At). SeesItemIf old.rules old.log a.is_stopped a (maps_behind maps item) index item one.looks (at_of mid)) is_at
+    (subst (λ (a : At). SeesItemIf old.rules old.log old.is_stopped (at_of old) (maps_behind maps item) index item one.looks a) (sym one.sees.at) one.seen))) in
+    let rest = shown_seen rules log (at_of mid) (maps_behind maps item) no_table_maps shown mid new (one.sees.rules ∙ is_rules) (one.sees.log ∙ is_log) refl visited in
     record {
       looks = one.looks ++ rest.looks;
       each = (one.looks, rest.looks, at_of mid, seen, rest.each, refl);
-      is_skips = rest.is_skips;
+      is_rules = rest.is_rules;
       is_log = rest.is_log;
       grows = grows_both one.looks rest.looks old.tables mid.tables new.tables one.sees.grows rest.grows;
     }
-shown_seen skips log at maps part_maps (inside index number part ∷ shown) old new is_skips is_log is_at (mid, one, visited) =
-    let seen = subst (λ (s : Skips). SeesPartIf s log at.is_stopped at (maps_behind_part part_maps part) part one.looks (at_of mid)) is_skips
-    (subst (λ (n : ℕ). SeesPartIf old.skips n at.is_stopped at (maps_behind_part part_maps part) part one.looks (at_of mid)) is_log
-    (subst (λ (a : At). SeesPartIf old.skips old.log a.is_stopped a (maps_behind_part part_maps part) part one.looks (at_of mid)) is_at
-    (subst (λ (a : At). SeesPartIf old.skips old.log old.is_stopped (at_of old) (maps_behind_part part_maps part) part one.looks a) (sym one.sees.at) one.seen))) in
-    let rest = shown_seen skips log (at_of mid) maps (maps_behind_part part_maps part) shown mid new (one.sees.skips ∙ is_skips) (one.sees.log ∙ is_log) refl visited in
+shown_seen rules log at maps part_maps (inside index number part ∷ shown) old new is_rules is_log is_at (mid, one, visited) =
+    let seen = subst (λ (s : LaterRules). SeesPartIf s log at.is_stopped at (maps_behind_part part_maps part) part one.looks (at_of mid)) is_rules
+    (subst (λ (n : ℕ). SeesPartIf old.rules n at.is_stopped at (maps_behind_part part_maps part) part one.looks (at_of mid)) is_log
+    (subst (λ (a : At). SeesPartIf old.rules old.log a.is_stopped a (maps_behind_part part_maps part) part one.looks (at_of mid)) is_at
+    (subst (λ (a : At). SeesPartIf old.rules old.log old.is_stopped (at_of old) (maps_behind_part part_maps part) part one.looks a) (sym one.sees.at) one.seen))) in
+    let rest = shown_seen rules log (at_of mid) maps (maps_behind_part part_maps part) shown mid new (one.sees.rules ∙ is_rules) (one.sees.log ∙ is_log) refl visited in
     record {
       looks = one.looks ++ rest.looks;
       each = (one.looks, rest.looks, at_of mid, seen, rest.each, refl);
-      is_skips = rest.is_skips;
+      is_rules = rest.is_rules;
       is_log = rest.is_log;
       grows = grows_both one.looks rest.looks old.tables mid.tables new.tables one.sees.grows rest.grows;
     }
 
-pub finds_later : (skips : Skips) (log : ℕ) (undone : List RowsPlace) (bytes : List ℕ) (tables : LaterTables) (old between : Spliced LaterScan) (ended : LaterScan) (tail_len : Option ℕ)
-    → old.limit ≡ most_bytes → old.visitor.skips ≡ skips → old.visitor.log ≡ log → at_of old.visitor ≡ in_front undone → old.visitor.tables ≡ tables
-    → VisitsVerifiedLog IsCrc32 sees refuses bytes old (Ok tail_len) between → EndsLog tail_len between.visitor ended → (at_of ended).left ≡ []
-    → FindsLater skips log undone bytes tables ended.tables
-finds_later skips log undone bytes tables old between ended tail_len limit is_skips is_log is_at is_tables visits ends met =
+pub finds_later : (rules : LaterRules) (log : ℕ) (undone : List RowsPlace) (bytes : List ℕ) (changes found : LaterChanges) (old between : Spliced LaterScan) (ended : LaterScan) (tail_len : Option ℕ)
+    → old.limit ≡ most_bytes → old.visitor.rules ≡ rules → old.visitor.log ≡ log → at_of old.visitor ≡ in_front (left_of changes.rows) undone → old.visitor.tables ≡ changes.tables
+    → VisitsVerifiedLog IsCrc32 sees refuses bytes old (Ok tail_len) between → EndsLog tail_len between.visitor ended → found.tables ≡ ended.tables → left_of found.rows ≡ (at_of ended).rows
+    → (at_of ended).left ≡ [] → FindsLater rules log undone bytes changes found
+finds_later rules log undone bytes changes found old between ended tail_len limit is_rules is_log is_at is_tables visits ends same_tables same_rows met =
     let visited = visits.visited in
     let spliced = all_spliced VisitsItem visits_part (first_place visits.stream).state.table_maps 0 visited.items old between visited.visited in
-    let seen = shown_seen skips log (in_front undone) (first_place visits.stream).state.table_maps no_table_maps spliced.0.shown old.visitor between.visitor is_skips is_log is_at spliced.0.visited in
-    let tail = tail_looks skips log (at_of between.visitor).is_stopped tail_len (at_of between.visitor) in
+    let seen = shown_seen rules log (in_front (left_of changes.rows) undone) (first_place visits.stream).state.table_maps no_table_maps spliced.0.shown old.visitor between.visitor is_rules is_log is_at spliced.0.visited in
+    let tail = tail_looks rules log (at_of between.visitor).is_stopped tail_len (at_of between.visitor) in
     let tail_grows : Grows tail between.visitor.tables ended.tables =
-    subst (λ (s : Skips). Grows (tail_looks s log (at_of between.visitor).is_stopped tail_len (at_of between.visitor)) between.visitor.tables ended.tables) seen.is_skips
-    (subst (λ (n : ℕ). Grows (tail_looks between.visitor.skips n (at_of between.visitor).is_stopped tail_len (at_of between.visitor)) between.visitor.tables ended.tables) seen.is_log ends.sees.grows) in
+    subst (λ (s : LaterRules). Grows (tail_looks s log (at_of between.visitor).is_stopped tail_len (at_of between.visitor)) between.visitor.tables ended.tables) seen.is_rules
+    (subst (λ (n : ℕ). Grows (tail_looks between.visitor.rules n (at_of between.visitor).is_stopped tail_len (at_of between.visitor)) between.visitor.tables ended.tables) seen.is_log ends.sees.grows) in
     record {
       looks = seen.looks ++ tail;
       sees = record {
@@ -96,21 +98,22 @@ finds_later skips log undone bytes tables old between ended tail_len limit is_sk
         end = at_of between.visitor;
         each = seen.each;
         met = sym ends.left ∙ ap (λ (a : At). a.left) (sym ends.sees.at) ∙ met;
+        rows = same_rows ∙ ap (λ (a : At). a.rows) ends.sees.at ∙ ends.rows;
         tail_len = tail_len;
         tail = visited.tail;
         is = refl;
       };
-      grows = subst (λ (t : LaterTables). Grows (seen.looks ++ tail) t ended.tables) is_tables
-          (grows_both seen.looks tail old.visitor.tables between.visitor.tables ended.tables seen.grows tail_grows);
+      grows = subst (λ (t : LaterTables). Grows (seen.looks ++ tail) changes.tables t) (sym same_tables)
+          (subst (λ (t : LaterTables). Grows (seen.looks ++ tail) t ended.tables) is_tables
+          (grows_both seen.looks tail old.visitor.tables between.visitor.tables ended.tables seen.grows tail_grows));
     }
 
-pub later_if : (found : Option LaterTables) (remaining : Option (List ℕ)) (skips : Skips) (log : ℕ) (undone : List RowsPlace) (tables : LaterTables) (old between : Spliced LaterScan) (ended : LaterScan) (tail_len : Option ℕ)
-    → old.limit ≡ most_bytes → old.visitor.skips ≡ skips → old.visitor.log ≡ log → at_of old.visitor ≡ in_front undone → old.visitor.tables ≡ tables
+pub later_if : (found : Option LaterChanges) (remaining : Option (List ℕ)) (rules : LaterRules) (log : ℕ) (undone : List RowsPlace) (changes : LaterChanges) (old between : Spliced LaterScan) (ended : LaterScan) (tail_len : Option ℕ)
+    → old.limit ≡ most_bytes → old.visitor.rules ≡ rules → old.visitor.log ≡ log → at_of old.visitor ≡ in_front (left_of changes.rows) undone → old.visitor.tables ≡ changes.tables
     → IfSome remaining (λ bytes. length bytes < 2 ^ 64 → VisitsVerifiedLog IsCrc32 sees refuses bytes old (Ok tail_len) between) → EndsLog tail_len between.visitor ended
-    → IfSome found (λ own. (own ≡ ended.tables) × ((at_of ended).left ≡ []))
-    → IfSome found (λ own. IfSome remaining (λ bytes. length bytes < 2 ^ 64 → FindsLater skips log undone bytes tables own))
-later_if None remaining skips log undone tables old between ended tail_len limit is_skips is_log is_at is_tables visits ends found = tt
-later_if (Some own) None skips log undone tables old between ended tail_len limit is_skips is_log is_at is_tables visits ends found = tt
-later_if (Some own) (Some bytes) skips log undone tables old between ended tail_len limit is_skips is_log is_at is_tables visits ends (same, met) =
-    λ small. subst (λ (t : LaterTables). FindsLater skips log undone bytes tables t) (sym same)
-    (finds_later skips log undone bytes tables old between ended tail_len limit is_skips is_log is_at is_tables (visits small) ends met)
+    → IfSome found (λ own. (own.tables ≡ ended.tables) × (left_of own.rows ≡ (at_of ended).rows) × ((at_of ended).left ≡ []))
+    → IfSome found (λ own. IfSome remaining (λ bytes. length bytes < 2 ^ 64 → FindsLater rules log undone bytes changes own))
+later_if None remaining rules log undone changes old between ended tail_len limit is_rules is_log is_at is_tables visits ends found = tt
+later_if (Some own) None rules log undone changes old between ended tail_len limit is_rules is_log is_at is_tables visits ends found = tt
+later_if (Some own) (Some bytes) rules log undone changes old between ended tail_len limit is_rules is_log is_at is_tables visits ends (same_tables, same_rows, met) =
+    λ small. finds_later rules log undone bytes changes own old between ended tail_len limit is_rules is_log is_at is_tables (visits small) ends same_tables same_rows met

@@ -1,7 +1,14 @@
 pub mod Later
+pub mod RowKeys
+pub mod KnownRows
+pub mod KeyedRows
+pub mod RowsLeft
+pub mod Changes
+pub mod Apart
 pub mod Tables
 pub mod Places
 pub mod Said
 pub mod Looks
 pub mod Visits
 pub mod Logs
+pub mod SeenRows

@@ -12,13 +12,14 @@ use Rattle.binlog_visits.specs.Places.{first_place, LeavesVerified}
 use Rattle.binlog_visits.specs.Visits.{VisitRelation, RefusalRelation, HasTailAt}
 use Rattle.binlog_wire.specs.declared.error.Error.TheVariants.{Memory}
 use Rattle.crc32_ieee.specs.Checksums.{IsCrc32}
-use Rattle.binlog_undo_index.specs.declared.skips.Skips.{Skips}
 use Rattle.binlog_later_changes.specs.Later.{Look}
 use Rattle.binlog_later_changes.specs.Looks.{At, in_front, AreSeen, tail_looks}
+use Rattle.binlog_later_changes.specs.RowsLeft.{Left, left_of}
 use Rattle.binlog_later_changes.specs.Tables.{Grows}
 use Rattle.binlog_later_changes.specs.Visits.{VisitsItem, VisitsOne}
+use Rattle.binlog_later_changes.specs.declared.later_changes.LaterChanges.{LaterChanges}
+use Rattle.binlog_later_changes.specs.declared.later_rules.LaterRules.{LaterRules}
 use Rattle.binlog_later_changes.specs.declared.later_scan.LaterScan.{LaterScan}
-use Rattle.binlog_later_changes.specs.declared.later_tables.LaterTables.{LaterTables}
 use Rattle.binlog_later_changes.specs.declared.undone_events.RowsPlace.{RowsPlace}
 
 -- The greatest size of a content in bytes, 1 GiB.
@@ -42,8 +43,8 @@ abbrev pub refuses : RefusalRelation (Spliced LaterScan)
 refuses old maps index item error new = RefusesSpliced VisitsItem visits_part refuses_item refuses_part old.limit old.visitor maps index item error new.visitor × (new.limit ≡ old.limit)
 
 -- This is seen of the log with this number, of these bytes: of its verified items, each with the events inside behind it, and of its end. All of the
--- row events that are undone are met, one after the other.
-pub record SeesLog (skips : Skips) (log : ℕ) (undone : List RowsPlace) (bytes : List ℕ) (looks : List Look) : Type 0 where
+-- row events that are undone are met, one after the other. If rows are checked, these were left behind in front of the log, and others are behind it.
+pub record SeesLog (rules : LaterRules) (log : ℕ) (undone : List RowsPlace) (bytes : List ℕ) (before behind : Left) (looks : List Look) : Type 0 where
   pub stream : List ℕ
   pub file : bytes ≡ file_header ++ stream
   pub items : List (Result EventView Error)
@@ -52,14 +53,15 @@ pub record SeesLog (skips : Skips) (log : ℕ) (undone : List RowsPlace) (bytes 
   pub spliced : AreSpliced most_bytes 0 items shown
   pub seen : List Look
   pub end : At
-  pub each : AreSeen skips log (in_front undone) (first_place stream).state.table_maps no_table_maps shown seen end
+  pub each : AreSeen rules log (in_front before undone) (first_place stream).state.table_maps no_table_maps shown seen end
   pub met : end.left ≡ []
+  pub rows : behind ≡ end.rows
   pub tail_len : Option ℕ
   pub tail : HasTailAt (first_place stream) tail_len
-  pub is : looks ≡ seen ++ tail_looks skips log end.is_stopped tail_len end
+  pub is : looks ≡ seen ++ tail_looks rules log end.is_stopped tail_len end
 
 -- What is found grows by what is seen of the log.
-pub record FindsLater (skips : Skips) (log : ℕ) (undone : List RowsPlace) (bytes : List ℕ) (old new : LaterTables) : Type 0 where
+pub record FindsLater (rules : LaterRules) (log : ℕ) (undone : List RowsPlace) (bytes : List ℕ) (old new : LaterChanges) : Type 0 where
   pub looks : List Look
-  pub sees : SeesLog skips log undone bytes looks
-  pub grows : Grows looks old new
+  pub sees : SeesLog rules log undone bytes (left_of old.rows) (left_of new.rows) looks
+  pub grows : Grows looks old.tables new.tables

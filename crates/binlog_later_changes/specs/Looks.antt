@@ -12,18 +12,21 @@ use Rattle.binlog_transactions.specs.declared.refusal.Refusal.TheVariants as ref
 use Rattle.binlog_undo_index.specs.Skips.{is_skipped}
 use Rattle.binlog_undo_index.specs.declared.reason.Reason.{Reason}
 use Rattle.binlog_undo_index.specs.declared.reason.Reason.TheVariants as reasons
-use Rattle.binlog_undo_index.specs.declared.skips.Skips.{Skips}
 use Rattle.change_statistics.specs.Facts.{Name}
+use Rattle.binlog_later_changes.specs.KnownRows.{RowImages, Knows}
 use Rattle.binlog_later_changes.specs.Later.{Cause, table, unknown, What, nothing, undone, other, Look}
 use Rattle.binlog_later_changes.specs.Places.{places_of, is_next, left_behind}
+use Rattle.binlog_later_changes.specs.RowsLeft.{Left, left_of, Leaves, is_apart, is_known_table}
 use Rattle.binlog_later_changes.specs.Said.{Says}
 use Rattle.binlog_later_changes.specs.declared.later_change.EventPlace.{EventPlace}
+use Rattle.binlog_later_changes.specs.declared.later_rules.LaterRules.{LaterRules}
 use Rattle.binlog_later_changes.specs.declared.later_scan.LaterScan.{LaterScan}
 use Rattle.binlog_later_changes.specs.declared.undone_events.RowsPlace.{RowsPlace}
 use Rattle.binlog_later_changes.specs.declared.undone_events.RowsPlace.TheVariants.{InLog, InContent}
 
 -- Where a visitor is in a log: the row events that are undone and weren't met; the item that is visited, its index and its place; the place
--- behind it, and that of the next event inside; how many items were visited; and whether nothing that follows is looked at.
+-- behind it, and that of the next event inside; how many items were visited; whether nothing that follows is looked at; and the rows that what is
+-- undone has left behind, if rows are checked.
 pub record At : Type 0 where
   pub left : List RowsPlace
   pub index : ℕ
@@ -32,6 +35,7 @@ pub record At : Type 0 where
   pub inside : ℕ
   pub items : ℕ
   pub is_stopped : Bool
+  pub rows : Left
 
 abbrev pub at_of : LaterScan → At
 at_of scan = record {
@@ -42,11 +46,12 @@ at_of scan = record {
   inside = scan.inside;
   items = scan.items;
   is_stopped = scan.is_stopped;
+  rows = left_of scan.rows;
 }
 
--- In front of a log of which these row events are undone.
-abbrev pub in_front : List RowsPlace → At
-in_front places = record { left = places; index = 0; place = 0; end = 4; inside = 0; items = 0; is_stopped = false }
+-- In front of a log of which these row events are undone, where these rows were left behind.
+abbrev pub in_front : Left → List RowsPlace → At
+in_front rows places = record { left = places; index = 0; place = 0; end = 4; inside = 0; items = 0; is_stopped = false; rows = rows }
 
 abbrev pub most : ℕ
 most = 2 ^ 64 - 1
@@ -63,10 +68,10 @@ rows_what false name = other (table name)
 
 -- What an event is that says this. `is_met` says whether it is the next row event that is undone. Events that may change any table aren't
 -- noted if their transactions are left as they are for this reason.
-abbrev pub what_of : Skips → (is_met : Bool) → Option Cause → What
-what_of skips is_met None = nothing
-what_of skips is_met (Some (table name)) = rows_what is_met name
-what_of skips is_met (Some (unknown reason)) = unless_skipped (is_skipped skips reason) reason
+abbrev pub what_of : LaterRules → (is_met : Bool) → Option Cause → What
+what_of rules is_met None = nothing
+what_of rules is_met (Some (table name)) = rows_what is_met name
+what_of rules is_met (Some (unknown reason)) = unless_skipped (is_skipped rules.skips reason) reason
 
 -- The row events that are left behind an event at this place that says this.
 abbrev pub left_by : RowsPlace → List RowsPlace → Option Cause → List RowsPlace
@@ -81,15 +86,15 @@ abbrev pub look_of : (log : ℕ) → At → What → Look
 look_of log at what = record { event = event_at log at; what = what }
 
 -- An event at this place that says this.
-abbrev pub look_at : Skips → (log : ℕ) → At → RowsPlace → Option Cause → Look
-look_at skips log at place cause = look_of log at (what_of skips (is_next place at.left) cause)
+abbrev pub look_at : LaterRules → (log : ℕ) → At → RowsPlace → Option Cause → Look
+look_at rules log at place cause = look_of log at (what_of rules (is_next place at.left) cause)
 
 abbrev pub behind : At → RowsPlace → Option Cause → At
 behind at place cause = record at { left = left_by place at.left cause }
 
 -- What is visited may change any table, for this reason.
-abbrev pub unknown_at : Skips → (log : ℕ) → At → Reason → Look
-unknown_at skips log at reason = look_of log at (unless_skipped (is_skipped skips reason) reason)
+abbrev pub unknown_at : LaterRules → (log : ℕ) → At → Reason → Look
+unknown_at rules log at reason = look_of log at (unless_skipped (is_skipped rules.skips reason) reason)
 
 -- ---- items and parts
 
@@ -114,25 +119,51 @@ abbrev pub is_limit : PayloadError → Bool
 is_limit payload_errors.Limit = true
 is_limit error = false
 
-module _ (skips : Skips) (log : ℕ) where
+-- Rows that aren't undone, of a table of which rows are undone. They may be in the way unless they are apart.
+abbrev pub kept_what : (is_apart : Bool) → Name → What
+kept_what true name = nothing
+kept_what false name = other (table name)
+
+module _ (rules : LaterRules) (log : ℕ) where
+  -- What is seen of rows of a table that aren't undone, where rows are checked: nothing, if rows of the table are undone, those of all undone events of
+  -- it are known, and so are these, and none of them removes a row that was left behind. `Is` says what is known of them.
+  abbrev pub SeesKept : (is_known_table : Bool) → (Option (List RowImages) → Type 0) → At → Name → List Look → Type 0
+  SeesKept false Is at name looks = looks ≡ look_of log at (other (table name)) ∷ []
+  SeesKept true Is at name looks = (known : Option (List RowImages)) × Is known × (looks ≡ look_of log at (kept_what (is_apart at.rows.counts name known) name) ∷ [])
+
+  -- Of rows that are undone or aren't.
+  abbrev pub SeesChecked : (is_met : Bool) → (Option (List RowImages) → Type 0) → At → RowsPlace → Name → List Look → At → Type 0
+  SeesChecked true Is at place name looks end =
+      (known : Option (List RowImages)) × Is known × (rows : Left) × Leaves name known at.rows rows × (looks ≡ look_of log at (undone name) ∷ [])
+      × (end ≡ record at { left = left_behind place at.left; rows = rows })
+  SeesChecked false Is at place name looks end = SeesKept (is_known_table (at.rows.tables name)) Is at name looks × (end ≡ record at { left = left_behind place at.left })
+
+  -- Of an event at this place that says this.
+  abbrev pub SeesCauseIf : (checks_rows : Bool) → (Option (List RowImages) → Type 0) → At → RowsPlace → Option Cause → List Look → At → Type 0
+  SeesCauseIf false Is at place cause looks end = (looks ≡ look_at rules log at place cause ∷ []) × (end ≡ behind at place cause)
+  SeesCauseIf true Is at place None looks end = (looks ≡ look_at rules log at place None ∷ []) × (end ≡ behind at place None)
+  SeesCauseIf true Is at place (Some (unknown reason)) looks end = (looks ≡ look_at rules log at place (Some (unknown reason)) ∷ []) × (end ≡ behind at place (Some (unknown reason)))
+  SeesCauseIf true Is at place (Some (table name)) looks end = SeesChecked (is_next place at.left) Is at place name looks end
+
+  abbrev pub SeesCause : (Option (List RowImages) → Type 0) → At → RowsPlace → Option Cause → List Look → At → Type 0
+  SeesCause Is at place cause looks end = SeesCauseIf rules.checks_rows Is at place cause looks end
+
   -- What is seen of an item that is looked at.
   abbrev pub SeesItem : At → TableMaps → ℕ → Result EventView Error → List Look → At → Type 0
   SeesItem at maps index (Ok event) looks end =
-      (cause : Option Cause) × Says maps event cause × (looks ≡ look_at skips log (at_event at index (length event.frame)) (InLog at.end) cause ∷ [])
-      × (end ≡ behind (at_event at index (length event.frame)) (InLog at.end) cause)
+      (cause : Option Cause) × Says maps event cause × SeesCause (Knows maps event) (at_event at index (length event.frame)) (InLog at.end) cause looks end
   SeesItem at maps index (Err error) looks end =
-      (looks ≡ unknown_at skips log (stopped (at_error at index)) reasons.Damaged ∷ []) × (end ≡ stopped (at_error at index))
+      (looks ≡ unknown_at rules log (stopped (at_error at index)) reasons.Damaged ∷ []) × (end ≡ stopped (at_error at index))
 
   -- Of an error in the place of an event inside: a content that is too long, or damage.
   abbrev pub SeesLack : Bool → At → List Look → At → Type 0
-  SeesLack true at looks end = (looks ≡ unknown_at skips log at (reasons.Transaction refusals.Payload) ∷ []) × (end ≡ at)
-  SeesLack false at looks end = (looks ≡ unknown_at skips log (stopped at) reasons.Damaged ∷ []) × (end ≡ stopped at)
+  SeesLack true at looks end = (looks ≡ unknown_at rules log at (reasons.Transaction refusals.Payload) ∷ []) × (end ≡ at)
+  SeesLack false at looks end = (looks ≡ unknown_at rules log (stopped at) reasons.Damaged ∷ []) × (end ≡ stopped at)
 
   -- Of a part.
   abbrev pub SeesPart : At → TableMaps → Part → List Look → At → Type 0
   SeesPart at maps (Ok event) looks end =
-      (cause : Option Cause) × Says maps event cause × (looks ≡ look_at skips log (at_part at (length event.frame)) (InContent at.place at.inside) cause ∷ [])
-      × (end ≡ behind (at_part at (length event.frame)) (InContent at.place at.inside) cause)
+      (cause : Option Cause) × Says maps event cause × SeesCause (Knows maps event) (at_part at (length event.frame)) (InContent at.place at.inside) cause looks end
   SeesPart at maps (Err error) looks end = SeesLack (is_limit error) at looks end
 
   -- Behind damage nothing is looked at.
@@ -158,8 +189,8 @@ module _ (skips : Skips) (log : ℕ) where
 
   -- The end of a log behind which this is the length of the tail: a tail is seen as an event that may change any table.
   abbrev pub tail_seen : Option ℕ → At → List Look
-  tail_seen None at = unknown_at skips log (at_tail at) reasons.Tail ∷ []
-  tail_seen (Some tail_len) at = if tail_len == 0 then [] else unknown_at skips log (at_tail at) reasons.Tail ∷ []
+  tail_seen None at = unknown_at rules log (at_tail at) reasons.Tail ∷ []
+  tail_seen (Some tail_len) at = if tail_len == 0 then [] else unknown_at rules log (at_tail at) reasons.Tail ∷ []
 
   abbrev pub tail_looks : (is_stopped : Bool) → Option ℕ → At → List Look
   tail_looks true tail_len at = []

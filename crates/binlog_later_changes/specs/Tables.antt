@@ -65,7 +65,3 @@ pub record Finds (name : Name) (event : EventPlace) (old new : LaterTables) : Ty
 -- These events follow.
 abbrev pub Grows : List Look → LaterTables → LaterTables → Type 0
 Grows own old new = (looks : List Look) → Holds looks old → Holds (looks ++ own) new
-
--- No event yet.
-abbrev pub IsFresh : LaterTables → Type 0
-IsFresh tables = Holds [] tables

@@ -6,12 +6,12 @@ ghost use Rattle.binlog_visits.specs.Visits.{VisitsVerifiedLog};
 ghost use Rattle.binlog_later_changes.specs.Logs.{sees, refuses, FindsLater};
 ghost use Rattle.binlog_later_changes.specs.Places.{places_of};
 
+use crate::later_changes::LaterChanges;
+use crate::later_rules::LaterRules;
 use crate::later_scan::LaterScan;
-use crate::later_tables::LaterTables;
 use crate::undone_events::UndoneEvents;
 use binlog_file::{Error, ReadCounted};
 use binlog_payload_visits::Spliced;
-use binlog_undo_index::Skips;
 use binlog_visits::visit_verified_counted;
 use crc32_ieee::Crc32;
 use std::alloc::Global;
@@ -19,10 +19,9 @@ use std::alloc::Global;
 /// The greatest size of the content of a compressed transaction in bytes, 1 GiB.
 const MOST_BYTES: usize = 1_073_741_824;
 
-/// Finds what is in the log with this number, from 0, behind row events that are undone, and may be in the way of that: `tables` has what was
-/// found in the logs in front of it, and `undone` are the row events of the log that are undone. Each item is looked at, with its CRC-32 verified, and
-/// the events inside compressed transactions of at most 1 GiB. Events that may change any table are left out if their transactions are left as
-/// they are for one of the reasons `skips`. None if the log doesn't have all of `undone`, in this order.
+/// Finds what is in the log with this number, from 0, behind row events that are undone, and may be in the way of that by these rules: `changes` has what
+/// was found in the logs in front of it, and `undone` are the row events of the log that are undone. Each item is looked at, with its CRC-32 verified,
+/// and the events inside compressed transactions of at most 1 GiB. None if the log doesn't have all of `undone`, in this order.
 ///
 /// # Errors
 ///
@@ -30,19 +29,19 @@ const MOST_BYTES: usize = 1_073_741_824;
 pub fn find_later<R: ReadCounted>(
     alloc: Global,
     input: &mut R,
-    skips: Skips,
+    rules: LaterRules,
     log: u64,
     undone: UndoneEvents<'_>,
-    tables: LaterTables,
-) -> Result<Option<LaterTables>, Error>
-    ensures { IfOk result (λ found. IfSome found (λ new. IfSome (R.remaining input.old) (λ bytes. length bytes < 2 ^ 64 → FindsLater skips log (places_of undone.entry) bytes tables new))) }
+    changes: LaterChanges,
+) -> Result<Option<LaterChanges>, Error>
+    ensures { IfOk result (λ found. IfSome found (λ new. IfSome (R.remaining input.old) (λ bytes. length bytes < 2 ^ 64 → FindsLater rules log (places_of undone.entry) bytes changes new))) }
 {
-    let scan = LaterScan::new(alloc, skips, log, undone, tables);
+    let scan = LaterScan::new(alloc, rules, log, undone, changes);
     let mut spliced = Spliced::new(alloc, MOST_BYTES, scan);
     let tail_len = visit_log(alloc, input, &mut spliced)?;
     let mut scan = spliced.visitor;
     scan.end(tail_len)?;
-    Ok(scan.into_tables())
+    Ok(scan.into_changes())
 }
 
 // Visits each item of a log, and returns the length of its tail.

@@ -7,14 +7,20 @@ ghost use Rattle.binlog_file.specs.LogData.{ReadsLogData};
 ghost use Rattle.binlog_payload_visits.specs.PartMaps.{maps_of};
 ghost use Rattle.binlog_undo_index.specs.declared.reason.Reason.TheVariants.{Damaged};
 ghost use Rattle.change_statistics.specs.Names.{name_of};
-ghost use Rattle.binlog_later_changes.specs.Later.{table};
-ghost use Rattle.binlog_later_changes.specs.Looks.{at_of, in_front, at_event, at_error, at_part, behind, look_at, stopped, event_at, unknown_at, is_limit};
+ghost use Rattle.binlog_later_changes.specs.KnownRows.{KnowsIfMapped};
+ghost use Rattle.binlog_later_changes.specs.Later.{table, other};
+ghost use Rattle.binlog_later_changes.specs.Looks.{at_of, in_front, at_event, at_error, at_part, behind, look_at, look_of, stopped, event_at, unknown_at, is_limit};
 ghost use Rattle.binlog_later_changes.specs.Places.{places_of};
 ghost use Rattle.binlog_later_changes.specs.Said.{said_of, rows_in, map_for, is_memory};
-ghost use Rattle.binlog_later_changes.specs.Visits.{Sees, SeesRead, EndsLog, Enters};
+ghost use Rattle.binlog_later_changes.specs.RowsLeft.{left_of};
+ghost use Rattle.binlog_later_changes.specs.Visits.{Sees, SeesSaid, SeesUndoneRows, SeesKeptRows, SeesCheckedRows, SeesRead, EndsLog, Enters};
 
+use crate::known_rows::event_rows;
 use crate::later_change::EventPlace;
+use crate::later_changes::LaterChanges;
+use crate::later_rules::LaterRules;
 use crate::later_tables::LaterTables;
+use crate::rows_left::RowsLeft;
 use crate::saying::{RowsIn, Said, role_of, rows_in, say};
 use crate::undone_events::{RowsPlace, UndoneEvents};
 use binlog_file::{
@@ -24,7 +30,7 @@ use binlog_payload_visits::{PartTableMaps, PartVisitor};
 use binlog_payloads::PayloadError;
 use binlog_rows::TableMapEvent;
 use binlog_transactions::Refusal;
-use binlog_undo_index::{Reason, Skips};
+use binlog_undo_index::Reason;
 use binlog_visits::Visitor;
 use change_statistics::TableName;
 use std::alloc::Global;
@@ -34,8 +40,8 @@ use std::alloc::Global;
 #[derive(Drop)]
 pub(crate) struct LaterScan<'a> {
     alloc: Global,
-    // Events that may change any table aren't noted if their transactions are left as they are for one of these reasons.
-    skips: Skips,
+    // Which events may be in the way.
+    rules: LaterRules,
     // The number of the log, from 0, and what is undone of it.
     log: u64,
     undone: UndoneEvents<'a>,
@@ -48,27 +54,27 @@ pub(crate) struct LaterScan<'a> {
     items: u64,
     is_stopped: bool,
     tables: LaterTables,
+    rows: RowsLeft,
 }
 
 impl<'a> LaterScan<'a> {
-    /// In front of the first item of the log with this number, from 0, of which these row events are undone. `tables` has what was found in the logs
-    /// in front of it. Events that may change any table aren't noted if their transactions are left as they are for one of the reasons
-    /// `skips`.
+    /// In front of the first item of the log with this number, from 0, of which these row events are undone. `changes` has what was found in the logs
+    /// in front of it. The rules say which events may be in the way.
     pub(crate) fn new(
         alloc: Global,
-        skips: Skips,
+        rules: LaterRules,
         log: u64,
         undone: UndoneEvents<'a>,
-        tables: LaterTables,
+        changes: LaterChanges,
     ) -> Self
-        ensures at { at_of result ≡ in_front (places_of undone.entry) }
-        ensures skips { result.skips ≡ skips }
+        ensures at { at_of result ≡ in_front (left_of changes.rows) (places_of undone.entry) }
+        ensures rules { result.rules ≡ rules }
         ensures log { result.log ≡ log }
-        ensures tables { result.tables ≡ tables }
+        ensures tables { result.tables ≡ changes.tables }
     {
         LaterScan {
             alloc,
-            skips,
+            rules,
             log,
             undone,
             index: 0,
@@ -77,17 +83,21 @@ impl<'a> LaterScan<'a> {
             inside: 0,
             items: 0,
             is_stopped: false,
-            tables,
+            tables: changes.tables,
+            rows: changes.rows,
         }
     }
 
     /// What was found, if all row events of the log that are undone were met.
-    pub(crate) fn into_tables(self) -> Option<LaterTables>
-        ensures { IfSome result (λ tables. (tables ≡ self.entry.tables) × ((at_of self.entry).left ≡ [])) }
+    pub(crate) fn into_changes(self) -> Option<LaterChanges>
+        ensures { IfSome result (λ changes. (changes.tables ≡ self.entry.tables) × (left_of changes.rows ≡ (at_of self.entry).rows) × ((at_of self.entry).left ≡ [])) }
     {
         let mut undone = self.undone;
         if undone.is_done() {
-            Some(self.tables)
+            Some(LaterChanges {
+                tables: self.tables,
+                rows: self.rows,
+            })
         } else {
             None
         }
@@ -149,10 +159,10 @@ impl<'a> LaterScan<'a> {
 
     // Notes that what is visited may change any table, for this reason.
     fn note_unknown(&mut self, reason: Reason) -> Result<(), Error>
-        ensures ok { OnOk result (Sees (unknown_at self.old.skips self.old.log (at_of self.old) reason ∷ []) (at_of self.old) self.old self.new) }
+        ensures ok { OnOk result (Sees (unknown_at self.old.rules self.old.log (at_of self.old) reason ∷ []) (at_of self.old) self.old self.new) }
         ensures memory { IfErr result (λ e. e ≡ Memory) }
     {
-        if self.skips.has(reason) {
+        if self.rules.skips.has(reason) {
             return Ok(());
         }
         let here = self.event();
@@ -162,7 +172,7 @@ impl<'a> LaterScan<'a> {
 
     // Notes that an event at this place has rows of this table.
     fn note_rows(&mut self, place: RowsPlace, name: TableName) -> Result<(), Error>
-        ensures ok { OnOk result (Sees (look_at self.old.skips self.old.log (at_of self.old) place (Some (table (name_of name))) ∷ []) (behind (at_of self.old) place (Some (table (name_of name)))) self.old self.new) }
+        ensures ok { OnOk result (Sees (look_at self.old.rules self.old.log (at_of self.old) place (Some (table (name_of name))) ∷ []) (behind (at_of self.old) place (Some (table (name_of name)))) self.old self.new) }
         ensures memory { IfErr result (λ e. e ≡ Memory) }
     {
         if self.undone.meet(place) {
@@ -174,21 +184,112 @@ impl<'a> LaterScan<'a> {
         Ok(())
     }
 
-    // Notes what an event says that is at this place.
-    fn note(&mut self, place: RowsPlace, said: Said) -> Result<(), Error>
-        ensures ok { OnOk result (Sees (look_at self.old.skips self.old.log (at_of self.old) place (said_of said) ∷ []) (behind (at_of self.old) place (said_of said)) self.old self.new) }
+    // Notes that an event has rows of this table, and isn't undone.
+    fn note_kept(&mut self, name: TableName) -> Result<(), Error>
+        ensures ok { OnOk result (Sees (look_of self.old.log (at_of self.old) (other (table (name_of name))) ∷ []) (at_of self.old) self.old self.new) }
+        ensures memory { IfErr result (λ e. e ≡ Memory) }
+    {
+        let here = self.event();
+        self.tables.change(here, name)?;
+        Ok(())
+    }
+
+    // Notes that an event of which this was read has rows of this table, which are undone.
+    fn check_undone(
+        &mut self,
+        name: TableName,
+        event: &EventRef<'_>,
+        read: &Result<Option<LogEventData<'_>>, Error>,
+        map: Option<&TableMapEvent<'_>>,
+    ) -> Result<(), Error>
+        ensures ok { OnOk result (SeesUndoneRows (KnowsIfMapped (view_of event.now) (option_copied map.entry) read.now) (name_of name) self.old self.new) }
+        ensures memory { IfErr result (λ e. e ≡ Memory) }
+    {
+        let rows = event_rows(self.alloc, &name, event, read, map)?;
+        self.rows.undo(&name, rows)?;
+        self.tables.undo(name)?;
+        Ok(())
+    }
+
+    // Notes that an event of which this was read has rows of this table, and isn't undone, unless it removes no row that was left behind.
+    fn check_kept(
+        &mut self,
+        name: TableName,
+        event: &EventRef<'_>,
+        read: &Result<Option<LogEventData<'_>>, Error>,
+        map: Option<&TableMapEvent<'_>>,
+    ) -> Result<(), Error>
+        ensures ok { OnOk result (SeesKeptRows (KnowsIfMapped (view_of event.now) (option_copied map.entry) read.now) (name_of name) self.old self.new) }
+        ensures memory { IfErr result (λ e. e ≡ Memory) }
+    {
+        if !self.rows.knows(&name) {
+            return self.note_kept(name);
+        }
+        let rows = event_rows(self.alloc, &name, event, read, map)?;
+        if self.rows.is_apart(rows) {
+            return Ok(());
+        }
+        self.note_kept(name)
+    }
+
+    // Notes that an event at this place has rows of this table, where rows are checked.
+    fn check_rows(
+        &mut self,
+        place: RowsPlace,
+        name: TableName,
+        event: &EventRef<'_>,
+        read: &Result<Option<LogEventData<'_>>, Error>,
+        map: Option<&TableMapEvent<'_>>,
+    ) -> Result<(), Error>
+        ensures ok { OnOk result (SeesCheckedRows (KnowsIfMapped (view_of event.now) (option_copied map.entry) read.now) place (name_of name) self.old self.new) }
+        ensures memory { IfErr result (λ e. e ≡ Memory) }
+    {
+        if self.undone.meet(place) {
+            return self.check_undone(name, event, read, map);
+        }
+        self.check_kept(name, event, read, map)
+    }
+
+    // Notes that an event at this place has rows of this table, where rows are checked or aren't.
+    fn note_rows_by_rules(
+        &mut self,
+        place: RowsPlace,
+        name: TableName,
+        event: &EventRef<'_>,
+        read: &Result<Option<LogEventData<'_>>, Error>,
+        map: Option<&TableMapEvent<'_>>,
+    ) -> Result<(), Error>
+        ensures ok { OnOk result (SeesSaid (KnowsIfMapped (view_of event.now) (option_copied map.entry) read.now) place (Some (table (name_of name))) self.old self.new) }
+        ensures memory { IfErr result (λ e. e ≡ Memory) }
+    {
+        if self.rules.checks_rows {
+            return self.check_rows(place, name, event, read, map);
+        }
+        self.note_rows(place, name)
+    }
+
+    // Notes what an event says that is at this place, and of which this was read.
+    fn note(
+        &mut self,
+        place: RowsPlace,
+        said: Said,
+        event: &EventRef<'_>,
+        read: &Result<Option<LogEventData<'_>>, Error>,
+        map: Option<&TableMapEvent<'_>>,
+    ) -> Result<(), Error>
+        ensures ok { OnOk result (SeesSaid (KnowsIfMapped (view_of event.now) (option_copied map.entry) read.now) place (said_of said) self.old self.new) }
         ensures memory { IfErr result (λ e. e ≡ Memory) }
     {
         match said {
             Said::Nothing => Ok(()),
             Said::Unknown(reason) => self.note_unknown(reason),
-            Said::Rows(name) => self.note_rows(place, name),
+            Said::Rows(name) => self.note_rows_by_rules(place, name, event, read, map),
         }
     }
 
     // Nothing that follows in the log is looked at: what is visited is damaged.
     fn stop(&mut self) -> Result<(), Error>
-        ensures ok { OnOk result (Sees (unknown_at self.old.skips self.old.log (stopped (at_of self.old)) Damaged ∷ []) (stopped (at_of self.old)) self.old self.new) }
+        ensures ok { OnOk result (Sees (unknown_at self.old.rules self.old.log (stopped (at_of self.old)) Damaged ∷ []) (stopped (at_of self.old)) self.old self.new) }
         ensures memory { IfErr result (λ e. e ≡ Memory) }
     {
         self.is_stopped = true;
@@ -210,7 +311,7 @@ impl<'a> LaterScan<'a> {
             return Err(Error::Memory);
         }
         let said = say(self.alloc, role_of(event), read, map)?;
-        self.note(place, said)
+        self.note(place, said, event, read, map)
     }
 }
 

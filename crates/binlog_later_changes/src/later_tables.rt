@@ -2,7 +2,7 @@
 ghost use Rattle.std.specs.Prelude.{◌≡◌, ◌∷◌, [], map, IfOk, OnOk};
 ghost use Rattle.change_statistics.specs.Names.{name_of};
 ghost use Rattle.binlog_later_changes.specs.Later.{What, undone, other, table, unknown};
-ghost use Rattle.binlog_later_changes.specs.Tables.{change_of, found_in, known_of, Puts, Finds, Grows, IsFresh};
+ghost use Rattle.binlog_later_changes.specs.Tables.{change_of, found_in, known_of, Puts, Finds, Grows, Holds};
 
 use crate::later_change::{EventPlace, LaterChange, LaterReason};
 use binlog_undo_index::Reason;
@@ -13,7 +13,7 @@ use std::alloc::{AllocError, Global};
 /// The tables of which rows are undone so far, and the first event behind that of each that may be in the way. Memory is taken for the names of
 /// these tables alone.
 #[derive(Drop)]
-pub struct LaterTables {
+pub(crate) struct LaterTables {
     alloc: Global,
     // Whether a later change of the table was found.
     tables: IndexMap<TableName, bool>,
@@ -26,8 +26,8 @@ pub struct LaterTables {
 
 impl LaterTables {
     /// No table. Nothing is allocated.
-    pub fn new(alloc: Global) -> Self
-        ensures { IsFresh result }
+    pub(crate) fn new(alloc: Global) -> Self
+        ensures { Holds [] result }
     {
         LaterTables {
             alloc,
@@ -39,7 +39,7 @@ impl LaterTables {
     }
 
     /// What was found, in order.
-    pub fn found(&self) -> &[LaterChange]
+    pub(crate) fn found(&self) -> &[LaterChange]
         ensures { map change_of result.now ≡ found_in self.now }
     {
         self.found.as_slice()
@@ -114,8 +114,8 @@ impl LaterTables {
     }
 }
 
-// The same names.
-fn copy_of(alloc: Global, name: &TableName) -> Result<TableName, AllocError>
+/// The same names.
+pub(crate) fn copy_of(alloc: Global, name: &TableName) -> Result<TableName, AllocError>
     ensures { IfOk result (λ copy. name_of copy ≡ name_of name.now) }
 {
     let database = name.database.as_slice();

@@ -4,7 +4,7 @@ ghost use Rattle.binlog_wire.specs.declared.error.Error.{Error};
 ghost use Rattle.binlog_events.specs.Events.{EventView};
 ghost use Rattle.binlog_file.specs.TableMapsInForce.{TableMaps};
 ghost use Rattle.binlog_visits.specs.Visits.{Visits, VisitsLog};
-ghost use Rattle.binlog_commands.specs.declared.copying.Copier.{Copier};
+ghost use Rattle.binlog_filters.specs.declared.copying.Copier.{Copier};
 ghost use Rattle.binlog_payload_filters.specs.Copies.{IsFilteredCopy};
 ghost use Rattle.binlog_payload_filters.specs.Shown.{ShowsParts, ShowsTaken};
 ghost use Rattle.binlog_payload_filters.specs.declared.filtered.PayloadFiltered.{PayloadFiltered};
@@ -14,8 +14,7 @@ ghost use Rattle.binlog_payload_visits.specs.PartVisits.{VisitsParts};
 
 use crate::filtered::PayloadFiltered;
 use crate::taken_parts::TakenParts;
-use binlog_commands::Copier;
-use binlog_filters::Filtered;
+use binlog_filters::{Copier, Filtered};
 use binlog_payload_visits::PartVisitor;
 use binlog_visits::Visitor;
 use std::io::Write;

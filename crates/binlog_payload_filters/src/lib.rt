@@ -2,7 +2,6 @@
 //! that are asked for, and [`TakenParts`] shows a visitor only these of the events inside.
 #![tactic(auto)]
 
-mod asked;
 mod concerned;
 mod filtered;
 pub mod laws;

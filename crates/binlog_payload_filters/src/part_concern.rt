@@ -5,7 +5,6 @@ ghost use Rattle.binlog_events.specs.EventRefs.{view_of};
 ghost use Rattle.binlog_payload_visits.specs.PartMaps.{maps_of};
 ghost use Rattle.binlog_payload_filters.specs.PartConcerns.{IsConcern, TakesEvent, may_change, rows_concern};
 
-use crate::asked::asks_for_map;
 use binlog_consts::BinlogVersion;
 use binlog_events::EventRef;
 use binlog_file::EventStreamReader;
@@ -56,7 +55,7 @@ fn rows_concern(tables: &TableFilter, table_id: Option<u64>, maps: &PartTableMap
         return Concern::Taken;
     };
     let is_asked = match maps.get(table_id) {
-        Some(map) => Some(asks_for_map(tables, map)),
+        Some(map) => Some(tables.asks_for_map(map)),
         None => None,
     };
     Concern::Rows(RowsConcern {

@@ -3,3 +3,7 @@ pub mod PartMaps
 pub mod PartVisits
 pub mod Splicing
 pub mod Stepping
+pub mod Finding
+pub mod Noting
+pub mod Checking
+pub mod Damaged

@@ -6,7 +6,7 @@ use Rattle.binlog_images.specs.Cells.{Cell, absent, null, value, ImageShape, pre
 use Rattle.binlog_row_writing.specs.NewContents.{Contained, content_for}
 use Rattle.binlog_row_writing.specs.NewCells.{is_new_null, cell_refusal, cell_bytes}
 use Rattle.binlog_row_writing.specs.Walks.{WalkView, first_walk, next_walk, value_at}
-use Rattle.binlog_row_writing.specs.NullBits.{nulls_of}
+use Rattle.binlog_row_writing.specs.NullBits.{new_nulls}
 use Rattle.binlog_row_writing.specs.declared.new_value.NewValue.{NewValue}
 use Rattle.binlog_row_writing.specs.declared.row_write_error.ImageFault.{ImageFault}
 use Rattle.binlog_row_writing.specs.declared.row_write_error.RowWriteErrorKind.{RowWriteErrorKind}
@@ -38,7 +38,7 @@ columns_bytes (column ∷ columns) walk values = cell_bytes column (value_at wal
 
 -- The null bitmap, and then the columns.
 abbrev pub image_bytes : ImageShape → List NewValue → List ℕ
-image_bytes shape values = nulls_of values ++ columns_bytes shape.0 (first_walk shape.1) values
+image_bytes shape values = new_nulls values ++ columns_bytes shape.0 (first_walk shape.1) values
 
 -- ---- what is read back
 

@@ -1,111 +1,44 @@
 -- Laws of null bitmaps.
-use Rattle.std.proofs.Common.{◌≡◌, ℕ, zero, suc, ◌+◌, ◌-◌, ◌*◌, ◌/◌, ◌%◌, ◌<◌, ◌≤◌, Bool, true, false, cond, List, [], ◌∷◌, ◌++◌, length, drop, get_or, refl, sym, ap, subst, ◌∙◌, append_assoc, arith}
-use Rattle.std.specs.Prelude.{◌==◌, unwrap_or, nat_lt, if◌then◌else◌, Some, None}
-use Rattle.std.specs.Int.{bit_at}
-use Rattle.std.proofs.lemmas.Bool.{ltb-false}
-use Rattle.std.proofs.lemmas.Nat.Bits.{bit_at_lowest}
-use Rattle.std.proofs.lemmas.List.{append-nil, get_or-drop}
-use Rattle.binlog_wire.specs.Bits.{bit_of}
+use Rattle.std.proofs.Common.{◌≡◌, ℕ, ◌+◌, ◌/◌, ◌<◌, true, List, [], ◌∷◌, ◌++◌, length, drop, get_or, refl, sym, ap, subst, ◌∙◌, arith}
+use Rattle.std.proofs.Math.ListN.{get_or-map}
+use Rattle.std.proofs.lemmas.List.{length-map, drop-map}
+use Rattle.binlog_wire.specs.Bits.{bytes_of_bits}
 use Rattle.binlog_images.specs.Bits.{is_set}
+use Rattle.binlog_images.specs.NullBits.{null_byte, null_bytes}
+use Rattle.binlog_images.proofs.NullBits.{null_is_set as flag_is_set, nulls_len as flags_len}
 use Rattle.binlog_row_writing.specs.NewCells.{is_new_null}
-use Rattle.binlog_row_writing.specs.Walks.{value_of}
-use Rattle.binlog_row_writing.specs.NullBits.{null_bit, null_byte, null_bytes, nulls_of}
+use Rattle.binlog_row_writing.specs.NullBits.{null_flags, is_null_at, first_flags, new_nulls}
 use Rattle.binlog_row_writing.specs.declared.new_value.NewValue.{NewValue}
 use Rattle.binlog_row_writing.specs.declared.new_value.NewValue.TheVariants.{Null}
 
-bytes_len : (count place : ℕ) (values : List NewValue) → length (null_bytes count place values) ≡ count
-bytes_len zero place values = refl
-bytes_len (suc count) place values = ap (λ (n : ℕ). suc n) (bytes_len count (place + 8) values)
+-- A flag for each value.
+flag_count : (values : List NewValue) → length (null_flags values) ≡ length values
+flag_count values = length-map values is_new_null
 
-pub nulls_len : (values : List NewValue) → length (nulls_of values) ≡ (length values + 7) / 8
-nulls_len values = bytes_len ((length values + 7) / 8) 0 values
-
--- One more byte.
-pub nulls_step : (s t all : List ℕ) (count i byte : ℕ) (values : List NewValue) → i < count → s ++ null_bytes (count - i) (8 * i) values ≡ all → byte ≡ null_byte (drop (8 * i) values)
-    → t ≡ s ++ byte ∷ [] → t ++ null_bytes (count - (i + 1)) (8 * (i + 1)) values ≡ all
-nulls_step s t all count i byte values less same is more =
-    let left : count - i ≡ suc (count - (i + 1)) = omega arith in
-    let place : 8 * (i + 1) ≡ 8 * i + 8 = omega arith in
-    let split : s ++ null_bytes (suc (count - (i + 1))) (8 * i) values ≡ all = subst (λ (n : ℕ). s ++ null_bytes n (8 * i) values ≡ all) left same in
-    let after : (s ++ null_byte (drop (8 * i) values) ∷ []) ++ null_bytes (count - (i + 1)) (8 * i + 8) values ≡ all =
-    append_assoc s (null_byte (drop (8 * i) values) ∷ []) (null_bytes (count - (i + 1)) (8 * i + 8) values) ∙ split in
-    let here : t ≡ s ++ null_byte (drop (8 * i) values) ∷ [] = more ∙ ap (λ (b : ℕ). s ++ b ∷ []) is in
-    subst (λ (n : ℕ). t ++ null_bytes (count - (i + 1)) n values ≡ all) (sym place)
-    (subst (λ (u : List ℕ). u ++ null_bytes (count - (i + 1)) (8 * i + 8) values ≡ all) (sym here) after)
-
--- All bytes are there.
-pub nulls_end : (s all : List ℕ) (count i place : ℕ) (values : List NewValue) → count - i ≡ 0 → s ++ null_bytes (count - i) place values ≡ all → s ≡ all
-nulls_end s all count i place values none same =
-    let last : s ++ [] ≡ all = subst (λ (n : ℕ). s ++ null_bytes n place values ≡ all) none same in
-    sym (append-nil s) ∙ last
-
--- ---- the bits
-
-small_by : (t : Bool) → cond t 1 0 ≤ 1
-small_by true = omega arith
-small_by false = omega arith
-
-null_small : (values : List NewValue) (place : ℕ) → null_bit values place ≤ 1
-null_small values place = small_by (is_new_null (value_of values place))
-
--- Eight bits in a byte.
-eight_bits : (a b c d e f g h : ℕ) → a ≤ 1 → b ≤ 1 → c ≤ 1 → d ≤ 1 → e ≤ 1 → f ≤ 1 → g ≤ 1 → h ≤ 1 → (byte : ℕ)
-    → byte ≡ (a + 2 * b + 4 * c + 8 * d) + 16 * (e + 2 * f + 4 * g + 8 * h)
-    → (byte % 2 ≡ a) × (byte / 2 % 2 ≡ b) × (byte / 4 % 2 ≡ c) × (byte / 8 % 2 ≡ d) × (byte / 16 % 2 ≡ e) × (byte / 32 % 2 ≡ f) × (byte / 64 % 2 ≡ g) × (byte / 128 % 2 ≡ h)
-eight_bits a b c d e f g h p q r s t u v w byte is =
-    (omega arith, omega arith, omega arith, omega arith, omega arith, omega arith, omega arith, omega arith)
-
-bits_of_byte : (s : List NewValue) → let byte = null_byte s in
-    (byte % 2 ≡ null_bit s 0) × (byte / 2 % 2 ≡ null_bit s 1) × (byte / 4 % 2 ≡ null_bit s 2) × (byte / 8 % 2 ≡ null_bit s 3)
-    × (byte / 16 % 2 ≡ null_bit s 4) × (byte / 32 % 2 ≡ null_bit s 5) × (byte / 64 % 2 ≡ null_bit s 6) × (byte / 128 % 2 ≡ null_bit s 7)
-bits_of_byte s = eight_bits (null_bit s 0) (null_bit s 1) (null_bit s 2) (null_bit s 3) (null_bit s 4) (null_bit s 5) (null_bit s 6) (null_bit s 7)
-    (null_small s 0) (null_small s 1) (null_small s 2) (null_small s 3) (null_small s 4) (null_small s 5) (null_small s 6) (null_small s 7) (null_byte s) refl
-
-first_bit : (byte n : ℕ) → byte % 2 ≡ n → bit_at byte 0 ≡ n
-first_bit byte n h = bit_at_lowest byte ∙ h
-
--- The bit of each of eight values.
-byte_bit : (s : List NewValue) (i : ℕ) → i < 8 → bit_at (null_byte s) i ≡ null_bit s i
-byte_bit s zero less = let b = bits_of_byte s in first_bit (null_byte s) (null_bit s 0) b.0
-byte_bit s (suc zero) less = let b = bits_of_byte s in b.1
-byte_bit s (suc (suc zero)) less = let b = bits_of_byte s in b.2
-byte_bit s (suc (suc (suc zero))) less = let b = bits_of_byte s in b.3
-byte_bit s (suc (suc (suc (suc zero)))) less = let b = bits_of_byte s in b.4
-byte_bit s (suc (suc (suc (suc (suc zero))))) less = let b = bits_of_byte s in b.5
-byte_bit s (suc (suc (suc (suc (suc (suc zero)))))) less = let b = bits_of_byte s in b.6
-byte_bit s (suc (suc (suc (suc (suc (suc (suc zero))))))) less = let b = bits_of_byte s in b.7
-byte_bit s (suc (suc (suc (suc (suc (suc (suc (suc i)))))))) less = absurd (omega arith)
-
--- The byte with an index.
-byte_at : (count place j : ℕ) (values : List NewValue) → j < count → get_or (null_bytes count place values) j 0 ≡ null_byte (drop (place + 8 * j) values)
-byte_at zero place j values less = absurd (omega arith)
-byte_at (suc count) place zero values less = let e : place ≡ place + 8 * 0 = omega arith in ap (λ (n : ℕ). null_byte (drop n values)) e
-byte_at (suc count) place (suc j) values less =
-    let e : place + 8 + 8 * j ≡ place + 8 * suc j = omega arith in
-    byte_at count (place + 8) j values (omega arith) ∙ ap (λ (n : ℕ). null_byte (drop n values)) e
-
-one_is : (t : Bool) → (cond t 1 0 == 1) ≡ t
-one_is true = refl
-one_is false = refl
-
-set_by : (len k : ℕ) (bytes : List ℕ) → k < len → (t : Bool) → nat_lt k len ≡ t → unwrap_or (if t then Some (bit_of bytes k) else None) false ≡ bit_of bytes k
-set_by len k bytes less true is = refl
-set_by len k bytes less false is = absurd (let no = ltb-false k len is in omega arith)
-
-index_is : (k : ℕ) → 0 + 8 * (k / 8) + k % 8 ≡ k
-index_is k = omega arith
+pub nulls_len : (values : List NewValue) → length (new_nulls values) ≡ (length values + 7) / 8
+nulls_len values = flags_len (null_flags values) ∙ ap bytes_of_bits (flag_count values)
 
 -- The null bit of each value.
-pub null_is_set : (values : List NewValue) (k : ℕ) → k < length values → is_set (length values, nulls_of values) k ≡ is_new_null (value_of values k)
+pub null_is_set : (values : List NewValue) (k : ℕ) → k < length values → is_set (length values, new_nulls values) k ≡ is_null_at values k
 null_is_set values k less =
-    let count : ℕ = (length values + 7) / 8 in
-    let byte = byte_at count 0 (k / 8) values (omega arith) in
-    let start : ℕ = 0 + 8 * (k / 8) in
-    let bit = byte_bit (drop start values) (k % 8) (omega arith) in
-    let here : value_of (drop start values) (k % 8) ≡ value_of values k =
-    get_or-drop start values (k % 8) Null ∙ ap (λ (n : ℕ). get_or values n Null) (index_is k) in
-    set_by (length values) k (nulls_of values) less _ refl
-    ∙ ap (λ (b : ℕ). bit_at b (k % 8) == 1) byte
-    ∙ ap (λ (b : ℕ). b == 1) bit
-    ∙ one_is (is_new_null (value_of (drop start values) (k % 8)))
-    ∙ ap is_new_null here
+    subst (λ (n : ℕ). is_set (n, new_nulls values) k ≡ get_or (null_flags values) k true) (flag_count values) (flag_is_set (null_flags values) k (omega (arith, flag_count values)))
+    ∙ get_or-map is_new_null values k Null
+
+-- The first byte is made of the first eight values.
+eight_first : (values : List NewValue) → null_byte (first_flags values) ≡ null_byte (null_flags values)
+eight_first [] = refl
+eight_first (a ∷ []) = refl
+eight_first (a ∷ b ∷ []) = refl
+eight_first (a ∷ b ∷ c ∷ []) = refl
+eight_first (a ∷ b ∷ c ∷ d ∷ []) = refl
+eight_first (a ∷ b ∷ c ∷ d ∷ e ∷ []) = refl
+eight_first (a ∷ b ∷ c ∷ d ∷ e ∷ f ∷ []) = refl
+eight_first (a ∷ b ∷ c ∷ d ∷ e ∷ f ∷ g ∷ []) = refl
+eight_first (a ∷ b ∷ c ∷ d ∷ e ∷ f ∷ g ∷ h ∷ others) = refl
+
+pub byte_at : (values : List NewValue) (place : ℕ) → null_byte (first_flags (drop place values)) ≡ null_byte (drop place (null_flags values))
+byte_at values place = eight_first (drop place values) ∙ ap null_byte (sym (drop-map is_new_null place values))
+
+-- Before the first byte.
+pub nulls_start : (s : List ℕ) (values : List NewValue) → s ++ null_bytes ((length values + 7) / 8) 0 (null_flags values) ≡ s ++ new_nulls values
+nulls_start s values = ap (λ (n : ℕ). s ++ null_bytes (bytes_of_bits n) 0 (null_flags values)) (sym (flag_count values))

@@ -21,7 +21,7 @@ use Rattle.binlog_row_writing.specs.NewContents.{Contained, content_for}
 use Rattle.binlog_row_writing.specs.FitLaws.{content_fits}
 use Rattle.binlog_row_writing.specs.NewCells.{is_new_null, refusal_in, cell_refusal, contained_bytes, cell_bytes}
 use Rattle.binlog_row_writing.specs.Walks.{WalkView, first_walk, next_walk, value_of, value_at}
-use Rattle.binlog_row_writing.specs.NullBits.{nulls_of}
+use Rattle.binlog_row_writing.specs.NullBits.{new_nulls}
 use Rattle.binlog_row_writing.specs.NullLaws.{null_is_set, nulls_len}
 use Rattle.binlog_row_writing.specs.NewImages.{fault_or, columns_refusal, columns_bytes, image_refusal, image_bytes, value_cell, cell_for, cells_for}
 use Rattle.binlog_row_writing.specs.NewRows.{NewRow, is_image, are_images, has_columns, placed, refusal_if, first_of, row_refusal, bytes_if_any, row_bytes, cells_if, new_cells}
@@ -100,7 +100,7 @@ cells_written (column ∷ columns) walk nulls values say room none =
 
 -- An image as it is stored: its null bitmap, and its columns.
 abbrev pub stored_image : ImageShape → List NewValue → Bitmap × List Cell
-stored_image shape values = ((present_count shape, nulls_of values), cells_for shape.0 (first_walk shape.1) values)
+stored_image shape values = ((present_count shape, new_nulls values), cells_for shape.0 (first_walk shape.1) values)
 
 counted_by : (len count : ℕ) (r : Option ImageFault) (t : Bool) → (len == count) ≡ t → ◌≡◌ {A = Option ImageFault} (cond t r (Some (record { kind = WrongCount; column = None }))) None → (len ≡ count) × (r ≡ None)
 counted_by len count r true is h = (eqb-true len count is, h)
@@ -115,14 +115,14 @@ image_written : (shape : ImageShape) (values : List NewValue) → image_refusal 
 image_written shape values none =
     let p = image_accepted shape values none in
     let count : ℕ = present_count shape in
-    let nulls : Bitmap = (count, nulls_of values) in
-    let say : SayNull nulls values = λ k less. subst (λ (n : ℕ). is_set (n, nulls_of values) k ≡ is_new_null (value_of values k)) p.0 (null_is_set values k less) in
-    let size : length (nulls_of values) ≡ bytes_of_bits count = subst (λ (n : ℕ). length (nulls_of values) ≡ (n + 7) / 8) p.0 (nulls_len values) in
+    let nulls : Bitmap = (count, new_nulls values) in
+    let say : SayNull nulls values = λ k less. subst (λ (n : ℕ). is_set (n, new_nulls values) k ≡ is_new_null (value_of values k)) p.0 (null_is_set values k less) in
+    let size : length (new_nulls values) ≡ bytes_of_bits count = subst (λ (n : ℕ). length (new_nulls values) ≡ (n + 7) / 8) p.0 (nulls_len values) in
     let room : 0 + set_count (length shape.0) 0 shape.1 ≤ length values = omega (arith, p.0) in
     let rest = cells_written shape.0 (first_walk shape.1) nulls values say room p.1 in
     record {
       fits = (size, rest.fits);
-      bytes = ap (λ (s : List ℕ). nulls_of values ++ s) rest.bytes;
+      bytes = ap (λ (s : List ℕ). new_nulls values ++ s) rest.bytes;
       normal = ap (λ (cs : List Cell). (nulls, cs)) rest.normal;
     }
 
@@ -159,7 +159,7 @@ some_bytes kind (Some shape) None given none some = absurd cc
 some_bytes kind (Some shape) (Some values) given none some =
     let p = image_accepted shape values (fault_none kind (image_refusal shape values) none) in
     let positive : 1 ≤ present_count shape = not_zero (present_count shape) some in
-    omega (arith, p.0, positive, nulls_len values, length-append (nulls_of values) (columns_bytes shape.0 (first_walk shape.1) values))
+    omega (arith, p.0, positive, nulls_len values, length-append (new_nulls values) (columns_bytes shape.0 (first_walk shape.1) values))
 
 -- ---- rows
 

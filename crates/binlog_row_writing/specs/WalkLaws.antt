@@ -8,7 +8,7 @@ use Rattle.binlog_images.specs.Bits.{is_set, set_count}
 use Rattle.binlog_row_writing.specs.NewCells.{cell_refusal, cell_bytes}
 use Rattle.binlog_row_writing.specs.Walks.{WalkView, next_walk, value_at}
 use Rattle.binlog_row_writing.specs.NewImages.{columns_refusal, columns_bytes}
-use Rattle.binlog_row_writing.specs.NullBits.{nulls_of}
+use Rattle.binlog_row_writing.specs.NullBits.{new_nulls}
 use Rattle.binlog_row_writing.specs.declared.new_value.NewValue.{NewValue}
 use Rattle.binlog_row_writing.specs.declared.row_write_error.RowWriteErrorKind.{RowWriteErrorKind}
 
@@ -78,8 +78,8 @@ len_end columns walk values all len none small same =
     let last : length (columns_bytes columns walk values) ≡ 0 = ap length (bytes_end columns walk values none) in
     omega (arith, last)
 
-pub image_len : (values : List NewValue) (bytes : List ℕ) → length (nulls_of values ++ bytes) ≡ length (nulls_of values) + length bytes
-image_len values bytes = length-append (nulls_of values) bytes
+pub image_len : (values : List NewValue) (bytes : List ℕ) → length (new_nulls values ++ bytes) ≡ length (new_nulls values) + length bytes
+image_len values bytes = length-append (new_nulls values) bytes
 
 -- ---- writing
 

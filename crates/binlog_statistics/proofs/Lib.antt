@@ -4,5 +4,5 @@ mod UncompressedRows
 mod FoundRows
 mod CountedItems
 mod CountedParts
-mod SplicedTypes
+mod TransactionGtids
 mod SeenTransactions

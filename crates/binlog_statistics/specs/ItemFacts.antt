@@ -10,7 +10,7 @@ use Rattle.binlog_filters.specs.Places.{behind}
 use Rattle.binlog_filters.specs.Taking.{Takes, begins_transaction}
 use Rattle.binlog_filters.specs.declared.filter.Filter.{Filter}
 use Rattle.binlog_filters.specs.declared.state.FilterState.{FilterState}
-use Rattle.binlog_transaction_gtids.specs.Gtids.{FollowsGtid}
+use Rattle.binlog_statistics.specs.TransactionGtids.{FollowsGtid}
 use Rattle.change_statistics.specs.Facts.{Name, Rows, nothing, unknown, rows, Fact}
 use Rattle.change_statistics.specs.declared.facts.ChangeKind.{ChangeKind}
 use Rattle.binlog_statistics.specs.Found.{FindsMappedRows, FindsRows}

@@ -4,4 +4,4 @@ pub mod Found
 pub mod ItemFacts
 pub mod SplicedFacts
 pub mod Counting
-pub mod SplicedCounts
+pub mod TransactionGtids

@@ -8,11 +8,11 @@ ghost use Rattle.binlog_statistics.specs.ItemFacts.{map_of_rows};
 
 use crate::facts::{facts_of, part_facts_of};
 use crate::finding::{RowsFound, find_mapped_rows, find_part_rows, find_rows};
+use crate::transaction_gtids::follow_gtid;
 use binlog_file::{Error, EventRef, EventStreamReader};
 use binlog_payload_visits::{PartTableMaps, PartVisitor};
 use binlog_payloads::PayloadError;
 use binlog_rows::TableMapEvent;
-use binlog_transaction_gtids::follow;
 use binlog_visits::{Refusing, Visitor};
 use change_statistics::Counts;
 use std::alloc::Global;
@@ -109,7 +109,7 @@ impl<C: Counts> Visitor for Counter<C> {
     ) -> Result<(), Error> {
         let found = find_rows(self.alloc, event, reader)?;
         self.gtid.clear();
-        follow(&mut self.gtid, self.alloc, event)?;
+        follow_gtid(&mut self.gtid, self.alloc, event)?;
         self.end_position = u64::from(event.header().log_pos());
         let table_map = outside_map(&found, reader);
         let facts = facts_of(found, self.gtid.as_str(), event, table_map);

@@ -17,12 +17,9 @@ ghost use Rattle.change_statistics.specs.declared.tables.TableStats.{TableStats}
 ghost use Rattle.change_statistics.specs.declared.transaction_stats.TransactionStats.{TransactionStats};
 ghost use Rattle.binlog_payload_visits.specs.declared.spliced.Spliced.{Spliced};
 ghost use Rattle.binlog_statistics.specs.Counting.{AreOfItems, AreOfSplicedItems, AreOfTakenItems};
-ghost use Rattle.binlog_statistics.specs.SplicedCounts.{AreSplicedCounts, nothing_counted};
 ghost use Rattle.binlog_statistics.specs.declared.counter.Counter.{Counter};
-ghost use Rattle.binlog_statistics.specs.declared.spliced_stats.SplicedStats.{SplicedStats};
 
 use crate::counter::Counter;
-use crate::spliced_stats::SplicedStats;
 use binlog_filters::Filtered;
 use binlog_payload_visits::Spliced;
 use binlog_visits::Visitor;
@@ -111,11 +108,4 @@ pub fn spliced_transaction_counts_are_of_all_items()
     ensures { (limit : ℕ) (maps : TableMaps) (items : List (Result EventView Error)) (old new : Spliced (Counter TransactionStats)) → seen_by old.visitor.stats ≡ none_seen limit
         → Visits ⟦<Spliced<Counter<TransactionStats>> as Visitor>⟧.visits maps 0 items old new
         → AreOfSplicedItems (λ facts seen. AreTransactionStats limit facts seen) old.limit maps items (ended (seen_by new.visitor.stats)) }
-{}
-
-/// The statistics by type are those of all items that were shown, as of a log without compressed transactions; and apart from them those of
-/// all events inside, and of all errors there.
-pub fn spliced_type_counts_are_of_all_items()
-    ensures { (maps : TableMaps) (items : List (Result EventView Error)) (old new : Spliced SplicedStats) → old.visitor ≡ nothing_counted
-        → Visits ⟦<Spliced<SplicedStats> as Visitor>⟧.visits maps 0 items old new → AreSplicedCounts old.limit items new.visitor }
 {}

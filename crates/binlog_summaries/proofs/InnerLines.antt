@@ -2,7 +2,7 @@
 use Rattle.std.proofs.Common.{◌≡◌, ℕ, ◌+◌, suc, List, ◌++◌, Option, Some, None, slice_index_or, refl, sym, arith}
 use Rattle.std.proofs.lemmas.List.{append-nil}
 use Rattle.std.specs.Io.KnownBytes.{Appends}
-use Rattle.binlog_summaries.proofs.WrittenTexts.{appends_both}
+use Rattle.change_statistics.proofs.WrittenTexts.{appends_both}
 use Rattle.change_statistics.specs.declared.type_counts.TypeCounts.{TypeCounts}
 use Rattle.binlog_summaries.specs.InnerTypes.{row_of, rows_below, line_at, lines_below}
 

@@ -4,11 +4,11 @@ use Rattle.std.specs.Prelude.{flat_map}
 use Rattle.std.specs.Io.KnownBytes.{Appends}
 use Rattle.std.proofs.lemmas.List.{map-append}
 use Rattle.std.proofs.lemmas.Grind.{flat_map-append}
-use Rattle.binlog_summaries.proofs.WrittenTexts.{appends_both}
+use Rattle.change_statistics.proofs.WrittenTexts.{appends_both}
 use Rattle.binlog_summaries.specs.StatsText.{Writes}
 use Rattle.change_statistics.specs.declared.event_counts.EventCounts.{EventCounts}
 use Rattle.binlog_summaries.specs.IntervalText.{IsIntervalLine, AreIntervalLines}
-use Rattle.binlog_summaries.proofs.TableLines.{nothing_appended}
+use Rattle.change_statistics.proofs.WrittenTexts.{nothing_appended}
 
 abbrev pub Entry : Type 0
 Entry = ℕ × EventCounts

@@ -1,4 +1,3 @@
-pub mod WrittenTexts
 pub mod ShownRows
 mod TableLines
 mod GroupingNames

@@ -1,14 +1,14 @@
 -- Lines of tables that are written one behind the other.
-use Rattle.std.proofs.Common.{◌≡◌, inl, inr, ℕ, ◌+◌, ◌<◌, List, [], ◌∷◌, ◌++◌, codes, length, take, Option, Some, None, Result, OnOk, refl, sym, ap, subst, ◌∙◌, append_assoc, append-nil, arith}
-use Rattle.std.proofs.lemmas.Option.{slice_get_cases}
-use Rattle.std.specs.Prelude.{IfSome, slice_get, flat_map}
+use Rattle.std.proofs.Common.{◌≡◌, ℕ, ◌+◌, ◌<◌, List, [], ◌∷◌, ◌++◌, codes, length, take, Option, Some, Result, OnOk, refl, sym, ap, subst, ◌∙◌, append_assoc, append-nil}
+use Rattle.std.specs.Prelude.{IfSome, slice_get}
 use Rattle.std.specs.Io.KnownBytes.{Appends}
-use Rattle.binlog_summaries.proofs.WrittenTexts.{on_ok, appends_both}
+use Rattle.change_statistics.proofs.WrittenTexts.{on_ok, appends_both, nothing_appended}
+use Rattle.change_statistics.proofs.WrittenLists.{taken_more, at_entry}
 use Rattle.binlog_summaries.specs.StatsText.{Writes}
 use Rattle.change_statistics.specs.declared.table_counts.TableCounts.{TableCounts}
 use Rattle.change_statistics.specs.declared.table_name.TableName.{TableName}
-use Rattle.binlog_summaries.specs.TableText.{IsTableLine, AreTableLines, IsTimeOf, names_text, counts_text}
-use Rattle.binlog_summaries.proofs.ShownRows.{taken_more}
+use Rattle.change_statistics.specs.NameTexts.{names_text}
+use Rattle.binlog_summaries.specs.TableText.{IsTableLine, AreTableLines, IsTimeOf, counts_text}
 
 abbrev Entry : Type 0
 Entry = TableName × TableCounts
@@ -34,10 +34,6 @@ whole_line result entry first last old names_end counts_end first_end last_end n
 
 -- ---- one line more
 
-pub nothing_appended : (old : Option (List ℕ)) → Appends old old []
-nothing_appended None = tt
-nothing_appended (Some bytes) = sym (append-nil bytes)
-
 lines_more : (entries : List Entry) (entry : Entry) (text line : List ℕ) → AreTableLines entries text → IsTableLine entry line → AreTableLines (entries ++ entry ∷ []) (text ++ line)
 lines_more [] entry text line none is = (line, [], is, refl, ap (λ (t : List ℕ). t ++ line) none ∙ sym (append-nil line))
 lines_more (first ∷ entries) entry text line (one, rest, is_one, are, whole) is =
@@ -51,14 +47,6 @@ one_line_more entries i entry old mid new at so_far one = record {
   appended = appends_both old mid new so_far.text one.text so_far.appended one.appended;
 }
 
--- What is known of the entry at an index within the list.
-pub at_entry : {X : Type 0} (entries : List X) (i : ℕ) (P : X → Type 0) → i < length entries → IfSome (slice_get entries i) P → (entry : X) × (slice_get entries i ≡ Some entry) × P entry
-at_entry {X} entries i P within holds =
-    elim (slice_get_cases entries i).1 [
-      | inl (entry, _, at, _) ↦ (entry, at, subst (λ (o : Option X). IfSome o P) at holds)
-      | inr (past, _) ↦ absurd (omega arith)
-    ]
-
 pub line_written : (entries : List Entry) (i : ℕ) (old mid new : Option (List ℕ)) → i < length entries → Writes (AreTableLines (take i entries)) old mid → IfSome (slice_get entries i) (λ entry. Writes (IsTableLine entry) mid new)
     → Writes (AreTableLines (take (i + 1) entries)) old new
 line_written entries i old mid new within so_far one =
@@ -67,16 +55,3 @@ line_written entries i old mid new within so_far one =
 
 pub no_line_written : (entries : List Entry) (old : Option (List ℕ)) → Writes (AreTableLines (take 0 entries)) old old
 no_line_written entries old = record { text = []; is = refl; appended = nothing_appended old }
-
--- ---- one row more, of any text
-
-pub flat_more : {X Y : Type 0} (f : X → List Y) (xs : List X) (x : X) → flat_map f (xs ++ x ∷ []) ≡ flat_map f xs ++ f x
-flat_more f [] x = append-nil (f x)
-flat_more {X} {Y} f (first ∷ xs) x = ap (λ (t : List Y). f first ++ t) (flat_more f xs x) ∙ sym (append_assoc (f first) (flat_map f xs) (f x))
-
-pub row_written : {X : Type 0} (f : X → List ℕ) (entries : List X) (i : ℕ) (old mid new : Option (List ℕ)) → i < length entries → Appends old mid (flat_map f (take i entries)) → IfSome (slice_get entries i) (λ entry. Appends mid new (f entry))
-    → Appends old new (flat_map f (take (i + 1) entries))
-row_written {X} f entries i old mid new within so_far one =
-    let found = at_entry entries i (λ (entry : X). Appends mid new (f entry)) within one in
-    subst (Appends old new) (sym (ap (flat_map f) (taken_more entries i found.0 found.1) ∙ flat_more f (take i entries) found.0))
-    (appends_both old mid new (flat_map f (take i entries)) (f found.0) so_far found.2)

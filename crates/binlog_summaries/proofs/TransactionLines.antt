@@ -5,7 +5,7 @@ use Rattle.json.specs.Token.{Token}
 use Rattle.std.specs.Io.KnownBytes.{Appends}
 use Rattle.std.proofs.Math.Seq.{take-suc}
 use Rattle.std.proofs.lemmas.List.{length-take-le}
-use Rattle.binlog_summaries.proofs.WrittenTexts.{on_ok, appends_both}
+use Rattle.change_statistics.proofs.WrittenTexts.{on_ok, appends_both, nothing_appended}
 use Rattle.binlog_summaries.specs.StatsText.{Writes, number_line}
 use Rattle.change_statistics.specs.Facts.{Name}
 use Rattle.change_statistics.specs.Transactions.{Seen, duration_of}
@@ -13,8 +13,7 @@ use Rattle.change_statistics.specs.declared.event_counts.EventCounts.{EventCount
 use Rattle.change_statistics.specs.declared.transaction.Transaction.{Transaction}
 use Rattle.binlog_summaries.specs.TransactionText.{IsTransactionLine, IsTransactionText, AreTransactionTexts, IsTransactionsText, table_line, size_line, size_lines, places_text, gtid_text, counts_text, duration_text}
 use Rattle.binlog_summaries.specs.TableText.{IsTimeOf}
-use Rattle.binlog_summaries.proofs.ShownRows.{taken_more}
-use Rattle.binlog_summaries.proofs.TableLines.{nothing_appended, at_entry, flat_more}
+use Rattle.change_statistics.proofs.WrittenLists.{taken_more, at_entry, flat_more}
 
 lines_more : (transactions : List Transaction) (one : Transaction) (text line : List ℕ) → AreTransactionTexts transactions text → IsTransactionText one line
     → AreTransactionTexts (transactions ++ one ∷ []) (text ++ line)

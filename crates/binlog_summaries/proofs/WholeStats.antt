@@ -4,7 +4,7 @@ use Rattle.std.specs.Io.KnownBytes.{Appends}
 use Rattle.binlog_commands.specs.Statistics.{total}
 use Rattle.binlog_commands.specs.declared.stats.Stats.{Stats}
 use Rattle.binlog_summaries.specs.StatsText.{IsStatsText, IsTimeLine, Writes, head_lines, largest_line, rows_below}
-use Rattle.binlog_summaries.proofs.WrittenTexts.{on_ok, appends_both}
+use Rattle.change_statistics.proofs.WrittenTexts.{on_ok, appends_both}
 
 pub whole_text : {T E : Type 0} (result : Result T E) (stats : Stats) (all : ℕ) (first last : List ℕ) (old head_end first_end last_end largest_end new : Option (List ℕ))
     → all ≡ total stats.bytes → IsTimeLine (codes "first") stats.first_time first → IsTimeLine (codes "last") stats.last_time last

@@ -5,7 +5,6 @@ pub mod TallyText
 pub mod StatsText
 pub mod JsonLines
 pub mod TableText
-pub mod RowText
 pub mod TableJson
 pub mod IntervalJson
 pub mod IntervalText

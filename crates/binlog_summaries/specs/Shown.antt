@@ -1,6 +1,5 @@
 -- The rows that are shown of sorted statistics.
-use Rattle.std.specs.Prelude.{ℕ, List, take, nat_lt, Option, Some, None, codes, if◌then◌else◌}
-use Rattle.std.specs.Str.{is_utf8}
+use Rattle.std.specs.Prelude.{ℕ, List, take, nat_lt, Option, Some, None, if◌then◌else◌}
 
 -- The first ones, as many as are asked for; all if no number is.
 abbrev pub shown : {X : Type 0} → (top : Option ℕ) → List X → List X
@@ -11,7 +10,3 @@ shown (Some top) rows = take top rows
 abbrev pub shown_count : (count : ℕ) → (top : Option ℕ) → ℕ
 shown_count count None = count
 shown_count count (Some top) = if nat_lt top count then top else count
-
--- A name as a text: the text of its bytes if they are UTF-8, and a question mark if they aren't.
-abbrev pub name_text : List ℕ → List ℕ
-name_text name = if is_utf8 name then name else codes "?"

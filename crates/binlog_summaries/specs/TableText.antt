@@ -5,7 +5,8 @@ use Rattle.change_statistics.specs.declared.table_counts.TableCounts.{TableCount
 use Rattle.change_statistics.specs.declared.table_counts.UnknownRows.{UnknownRows}
 use Rattle.change_statistics.specs.declared.table_name.TableName.{TableName}
 use Rattle.change_statistics.specs.declared.tables.TableStats.{TableStats}
-use Rattle.binlog_summaries.specs.Shown.{shown, name_text}
+use Rattle.change_statistics.specs.NameTexts.{names_text}
+use Rattle.binlog_summaries.specs.Shown.{shown}
 
 -- A time behind what introduces it, and nothing for none.
 abbrev pub IsTimeOf : (word : List ℕ) → Option ℕ → List ℕ → Type 0
@@ -17,9 +18,6 @@ abbrev pub counts_text : TableCounts → List ℕ
 counts_text counts =
     decimal counts.events ++ codes " events " ++ decimal counts.bytes ++ codes " bytes " ++ decimal counts.inserted ++ codes " inserted " ++ decimal counts.updated ++ codes " updated "
     ++ decimal counts.deleted ++ codes " deleted " ++ decimal counts.unread_events ++ codes " unread " ++ decimal counts.transactions ++ codes " transactions"
-
-abbrev pub names_text : TableName → List ℕ
-names_text name = codes "table " ++ name_text name.database.items ++ codes "." ++ name_text name.table.items ++ codes " "
 
 -- The line of a table: its name, its counts, and the times of its first and its last row event.
 pub record IsTableLine (entry : TableName × TableCounts) (text : List ℕ) : Type 0 where

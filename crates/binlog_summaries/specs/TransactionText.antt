@@ -5,7 +5,7 @@ use Rattle.change_statistics.specs.Facts.{Name}
 use Rattle.change_statistics.specs.Transactions.{Seen, duration_of}
 use Rattle.change_statistics.specs.declared.event_counts.EventCounts.{EventCounts}
 use Rattle.change_statistics.specs.declared.transaction.Transaction.{Transaction}
-use Rattle.binlog_summaries.specs.Shown.{name_text}
+use Rattle.change_statistics.specs.NameTexts.{name_text}
 use Rattle.binlog_summaries.specs.TableText.{IsTimeOf}
 
 -- The smallest number with so many binary digits.

@@ -35,7 +35,7 @@ pub fn write_inner_types_json<W: Write>(
 }
 
 // Writes the line of all types, and those of the types.
-#[tactic(auto, using(crate::proofs::WrittenTexts::appends_both))]
+#[tactic(auto, using(change_statistics::proofs::WrittenTexts::appends_both))]
 fn write_objects<W: Write>(
     line: &mut Line,
     counts: &TypeCounts,

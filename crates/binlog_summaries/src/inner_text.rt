@@ -28,7 +28,7 @@ pub(crate) fn is_empty(counts: &TypeCounts) -> bool
 }
 
 // Writes the line of all types, and the rows of the types.
-#[tactic(auto, using(crate::proofs::WrittenTexts::appends_both))]
+#[tactic(auto, using(change_statistics::proofs::WrittenTexts::appends_both))]
 fn write_lines<W: Write>(counts: &TypeCounts, output: &mut W) -> io::Result<()>
     ensures { OnOk result (Appends (W.contents output.old) (W.contents output.new) (head_line counts.now ++ rows_below 256 counts.now)) }
 {

@@ -30,7 +30,7 @@ pub fn write_intervals_json<W: Write>(
 }
 
 // Writes the line of all intervals, and those of the intervals.
-#[tactic(auto, using(crate::proofs::WrittenTexts::appends_both))]
+#[tactic(auto, using(change_statistics::proofs::WrittenTexts::appends_both))]
 fn write_objects<W: Write>(
     line: &mut Line,
     stats: &IntervalStats,

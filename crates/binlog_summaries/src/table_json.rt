@@ -34,7 +34,7 @@ pub fn write_tables_json<W: Write>(
 }
 
 // Writes the line of all tables, and those of the tables that are shown.
-#[tactic(auto, using(crate::proofs::WrittenTexts::appends_both))]
+#[tactic(auto, using(change_statistics::proofs::WrittenTexts::appends_both))]
 fn write_objects<W: Write>(
     line: &mut Line,
     stats: &TableStats,
@@ -73,7 +73,7 @@ fn write_shown<W: Write>(
 }
 
 // Writes the lines of the first tables. There are at least so many.
-#[tactic(auto, using(crate::proofs::TableLines::row_written, crate::proofs::TableLines::nothing_appended))]
+#[tactic(auto, using(change_statistics::proofs::WrittenLists::row_written, change_statistics::proofs::WrittenTexts::nothing_appended))]
 fn write_lines<W: Write>(
     line: &mut Line,
     stats: &TableStats,

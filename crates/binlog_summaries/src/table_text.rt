@@ -2,13 +2,13 @@
 ghost use Rattle.std.specs.Io.KnownBytes.{Appends};
 ghost use Rattle.std.specs.Prelude.{◌≡◌, ◌<◌, ◌≤◌, IfSome, OnOk, Some, length, slice_get, take};
 ghost use Rattle.binlog_summaries.specs.StatsText.{Writes, number_line};
-ghost use Rattle.binlog_summaries.specs.Shown.{shown, shown_count, name_text};
-ghost use Rattle.binlog_summaries.specs.TableText.{IsTimeOf, counts_text, names_text, IsTableLine, AreTableLines, tables_head, unknown_line, IsTablesText};
+ghost use Rattle.binlog_summaries.specs.Shown.{shown, shown_count};
+ghost use Rattle.binlog_summaries.specs.TableText.{IsTimeOf, counts_text, IsTableLine, AreTableLines, tables_head, unknown_line, IsTablesText};
 
 use crate::stats_text::datetime_of;
-use change_statistics::{TableCounts, TableName, TableStats, UnknownRows};
+use change_statistics::{TableCounts, TableName, TableStats, UnknownRows, write_names};
+use std::io;
 use std::io::Write;
-use std::{io, str};
 
 /// Writes the text of statistics by table, with as many tables as are asked for, in the order of the statistics.
 pub fn write_tables<W: Write>(
@@ -92,30 +92,11 @@ fn write_line<W: Write>(stats: &TableStats, index: usize, output: &mut W) -> io:
 fn write_table<W: Write>(name: &TableName, counts: &TableCounts, output: &mut W) -> io::Result<()>
     ensures { OnOk result (Writes (IsTableLine (name.now, counts.now)) (W.contents output.old) (W.contents output.new)) }
 {
-    write_names(name, output)?;
+    write_names(name, &mut *output)?;
     write_counts(counts, output)?;
     write_time(" first ", counts.first_time, output)?;
     write_time(" last ", counts.last_time, output)?;
     writeln!(output, "")
-}
-
-/// Writes the names of a table.
-pub(crate) fn write_names<W: Write>(name: &TableName, output: &mut W) -> io::Result<()>
-    ensures { OnOk result (Appends (W.contents output.old) (W.contents output.new) (names_text name.now)) }
-{
-    let database = name_text(&name.database);
-    let table = name_text(&name.table);
-    write!(output, "table {database}.{table} ")
-}
-
-/// A name as a text.
-pub(crate) fn name_text(name: &[u8]) -> &str
-    ensures { result.now ≡ name_text name.now }
-{
-    match str::from_utf8(name) {
-        Ok(text) => text,
-        Err(_) => "?",
-    }
 }
 
 // Writes the counts of a table.

@@ -34,7 +34,7 @@ pub fn write_transactions_json<W: Write>(
 }
 
 // Writes the line of all transactions, and those of the largest.
-#[tactic(auto, using(crate::proofs::WrittenTexts::appends_both))]
+#[tactic(auto, using(change_statistics::proofs::WrittenTexts::appends_both))]
 fn write_objects<W: Write>(
     line: &mut Line,
     stats: &TransactionStats,
@@ -59,7 +59,7 @@ fn write_head_line<W: Write>(
 }
 
 // Writes the lines of transactions.
-#[tactic(auto, using(crate::proofs::TransactionLines::transaction_appended, crate::proofs::TableLines::nothing_appended))]
+#[tactic(auto, using(crate::proofs::TransactionLines::transaction_appended, change_statistics::proofs::WrittenTexts::nothing_appended))]
 fn write_lines<W: Write>(
     line: &mut Line,
     transactions: &[Transaction],

@@ -6,10 +6,10 @@ ghost use Rattle.change_statistics.specs.Names.{name_of};
 ghost use Rattle.change_statistics.specs.Transactions.{seen_by};
 ghost use Rattle.binlog_summaries.specs.TransactionText.{smallest_of, class_line, size_line, size_lines, places_text, gtid_text, counts_text, duration_text, table_names, table_line, IsTransactionLine, IsTransactionText, AreTransactionTexts, IsTransactionsText};
 
-use crate::table_text::{name_text, write_number, write_time};
+use crate::table_text::{write_number, write_time};
 use change_statistics::{
     EventCounts, SIZE_CLASSES, SizeHistogram, TableName, Transaction, TransactionStats,
-    TransactionTables,
+    TransactionTables, name_text,
 };
 use std::io;
 use std::io::Write;
@@ -24,7 +24,7 @@ pub fn write_transactions<W: Write>(stats: &TransactionStats, output: &mut W) ->
 }
 
 // Writes the lines of the classes of sizes.
-#[tactic(auto, using(crate::proofs::TransactionLines::size_written, crate::proofs::TableLines::nothing_appended))]
+#[tactic(auto, using(crate::proofs::TransactionLines::size_written, change_statistics::proofs::WrittenTexts::nothing_appended))]
 fn write_sizes<W: Write>(sizes: &SizeHistogram, output: &mut W) -> io::Result<()>
     ensures { OnOk result (Appends (W.contents output.old) (W.contents output.new) (size_lines 0 sizes.now.counts)) }
 {
@@ -139,7 +139,7 @@ fn write_duration<W: Write>(duration: Option<u32>, output: &mut W) -> io::Result
 }
 
 // Writes the lines of the tables of a transaction.
-#[tactic(auto, using(crate::proofs::TableLines::row_written, crate::proofs::TableLines::nothing_appended))]
+#[tactic(auto, using(change_statistics::proofs::WrittenLists::row_written, change_statistics::proofs::WrittenTexts::nothing_appended))]
 fn write_tables<W: Write>(tables: &TransactionTables, output: &mut W) -> io::Result<()>
     ensures { OnOk result (Appends (W.contents output.old) (W.contents output.new) (flat_map table_line tables.now.entries)) }
 {

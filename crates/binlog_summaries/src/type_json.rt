@@ -28,7 +28,7 @@ pub fn write_types_json<W: Write>(alloc: Global, stats: &Stats, output: &mut W) 
 }
 
 // Writes the line of all types, and those of the types.
-#[tactic(auto, using(crate::proofs::WrittenTexts::appends_both))]
+#[tactic(auto, using(change_statistics::proofs::WrittenTexts::appends_both))]
 fn write_objects<W: Write>(line: &mut Line, stats: &Stats, output: &mut W) -> Result<(), Error>
     ensures { OnOk result (Appends (W.contents output.old) (W.contents output.new) (types_json stats.now)) }
 {

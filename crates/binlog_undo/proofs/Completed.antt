@@ -10,16 +10,16 @@ use Rattle.binlog_images.specs.Bits.{Bits, first_bits, next_bits, next_place, is
 use Rattle.binlog_images.specs.Cells.{Cell, absent, cell_in, cell_at, cells, ImageShape, present_count, image, image_if, RowCells}
 use Rattle.binlog_images.specs.Agreement.{Agrees}
 use Rattle.binlog_images.specs.Images.{image_at}
+use Rattle.binlog_images.specs.NullBits.{nulls_of}
 use Rattle.binlog_images.specs.Stored.{IsFault}
 use Rattle.binlog_images.specs.StoredColumns.{Stored, front, stored_as, stored_with, stored_in, stored_image}
 use Rattle.binlog_images.specs.declared.rows_error.RowsErrorKind.{RowsErrorKind}
 use Rattle.binlog_images.proofs.Agreement.{image_agrees}
+use Rattle.binlog_images.proofs.NullBits.{nulls_len, null_is_set}
 use Rattle.binlog_undo.specs.Completion.{updated_stored, completed_stored, value_bytes, values_of, null_flag, null_flags, image_bytes, IsCompletedBy}
-use Rattle.binlog_undo.specs.NullBits.{nulls_of}
 use Rattle.binlog_undo.specs.RowBytes.{Encodes, RowBytes, IsRowBytes}
 use Rattle.binlog_undo.specs.RowChanges.{TableRow, updated, completed, inverse_row, Covers, HasOldColumns}
 use Rattle.binlog_undo.proofs.Local.{local_cell}
-use Rattle.binlog_undo.proofs.NullBits.{nulls_len, null_is_set}
 use Rattle.binlog_undo.proofs.Stored.{front_is}
 
 -- ---- a column

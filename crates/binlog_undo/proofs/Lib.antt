@@ -6,10 +6,11 @@ pub mod InverseEvents
 pub mod Local
 pub mod Loop
 pub mod Prepending
-pub mod NullBits
 pub mod RowBytes
 pub mod RowChanges
 pub mod SameColumns
 pub mod SoFar
 pub mod Stored
 pub mod UndoneEvents
+pub mod Transactions
+pub mod Written

@@ -4,9 +4,9 @@ use Rattle.binlog_columns.specs.TableColumns.{columns_of}
 use Rattle.binlog_rows.specs.Images.{bitmap_of}
 use Rattle.binlog_images.specs.StoredColumns.{Stored, stored_image}
 use Rattle.binlog_images.specs.declared.stored_row.StoredRow.{StoredRow}
+use Rattle.binlog_images.specs.NullBits.{nulls_of}
 use Rattle.binlog_undo.specs.Completion.{completed_stored, null_flags, image_bytes}
 use Rattle.binlog_undo.specs.NewImages.{HasColumns}
-use Rattle.binlog_undo.specs.NullBits.{nulls_of}
 use Rattle.binlog_undo.specs.Outcomes.{IsPrepended}
 use Rattle.binlog_undo.specs.declared.completion.NewImage.{NewImage}
 use Rattle.binlog_undo.specs.declared.image_pair.ImagePair.{ImagePair}

@@ -4,8 +4,8 @@ use Rattle.std.specs.Prelude.{◌≡◌, ℕ, Bool, true, false, List, [], ◌�
 use Rattle.std.specs.List.{flat_map}
 use Rattle.binlog_columns.specs.Metadata.{Typed}
 use Rattle.binlog_rows.specs.Columns.{Bitmap}
+use Rattle.binlog_images.specs.NullBits.{nulls_of}
 use Rattle.binlog_images.specs.StoredColumns.{Stored, absent, null, value, stored_image}
-use Rattle.binlog_undo.specs.NullBits.{nulls_of}
 use Rattle.binlog_undo.specs.RowBytes.{RowBytes}
 
 -- A column after an update: as it was if the image after doesn't have it.

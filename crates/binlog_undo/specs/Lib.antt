@@ -4,9 +4,11 @@ pub mod Coverage
 pub mod EventChanges
 pub mod InverseEvents
 pub mod NewImages
-pub mod NullBits
 pub mod Outcomes
 pub mod RowBytes
 pub mod RowChanges
 pub mod Undoing
 pub mod UndoneEvents
+pub mod Events
+pub mod Headings
+pub mod Transactions

@@ -1,10 +1,10 @@
 //! Images after an update that are completed from those before.
 ghost use Rattle.std.specs.Prelude.{◌≡◌, ◌++◌, [], map, get_or, IfOk, OnOk};
+ghost use Rattle.binlog_images.specs.NullBits.{nulls_of};
 ghost use Rattle.binlog_images.specs.StoredColumns.{column_of};
 ghost use Rattle.binlog_images.specs.declared.stored_columns.StoredColumn.TheVariants.{Absent};
 ghost use Rattle.binlog_undo.specs.Completion.{updated_stored, completed_stored, value_bytes, null_flag};
 ghost use Rattle.binlog_undo.specs.NewImages.{HasColumns};
-ghost use Rattle.binlog_undo.specs.NullBits.{nulls_of};
 
 use crate::backward::Backward;
 use crate::null_bits::null_bitmap;

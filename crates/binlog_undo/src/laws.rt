@@ -1,17 +1,24 @@
 //! Laws of the definitions. Each is a function that does nothing and whose contract states the law.
-ghost use Rattle.std.specs.Prelude.{◌≡◌, ℕ, List, map, length, slice_index_or, Ok, false};
+ghost use Rattle.std.specs.Prelude.{◌≡◌, ◌++◌, ℕ, List, map, length, slice_index_or, Ok, false};
 ghost use Rattle.std.specs.List.{AllByRecursion};
 ghost use Rattle.binlog_columns.specs.Metadata.{Typed};
+ghost use Rattle.binlog_consts.specs.declared.event_type.EventType.TheVariants.{QUERY_EVENT, XID_EVENT};
+ghost use Rattle.binlog_event_format.specs.declared.header.BinlogEventHeader.{BinlogEventHeader};
 ghost use Rattle.binlog_images.specs.Cells.{absent, RowShape, RowCells, whole};
 ghost use Rattle.binlog_images.specs.Splits.{AreRows};
 ghost use Rattle.binlog_rows.specs.RowsData.{event_in};
 ghost use Rattle.binlog_rows.specs.declared.rows_event_data.RowsEventData.{RowsEventData};
 ghost use Rattle.table_changes.specs.Changes.{State, Change, AppliesAll, inverse};
 ghost use Rattle.binlog_undo.specs.EventChanges.{HasChanges};
+ghost use Rattle.binlog_undo.specs.Events.{IsWritten, begin_body, xid_body};
+ghost use Rattle.binlog_undo.specs.Headings.{begin_heading, commit_heading};
 ghost use Rattle.binlog_undo.specs.InverseEvents.{UndoesEvent};
 ghost use Rattle.binlog_undo.specs.RowBytes.{RowBytes, AreRowBytes, exchanged_bytes, HasSameColumns, AreUndone};
 ghost use Rattle.binlog_undo.specs.RowChanges.{TableRow, completed, row_changes, inverse_rows, HasOldColumns};
+ghost use Rattle.binlog_undo.specs.Transactions.{Event, AreWritten, AllFit, events_bytes, changes_events, transaction_events};
+ghost use Rattle.binlog_undo.specs.declared.events_writer.EventsWriter.{EventsWriter};
 ghost use Rattle.binlog_undo.specs.declared.inverse_event.ForeignKeyChecks.{ForeignKeyChecks};
+ghost use Rattle.binlog_undo.specs.declared.undone_change.UndoneChange.{UndoneChange};
 
 /// A column after an update is that of the image after, or, if the image after doesn't have it, that of the image before.
 pub fn rows_are_completed()
@@ -63,4 +70,21 @@ pub fn events_are_undone_twice<Table>()
     ensures bytes { (key others : List ℕ) (columns : List Typed) (checks again : ForeignKeyChecks) (event undoing redoing : RowsEventData)
         → (undoes : UndoesEvent key columns checks event undoing) → UndoesEvent others columns again undoing redoing
         → undoes.undone.completes ≡ false → (event_in redoing).rows ≡ (event_in event).rows }
+{}
+
+/// Events that are written, and others behind them, are the events of both. The bytes of events are theirs, one after the other, each
+/// with the place behind it, and their headers can state all numbers in them.
+pub fn events_are_written()
+    ensures joined { (front events : List Event) (old between new : EventsWriter) → AreWritten front old between → AreWritten events between new
+        → AreWritten (front ++ events) old new }
+    ensures bytes { (events : List Event) (old new : EventsWriter) → AreWritten events old new
+        → new.bytes.items ≡ old.bytes.items ++ events_bytes old.has_checksums old.place events }
+    ensures fit { (events : List Event) (old new : EventsWriter) → AreWritten events old new → AllFit old.has_checksums old.place events }
+{}
+
+/// A BEGIN, what undoes the row events of a transaction, the last one first, and an XID are the events that undo the transaction.
+pub fn transactions_are_written()
+    ensures { (last : BinlogEventHeader) (changes : List UndoneChange) (xid : ℕ) (old first between new : EventsWriter)
+        → IsWritten (begin_heading last) QUERY_EVENT begin_body old first → AreWritten (changes_events changes) first between
+        → IsWritten (commit_heading last) XID_EVENT (xid_body xid) between new → AreWritten (transaction_events last changes xid) old new }
 {}

@@ -5,16 +5,17 @@ use Rattle.binlog_cli.specs.TableWords.{texts_given}
 use Rattle.clap.specs.declared.parser.matches.Found.{Found}
 use Rattle.binlog_later_changes.specs.Later.{Look, later_changes}
 use Rattle.binlog_later_changes.specs.Logs.{FindsLater, SeesLog}
-use Rattle.binlog_later_changes.specs.Tables.{change_of, Holds, Grows, IsFresh}
+use Rattle.binlog_later_changes.specs.Changes.{IsNew}
+use Rattle.binlog_later_changes.specs.RowsLeft.{Left, left_of, nothing_left}
+use Rattle.binlog_later_changes.specs.Tables.{change_of, Holds, Grows}
 use Rattle.binlog_later_changes.specs.declared.later_change.LaterChange.{LaterChange}
-use Rattle.binlog_later_changes.specs.declared.later_tables.LaterTables.{LaterTables}
+use Rattle.binlog_later_changes.specs.declared.later_changes.LaterChanges.{LaterChanges}
+use Rattle.binlog_later_changes.specs.declared.later_rules.LaterRules.{LaterRules}
 use Rattle.binlog_later_changes.specs.declared.undone_events.RowsPlace.{RowsPlace}
 use Rattle.binlog_later_changes.proofs.SeenLogs.{grows_none, grows_both}
-use Rattle.binlog_undo_command.specs.LaterLogs.{is_payload, AreInside, FindsIn, FindsInLater, FindsInAll, AreUndoneOf, IsInsideOf, SeesAllLater, SeesAll, AreLater, LooksBehind, next_number}
-use Rattle.binlog_undo_command.specs.Reasons.{StatesSkips}
+use Rattle.binlog_undo_command.specs.LaterLogs.{is_payload, AreInside, FindsIn, FindsInLater, FindsInAll, AreUndoneOf, IsInsideOf, SeesAllLater, SeesAll, AreLater, LooksBehind, StatesRules, next_number}
 use Rattle.binlog_undo_command.specs.declared.scanning.ScannedLog.{ScannedLog}
 use Rattle.binlog_undo_index.specs.declared.places.TransactionPlace.{TransactionPlace}
-use Rattle.binlog_undo_index.specs.declared.skips.Skips.{Skips}
 
 pub nil_of : {A : Type 0} (xs : List A) → (length xs == 0) ≡ true → xs ≡ []
 nil_of xs is = nil_from_length xs (eqb-true (length xs) 0 is)
@@ -37,15 +38,15 @@ map_not_nil [] some none = some refl
 map_not_nil (change ∷ changes) some none = absurd cc
 
 -- What was found is what the options ask for.
-pub behind_is : {F : Type 0} (bytes : List ℕ → Option (List ℕ)) (has_frames : List ℕ → F → Type 0) (is_at : F → ℕ → List ℕ → Type 0) (found : Found) (skips : Skips) (logs : List ScannedLog)
-    (names : List (List ℕ)) (tables : LaterTables) → StatesSkips (texts_given found (codes "skip")) skips → names ≡ texts_given found (codes "later")
-    → ((none : LaterTables) × IsFresh none × FindsInAll bytes has_frames is_at skips 0 logs names none tables) → LooksBehind bytes has_frames is_at found logs tables
-behind_is bytes has_frames is_at found skips logs names tables states are finds = record {
-  skips = skips;
-  skipped = states;
+pub behind_is : {F : Type 0} (bytes : List ℕ → Option (List ℕ)) (has_frames : List ℕ → F → Type 0) (is_at : F → ℕ → List ℕ → Type 0) (found : Found) (rules : LaterRules) (logs : List ScannedLog)
+    (names : List (List ℕ)) (changes : LaterChanges) → StatesRules found rules → names ≡ texts_given found (codes "later")
+    → ((none : LaterChanges) × IsNew none × FindsInAll bytes has_frames is_at rules 0 logs names none changes) → LooksBehind bytes has_frames is_at found logs changes
+behind_is bytes has_frames is_at found rules logs names changes states are finds = record {
+  rules = rules;
+  stated = states;
   none = finds.0;
   fresh = finds.1;
-  finds = subst (λ (words : List (List ℕ)). FindsInAll bytes has_frames is_at skips 0 logs words finds.0 tables) are finds.2;
+  finds = subst (λ (words : List (List ℕ)). FindsInAll bytes has_frames is_at rules 0 logs words finds.0 changes) are finds.2;
 }
 
 pub if_ok : {A E : Type 0} (answer : Result A E) (P Q : A → Type 0) → ((value : A) → P value → Q value) → IfOk answer P → IfOk answer Q
@@ -53,10 +54,10 @@ if_ok (Ok value) P Q to is = to value is
 if_ok (Err e) P Q to is = tt
 
 -- The bytes that are left of a log that was opened are all of it.
-pub known_finds : (known remaining : Option (List ℕ)) (skips : Skips) (number : ℕ) (undone : List RowsPlace) (old new : LaterTables) → IfSome known (λ bytes. remaining ≡ Some bytes)
-    → FindsIn skips number undone remaining old new → FindsIn skips number undone known old new
-known_finds None remaining skips number undone old new is given = tt
-known_finds (Some bytes) remaining skips number undone old new is given = rw is at given
+pub known_finds : (known remaining : Option (List ℕ)) (rules : LaterRules) (number : ℕ) (undone : List RowsPlace) (old new : LaterChanges) → IfSome known (λ bytes. remaining ≡ Some bytes)
+    → FindsIn rules number undone remaining old new → FindsIn rules number undone known old new
+known_finds None remaining rules number undone old new is given = tt
+known_finds (Some bytes) remaining rules number undone old new is given = rw is at given
 
 -- ---- whether events have others inside
 
@@ -78,46 +79,50 @@ inside_end is_at transactions i items behind before =
     subst (λ (l : List Bool). AreInside is_at transactions l) (append-nil items) (before [] none)
 
 -- One later log more.
-pub finds_next : (bytes : List ℕ → Option (List ℕ)) (skips : Skips) (number next : ℕ) (names : List (Bor (List ℕ))) (i : ℕ) (none : Bor (List ℕ)) (old mid new : LaterTables) (undone : List RowsPlace)
-    → i < length names → undone ≡ [] → FindsIn skips number undone (bytes (get_or names i none).now) old mid → next ≡ next_number number
-    → FindsInLater bytes skips next (map (λ (name : Bor (List ℕ)). name.now) (drop (i + 1) names)) mid new
-    → FindsInLater bytes skips number (map (λ (name : Bor (List ℕ)). name.now) (drop i names)) old new
-finds_next bytes skips number next names i none old mid new undone within nothing one is more =
-    let here = subst (λ (u : List RowsPlace). FindsIn skips number u (bytes (get_or names i none).now) old mid) nothing one in
-    let behind = subst (λ (n : ℕ). FindsInLater bytes skips n (map (λ (name : Bor (List ℕ)). name.now) (drop (i + 1) names)) mid new) is more in
-    subst (λ (l : List (Bor (List ℕ))). FindsInLater bytes skips number (map (λ (name : Bor (List ℕ)). name.now) l) old new) (sym (left_at names i none within)) (mid, here, behind)
+pub finds_next : (bytes : List ℕ → Option (List ℕ)) (rules : LaterRules) (number next : ℕ) (names : List (Bor (List ℕ))) (i : ℕ) (none : Bor (List ℕ)) (old mid new : LaterChanges) (undone : List RowsPlace)
+    → i < length names → undone ≡ [] → FindsIn rules number undone (bytes (get_or names i none).now) old mid → next ≡ next_number number
+    → FindsInLater bytes rules next (map (λ (name : Bor (List ℕ)). name.now) (drop (i + 1) names)) mid new
+    → FindsInLater bytes rules number (map (λ (name : Bor (List ℕ)). name.now) (drop i names)) old new
+finds_next bytes rules number next names i none old mid new undone within nothing one is more =
+    let here = subst (λ (u : List RowsPlace). FindsIn rules number u (bytes (get_or names i none).now) old mid) nothing one in
+    let behind = subst (λ (n : ℕ). FindsInLater bytes rules n (map (λ (name : Bor (List ℕ)). name.now) (drop (i + 1) names)) mid new) is more in
+    subst (λ (l : List (Bor (List ℕ))). FindsInLater bytes rules number (map (λ (name : Bor (List ℕ)). name.now) l) old new) (sym (left_at names i none within)) (mid, here, behind)
 
-module _ {F : Type 0} (known : List ℕ → Option (List ℕ)) (bytes : List ℕ → List ℕ) (has_frames : List ℕ → F → Type 0) (is_at : F → ℕ → List ℕ → Type 0) (skips : Skips)
+module _ {F : Type 0} (known : List ℕ → Option (List ℕ)) (bytes : List ℕ → List ℕ) (has_frames : List ℕ → F → Type 0) (is_at : F → ℕ → List ℕ → Type 0) (rules : LaterRules)
     (are : (name : List ℕ) → known name ≡ Some (bytes name)) (small : (name : List ℕ) → length (bytes name) < 2 ^ 64) where
-  finds_one : (number : ℕ) (undone : List RowsPlace) (name : List ℕ) (old new : LaterTables) → FindsIn skips number undone (known name) old new → FindsLater skips number undone (bytes name) old new
+  finds_one : (number : ℕ) (undone : List RowsPlace) (name : List ℕ) (old new : LaterChanges) → FindsIn rules number undone (known name) old new → FindsLater rules number undone (bytes name) old new
   finds_one number undone name old new finds =
-      let of_bytes : IfSome (Some (bytes name)) (λ shown. length shown < 2 ^ 64 → FindsLater skips number undone shown old new) =
-      subst (λ (k : Option (List ℕ)). IfSome k (λ shown. length shown < 2 ^ 64 → FindsLater skips number undone shown old new)) (are name) finds in
+      let of_bytes : IfSome (Some (bytes name)) (λ shown. length shown < 2 ^ 64 → FindsLater rules number undone shown old new) =
+      subst (λ (k : Option (List ℕ)). IfSome k (λ shown. length shown < 2 ^ 64 → FindsLater rules number undone shown old new)) (are name) finds in
       of_bytes (small name)
 
   -- Of later logs, and of all.
-  record FoundLater (number : ℕ) (names : List (List ℕ)) (old new : LaterTables) : Type 0 where
+  record FoundLater (number : ℕ) (names : List (List ℕ)) (old new : LaterChanges) : Type 0 where
     looks : List Look
-    seen : SeesAllLater bytes skips number names looks
-    grows : Grows looks old new
+    seen : SeesAllLater bytes rules number names (left_of old.rows) (left_of new.rows) looks
+    grows : Grows looks old.tables new.tables
 
-  found_later : (number : ℕ) (names : List (List ℕ)) (old new : LaterTables) → FindsInLater known skips number names old new → FoundLater number names old new
-  found_later number [] old new same = record { looks = []; seen = refl; grows = subst (λ (t : LaterTables). Grows [] old t) (sym same) (grows_none old) }
+  found_later : (number : ℕ) (names : List (List ℕ)) (old new : LaterChanges) → FindsInLater known rules number names old new → FoundLater number names old new
+  found_later number [] old new same = record {
+    looks = [];
+    seen = (refl, ap (λ (c : LaterChanges). left_of c.rows) same);
+    grows = subst (λ (c : LaterChanges). Grows [] old.tables c.tables) (sym same) (grows_none old.tables);
+  }
   found_later number (name ∷ names) old new (mid, one, others) =
       let first = finds_one number [] name old mid one in
       let rest = found_later (next_number number) names mid new others in
       record {
         looks = first.looks ++ rest.looks;
-        seen = (first.looks, rest.looks, first.sees, rest.seen, refl);
-        grows = grows_both first.looks rest.looks old mid new first.grows rest.grows;
+        seen = (first.looks, rest.looks, left_of mid.rows, first.sees, rest.seen, refl);
+        grows = grows_both first.looks rest.looks old.tables mid.tables new.tables first.grows rest.grows;
       }
 
-  record FoundAll (number : ℕ) (logs : List ScannedLog) (names : List (List ℕ)) (old new : LaterTables) : Type 0 where
+  record FoundAll (number : ℕ) (logs : List ScannedLog) (names : List (List ℕ)) (old new : LaterChanges) : Type 0 where
     looks : List Look
-    seen : SeesAll bytes has_frames is_at skips number logs names looks
-    grows : Grows looks old new
+    seen : SeesAll bytes has_frames is_at rules number logs names (left_of old.rows) (left_of new.rows) looks
+    grows : Grows looks old.tables new.tables
 
-  found_all : (number : ℕ) (logs : List ScannedLog) (names : List (List ℕ)) (old new : LaterTables) → FindsInAll known has_frames is_at skips number logs names old new → FoundAll number logs names old new
+  found_all : (number : ℕ) (logs : List ScannedLog) (names : List (List ℕ)) (old new : LaterChanges) → FindsInAll known has_frames is_at rules number logs names old new → FoundAll number logs names old new
   found_all number [] names old new finds =
       let later = found_later number names old new finds in
       record { looks = later.looks; seen = later.seen; grows = later.grows }
@@ -127,13 +132,18 @@ module _ {F : Type 0} (known : List ℕ → Option (List ℕ)) (bytes : List ℕ
       let undone : AreUndoneOf has_frames is_at log one.undone = one.are in
       record {
         looks = first.looks ++ rest.looks;
-        seen = (one.undone, first.looks, rest.looks, undone, first.sees, rest.seen, refl);
-        grows = grows_both first.looks rest.looks old mid new first.grows rest.grows;
+        seen = (one.undone, first.looks, rest.looks, left_of mid.rows, undone, first.sees, rest.seen, refl);
+        grows = grows_both first.looks rest.looks old.tables mid.tables new.tables first.grows rest.grows;
       }
 
-  pub are_later : (logs : List ScannedLog) (names : List (List ℕ)) (none tables : LaterTables) → IsFresh none → FindsInAll known has_frames is_at skips 0 logs names none tables
-      → AreLater bytes has_frames is_at skips logs names tables
-  are_later logs names none tables fresh finds =
-      let all = found_all 0 logs names none tables finds in
-      let holds : Holds all.looks tables = all.grows [] fresh in
-      record { looks = all.looks; seen = all.seen; found = holds.found }
+  pub are_later : (logs : List ScannedLog) (names : List (List ℕ)) (none changes : LaterChanges) → IsNew none → FindsInAll known has_frames is_at rules 0 logs names none changes
+      → AreLater bytes has_frames is_at rules logs names changes
+  are_later logs names none changes fresh finds =
+      let all = found_all 0 logs names none changes finds in
+      let holds : Holds all.looks changes.tables = all.grows [] fresh.tables in
+      record {
+        looks = all.looks;
+        behind = left_of changes.rows;
+        seen = subst (λ (l : Left). SeesAll bytes has_frames is_at rules 0 logs names l (left_of changes.rows) all.looks) fresh.rows all.seen;
+        found = holds.found;
+      }

@@ -5,4 +5,6 @@ mod RowCounts
 mod LogsSoFar
 mod LogsWritten
 mod UndoneLogs
+mod AllLogs
 mod LaterFound
+mod LaterRows

@@ -6,5 +6,7 @@ pub mod Descriptions
 pub mod Written
 pub mod RowCounts
 pub mod LaterLogs
+pub mod LaterRows
 pub mod Undoing
 pub mod UndoneLogs
+pub mod AllLogs

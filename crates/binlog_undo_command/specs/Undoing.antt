@@ -4,7 +4,7 @@ use Rattle.std.specs.Io.KnownBytes.{Appends}
 use Rattle.clap.specs.declared.parser.matches.Found.{Found}
 use Rattle.clap.specs.Matches.{one_text}
 use Rattle.binlog_cli.specs.TableWords.{texts_given}
-use Rattle.binlog_summaries.specs.RowText.{rows_line}
+use Rattle.change_statistics.specs.RowText.{rows_line}
 use Rattle.binlog_undo_command.specs.Descriptions.{HaveOneDescription, HaveDescriptions}
 use Rattle.binlog_undo_command.specs.LaterLogs.{LeavesNothing, HasLater}
 use Rattle.binlog_undo_command.specs.Options.{StatesFlag}

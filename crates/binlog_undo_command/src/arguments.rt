@@ -63,6 +63,12 @@ const WRITING: &[OptionText] = &[
         takes: Takes::Texts("LOG"),
         help: "A log behind the FILEs: it must not change the tables of which rows are undone; may be given again",
     },
+    OptionText {
+        name: "check-rows",
+        short: None,
+        takes: Takes::Nothing,
+        help: "What stays, in the FILEs and the later logs, must not remove a row that what is undone has left behind",
+    },
 ];
 
 // Which transactions and tables are undone.

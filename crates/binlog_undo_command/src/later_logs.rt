@@ -3,18 +3,20 @@ ghost use Rattle.std.specs.Prelude.{◌≡◌, ◌≢◌, ◌⊎◌, ℕ, List, 
 ghost use Rattle.clap.specs.Matches.{found_of};
 ghost use Rattle.binlog_cli.specs.TableWords.{texts_given};
 ghost use Rattle.binlog_cli.specs.declared.exit_status.Status.TheVariants.{NotOpened, Damaged, Failed};
+ghost use Rattle.binlog_later_changes.specs.Changes.{IsNew};
 ghost use Rattle.binlog_later_changes.specs.Places.{places_of};
-ghost use Rattle.binlog_later_changes.specs.Tables.{IsFresh};
 ghost use Rattle.binlog_undo_command.specs.LaterLogs.{is_payload, AreInside, FindsIn, FindsInLog, FindsInLater, FindsInAll, IsInsideOf, LeavesNothing, HasLater, skips_later};
 
 use crate::logs::Logs;
-use crate::options::{skips_in, skips_later};
+use crate::options::{rules_in, skips_later};
 use crate::scanning::ScannedLog;
 use crate::writing::seek;
 use binlog_cli::Status;
 use binlog_file::{Counted, Error, EventType, Retrying};
-use binlog_later_changes::{LaterChange, LaterReason, LaterTables, UndoneEvents, find_later};
-use binlog_undo_index::{Skips, TransactionPlace};
+use binlog_later_changes::{
+    LaterChange, LaterChanges, LaterReason, LaterRules, UndoneEvents, find_later,
+};
+use binlog_undo_index::TransactionPlace;
 use binlog_undo_log::{Frames, UndoLogError};
 use clap::ArgMatches;
 use std::alloc::Global;
@@ -24,7 +26,8 @@ use std::str;
 /// The place of the type in the header of an event.
 const TYPE_PLACE: usize = 4;
 
-/// If there are later logs, goes through all logs again, and through these, and names what is behind what is undone and may be in its way.
+/// If there are later logs, or rows are checked, goes through all logs again, and through the later ones, and names what is behind what is undone and may
+/// be in its way.
 ///
 /// # Errors
 ///
@@ -57,13 +60,21 @@ fn check_behind<L: Logs, R: Eprint + AllocGlobal>(
     ensures refused { IfErr result (λ status. status ≡ Damaged → HasLater (L.bytes logs.now) (L.has_frames logs.now) L.Sought.is_at (found_of options.now) scanned.now) }
     ensures err { IfErr result (λ status. (status ≡ Damaged) ⊎ (status ≡ NotOpened) ⊎ (status ≡ Failed)) }
 {
-    if later.is_empty() {
+    let rules = rules_in(options);
+    if is_unasked(rules, later) {
         return Ok(());
     }
-    match look_behind(rt, logs, skips_in(options), scanned, later) {
-        Ok(tables) => accept(rt, options, scanned, later, tables.found()),
+    match look_behind(rt, logs, rules, scanned, later) {
+        Ok(changes) => accept(rt, options, scanned, later, changes.found()),
         Err(status) => Err(status),
     }
+}
+
+// Whether nothing is looked for: there are no later logs, and rows aren't checked.
+fn is_unasked(rules: LaterRules, later: &[&str]) -> bool
+    ensures { result ≡ true → (later.now ≡ []) × (rules.checks_rows ≡ false) }
+{
+    later.is_empty() && !rules.checks_rows
 }
 
 // Writes a message for each later change, and accepts them if that is asked for.
@@ -92,60 +103,60 @@ fn accept<R: Eprint>(
 fn look_behind<L: Logs, R: Eprint + AllocGlobal>(
     rt: &R,
     logs: &L,
-    skips: Skips,
+    rules: LaterRules,
     scanned: &[ScannedLog<'_>],
     later: &[&str],
-) -> Result<LaterTables, Status>
-    ensures ok { IfOk result (λ tables. (none : LaterTables) × IsFresh none × FindsInAll (L.bytes logs.now) (L.has_frames logs.now) L.Sought.is_at skips 0 scanned.now (map (λ name. name.now) later.now) none tables) }
+) -> Result<LaterChanges, Status>
+    ensures ok { IfOk result (λ changes. (none : LaterChanges) × IsNew none × FindsInAll (L.bytes logs.now) (L.has_frames logs.now) L.Sought.is_at rules 0 scanned.now (map (λ name. name.now) later.now) none changes) }
     ensures err { IfErr result (λ status. (status ≡ NotOpened) ⊎ (status ≡ Failed)) }
 {
-    let mut tables = LaterTables::new(rt.alloc());
+    let mut changes = LaterChanges::new(rt.alloc());
     let mut number = 0u64;
     for log in scanned {
-        tables = look_at_scanned(rt, logs, skips, number, log, tables)?;
+        changes = look_at_scanned(rt, logs, rules, number, log, changes)?;
         number = number.saturating_add(1);
     }
-    look_at_later(rt, logs, skips, number, later, tables)
+    look_at_later(rt, logs, rules, number, later, changes)
 }
 
 // Looks at later logs, of which the first one has this number.
 fn look_at_later<L: Logs, R: Eprint + AllocGlobal>(
     rt: &R,
     logs: &L,
-    skips: Skips,
+    rules: LaterRules,
     first: u64,
     later: &[&str],
-    found: LaterTables,
-) -> Result<LaterTables, Status>
-    ensures ok { IfOk result (FindsInLater (L.bytes logs.now) skips first (map (λ name. name.now) later.now) found) }
+    found: LaterChanges,
+) -> Result<LaterChanges, Status>
+    ensures ok { IfOk result (FindsInLater (L.bytes logs.now) rules first (map (λ name. name.now) later.now) found) }
     ensures err { IfErr result (λ status. (status ≡ NotOpened) ⊎ (status ≡ Failed)) }
 {
-    let mut tables = found;
+    let mut changes = found;
     let mut number = first;
     for name in later {
         let undone = UndoneEvents::new(&[], &[], &[]);
-        tables = look_at(rt, logs, name, skips, number, undone, tables)?;
+        changes = look_at(rt, logs, name, rules, number, undone, changes)?;
         number = number.saturating_add(1);
     }
-    Ok(tables)
+    Ok(changes)
 }
 
 // Looks at a log of which something is undone.
 fn look_at_scanned<L: Logs, R: Eprint + AllocGlobal>(
     rt: &R,
     logs: &L,
-    skips: Skips,
+    rules: LaterRules,
     number: u64,
     log: &ScannedLog<'_>,
-    tables: LaterTables,
-) -> Result<LaterTables, Status>
-    ensures ok { IfOk result (FindsInLog (L.bytes logs.now) (L.has_frames logs.now) L.Sought.is_at skips number log.now tables) }
+    changes: LaterChanges,
+) -> Result<LaterChanges, Status>
+    ensures ok { IfOk result (FindsInLog (L.bytes logs.now) (L.has_frames logs.now) L.Sought.is_at rules number log.now changes) }
     ensures err { IfErr result (λ status. (status ≡ NotOpened) ⊎ (status ≡ Failed)) }
 {
     let index = log.scan.index();
     let are_inside = contents_of(rt, logs, log)?;
     let undone = UndoneEvents::new(index.transactions(), are_inside.as_slice(), index.changes());
-    look_at(rt, logs, log.name, skips, number, undone, tables)
+    look_at(rt, logs, log.name, rules, number, undone, changes)
 }
 
 // Of each transaction of a log that is undone, whether its row events are inside its last event.
@@ -205,16 +216,16 @@ fn look_at<L: Logs, R: Eprint + AllocGlobal>(
     rt: &R,
     logs: &L,
     name: &str,
-    skips: Skips,
+    rules: LaterRules,
     number: u64,
     undone: UndoneEvents<'_>,
-    tables: LaterTables,
-) -> Result<LaterTables, Status>
-    ensures ok { IfOk result (FindsIn skips number (places_of undone.entry) (L.bytes logs.now name.now) tables) }
+    changes: LaterChanges,
+) -> Result<LaterChanges, Status>
+    ensures ok { IfOk result (FindsIn rules number (places_of undone.entry) (L.bytes logs.now name.now) changes) }
     ensures err { IfErr result (λ status. (status ≡ NotOpened) ⊎ (status ≡ Failed)) }
 {
     match logs.open(name) {
-        Ok(input) => look_at_open(rt, name, input, skips, number, undone, tables),
+        Ok(input) => look_at_open(rt, name, input, rules, number, undone, changes),
         Err(error) => {
             let _ = eprintln!(rt; "binlog: {name}: {error}");
             Err(Status::NotOpened)
@@ -227,17 +238,17 @@ fn look_at_open<R: Eprint + AllocGlobal, I: Read + Drop>(
     rt: &R,
     name: &str,
     input: I,
-    skips: Skips,
+    rules: LaterRules,
     number: u64,
     undone: UndoneEvents<'_>,
-    tables: LaterTables,
-) -> Result<LaterTables, Status>
-    ensures ok { IfOk result (FindsIn skips number (places_of undone.entry) (I.remaining input) tables) }
+    changes: LaterChanges,
+) -> Result<LaterChanges, Status>
+    ensures ok { IfOk result (FindsIn rules number (places_of undone.entry) (I.remaining input) changes) }
     ensures err { IfErr result (λ status. (status ≡ NotOpened) ⊎ (status ≡ Failed)) }
 {
     let mut input = Counted::new(Retrying::new(input));
-    match find_later(rt.alloc(), &mut input, skips, number, undone, tables) {
-        Ok(Some(tables)) => Ok(tables),
+    match find_later(rt.alloc(), &mut input, rules, number, undone, changes) {
+        Ok(Some(changes)) => Ok(changes),
         Ok(None) => {
             let _ = eprintln!(rt; "binlog: {name}: {}", UndoLogError::Changed);
             Err(Status::Failed)

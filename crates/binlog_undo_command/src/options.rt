@@ -3,7 +3,7 @@ ghost use Rattle.std.specs.Prelude.{◌≡◌, [], codes, map, IfErr, IfOk, IsNo
 ghost use Rattle.clap.specs.Matches.{found_of, one_text};
 ghost use Rattle.binlog_cli.specs.TableWords.{texts_given, StatesTables};
 ghost use Rattle.binlog_cli.specs.declared.exit_status.Status.TheVariants.{Usage};
-ghost use Rattle.binlog_undo_command.specs.LaterLogs.{skips_later};
+ghost use Rattle.binlog_undo_command.specs.LaterLogs.{StatesRules, skips_later};
 ghost use Rattle.binlog_undo_command.specs.Options.{StatesChecks, StatesChoice, StatesFlag, StatesScan, RefusesOptions};
 ghost use Rattle.binlog_undo_command.specs.Reasons.{AreSkipNames, StatesSkips};
 
@@ -11,6 +11,7 @@ use crate::log_place::LogPlace;
 use crate::reasons::{has_later_changes, is_skip_word, skips_of};
 use binlog_cli::{Status, filter, tables_of_option};
 use binlog_filters::TableFilter;
+use binlog_later_changes::LaterRules;
 use binlog_undo::ForeignKeyChecks;
 use binlog_undo_index::Skips;
 use binlog_undo_log::{Choice, UndoScan};
@@ -118,11 +119,21 @@ pub(crate) fn skips_later(options: &ArgMatches<'_>) -> bool
     has_later_changes(options.get_strs("skip").unwrap_or(&[]))
 }
 
-/// For which reasons transactions are left as they are that can't be undone.
-pub(crate) fn skips_in(options: &ArgMatches<'_>) -> Skips
+// For which reasons transactions are left as they are that can't be undone.
+fn skips_in(options: &ArgMatches<'_>) -> Skips
     ensures { StatesSkips (texts_given (found_of options.now) (codes "skip")) result }
 {
     skips_of(options.get_strs("skip").unwrap_or(&[]))
+}
+
+/// Which events behind what is undone may be in its way.
+pub(crate) fn rules_in(options: &ArgMatches<'_>) -> LaterRules
+    ensures { StatesRules (found_of options.now) result }
+{
+    LaterRules {
+        skips: skips_in(options),
+        checks_rows: flag(options, "check-rows"),
+    }
 }
 
 // How foreign keys are checked while the log is applied.

@@ -46,9 +46,9 @@ use Rattle.binlog_undo_log.specs.Places.{FramesOf}
 use Rattle.binlog_undo_log.specs.Undoing.{IsEventAt}
 use Rattle.binlog_undo_log.specs.WholeLogs.{ArePlaced, IsLogOf, AreReadAs, IsNewLog}
 use Rattle.binlog_undo_log.specs.declared.output.UndoOutput.{UndoOutput}
-use Rattle.binlog_undo_writing.specs.Events.{event_size, event_bytes, FitsHeader}
-use Rattle.binlog_undo_writing.specs.Transactions.{Event, events_bytes, AllFit}
-use Rattle.binlog_undo_writing.specs.declared.heading.Heading.{Heading}
+use Rattle.binlog_undo.specs.Events.{event_size, event_bytes, FitsHeader}
+use Rattle.binlog_undo.specs.Transactions.{Event, events_bytes, AllFit}
+use Rattle.binlog_undo.specs.declared.heading.Heading.{Heading}
 
 -- ---- lists
 

@@ -30,7 +30,7 @@ use Rattle.binlog_undo_index.specs.declared.places.ChangePlace.{ChangePlace}
 use Rattle.binlog_undo_log.specs.LogChanges.{LogChange, name_of, HasTableChanges, IsChanged, AreChanged, AreTransactionChanges, AreKeptChanges, LogPiece, beside, pair, piece_events, piece_changes, IsPieceOf, ArePairChanges, IsBesideRows, AreLogChanges}
 use Rattle.binlog_undo_log.specs.Places.{FramesOf, IsFrameIn, AtPlaces}
 use Rattle.binlog_undo_log.specs.Undoing.{UndoesRows, UndoesChange, UndoesChanges, UndoesOwn, UndoesTransaction, UndoesKept, begin_event, commit_event, undone_events}
-use Rattle.binlog_undo_writing.specs.Transactions.{Event}
+use Rattle.binlog_undo.specs.Transactions.{Event}
 use Rattle.table_changes.proofs.Inverses.{inverse-append}
 use Rattle.table_changes.specs.Changes.{inverse}
 

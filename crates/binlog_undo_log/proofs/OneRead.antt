@@ -39,7 +39,7 @@ use Rattle.binlog_undo_log.specs.LogChanges.{LogChange, TableName, HasTableChang
 use Rattle.binlog_undo_log.specs.Places.{IsFrameIn}
 use Rattle.binlog_undo_log.specs.Undoing.{IsEventAt}
 use Rattle.binlog_undo_log.specs.WholeLogs.{IsReadAs}
-use Rattle.binlog_undo_writing.specs.Transactions.{Event}
+use Rattle.binlog_undo.specs.Transactions.{Event}
 use Rattle.binlog_wire.specs.Reading.{Read}
 use Rattle.binlog_wire.specs.declared.error.Error.{Error}
 

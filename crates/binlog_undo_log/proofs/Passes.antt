@@ -19,7 +19,7 @@ use Rattle.binlog_undo_log.specs.Undoing.{begin_event, commit_event, IsEventAt, 
 use Rattle.binlog_event_format.specs.declared.header.BinlogEventHeader.{BinlogEventHeader}
 use Rattle.binlog_undo_log.specs.declared.undo_error.UndoLogError.{UndoLogError}
 use Rattle.binlog_undo_log.specs.declared.output.UndoOutput.{UndoOutput}
-use Rattle.binlog_undo_writing.specs.Transactions.{Event}
+use Rattle.binlog_undo.specs.Transactions.{Event}
 
 -- What is behind an element at the end of a front.
 pub moved : {A : Type 0} (all left front done : List A) (last : A) → all ≡ left ++ done → left ≡ front ++ last ∷ [] → all ≡ front ++ last ∷ done

@@ -14,7 +14,7 @@ use Rattle.binlog_events.specs.Events.{EventView, event_at, ReadsEventData}
 use Rattle.binlog_rows.specs.declared.table_map_event.TableMapEvent.{TableMapEvent}
 use Rattle.binlog_undo.specs.declared.inverse_event.ForeignKeyChecks.{ForeignKeyChecks}
 use Rattle.binlog_undo_index.specs.declared.places.ChangePlace.{ChangePlace}
-use Rattle.binlog_undo_writing.specs.declared.events_writer.EventsWriter.{EventsWriter}
+use Rattle.binlog_undo.specs.declared.events_writer.EventsWriter.{EventsWriter}
 use Rattle.binlog_undo_log.specs.Places.{FramesOf}
 use Rattle.binlog_undo_log.specs.Undoing.{IsEventAt, HasRightChecksum, Writes, UndoesRows, UndoesReadEvent, UndoesBody, UndoesCompressed, UndoesReadRows, UndoesMapped, UndoesReadMap, UndoesEvents, UndoesChange}
 use Rattle.binlog_undo_log.specs.declared.undo_error.UndoLogError.{UndoLogError}

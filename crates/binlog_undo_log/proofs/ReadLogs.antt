@@ -26,7 +26,7 @@ use Rattle.binlog_wire.specs.Reading.{Read, read_as}
 use Rattle.binlog_undo_log.specs.Descriptions.{written_description}
 use Rattle.binlog_undo_log.specs.LogChanges.{LogChange, LogPiece, beside, pair, piece_events, piece_changes, IsPieceOf, ArePairChanges, IsBesideRows, AreReadPair, IsReadBeside, AreReadChanges}
 use Rattle.binlog_undo_log.specs.WholeLogs.{IsReadAs, AreReadAs}
-use Rattle.binlog_undo_writing.specs.Transactions.{Event}
+use Rattle.binlog_undo.specs.Transactions.{Event}
 
 not_both : true ≡ false → ⊥
 not_both is = cc

@@ -51,7 +51,7 @@ use Rattle.binlog_undo_log.specs.declared.choice.Choice.{Choice}
 use Rattle.binlog_undo_log.specs.declared.scan.seeing.RowsLook.{RowsLook}
 use Rattle.binlog_undo_log.specs.declared.scan.seeing.RowsLook.TheVariants.{Left, Undone}
 use Rattle.binlog_undo_log.specs.declared.scan.UndoScan.{UndoScan}
-use Rattle.binlog_undo_writing.specs.Transactions.{Event}
+use Rattle.binlog_undo.specs.Transactions.{Event}
 use Rattle.binlog_visits.specs.TableMaps.{maps_behind}
 use Rattle.binlog_wire.specs.Reading.{Read}
 use Rattle.binlog_undo_log.proofs.KeptChanges.{AreOnly, only_one, only_both}

@@ -34,7 +34,7 @@ use Rattle.binlog_undo_log.specs.UndoneTwice.{TakesAll}
 use Rattle.binlog_undo_log.specs.declared.choice.Choice.{Choice}
 use Rattle.binlog_undo_log.specs.declared.scan.seeing.RowsLook.TheVariants.{Left}
 use Rattle.binlog_undo_log.specs.declared.scan.UndoScan.{UndoScan}
-use Rattle.binlog_undo_writing.specs.Transactions.{Event}
+use Rattle.binlog_undo.specs.Transactions.{Event}
 use Rattle.binlog_visits.specs.TableMaps.{maps_behind}
 use Rattle.binlog_visits.specs.Visits.{Visits}
 use Rattle.binlog_undo_log.proofs.KeptChanges.{AreOnlyKept, transaction_over}

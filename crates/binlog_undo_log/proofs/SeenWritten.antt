@@ -47,8 +47,8 @@ use Rattle.binlog_undo_log.specs.WholeLogs.{IsReadAs}
 use Rattle.binlog_undo_log.specs.declared.scan.seeing.RowsLook.{RowsLook}
 use Rattle.binlog_undo_log.specs.declared.scan.seeing.RowsLook.TheVariants.{Left}
 use Rattle.binlog_undo_log.specs.declared.scan.UndoScan.{UndoScan}
-use Rattle.binlog_undo_writing.specs.Events.{begin_body, xid_body}
-use Rattle.binlog_undo_writing.specs.Transactions.{Event}
+use Rattle.binlog_undo.specs.Events.{begin_body, xid_body}
+use Rattle.binlog_undo.specs.Transactions.{Event}
 use Rattle.binlog_wire.specs.Reading.{Read, read_as}
 use Rattle.binlog_wire.specs.declared.error.Error.{Error}
 use Rattle.binlog_wire.specs.declared.error.Error.TheVariants as errors

@@ -14,7 +14,7 @@ use Rattle.binlog_undo_log.proofs.Keys.{some_key}
 use Rattle.binlog_undo_log.specs.Output.{is_bound, shown_if, shown}
 use Rattle.binlog_undo_log.specs.Places.{FramesOf}
 use Rattle.binlog_undo_log.specs.Undoing.{UndoesChange, UndoesRows, undone_events}
-use Rattle.binlog_undo_writing.specs.Transactions.{Event}
+use Rattle.binlog_undo.specs.Transactions.{Event}
 
 if_over : (is : Bool) (event : Event) (events others : List Event) → shown_if is event (events ++ others) ≡ shown_if is event events ++ others
 if_over true event events others = refl

@@ -32,10 +32,10 @@ use Rattle.binlog_undo_index.specs.Groups.{Kept}
 use Rattle.binlog_undo_index.specs.Index.{Keeps, place_of}
 use Rattle.binlog_undo_index.specs.declared.places.ChangePlace.{ChangePlace}
 use Rattle.binlog_undo_index.specs.declared.places.TransactionPlace.{TransactionPlace}
-use Rattle.binlog_undo_writing.specs.Events.{event_size, event_bytes, FitsHeader}
-use Rattle.binlog_undo_writing.specs.Headings.{source_heading}
-use Rattle.binlog_undo_writing.specs.Transactions.{Event, events_bytes, AllFit}
-use Rattle.binlog_undo_writing.specs.declared.heading.Heading.{Heading}
+use Rattle.binlog_undo.specs.Events.{event_size, event_bytes, FitsHeader}
+use Rattle.binlog_undo.specs.Headings.{source_heading}
+use Rattle.binlog_undo.specs.Transactions.{Event, events_bytes, AllFit}
+use Rattle.binlog_undo.specs.declared.heading.Heading.{Heading}
 use Rattle.binlog_undo_log.proofs.Keys.{some_key}
 use Rattle.binlog_undo_log.proofs.LogChanges.{kept_undone}
 use Rattle.binlog_undo_log.proofs.ReadLogs.{read_pieces}

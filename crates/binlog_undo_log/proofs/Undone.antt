@@ -9,7 +9,7 @@ use Rattle.binlog_undo_index.specs.declared.places.ChangePlace.{ChangePlace}
 use Rattle.binlog_undo_index.specs.declared.places.TransactionPlace.{TransactionPlace}
 use Rattle.binlog_undo_log.specs.Places.{FramesOf}
 use Rattle.binlog_undo_log.specs.Undoing.{IsEventAt, UndoesChange, UndoesChanges, UndoesOwn, UndoesTransaction, UndoesAll, UndoesKept}
-use Rattle.binlog_undo_writing.specs.Transactions.{Event}
+use Rattle.binlog_undo.specs.Transactions.{Event}
 
 -- Each frame of the one is at the same place of the other.
 abbrev pub AreAmong : FramesOf → FramesOf → Type 0

@@ -55,7 +55,7 @@ use Rattle.binlog_undo_log.specs.WholeLogs.{IsLogOf, AreReadAs, IsLogUnder, IsNe
 use Rattle.binlog_undo_log.specs.declared.choice.Choice.{Choice}
 use Rattle.binlog_undo_log.specs.declared.output.UndoOutput.{UndoOutput}
 use Rattle.binlog_undo_log.specs.declared.scan.UndoScan.{UndoScan}
-use Rattle.binlog_undo_writing.specs.Transactions.{Event}
+use Rattle.binlog_undo.specs.Transactions.{Event}
 use Rattle.binlog_visits.specs.TableMaps.{maps_behind}
 use Rattle.binlog_visits.specs.Visits.{Visits}
 use Rattle.binlog_wire.specs.declared.error.Error.{Error}

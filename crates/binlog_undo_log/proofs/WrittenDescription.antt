@@ -29,8 +29,8 @@ use Rattle.binlog_file.specs.Items.{unless_refused, item_of}
 use Rattle.binlog_file.specs.VerifiedFiles.{IsVerifiedItem}
 use Rattle.crc32_ieee.specs.Checksums.{IsCrc32}
 use Rattle.crc32_ieee.specs.Crc32.{crc32}
-use Rattle.binlog_undo_writing.specs.Events.{event_bytes}
-use Rattle.binlog_undo_writing.specs.declared.heading.Heading.{Heading}
+use Rattle.binlog_undo.specs.Events.{event_bytes}
+use Rattle.binlog_undo.specs.declared.heading.Heading.{Heading}
 use Rattle.binlog_undo_log.specs.Descriptions.{algorithm_byte, description_body, written_description}
 use Rattle.binlog_undo_log.proofs.WrittenEvents.{data_is, not_in_use_is}
 use Rattle.binlog_undo_log.proofs.WrittenFrames.{HasHeader, suffix, stored_checksum, header_written, behind_header}

@@ -27,9 +27,9 @@ use Rattle.binlog_rows.specs.TableMaps.{table_map}
 use Rattle.binlog_rows.specs.declared.table_map_event.TableMapEvent.{TableMapEvent}
 use Rattle.crc32_ieee.specs.Checksums.{IsCrc32}
 use Rattle.crc32_ieee.specs.Crc32.{crc32}
-use Rattle.binlog_undo_writing.specs.Events.{with_checksum, event_bytes}
-use Rattle.binlog_undo_writing.specs.Transactions.{Event}
-use Rattle.binlog_undo_writing.specs.declared.heading.Heading.{Heading}
+use Rattle.binlog_undo.specs.Events.{with_checksum, event_bytes}
+use Rattle.binlog_undo.specs.Transactions.{Event}
+use Rattle.binlog_undo.specs.declared.heading.Heading.{Heading}
 use Rattle.binlog_undo_log.proofs.WrittenFrames.{HasHeader, suffix, length-suffix, stored_checksum, header_written, behind_header, length-behind}
 
 -- An event that can follow a description, whatever is between them: no description and no ROTATE; a table map can be read. The flag

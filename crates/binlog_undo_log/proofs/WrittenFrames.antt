@@ -13,8 +13,8 @@ use Rattle.binlog_event_format.specs.Headers.{header, header_of, header_at, not_
 use Rattle.binlog_event_format.specs.declared.header.BinlogEventHeader.{BinlogEventHeader}
 use Rattle.binlog_events.specs.Frames.{IsFrame, stated_size}
 use Rattle.crc32_ieee.specs.Crc32.{crc32}
-use Rattle.binlog_undo_writing.specs.Events.{event_size, event_header, with_checksum, event_bytes, fits_at, FitsHeader}
-use Rattle.binlog_undo_writing.specs.declared.heading.Heading.{Heading}
+use Rattle.binlog_undo.specs.Events.{event_size, event_header, with_checksum, event_bytes, fits_at, FitsHeader}
+use Rattle.binlog_undo.specs.declared.heading.Heading.{Heading}
 
 -- ---- the header
 

@@ -22,9 +22,9 @@ use Rattle.binlog_file.proofs.StreamItems.{in_force-last}
 use Rattle.binlog_file.specs.Descriptions.{accepted, in_force}
 use Rattle.binlog_file.specs.VerifiedFiles.{IsVerifiedItem, AreVerifiedBehind, AreVerifiedItems}
 use Rattle.crc32_ieee.specs.Checksums.{IsCrc32}
-use Rattle.binlog_undo_writing.specs.Events.{event_size, event_bytes, FitsHeader}
-use Rattle.binlog_undo_writing.specs.Transactions.{Event, events_bytes, AllFit}
-use Rattle.binlog_undo_writing.specs.declared.heading.Heading.{Heading}
+use Rattle.binlog_undo.specs.Events.{event_size, event_bytes, FitsHeader}
+use Rattle.binlog_undo.specs.Transactions.{Event, events_bytes, AllFit}
+use Rattle.binlog_undo.specs.declared.heading.Heading.{Heading}
 use Rattle.binlog_undo_log.proofs.WrittenDescription.{is_enabled, is_accepted, description_verified}
 use Rattle.binlog_undo_log.proofs.WrittenEvents.{CanFollow, is_plain, its_data, is_verified}
 use Rattle.binlog_undo_log.proofs.WrittenFrames.{HasHeader, header_written, behind_header, length-behind, written_header, written_frame}

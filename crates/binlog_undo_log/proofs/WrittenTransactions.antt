@@ -40,8 +40,8 @@ use Rattle.binlog_undo_log.specs.Keys.{GivesByKey}
 use Rattle.binlog_undo_log.specs.LogChanges.{LogChange, name_of, HasTableChanges, IsChanged, AreChanged, AreTransactionChanges, AreKeptChanges}
 use Rattle.binlog_undo_log.specs.Places.{FramesOf, IsFrameIn, AtPlaces}
 use Rattle.binlog_undo_log.specs.Undoing.{UndoesRows, UndoesChange, UndoesChanges, UndoesOwn, UndoesTransaction, UndoesKept, begin_event, commit_event, undone_events}
-use Rattle.binlog_undo_writing.specs.Headings.{source_heading}
-use Rattle.binlog_undo_writing.specs.Transactions.{Event}
+use Rattle.binlog_undo.specs.Headings.{source_heading}
+use Rattle.binlog_undo.specs.Transactions.{Event}
 use Rattle.table_changes.proofs.Inverses.{inverse-append}
 use Rattle.table_changes.specs.Changes.{inverse}
 

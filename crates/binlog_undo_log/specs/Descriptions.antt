@@ -6,8 +6,8 @@ use Rattle.binlog_event_format.specs.FormatDescription.{format_description}
 use Rattle.binlog_event_format.specs.declared.format_description.FormatDescriptionEvent.{FormatDescriptionEvent}
 use Rattle.binlog_event_format.specs.declared.header.BinlogEventHeader.{BinlogEventHeader}
 use Rattle.binlog_undo_log.specs.declared.output.UndoOutput.{UndoOutput}
-use Rattle.binlog_undo_writing.specs.Events.{event_size, event_bytes, FitsHeader}
-use Rattle.binlog_undo_writing.specs.declared.heading.Heading.{Heading}
+use Rattle.binlog_undo.specs.Events.{event_size, event_bytes, FitsHeader}
+use Rattle.binlog_undo.specs.declared.heading.Heading.{Heading}
 
 abbrev pub algorithm_byte : Option ℕ → List ℕ
 algorithm_byte None = []

@@ -20,7 +20,7 @@ use Rattle.binlog_undo_log.specs.Places.{FramesOf}
 use Rattle.binlog_undo_log.specs.Undoing.{IsEventAt}
 use Rattle.binlog_undo_log.specs.declared.output.UndoOutput.{UndoOutput}
 use Rattle.binlog_undo_log.specs.declared.scan.UndoScan.{UndoScan}
-use Rattle.binlog_undo_writing.specs.Transactions.{Event}
+use Rattle.binlog_undo.specs.Transactions.{Event}
 use Rattle.table_changes.specs.Changes.{inverse}
 
 -- Each of these items is an event whose frame is at the place of what is seen of it, and of the events inside.

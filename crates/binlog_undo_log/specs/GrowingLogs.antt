@@ -13,7 +13,7 @@ use Rattle.binlog_undo_log.specs.Places.{FramesOf}
 use Rattle.binlog_undo_log.specs.Undoing.{UndoesAll}
 use Rattle.binlog_undo_log.specs.WholeLogs.{IsLogOf, AreReadAs}
 use Rattle.binlog_undo_log.specs.declared.output.UndoOutput.{UndoOutput}
-use Rattle.binlog_undo_writing.specs.Transactions.{Event}
+use Rattle.binlog_undo.specs.Transactions.{Event}
 
 -- Behind these events the description of some frame is in force, created at 0.
 pub record IsInForce (events : List EventView) (d : FormatDescriptionEvent) : Type 0 where

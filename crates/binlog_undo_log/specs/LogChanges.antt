@@ -24,7 +24,7 @@ use Rattle.binlog_undo_index.specs.declared.places.ChangePlace.{ChangePlace}
 use Rattle.binlog_undo_log.specs.Compressed.{ReadsRows}
 use Rattle.binlog_undo_log.specs.Places.{FramesOf, AtPlaces}
 use Rattle.binlog_undo_log.specs.Undoing.{IsEventAt}
-use Rattle.binlog_undo_writing.specs.Transactions.{Event}
+use Rattle.binlog_undo.specs.Transactions.{Event}
 use Rattle.table_changes.specs.Changes.{Change}
 
 -- A table, by its names.

@@ -3,8 +3,8 @@ use Rattle.std.specs.Prelude.{◌≡◌, ℕ, ◌+◌, Bool, true, false, ◌||�
 use Rattle.std.specs.Io.KnownBytes.{Appends}
 use Rattle.binlog_consts.specs.declared.event_type.EventType.{EventType}
 use Rattle.binlog_consts.specs.declared.event_type.EventType.TheVariants.{QUERY_EVENT, XID_EVENT}
-use Rattle.binlog_undo_writing.specs.Events.{event_size}
-use Rattle.binlog_undo_writing.specs.Transactions.{Event, events_bytes, AllFit}
+use Rattle.binlog_undo.specs.Events.{event_size}
+use Rattle.binlog_undo.specs.Transactions.{Event, events_bytes, AllFit}
 use Rattle.binlog_undo_log.specs.declared.output.UndoOutput.{UndoOutput}
 
 -- The place behind events, of which the first one begins at this place.

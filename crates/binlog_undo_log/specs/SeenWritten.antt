@@ -17,8 +17,8 @@ use Rattle.binlog_transactions.specs.declared.role.Role.TheVariants as roles
 use Rattle.binlog_transactions.specs.declared.statements.StatementKind.TheVariants as kinds
 use Rattle.binlog_undo.specs.InverseEvents.{type_of}
 use Rattle.binlog_undo_index.specs.declared.seen.SeenEvent.{SeenEvent}
-use Rattle.binlog_undo_writing.specs.Events.{begin_body, xid_body}
-use Rattle.binlog_undo_writing.specs.Transactions.{Event}
+use Rattle.binlog_undo.specs.Events.{begin_body, xid_body}
+use Rattle.binlog_undo.specs.Transactions.{Event}
 use Rattle.binlog_undo_log.specs.Looking.{LooksAtRows}
 use Rattle.binlog_undo_log.specs.Scanning.{seen_event, seen_mark, seen_as}
 use Rattle.binlog_undo_log.specs.declared.scan.seeing.RowsLook.{RowsLook}

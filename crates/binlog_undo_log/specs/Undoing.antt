@@ -28,10 +28,10 @@ use Rattle.binlog_undo_log.specs.Heads.{has_rows_length}
 use Rattle.binlog_undo_log.specs.Keys.{IsMariaEvent, GivesByKey}
 use Rattle.binlog_undo_log.specs.Compressed.{ReadsUncompressed, HasCompressedRows, IsReadAsRows, ReadsRows}
 use Rattle.binlog_undo_log.specs.Places.{FramesOf, InContent, AtPlaces}
-use Rattle.binlog_undo_writing.specs.Events.{begin_body, xid_body}
-use Rattle.binlog_undo_writing.specs.Headings.{begin_heading, commit_heading, source_heading}
-use Rattle.binlog_undo_writing.specs.Transactions.{Event, AreWritten}
-use Rattle.binlog_undo_writing.specs.declared.events_writer.EventsWriter.{EventsWriter}
+use Rattle.binlog_undo.specs.Events.{begin_body, xid_body}
+use Rattle.binlog_undo.specs.Headings.{begin_heading, commit_heading, source_heading}
+use Rattle.binlog_undo.specs.Transactions.{Event, AreWritten}
+use Rattle.binlog_undo.specs.declared.events_writer.EventsWriter.{EventsWriter}
 
 -- Events of which this holds are written.
 abbrev pub Writes : (List Event → Type 0) → EventsWriter → EventsWriter → Type 0

@@ -21,7 +21,7 @@ use Rattle.binlog_undo_log.specs.LogChanges.{LogChange, AreKeptChanges, AreReadC
 use Rattle.binlog_undo_log.specs.Places.{FramesOf}
 use Rattle.binlog_undo_log.specs.Undoing.{UndoesAll}
 use Rattle.binlog_undo_log.specs.declared.output.UndoOutput.{UndoOutput}
-use Rattle.binlog_undo_writing.specs.Transactions.{Event}
+use Rattle.binlog_undo.specs.Transactions.{Event}
 use Rattle.table_changes.specs.Changes.{inverse}
 
 -- ---- any log

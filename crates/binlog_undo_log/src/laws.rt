@@ -35,7 +35,7 @@ ghost use Rattle.binlog_undo_index.specs.declared.seen.SeenEvent.{SeenEvent};
 ghost use Rattle.binlog_undo_log.specs.declared.choice.Choice.{Choice};
 ghost use Rattle.binlog_undo_log.specs.declared.output.UndoOutput.{UndoOutput};
 ghost use Rattle.binlog_undo_log.specs.declared.scan.UndoScan.{UndoScan};
-ghost use Rattle.binlog_undo_writing.specs.Transactions.{Event};
+ghost use Rattle.binlog_undo.specs.Transactions.{Event};
 ghost use Rattle.table_changes.specs.Changes.{State, AppliesAll, inverse};
 
 use crate::frames::Frames;

@@ -1,5 +1,6 @@
 //! The primary key that a table map states.
 ghost use Rattle.std.specs.Prelude.{◌≡◌, ℕ, map, option_map, IfOk};
+ghost use Rattle.binlog_columns.specs.Columns.{typed_of};
 ghost use Rattle.binlog_columns.specs.TableColumns.{columns_of};
 ghost use Rattle.binlog_optional_metadata.specs.FieldValues.{content_of};
 ghost use Rattle.binlog_optional_metadata.specs.FieldsLeft.{answer_field_content};
@@ -7,13 +8,16 @@ ghost use Rattle.binlog_optional_metadata.specs.IndexedNumbers.{indexed_of};
 ghost use Rattle.binlog_optional_metadata.specs.Numbers.{numbers_of};
 ghost use Rattle.binlog_undo_log.specs.Keys.{states_key, newer_key, key_of, LeavesKey, IsKey, GivesByKey};
 
-use binlog_columns::TableColumns;
+use binlog_columns::{Column, TableColumns};
 use binlog_file::{RowsEventData, TableMapEvent};
 use binlog_optional_metadata::{
     IndexedNumbers, Numbers, OptionalMetadata, OptionalMetadataError, OptionalMetadataField,
 };
 use binlog_undo::{ForeignKeyChecks, InverseEvent, UndoError, undo_event};
 use std::alloc::{AllocError, Global};
+
+/// With at most so many bytes for each column there are one or two rows, whose columns are read as they are needed.
+const FEW_BYTES: usize = 16;
 
 // Whether a field states the primary key.
 fn states_key(field: &OptionalMetadataField<'_>) -> bool
@@ -99,13 +103,8 @@ fn primary_key(
     columns_in(alloc, key_field(metadata))
 }
 
-/// The event that undoes rows of a table with this map and these columns. Where the images lack columns, those of the primary key are
-/// enough that the map states, as [`undo_event`] has it.
-///
-/// # Errors
-///
-/// Those of [`undo_event`].
-pub(crate) fn undo_by_key(
+// The event that undoes rows of a table with this map and these columns.
+fn undo_by_columns(
     alloc: Global,
     map: &TableMapEvent<'_>,
     rows: &RowsEventData<'_>,
@@ -122,4 +121,39 @@ pub(crate) fn undo_by_key(
         }
         answer => answer,
     }
+}
+
+// The columns, in memory, where each row is read by them.
+fn collected(alloc: Global, columns: TableColumns<'_>) -> Result<Vec<Column>, AllocError>
+    ensures { IfOk result (λ known. map typed_of known.items ≡ columns_of columns.entry) }
+{
+    let mut known = Vec::with_capacity(alloc, columns.num_columns())?;
+    'columns: for column in columns {
+        known.push(column)?;
+    }
+    Ok(known)
+}
+
+/// The event that undoes rows of a table with this map and these columns. Where the images lack columns, those of the primary key are
+/// enough that the map states, as [`undo_event`] has it. The columns of many rows are read once.
+///
+/// # Errors
+///
+/// Those of [`undo_event`].
+pub(crate) fn undo_by_key(
+    alloc: Global,
+    map: &TableMapEvent<'_>,
+    rows: &RowsEventData<'_>,
+    columns: TableColumns<'_>,
+    is_maria_log: bool,
+    checks: ForeignKeyChecks,
+) -> Result<InverseEvent, UndoError>
+    ensures { GivesByKey is_maria_log map.now (columns_of columns.entry) checks rows.now result }
+{
+    if rows.rows_data().len() / FEW_BYTES <= columns.num_columns() {
+        return undo_by_columns(alloc, map, rows, columns, is_maria_log, checks);
+    }
+    let read = collected(alloc, columns)?;
+    let known = TableColumns::known(read.as_slice());
+    undo_by_columns(alloc, map, rows, known, is_maria_log, checks)
 }

@@ -16,9 +16,8 @@ use binlog_file::{
     Error, EventData, EventRef, LogEventData, RowsEventData, TableMapEvent, read_log_data,
 };
 use binlog_mariadb::{CompressionError, MariaEventData, RowsCompressedEvent};
-use binlog_undo::{ForeignKeyChecks, InverseEvent, UndoError};
+use binlog_undo::{EventsWriter, ForeignKeyChecks, InverseEvent, UndoError, UndoneChange};
 use binlog_undo_index::ChangePlace;
-use binlog_undo_writing::{EventsWriter, UndoneChange};
 use std::alloc::Global;
 
 // The event that undoes rows of a table.

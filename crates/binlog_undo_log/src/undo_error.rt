@@ -1,7 +1,7 @@
 //! Why the log that undoes a file can't be written.
 ghost use Rattle.std.specs.Prelude.{◌≡◌};
 
-use binlog_undo_writing::WriteError;
+use binlog_undo::WriteError;
 use std::alloc::AllocError;
 use thiserror::Error as ErrorMessage;
 

@@ -3,5 +3,5 @@ pub mod SignedNumbers
 pub mod DigitTexts
 pub mod TextFronts
 pub mod DecimalTexts
-mod ShownDigits
+pub mod ShownDigits
 mod DecimalDigits

@@ -72,6 +72,17 @@ impl<'a> Decimal<'a> {
         Some(if self.is_negative() { -number } else { number })
     }
 
+    /// The number that the digits are without the point and the sign: 1250 for `-12.50`. None if it is 2^64 or more.
+    pub fn digits_number(&self) -> Option<u64>
+        ensures { MatchOption result (2 ^ 64 ≤ decimal_number self.now.precision self.now.scale self.now.bytes.now) (λ number. number ≡ decimal_number self.now.precision self.now.scale self.now.bytes.now) }
+    {
+        let number = decimal_number(self.bytes, self.precision, self.scale)?;
+        if number >= 1 << 64 {
+            return None;
+        }
+        Some(number as u64)
+    }
+
     /// Appends the number in decimal, with all digits after the point: `-12.50`. Of the digits before the point, zeros in
     /// front are left out, and at least one digit is written.
     ///

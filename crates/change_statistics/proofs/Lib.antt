@@ -1,6 +1,6 @@
 mod MoreCounted
 mod Transactions
-mod NamedTables
+pub mod NamedTables
 pub mod HeldTables
 mod Numbers
 mod CountedEvents
@@ -11,3 +11,5 @@ mod CountedTables
 mod GrownTransactions
 pub mod HeldTransactions
 pub mod CountedTypes
+pub mod WrittenTexts
+pub mod WrittenLists

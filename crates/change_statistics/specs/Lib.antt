@@ -15,3 +15,5 @@ pub mod Transactions
 pub mod WholeTransactions
 pub mod TypeCounting
 pub mod WholeTypes
+pub mod NameTexts
+pub mod RowText

@@ -1,4 +1,4 @@
-//! Statistics of changes, from facts of events: what each number is, is a law over the whole list of facts.
+//! Statistics of changes, from facts of events: what each number is, is a law over the whole list of facts. The text of the rows of tables.
 #![tactic(auto)]
 
 mod counts;
@@ -8,6 +8,7 @@ mod gtid_text;
 mod intervals;
 mod largest;
 pub mod laws;
+mod row_text;
 mod sizes;
 mod table_counts;
 mod table_name;
@@ -16,6 +17,7 @@ mod transaction;
 mod transaction_stats;
 mod transaction_tables;
 mod type_counts;
+mod written_names;
 
 pub use counts::Counts;
 pub use event_counts::EventCounts;
@@ -23,6 +25,7 @@ pub use facts::{Change, ChangeKind, EventFacts, TableChange};
 pub use gtid_text::GtidText;
 pub use intervals::{IntervalStats, MAX_INTERVALS};
 pub use largest::LargestTransactions;
+pub use row_text::write_table_rows;
 pub use sizes::{SIZE_CLASSES, SizeHistogram};
 pub use table_counts::{TableCounts, UnknownRows};
 pub use table_name::TableName;
@@ -31,3 +34,4 @@ pub use transaction::Transaction;
 pub use transaction_stats::TransactionStats;
 pub use transaction_tables::TransactionTables;
 pub use type_counts::TypeCounts;
+pub use written_names::{name_text, write_names};

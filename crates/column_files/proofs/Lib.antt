@@ -8,3 +8,5 @@ pub mod MemberTexts
 pub mod Readings
 pub mod Spellings
 pub mod TableColumns
+mod TextPositions
+mod Refusals

@@ -10,3 +10,5 @@ pub mod TypeMembers
 pub mod SimpleTypes
 pub mod Types
 pub mod Tables
+pub mod Positions
+pub mod Texts

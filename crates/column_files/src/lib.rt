@@ -7,7 +7,8 @@
 //! `specs/Types`.
 //!
 //! [`DeclaredTables`] has the columns of the tables of a file, and finds them by the names of schema and table. `specs/Tables` defines
-//! which columns a table has.
+//! which columns a table has. [`read_tables`] gives the tables of a text, or what is wrong in it first, with line and column; `specs/Texts`
+//! defines both.
 #![tactic(auto)]
 
 mod declared_type;
@@ -16,9 +17,12 @@ mod field;
 mod files;
 pub mod laws;
 mod place;
+mod positions;
 mod reading;
 mod simple_type;
+mod table_reading;
 mod tables;
+mod tables_error;
 mod type_ending;
 mod type_members;
 mod type_numbers;
@@ -30,4 +34,6 @@ pub use field::Field;
 pub use files::{ColumnLine, HEADER, parse};
 pub use place::Place;
 pub use simple_type::{IntegerSize, LengthSize, SimpleType, TemporalKind};
+pub use table_reading::read_tables;
 pub use tables::{DeclaredColumn, DeclaredTables, DeclaredTablesError};
+pub use tables_error::{ReadTablesError, TextFault};

@@ -27,15 +27,25 @@ pub fn examine<R: BufRead + Drop>(alloc: Global, input: R) -> Result<Findings, E
     for item in file.items() {
         match item {
             Ok(_) => findings.events = findings.events.saturating_add(1),
-            // The event is damaged. The file goes on with the next one.
-            Err(Error::TooShortForChecksum | Error::EndOfBody | Error::InvalidData(_)) => {
-                findings.damaged = findings.damaged.saturating_add(1);
-            }
-            // The file gives no item after it.
-            Err(Error::EventSizeTooSmall(_)) => findings.is_broken_off = true,
-            // Memory ran out, or the reader failed.
-            Err(error) => return Err(error),
+            Err(error) => findings.note(error)?,
         }
     }
     Ok(findings)
+}
+
+impl Findings {
+    // Notes an error that is an item.
+    fn note(&mut self, error: Error) -> Result<(), Error> {
+        match error {
+            // The event is damaged. The file goes on with the next one.
+            Error::TooShortForChecksum | Error::EndOfBody | Error::InvalidData(_) => {
+                self.damaged = self.damaged.saturating_add(1);
+            }
+            // The file gives no item after it.
+            Error::EventSizeTooSmall(_) => self.is_broken_off = true,
+            // Memory ran out, or the reader failed.
+            error => return Err(error),
+        }
+        Ok(())
+    }
 }

@@ -1,5 +1,5 @@
 //! How to copy some events of a log into another log.
-use binlog_file::{BinlogFile, BinlogFileHeader, BinlogVersion, Error, Event, EventType};
+use binlog_file::{BinlogFile, BinlogFileHeader, BinlogVersion, Error, EventRef, EventType};
 use crc32_ieee::Crc32;
 use std::alloc::Global;
 use std::io::{BufRead, Write};
@@ -16,12 +16,25 @@ pub fn copy_events<R: BufRead + Drop, W: Write>(
     types: &[EventType],
     output: &mut W,
 ) -> Result<(), Error> {
-    let crc32 = Crc32::new();
-    let file = BinlogFile::new(alloc, BinlogVersion::Version4, input)?;
+    let mut file = BinlogFile::new(alloc, BinlogVersion::Version4, input)?;
     BinlogFileHeader.write(BinlogVersion::Version4, output)?;
-    for item in file.items() {
-        let event = item?;
-        copy_event(alloc, &crc32, &event, types, output)?;
+    copy_items(alloc, &mut file, types, output)
+}
+
+// Copies the items that are left in a file.
+fn copy_items<R: BufRead + Drop, W: Write>(
+    alloc: Global,
+    file: &mut BinlogFile<R>,
+    types: &[EventType],
+    output: &mut W,
+) -> Result<(), Error> {
+    let crc32 = Crc32::new();
+    // Bounded, so that the loop is proved to end; borrowed events can't be given by an iterator.
+    'items: for _ in 0..u64::MAX {
+        let Some(item) = file.next_ref() else {
+            return Ok(());
+        };
+        copy_event(alloc, &crc32, item?, types, output)?;
     }
     Ok(())
 }
@@ -30,7 +43,7 @@ pub fn copy_events<R: BufRead + Drop, W: Write>(
 fn copy_event<W: Write>(
     alloc: Global,
     crc32: &Crc32,
-    event: &Event<'_>,
+    event: EventRef<'_>,
     types: &[EventType],
     output: &mut W,
 ) -> Result<(), Error> {

@@ -1,5 +1,5 @@
 //! How to list the GTIDs of a log.
-use binlog_file::{BinlogFile, BinlogVersion, Error, Event, EventType, GtidEvent};
+use binlog_file::{BinlogFile, BinlogVersion, Error, EventRef, EventType, GtidEvent};
 use std::alloc::Global;
 use std::io::{BufRead, Write};
 use uuid::Uuid;
@@ -15,15 +15,28 @@ pub fn list_gtids<R: BufRead + Drop, W: Write>(
     input: R,
     output: &mut W,
 ) -> Result<(), Error> {
-    let file = BinlogFile::new(alloc, BinlogVersion::Version4, input)?;
-    for item in file.items() {
-        list_gtid(alloc, &item?, output)?;
+    let mut file = BinlogFile::new(alloc, BinlogVersion::Version4, input)?;
+    list_items(alloc, &mut file, output)
+}
+
+// Writes the lines of the items that are left in a file.
+fn list_items<R: BufRead + Drop, W: Write>(
+    alloc: Global,
+    file: &mut BinlogFile<R>,
+    output: &mut W,
+) -> Result<(), Error> {
+    // Bounded, so that the loop is proved to end; borrowed events can't be given by an iterator.
+    'items: for _ in 0..u64::MAX {
+        let Some(item) = file.next_ref() else {
+            return Ok(());
+        };
+        list_gtid(alloc, item?, output)?;
     }
     Ok(())
 }
 
 // Writes a line for an event if it is the GTID of a transaction.
-fn list_gtid<W: Write>(alloc: Global, event: &Event<'static>, output: &mut W) -> Result<(), Error> {
+fn list_gtid<W: Write>(alloc: Global, event: EventRef<'_>, output: &mut W) -> Result<(), Error> {
     match event.header().event_type() {
         Ok(EventType::GTID_EVENT | EventType::GTID_TAGGED_LOG_EVENT) => {
             write_gtid(&event.read_event(alloc)?, output)

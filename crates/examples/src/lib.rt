@@ -1,4 +1,4 @@
-//! How to read, verify and write a log with `binlog_file`, one module for each task. `test_logs` runs each over a small log.
+//! How to read, verify and write a log with `binlog_file`, one module for each task.
 #![tactic(auto)]
 
 pub mod copying;

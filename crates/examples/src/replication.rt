@@ -18,33 +18,50 @@ pub struct Place {
 /// Those of [`EventStreamReader::read`] and of reading a ROTATE event.
 pub fn follow(alloc: Global, events: &[u8]) -> Result<Place, Error> {
     let mut reader = EventStreamReader::new(alloc, BinlogVersion::Version4);
-    let mut rest = events;
     let mut place = Place {
         log: Vec::new(alloc),
         position: 0,
     };
-    // Bounded, so that the loop is proved to end.
-    'events: for _ in 0..u64::MAX {
-        let Some(event) = reader.read(&mut rest)? else {
-            return Ok(place);
-        };
-        place.go_behind(alloc, &event)?;
-    }
+    place.follow(alloc, &mut reader, events)?;
     Ok(place)
 }
 
 impl Place {
+    // Moves to the position after all events.
+    fn follow(
+        &mut self,
+        alloc: Global,
+        reader: &mut EventStreamReader,
+        events: &[u8],
+    ) -> Result<(), Error> {
+        let mut rest = events;
+        // Bounded, so that the loop is proved to end.
+        'events: for _ in 0..u64::MAX {
+            let Some(event) = reader.read(&mut rest)? else {
+                return Ok(());
+            };
+            self.go_behind(alloc, &event)?;
+        }
+        Ok(())
+    }
+
     // Moves to the position after an event.
     fn go_behind(&mut self, alloc: Global, event: &Event<'static>) -> Result<(), Error> {
         let header = event.header();
         if let Ok(EventType::ROTATE_EVENT) = header.event_type() {
-            let rotate: RotateEvent = event.read_event(alloc)?;
-            self.log = Vec::from_slice(alloc, rotate.name_raw())?;
-            self.position = rotate.position();
-        } else if header.log_pos() != 0 {
-            // Artificial events have log position 0.
+            return self.go_to(alloc, &event.read_event(alloc)?);
+        }
+        // Artificial events have log position 0.
+        if header.log_pos() != 0 {
             self.position = u64::from(header.log_pos());
         }
+        Ok(())
+    }
+
+    // Moves to the log that a ROTATE names.
+    fn go_to(&mut self, alloc: Global, rotate: &RotateEvent<'_>) -> Result<(), Error> {
+        self.log = Vec::from_slice(alloc, rotate.name_raw())?;
+        self.position = rotate.position();
         Ok(())
     }
 }

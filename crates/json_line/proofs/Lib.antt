@@ -8,3 +8,6 @@ pub mod Passed
 pub mod StatedTexts
 mod Marks
 pub mod PlainMoments
+pub mod FixedPoints
+pub mod PlacedPlain
+mod CopiedMembers

@@ -24,7 +24,7 @@ passed_between (byte ∷ text) is (suc k) from to = passed_between text (and_par
 pub passed_text : (text : List ℕ) → are_passed text ≡ true → (escape text ≡ text) × IsUtf8 text
 passed_text text is = (as_it_is true text (passed_between text is), is_text true text (passed_between text is))
 
-both_passed : (a b : List ℕ) → are_passed a ≡ true → are_passed b ≡ true → are_passed (a ++ b) ≡ true
+pub both_passed : (a b : List ℕ) → are_passed a ≡ true → are_passed b ≡ true → are_passed (a ++ b) ≡ true
 both_passed [] b p q = q
 both_passed (byte ∷ a) b p q = let parts = and_parts _ _ p in and_from _ _ parts.0 (both_passed a b parts.1 q)
 
@@ -33,18 +33,18 @@ front_passed zero text is = refl
 front_passed (suc n) [] is = refl
 front_passed (suc n) (byte ∷ text) is = let parts = and_parts _ _ is in and_from _ _ parts.0 (front_passed n text parts.1)
 
-digit_passed : (n : ℕ) → n < 10 → not (is_other (48 + n)) ≡ true
+pub digit_passed : (n : ℕ) → n < 10 → not (is_other (48 + n)) ≡ true
 digit_passed n small = grind (arith, nat_tests)
 
 pair_passed : (n : ℕ) → n < 100 → are_passed (pair n) ≡ true
 pair_passed n small = and_from _ _ (digit_passed (n / 10) (omega arith)) (and_from _ _ (digit_passed (n % 10) (omega arith)) refl)
 
-decimal_passed : (n : ℕ) → n < 2 ^ 64 → are_passed (decimal n) ≡ true
+pub decimal_passed : (n : ℕ) → n < 2 ^ 64 → are_passed (decimal n) ≡ true
 decimal_passed n small =
     decimal_by_steps (λ n text. are_passed text ≡ true) (λ n digit. and_from _ _ (digit_passed n digit) refl)
     (λ n text more is. both_passed text _ is (and_from _ _ (digit_passed (n % 10) (omega arith)) refl)) n small
 
-by_test : (b : Bool) (x y : List ℕ) → (b ≡ true → are_passed x ≡ true) → (b ≡ false → are_passed y ≡ true) → are_passed (cond b x y) ≡ true
+pub by_test : (b : Bool) (x y : List ℕ) → (b ≡ true → are_passed x ≡ true) → (b ≡ false → are_passed y ≡ true) → are_passed (cond b x y) ≡ true
 by_test true x y p q = p refl
 by_test false x y p q = q refl
 
@@ -80,7 +80,7 @@ unfolding fraction_text
 fraction_passed digits microseconds =
     by_test (digits == 0) [] (46 ∷ take digits (six_digits microseconds)) (λ is. refl) (λ is. front_passed digits (six_digits microseconds) (six_passed microseconds))
 
-minus_passed : (wanted : Bool) → are_passed (minus wanted) ≡ true
+pub minus_passed : (wanted : Bool) → are_passed (minus wanted) ≡ true
 minus_passed true = refl
 minus_passed false = refl
 

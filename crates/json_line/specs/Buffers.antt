@@ -1,5 +1,5 @@
 -- A buffer as contracts see it.
-use Rattle.std.specs.Prelude.{◌≡◌, ℕ, Bool, cond, List, [], ◌∷◌, ◌++◌, refl, Result, MatchResult}
+use Rattle.std.specs.Prelude.{◌≡◌, ℕ, Bool, true, false, cond, List, [], ◌∷◌, ◌++◌, refl, Result, MatchResult}
 use Rattle.std.specs.Coded.{Coded, code_by, coded×, coded_list, coded_ℕ}
 
 -- The written bytes; how many more fit before it has to grow; and the byte stored after them, if there is room for
@@ -22,6 +22,11 @@ comma wanted = cond wanted (44 ∷ []) []
 -- A minus sign, if wanted.
 abbrev pub minus : Bool → List ℕ
 minus wanted = cond wanted (45 ∷ []) []
+
+-- The bytes are appended if this holds, else nothing is.
+abbrev pub PutsIf : Bool → Buffered → Buffered → List ℕ → Type 0
+PutsIf true old new bytes = new.text ≡ old.text ++ bytes
+PutsIf false old new bytes = new.text ≡ old.text
 
 -- The bytes are appended, or nothing is if an allocation failed.
 abbrev pub Puts : {A E : Type 0} → Result A E → Buffered → Buffered → List ℕ → Type 0

@@ -4,4 +4,5 @@ pub mod Lines
 pub mod Passed
 pub mod Marks
 pub mod Moments
+pub mod FixedPoints
 pub mod Keys

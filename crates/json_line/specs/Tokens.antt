@@ -1,5 +1,5 @@
 -- The parts of a line as tokens of JSON.
-use Rattle.std.specs.Prelude.{◌≡◌, ℕ, Bool, true, false, List, [], ◌∷◌, ◌++◌, length, cond, nat_eq, codes, decimal, IsUtf8, Option, Some, None, Result, OnOk}
+use Rattle.std.specs.Prelude.{◌≡◌, ℕ, Bool, true, false, List, [], ◌∷◌, ◌++◌, length, cond, nat_eq, codes, decimal, IsAscii, IsUtf8, Option, Some, None, Result, OnOk}
 use Rattle.std.specs.Str.Lossy.{utf8_valid_len}
 use Rattle.character_sets.specs.declared.character_set.CharacterSet.{CharacterSet}
 use Rattle.character_sets.specs.declared.character_set.CharacterSet.TheVariants.{Binary}
@@ -16,6 +16,11 @@ Adds result old new tokens = OnOk result (new ≡ old ++ tokens)
 abbrev pub AddsIfUtf8 : Bool → List ℕ → Token → List Token → List Token → Type 0
 AddsIfUtf8 true text token old new = IsUtf8 text × (new ≡ old ++ token ∷ [])
 AddsIfUtf8 false text token old new = (IsUtf8 text → ⊥) × (new ≡ old)
+
+-- The string is appended if the answer is true: then the text is ASCII. Else nothing is.
+abbrev pub AddsIfPlain : Bool → List ℕ → List Token → List Token → Type 0
+AddsIfPlain true text old new = IsAscii text × (new ≡ old ++ string text ∷ [])
+AddsIfPlain false text old new = new ≡ old
 
 -- ---- values
 

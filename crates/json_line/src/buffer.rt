@@ -1,15 +1,20 @@
 //! A growing byte buffer.
-ghost use Rattle.std.specs.Prelude.{◌≡◌, ◌≤◌, ◌+◌, ◌*◌, [], ◌∷◌, ◌++◌, length, take, OnOk};
+ghost use Rattle.std.specs.Prelude.{◌≡◌, ◌≤◌, ◌+◌, ◌*◌, [], ◌∷◌, ◌++◌, length, take, IsAscii, IfOk, OnOk, OnErr};
+ghost use Rattle.std.specs.Bool.{OnTrue};
 ghost use Rattle.std.specs.Fmt.{decimal, signed_decimal};
 ghost use Rattle.hex.specs.Hex.{encode_lower};
-ghost use Rattle.json_line.specs.Buffers.{Puts, comma};
+ghost use Rattle.json.specs.Print.{escape};
+ghost use Rattle.json_line.specs.Buffers.{Puts, PutsIf, comma};
+ghost use Rattle.json_line.specs.FixedPoints.{fixed_point_text};
 ghost use Rattle.json_line.specs.Moments.{date_text, time_text, date_time_text};
 
 use crate::moment::{DateParts, TimeParts};
 use crate::place::{
     place_byte, place_bytes, place_comma, place_hexadecimal, place_minus, place_number, place_short,
 };
+use crate::place_fixed_point::place_fixed_point;
 use crate::place_moment::{place_date, place_time};
+use crate::place_plain::place_plain;
 use std::alloc::{AllocError, Global};
 use std::marker::Model;
 
@@ -18,6 +23,9 @@ const LEAST_ROOM: usize = 64;
 
 // The longest 64-bit number has 20 digits.
 const MAX_DIGITS: usize = 20;
+
+// The longest number with a point has a sign, 20 digits before the point and 18 behind it, quotation marks and a comma.
+const MAX_FIXED_POINT: usize = 43;
 
 // The longest dates and times, each part of which has at most 20 digits, with their quotation marks and a comma.
 const MAX_MOMENT: usize = 140;
@@ -207,6 +215,36 @@ impl Buffer {
     }
 
     #[inline(always)]
+    fn put_plain(&mut self, after_value: bool, text: &[u8]) -> bool
+        requires { length text.now + 3 ≤ self.old.room }
+        ensures put { PutsIf result self.old self.new (comma after_value ++ 34 ∷ (text.now ++ 34 ∷ [])) }
+        ensures as_it_is { OnTrue result (escape text.now ≡ text.now) }
+        ensures ascii { OnTrue result (IsAscii text.now) }
+    {
+        let memory = self.bytes.as_mut_slice();
+        let start = place_comma(memory, self.len, after_value);
+        let start = place_byte(memory, start, b'"');
+        if !place_plain(memory, start, text) {
+            return false;
+        }
+        self.len = place_byte(memory, start + text.len(), b'"');
+        true
+    }
+
+    /// Writes a comma if wanted, and the bytes in quotation marks, if all are ASCII and none needs an escape; else nothing. Answers
+    /// whether they are.
+    #[inline(always)]
+    pub(crate) fn add_plain(&mut self, after_value: bool, text: &[u8]) -> Result<bool, AllocError>
+        ensures put { IfOk result (λ is_plain. PutsIf is_plain self.old self.new (comma after_value ++ 34 ∷ (text.now ++ 34 ∷ []))) }
+        ensures as_it_is { IfOk result (λ is_plain. OnTrue is_plain (escape text.now ≡ text.now)) }
+        ensures ascii { IfOk result (λ is_plain. OnTrue is_plain (IsAscii text.now)) }
+        ensures unchanged { OnErr result (self.new.text ≡ self.old.text) }
+    {
+        self.reserve(text.len() + 3)?;
+        Ok(self.put_plain(after_value, text))
+    }
+
+    #[inline(always)]
     fn put_name(&mut self, after_value: bool, name: &[u8])
         requires { length name.now + 4 ≤ self.old.room }
         ensures { self.new.text ≡ self.old.text ++ (comma after_value ++ 34 ∷ (name.now ++ 34 ∷ 58 ∷ [])) }
@@ -325,6 +363,37 @@ impl Buffer {
     {
         self.reserve(MAX_DIGITS + 2)?;
         self.put_signed(after_value, number);
+        Ok(())
+    }
+
+    #[inline(always)]
+    #[tactic(auto, unfolding(crate::specs::FixedPoints::fixed_point_text))]
+    fn put_fixed_point(&mut self, after_value: bool, is_negative: bool, scale: u8, number: u64)
+        requires { (scale ≤ 18) × (43 ≤ self.old.room) }
+        ensures { self.new.text ≡ self.old.text ++ (comma after_value ++ 34 ∷ (fixed_point_text is_negative scale number ++ 34 ∷ [])) }
+    {
+        let memory = self.bytes.as_mut_slice();
+        let at = place_comma(memory, self.len, after_value);
+        let at = place_byte(memory, at, b'"');
+        let at = place_minus(memory, at, is_negative);
+        let at = place_fixed_point(memory, at, scale, number);
+        self.len = place_byte(memory, at, b'"');
+    }
+
+    /// Writes a comma if wanted, and a number with a point in quotation marks.
+    #[inline(always)]
+    pub(crate) fn add_fixed_point(
+        &mut self,
+        after_value: bool,
+        is_negative: bool,
+        scale: u8,
+        number: u64,
+    ) -> Result<(), AllocError>
+        requires { scale ≤ 18 }
+        ensures { Puts result self.old self.new (comma after_value ++ 34 ∷ (fixed_point_text is_negative scale number ++ 34 ∷ [])) }
+    {
+        self.reserve(MAX_FIXED_POINT)?;
+        self.put_fixed_point(after_value, is_negative, scale, number);
         Ok(())
     }
 

@@ -11,7 +11,9 @@ mod line_members;
 mod line_texts;
 mod moment;
 mod place;
+mod place_fixed_point;
 mod place_moment;
+mod place_plain;
 mod plain;
 
 pub use line::{Line, Mark};

@@ -1,14 +1,15 @@
 //! A line of JSON: tokens, and values made of them.
-ghost use Rattle.std.specs.Prelude.{◌≡◌, List, ◌∷◌, ◌++◌, [], codes, encode_utf8_all, IsUtf8, IfOk, OnErr};
+ghost use Rattle.std.specs.Prelude.{◌≡◌, ◌≤◌, List, ◌∷◌, ◌++◌, [], codes, encode_utf8_all, IsUtf8, IfOk, OnErr};
 ghost use Rattle.std.specs.Fmt.{signed_decimal};
 ghost use Rattle.json.specs.Lex.{tokens as read_tokens};
 ghost use Rattle.json.specs.Print.{escape, print, token_text, IsNumber};
 ghost use Rattle.json.specs.Token.{Token};
 ghost use Rattle.json.specs.Token as tokens;
+ghost use Rattle.json_line.specs.FixedPoints.{fixed_point_text};
 ghost use Rattle.json_line.specs.Keys.{IsKey};
 ghost use Rattle.json_line.specs.Lines.{IsPlainText};
 ghost use Rattle.json_line.specs.Moments.{date_text, time_text, date_time_text};
-ghost use Rattle.json_line.specs.Tokens.{Adds, number_value, bytes_value, text_value, text_value_in, text_value_in_stated, hex_value, uuid_value, or_null, member, bytes_member_if_any};
+ghost use Rattle.json_line.specs.Tokens.{Adds, AddsIfPlain, number_value, bytes_value, text_value, text_value_in, text_value_in_stated, hex_value, uuid_value, or_null, member, bytes_member_if_any};
 
 use crate::buffer::Buffer;
 use crate::moment::{DateParts, TimeParts};
@@ -285,14 +286,27 @@ impl Line {
         self.string_as_it_is(text.as_bytes())
     }
 
+    // Writes a string if the text is ASCII and needs no escape, else nothing. Answers whether it is. It is checked while it is copied.
+    #[inline(always)]
+    pub(crate) fn string_if_plain(&mut self, text: &[u8]) -> Result<bool, AllocError>
+        ensures added { IfOk result (λ is_plain. AddsIfPlain is_plain text.now self.old self.new) }
+        ensures unchanged { OnErr result (self.new ≡ self.old) }
+    {
+        if !self.text.add_plain(self.after_value, text)? {
+            return Ok(false);
+        }
+        self.after_value = true;
+        Ok(true)
+    }
+
     /// Writes a string, escaped where needed.
     #[inline]
     pub fn string(&mut self, text: &str) -> Result<(), AllocError>
         ensures added { Adds result self.old self.new (tokens.string text.now ∷ []) }
         ensures unchanged { OnErr result (self.new ≡ self.old) }
     {
-        if is_plain(text.as_bytes()) {
-            return self.string_as_it_is(text.as_bytes());
+        if self.string_if_plain(text.as_bytes())? {
+            return Ok(());
         }
         self.escaped_string(text)
     }
@@ -340,6 +354,25 @@ impl Line {
         ensures unchanged { OnErr result (self.new ≡ self.old) }
     {
         self.text.add_signed(self.after_value, number)?;
+        self.after_value = true;
+        Ok(())
+    }
+
+    /// Writes a number with a point as a string, with a minus sign if wanted: 1250 with a scale of 2 is `-12.50`. The scale is the
+    /// number of digits behind the point, at most 18. At least one digit is before the point, and without a scale there is none.
+    #[inline(always)]
+    pub fn fixed_point(
+        &mut self,
+        is_negative: bool,
+        scale: u8,
+        number: u64,
+    ) -> Result<(), AllocError>
+        requires { scale ≤ 18 }
+        ensures added { Adds result self.old self.new (tokens.string (fixed_point_text is_negative scale number) ∷ []) }
+        ensures unchanged { OnErr result (self.new ≡ self.old) }
+    {
+        self.text
+            .add_fixed_point(self.after_value, is_negative, scale, number)?;
         self.after_value = true;
         Ok(())
     }

@@ -1,6 +1,7 @@
 //! Members of objects, and values that may be null.
 ghost use Rattle.std.specs.Prelude.{◌≡◌, ◌∷◌, [], codes, OnErr};
 ghost use Rattle.json.specs.Token as tokens;
+ghost use Rattle.json_line.specs.Keys.{BeginsWithKey};
 ghost use Rattle.json_line.specs.Lines.{IsPlainText};
 ghost use Rattle.json_line.specs.Tokens.{Adds, number_value, bytes_value, text_value, uuid_value, or_null, member, bytes_member_if_any};
 
@@ -60,6 +61,19 @@ impl Line {
             b"\",\"value\":",
         )?;
         self.after_value = false;
+        Ok(())
+    }
+
+    /// Writes the members that another line holds, from the name of the first to the value of the last, and nothing else. They are
+    /// copied as they are.
+    #[inline(always)]
+    pub fn copied_members(&mut self, printed: &Line) -> Result<(), AllocError>
+        requires { BeginsWithKey printed.now }
+        ensures added { Adds result self.old self.new printed.now }
+        ensures unchanged { OnErr result (self.new ≡ self.old) }
+    {
+        self.text.add_written(self.after_value, &printed.text)?;
+        self.after_value = printed.after_value;
         Ok(())
     }
 

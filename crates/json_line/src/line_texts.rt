@@ -1,5 +1,6 @@
 //! Texts in a line of JSON.
-ghost use Rattle.std.specs.Prelude.{◌≡◌, ◌∷◌, [], encode_utf8_all, IfOk, OnErr};
+ghost use Rattle.std.specs.Prelude.{◌≡◌, ◌∷◌, [], ℕ, List, Some, IsAscii, encode_utf8_all, IfOk, OnErr};
+ghost use Rattle.character_sets.specs.Characters.{utf8_of};
 ghost use Rattle.json.specs.Token as tokens;
 ghost use Rattle.json_line.specs.Tokens.{Adds, AddsIfUtf8, text_value, text_value_in, text_value_in_stated, hex_value};
 
@@ -17,8 +18,8 @@ impl Line {
     pub fn text(&mut self, text: &[u8]) -> Result<(), AllocError>
         ensures { Adds result self.old self.new (text_value text.now) }
     {
-        if is_plain(text) {
-            return self.string_as_it_is(text);
+        if self.string_if_plain(text)? {
+            return Ok(());
         }
         self.other_text(text)
     }
@@ -50,8 +51,7 @@ impl Line {
         ensures added { IfOk result (λ is_utf8. AddsIfUtf8 is_utf8 text.now (tokens.string text.now) self.old self.new) }
         ensures unchanged { OnErr result (self.new ≡ self.old) }
     {
-        if is_plain(text) {
-            self.string_as_it_is(text)?;
+        if self.string_if_plain(text)? {
             return Ok(true);
         }
         self.other_string_if_utf8(text)
@@ -107,8 +107,20 @@ impl Line {
     pub fn text_in(&mut self, set: CharacterSet, text: &[u8]) -> Result<(), AllocError>
         ensures { Adds result self.old self.new (text_value_in set text.now) }
     {
-        if set.keeps_ascii() && is_plain(text) {
-            return self.string_as_it_is(text);
+        if set.keeps_ascii() {
+            return self.text_that_keeps_ascii(set, text);
+        }
+        self.other_text_in(set, text)
+    }
+
+    // A text in a character set in which ASCII is ASCII.
+    #[inline(always)]
+    fn text_that_keeps_ascii(&mut self, set: CharacterSet, text: &[u8]) -> Result<(), AllocError>
+        requires { (bytes : List ℕ) → IsAscii bytes → utf8_of set bytes ≡ Some bytes }
+        ensures { Adds result self.old self.new (text_value_in set text.now) }
+    {
+        if self.string_if_plain(text)? {
+            return Ok(());
         }
         self.other_text_in(set, text)
     }

@@ -46,7 +46,7 @@ pub(crate) fn place_minus(memory: &mut [u8], at: usize, wanted: bool) -> usize
 /// Writes the first N bytes.
 // The first N bytes are one load and one store.
 #[inline(always)]
-fn place_front<const N: usize>(memory: &mut [u8], at: usize, bytes: &[u8]) -> usize
+pub(crate) fn place_front<const N: usize>(memory: &mut [u8], at: usize, bytes: &[u8]) -> usize
     requires { (N ≤ length bytes.now) × (at + N ≤ length memory.old) }
     ensures { Placed memory.old memory.new at (take N bytes.now) result }
 {
@@ -57,7 +57,7 @@ fn place_front<const N: usize>(memory: &mut [u8], at: usize, bytes: &[u8]) -> us
 /// Writes N to 2N bytes.
 // The first N bytes and the last N may overlap.
 #[inline(always)]
-fn place_ends<const N: usize>(memory: &mut [u8], at: usize, bytes: &[u8]) -> usize
+pub(crate) fn place_ends<const N: usize>(memory: &mut [u8], at: usize, bytes: &[u8]) -> usize
     requires fits { at + length bytes.now ≤ length memory.old }
     requires covers { (N ≤ length bytes.now) × (length bytes.now ≤ N + N) }
     ensures { Placed memory.old memory.new at bytes.now result }

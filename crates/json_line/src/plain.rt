@@ -7,8 +7,9 @@ ghost use Rattle.json_line.specs.Passed.{PassedBetween};
 use std::simd::Simd;
 use std::simd::prelude::*;
 
+/// Whether the N bytes from this index on are ASCII and need no escape.
 #[inline(always)]
-fn is_plain_block<const N: usize>(text: &[u8], at: usize) -> bool
+pub(crate) fn is_plain_block<const N: usize>(text: &[u8], at: usize) -> bool
     requires { (N ≤ 64) × (at + N ≤ length text.now) }
     ensures { OnTrue result (PassedBetween text.now at (at + N)) }
 {

@@ -1,6 +1,6 @@
 //! Events that state more bytes than come; the bytes come 20 at a time. `tests/allocations.py` watches how memory grows.
+use crate::devices::{FailingReader, Plan};
 use crate::events::description;
-use crate::failing_reader::FailingReader;
 use binlog_file::{BinlogVersion, Error, Event, EventStreamReader};
 use std::alloc::Global;
 use std::io::ErrorKind;
@@ -13,7 +13,7 @@ const EVENT: &[u8] =
 
 // A reader of it that never fails.
 fn pieces() -> FailingReader<'static> {
-    FailingReader::new(EVENT, 20, usize::MAX, ErrorKind::Other)
+    FailingReader::new(EVENT, 20, Plan::once(usize::MAX, ErrorKind::Other))
 }
 
 // The length of the event's data, read by itself.

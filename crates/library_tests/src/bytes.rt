@@ -17,10 +17,6 @@ pub(crate) const XID: &[u8] =
 /// The body of the XID event.
 pub(crate) const XID_BODY: &[u8] = b"\x0b\0\0\0\0\0\0\0";
 
-/// The same event with the in-use flag, which isn't checksummed.
-pub(crate) const IN_USE_XID: &[u8] =
-    b"\0\0\0\0\x10\x01\0\0\0\x1f\0\0\0\0\0\0\0\x01\0\x0b\0\0\0\0\0\0\0\x1b\0\0\0";
-
 /// A log of two XID events of 27 bytes without a checksum.
 pub(crate) const PLAIN_LOG: &[u8] = b"\xfebin\
     \0\0\0\0\x10\x01\0\0\0\x1b\0\0\0\0\0\0\0\0\0\x0b\0\0\0\0\0\0\0\
@@ -49,11 +45,3 @@ pub(crate) const MYSQL_LOG: &[u8] = b"\xfebin\
     \x12\0\0_\0\x04\x1a\x08\0\0\0\x08\x08\x08\x02\0\0\0\x0a\x0a\x0a**\0\x124\0\x01\x0cs\xba\xc5\
     \xfd5\xbbJ\x02\x01\0\0\0H\0\0\0\xc3\0\0\0\x08\0\x01\0\0\0\0\0\0\0\x04\0\0\x1a\0\0\0@\0\0\x01\0\0\
     \0\0\0\0\0\0\x06\x03std\x04\x08\0\x08\0\x08\0test\0BEGIN\xd5\x87\x82\"";
-
-/// The same log with a wrong checksum of the statement.
-pub(crate) const MISMATCHED_LOG: &[u8] = b"\xfebin\
-    \xfd5\xbbJ\x0f\x01\0\0\0w\0\0\0\0\0\0\0\x01\0\x04\0\x35.7.44-log\0\0\0\0\0\0\0\0\0\0\0\0\0\0\0\0\
-    \0\0\0\0\0\0\0\0\0\0\0\0\0\0\0\0\0\0\0\0\0\0\0\0\0\0\0\0\x138\x0d\0\x08\0\x12\0\x04\x04\x04\x04\
-    \x12\0\0_\0\x04\x1a\x08\0\0\0\x08\x08\x08\x02\0\0\0\x0a\x0a\x0a**\0\x124\0\x01\x0cs\xba\xc5\
-    \xfd5\xbbJ\x02\x01\0\0\0H\0\0\0\xc3\0\0\0\x08\0\x01\0\0\0\0\0\0\0\x04\0\0\x1a\0\0\0@\0\0\x01\0\0\
-    \0\0\0\0\0\0\x06\x03std\x04\x08\0\x08\0\x08\0test\0BEGIN\xd5\x87\x82\x23";

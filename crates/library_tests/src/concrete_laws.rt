@@ -1,9 +1,11 @@
 //! Laws, of any type at a concrete one.
 use binlog_bodies::{XidEvent, laws as body_laws};
+use binlog_consts::laws as constant_laws;
 use binlog_event_format::laws;
 
 #[test]
 fn laws_hold_of_a_type(rt: HostRuntime) {
+    constant_laws::numbers_are_codes();
     laws::header_is_spelled();
     laws::short_descriptions();
     laws::type_and_sizes();

@@ -1,6 +1,5 @@
 //! Tests of `binlog_ends`: readers and writers that fail, are interrupted, and take a part of what they are given.
 
-mod devices;
 mod reading;
 mod retrying;
 mod writing;

@@ -1,11 +1,10 @@
 //! Readers that fail at each of their calls, and what is answered behind a failure.
-use crate::bytes::{LOG, PLAIN_LOG, XID};
-use crate::failing_reader::FailingReader;
+use crate::bytes::{LOG, XID};
+use crate::devices::{FailingReader, Plan};
 use binlog_file::{
     BinlogFileOf, BinlogVersion, Counted, CountsFailures, EventStreamReader, ReadCounted,
     Unverified,
 };
-use binlog_listing::list_counted;
 use std::alloc::Global;
 use std::io::ErrorKind;
 
@@ -33,17 +32,6 @@ fn stream_refusal(alloc: Global, input: FailingReader<'_>) -> (u8, u64) {
     (number, failures)
 }
 
-#[test]
-fn a_failure_in_a_stream_is_counted(rt: HostRuntime) {
-    for kind in [ErrorKind::Other, ErrorKind::Interrupted] {
-        assert!(rt; stream_refusal(rt.alloc(), FailingReader::new(XID, 1, 0, kind)) == (14, 1));
-        for taken in 1..31 {
-            let input = FailingReader::new(XID, 1, taken, kind);
-            assert!(rt; stream_refusal(rt.alloc(), input) == (15, 1));
-        }
-    }
-}
-
 /// An event of 19 bytes: a header without a body.
 const BARE: &[u8] = b"\0\0\0\0\x03\x01\0\0\0\x13\0\0\0\0\0\0\0\0\0";
 
@@ -62,7 +50,8 @@ const SHOWN: [(&[u8], usize, usize); 6] = [
 #[test]
 fn no_reader_is_called_behind_an_event(rt: HostRuntime) {
     for (bytes, most, calls) in SHOWN {
-        let input = FailingReader::new(bytes, most, calls, ErrorKind::WouldBlock);
+        let plan = Plan::once(calls, ErrorKind::WouldBlock);
+        let input = FailingReader::new(bytes, most, plan);
         assert!(rt; stream_refusal(rt.alloc(), input) == (0, 0));
     }
 }
@@ -120,7 +109,7 @@ fn wanted(taken: usize) -> [Kind; 4] {
 fn a_failure_at_each_call_is_one_item(rt: HostRuntime) {
     for kind in [ErrorKind::Other, ErrorKind::Interrupted] {
         for taken in 0..=EVENT_END {
-            let input = FailingReader::new(LOG, 1, taken, kind);
+            let input = FailingReader::new(LOG, 1, Plan::once(taken, kind));
             assert!(rt; items_of(rt.alloc(), input) == (wanted(taken), 1));
         }
     }
@@ -134,43 +123,8 @@ const SHOWN_OF_LOG: [(usize, usize); 2] = [(19, 7), (1000, 3)];
 #[test]
 fn no_reader_is_called_behind_the_last_event(rt: HostRuntime) {
     for (most, calls) in SHOWN_OF_LOG {
-        let input = FailingReader::new(LOG, most, calls, ErrorKind::WouldBlock);
+        let plan = Plan::once(calls, ErrorKind::WouldBlock);
+        let input = FailingReader::new(LOG, most, plan);
         assert!(rt; items_of(rt.alloc(), input) == (wanted(EVENT_END), 1));
-    }
-}
-
-// The number of the error of listing the two plain events, or 0, how many failures are counted, and how many bytes are written.
-fn listing_refusal(alloc: Global, taken: usize, kind: ErrorKind) -> (u8, u64, usize) {
-    let mut input = Counted::new(FailingReader::new(PLAIN_LOG, 1, taken, kind));
-    let mut output = Counted::new(Vec::new(alloc));
-    let number = match list_counted(alloc, &mut input, &mut output) {
-        Ok(_) => 0,
-        Err(error) => error.number(),
-    };
-    let failures = input.failures();
-    let len = output.get_ref().len();
-    drop(input);
-    drop(output);
-    (number, failures, len)
-}
-
-// What that is: an event has 27 bytes, and a line 24.
-fn wanted_of_listing(taken: usize) -> (u8, u64, usize) {
-    match taken {
-        0..=4 => (14, 1, 0),
-        5..=30 => (15, 1, 0),
-        31 => (14, 1, 24),
-        32..=57 => (15, 1, 24),
-        58 => (14, 1, 48),
-        _ => (0, 0, 48),
-    }
-}
-
-#[test]
-fn a_failed_read_ends_a_listing_and_is_counted(rt: HostRuntime) {
-    for kind in [ErrorKind::Other, ErrorKind::Interrupted] {
-        for taken in 0..60 {
-            assert!(rt; listing_refusal(rt.alloc(), taken, kind) == wanted_of_listing(taken));
-        }
     }
 }

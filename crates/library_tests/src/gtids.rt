@@ -1,5 +1,5 @@
-//! Sets of transaction numbers (GNOs) and of GTIDs: how often they make room, and memory that is refused.
+//! Sets of transaction numbers (GNOs) and of GTIDs: how often they make room.
 
+mod maria;
 mod numbers;
 mod room;
-mod sets;

@@ -1,9 +1,9 @@
-//! Reading, writing and comparing. The helpers return plain values and take no runtime, which keeps the tests small and their proofs
+//! Reading and copying. The helpers return plain values and take no runtime, which keeps the tests small and their proofs
 //! short.
 use binlog_consts::BinlogVersion;
 use binlog_event_data::EventData;
 use binlog_event_format::{BinlogCtx, BinlogEventHeader, DescriptionRef};
-use binlog_wire::{Error, MySerialize, TryClone};
+use binlog_wire::{Error, TryClone};
 use std::alloc::Global;
 
 /// A GTID with the tag `backup` and the number 1, of the source of 16 bytes `ab`.
@@ -23,14 +23,6 @@ pub fn read<'a>(alloc: Global, number: u8, body: &'a [u8]) -> Result<Option<Even
     )
 }
 
-/// Whether each of two equal calls is right or refused for memory, and one is right.
-pub fn are_granted(first: Result<bool, Error>, again: Result<bool, Error>) -> bool {
-    matches!(
-        (first, again),
-        (Ok(true), Ok(true) | Err(Error::Memory)) | (Err(Error::Memory), Ok(true))
-    )
-}
-
 /// Whether data that was read is equal to its copy; None if there was none.
 pub fn is_copied<T: TryClone + PartialEq + Drop>(
     alloc: Global,
@@ -41,18 +33,4 @@ pub fn is_copied<T: TryClone + PartialEq + Drop>(
     };
     let copy = data.clone(alloc)?;
     Ok(Some(copy == data))
-}
-
-/// Whether a value is written as these bytes, behind what the buffer holds; the error if it is refused, and the buffer is
-/// unchanged.
-pub fn is_written<T: MySerialize>(alloc: Global, value: &T, wanted: &[u8]) -> Result<bool, Error> {
-    let mut bytes = Vec::from_slice(alloc, b"x")?;
-    let answer = value.serialize(alloc, &mut bytes);
-    let left = if answer.is_ok() { wanted } else { b"" };
-    let is_left = bytes.first() == Some(&b'x') && bytes.get(1..) == Some(left);
-    drop(bytes);
-    match answer {
-        Err(error) if is_left => Err(error),
-        _ => Ok(is_left),
-    }
 }

@@ -1,6 +1,6 @@
 //! Status variables of statements.
-use crate::helpers::{are_granted, is_copied};
-use binlog_statements::{StatusVar, StatusVarVal, StatusVarsIterator};
+use crate::helpers::is_copied;
+use binlog_statements::StatusVarsIterator;
 use binlog_wire::Error;
 use std::alloc::Global;
 
@@ -48,52 +48,4 @@ fn reading_and_copying_borrowed_status_variables_takes_no_memory(rt: HostRuntime
 #[test]
 fn reading_and_copying_names_of_databases_makes_two_allocations(rt: HostRuntime) {
     assert!(rt; count_of_copied(rt.alloc(), NAMES) == Ok(1));
-}
-
-// The number of database names in a value.
-fn count(value: &StatusVarVal<'_>) -> usize {
-    match value {
-        StatusVarVal::UpdatedDbNames(names) => names.len(),
-        _ => 0,
-    }
-}
-
-// Whether a status variable has two database names; where memory is refused its bytes are answered, which are these.
-fn is_of_two_names(alloc: Global, var: &StatusVar<'_>, bytes: &[u8]) -> Result<bool, Error> {
-    let value = var.get_value(alloc);
-    let answer = match &value {
-        Ok(value) => Ok(count(value) == 2),
-        Err(raw) if *raw == bytes => Err(Error::Memory),
-        Err(_) => Ok(false),
-    };
-    drop(value);
-    answer
-}
-
-// The same of the first of these status variables.
-fn has_two_names(alloc: Global, text: &[u8]) -> Result<bool, Error> {
-    match StatusVarsIterator::new(text).next() {
-        Some(var) => is_of_two_names(alloc, &var, text.get(1..).unwrap_or(text)),
-        None => Ok(false),
-    }
-}
-
-#[test]
-fn names_are_whole_or_refused_for_memory(rt: HostRuntime) {
-    assert!(rt;
-        are_granted(
-            has_two_names(rt.alloc(), NAMES),
-            has_two_names(rt.alloc(), NAMES)
-        )
-    );
-}
-
-// Whether they are copied.
-fn are_names_copied(alloc: Global) -> Result<bool, Error> {
-    Ok(count_of_copied(alloc, NAMES)? == 1)
-}
-
-#[test]
-fn copies_of_names_are_equal_or_refused_for_memory(rt: HostRuntime) {
-    assert!(rt; are_granted(are_names_copied(rt.alloc()), are_names_copied(rt.alloc())));
 }

@@ -9,17 +9,18 @@
 //!   events.
 //! - `probe verifying` lists the log with its checksums verified, which are CRC-32; `probe verifying count` prints the number of
 //!   events whose checksum isn't right. The exit status is that of a listing.
-//! - `probe write-back` writes the log back to standard output, with each checksum recomputed.
+//! - `probe write-back` writes the log back, with each checksum recomputed.
 mod maria_gtids;
 mod numbers;
 mod reading;
-pub(crate) mod rows;
+mod rows;
 mod typed;
 mod verifying;
-mod write_back;
 
+use examples::copying::write_back;
 use reading::Way;
-use std::process::ExitCode;
+use std::alloc::Global;
+use std::io::{BufRead, Write};
 
 /// What is measured.
 #[derive(Clone, Copy)]
@@ -57,14 +58,22 @@ fn way_of(word: &str) -> Option<Way> {
     }
 }
 
-/// Runs a mode over the log on standard input.
-pub(crate) fn run(rt: &(impl Input + Print + AllocGlobal), mode: Mode) -> ExitCode {
+/// Runs a mode over a log. The result is the exit status.
+pub(crate) fn run<R: BufRead + Drop, W: Write>(
+    alloc: Global,
+    mode: Mode,
+    input: R,
+    output: &mut W,
+) -> u8 {
     match mode {
-        Mode::MariaGtids => crate::exit_code(maria_gtids::run(rt).is_ok()),
-        Mode::Reading(way) => crate::exit_code(reading::run(rt, way).is_some()),
-        Mode::RowSums => crate::exit_code(rows::run(rt).is_ok()),
-        Mode::Typed => crate::exit_code(typed::run(rt).is_ok()),
-        Mode::Verifying { counts } => verifying::run(rt, counts),
-        Mode::WriteBack => crate::exit_code(write_back::run(rt).is_ok()),
+        Mode::MariaGtids => crate::status(maria_gtids::write_sums(alloc, input, output).is_ok()),
+        Mode::Reading(way) => crate::status(reading::write_count(
+            alloc, input, way, output,
+        ).is_some()),
+        Mode::RowSums => crate::status(rows::write_sums(alloc, input, output).is_ok()),
+        Mode::Typed => crate::status(typed::write_sums(alloc, input, output).is_ok()),
+        Mode::Verifying { counts: true } => verifying::count(alloc, input, output),
+        Mode::Verifying { counts: false } => verifying::list(alloc, input, output),
+        Mode::WriteBack => crate::status(write_back(alloc, input, output).is_ok()),
     }
 }

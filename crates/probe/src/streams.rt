@@ -1,7 +1,6 @@
 //! Modes that read the whole standard input:
 //!
 //! - `probe events` reads the body of each event of a binary log by its type, and writes it again: a line of JSON for each item.
-//! - `probe rows` prints the rows of each row event that can be read, a line of JSON for each.
 //! - `probe slice-listing` lists the log as `binlog_list` does, but takes it into memory first and reads it as a slice;
 //!   `probe slice-listing memory` only takes it into memory. The exit status is that of `binlog_list`.
 //! - `probe inflate` writes the text of a zlib stream, or the name of its refusal on standard error, and `probe zstd` does so with the
@@ -13,25 +12,41 @@ pub(crate) mod compressed;
 pub(crate) mod event_lines;
 pub(crate) mod events;
 pub(crate) mod frames;
-pub(crate) mod printing;
-pub(crate) mod rows;
 pub(crate) mod slice_listing;
 
-use std::process::ExitCode;
+use std::alloc::Global;
+use std::io::{BufRead, Write};
 
-/// Runs the mode of this name, behind which a word stands or none.
-pub(crate) fn run<R: Input + Print + Eprint + AllocGlobal>(
-    rt: &R,
-    mode: &str,
-    has_word: bool,
-) -> ExitCode {
+/// What is done with the input.
+#[derive(Clone, Copy)]
+pub(crate) enum Mode {
+    Events,
+    SliceListing { is_listed: bool },
+    Frames,
+}
+
+/// The mode of this name, behind which a word stands or none; None if there is none.
+pub(crate) fn mode_of(name: &str, has_word: bool) -> Option<Mode> {
+    match name {
+        "events" => Some(Mode::Events),
+        "slice-listing" => Some(Mode::SliceListing {
+            is_listed: !has_word,
+        }),
+        "frames" => Some(Mode::Frames),
+        _ => None,
+    }
+}
+
+/// Runs a mode. The result is the exit status.
+pub(crate) fn run<R: BufRead + Drop, W: Write>(
+    alloc: Global,
+    mode: Mode,
+    input: R,
+    output: &mut W,
+) -> u8 {
     match mode {
-        "events" => crate::exit_code(events::run(rt).is_ok()),
-        "rows" => crate::exit_code(rows::run(rt).is_ok()),
-        "slice-listing" => slice_listing::run(rt, !has_word),
-        "inflate" => compressed::run_zlib(rt),
-        "zstd" => compressed::run_zstd(rt),
-        "frames" => crate::exit_code(frames::run(rt).is_ok()),
-        _ => ExitCode::FAILURE,
+        Mode::Events => crate::status(events::write_items(alloc, input, output).is_ok()),
+        Mode::SliceListing { is_listed } => slice_listing::run(alloc, is_listed, input, output),
+        Mode::Frames => crate::status(frames::write_answers(alloc, input, output).is_ok()),
     }
 }

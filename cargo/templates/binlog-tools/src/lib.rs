@@ -7,6 +7,8 @@ pub mod binlog_change_lines;
 #[doc(hidden)]
 pub mod binlog_cli;
 pub mod binlog_commands;
+#[doc(hidden)]
+pub mod binlog_event_commands;
 pub mod binlog_event_types;
 pub mod binlog_filters;
 #[doc(hidden)]
@@ -15,24 +17,27 @@ pub mod binlog_filters;
 #[doc(hidden)]
 pub mod binlog_following;
 pub mod binlog_gtid_listing;
+#[doc(hidden)]
+pub mod binlog_inputs;
 // Of some functions a contract alone reads a parameter.
 #[allow(unused_variables)]
 #[doc(hidden)]
 pub mod binlog_json_bodies;
 #[allow(unused_variables)]
 pub mod binlog_json_lines;
+#[allow(unused_variables)]
 #[doc(hidden)]
 pub mod binlog_later_changes;
 pub mod binlog_listing;
-pub mod binlog_payload_checks;
 pub mod binlog_payload_filters;
 pub mod binlog_payload_visits;
 pub mod binlog_rotation;
 #[allow(unused_variables)]
 pub mod binlog_statistics;
 #[doc(hidden)]
+pub mod binlog_statistics_command;
+#[doc(hidden)]
 pub mod binlog_summaries;
-pub mod binlog_transaction_gtids;
 #[doc(hidden)]
 pub mod binlog_undo_command;
 #[allow(unused_variables)]
@@ -46,8 +51,9 @@ pub mod clap;
 pub mod host;
 mod jiff;
 
-pub use crate::binlog_commands::{Copier, GtidCollector, Largest, Stats, Tally};
+pub use crate::binlog_commands::{GtidCollector, Largest, Stats, Tally};
 pub use crate::binlog_filters::{
-    Filter, Filtered, GtidSet, Pattern, Place, TableFilter, TablePattern, begins_transaction,
+    Copier, Filter, Filtered, GtidSet, Pattern, Place, TableFilter, TablePattern,
+    begins_transaction,
 };
 pub use crate::binlog_visits::{LineWriter, Visitor, visit, visit_counted, visit_verified, visit_verified_counted};

@@ -1,11 +1,10 @@
 //! What users of Rust expect of files of columns: `FromStr`, and the facts of a table map's columns in one call. By hand, over
-//! `column_file_reading` and `binlog_declared_columns`.
+//! `column_files` and `binlog_declared_columns`.
 use crate::binlog_columns::ColumnError;
 use crate::binlog_declared_columns::table_facts;
 use crate::binlog_optional_metadata::{TableFacts, TableMapColumns};
 use crate::binlog_rows::TableMapEvent;
-use crate::column_file_reading::{ReadTablesError, read_tables};
-use crate::column_files::DeclaredTables;
+use crate::column_files::{DeclaredTables, ReadTablesError, read_tables};
 use crate::memory::AllocError;
 use std::str::FromStr;
 use thiserror::Error;

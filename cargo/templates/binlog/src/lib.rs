@@ -73,15 +73,12 @@ mod binlog_transactions;
 #[allow(unused_variables)]
 mod binlog_undo;
 mod binlog_undo_index;
-#[allow(unused_variables)]
-mod binlog_undo_writing;
 mod binlog_values;
 mod binlog_wire;
 mod bitflags;
 mod calendar;
 mod character_sets;
 mod checksums;
-mod column_file_reading;
 // The fields of variants are told with their variants; the toolchain's vectors have no default.
 #[allow(missing_docs, clippy::manual_unwrap_or_default)]
 mod column_files;
@@ -140,12 +137,14 @@ pub mod payloads {
 /// What undoes the changes of rows: the events that undo others, the transactions of a log, and the events that are written.
 pub mod undo {
     #[doc(hidden)]
-    pub use crate::binlog_events::{Frame, event_ref_of_bytes};
+    pub use crate::binlog_events::event_ref_of_bytes;
     pub use crate::binlog_transactions::{GtidMark, Mark, Place, Refusal, Role, RowsMark, StatementKind, Transactions, Turn};
     pub use crate::binlog_transactions::Unsupported;
-    pub use crate::binlog_undo::{ForeignKeyChecks, InverseEvent, UndoError, UndoneRows, undo_event, undo_rows};
+    #[doc(hidden)]
+    pub use crate::binlog_transactions::statement_kind;
+    pub use crate::binlog_undo::{EventsWriter, ForeignKeyChecks, Heading, InverseEvent, UndoError, UndoneChange, UndoneRows};
+    pub use crate::binlog_undo::{WriteError, undo_event, undo_rows};
     pub use crate::binlog_undo_index::{ChangePlace, Positions, Reason, Refused, Rules, SeenEvent, Skips, TransactionPlace, UndoIndex};
-    pub use crate::binlog_undo_writing::{EventsWriter, Heading, UndoneChange, WriteError};
 }
 
 /// Events: their headers and footers, and the bodies of each type.
@@ -246,7 +245,7 @@ pub mod values {
 pub mod columns {
     pub use crate::binlog_declared_columns::{Contradictions, complete, declared_columns};
     pub use crate::binlog_declared_columns::{states_signs, table_facts};
-    pub use crate::column_file_reading::{ReadTablesError, TextFault, read_tables};
+    pub use crate::column_files::{ReadTablesError, TextFault, read_tables};
     pub use crate::column_files::{ColumnFileError, ColumnFileFault, ColumnLine, DeclaredColumn};
     pub use crate::column_files::{DeclaredTables, DeclaredTablesError, DeclaredType, Field};
     pub use crate::column_files::{HEADER, IntegerSize, LengthSize, Place, SimpleType, TemporalKind};
@@ -277,10 +276,13 @@ pub mod jsondiff {
     pub use crate::binary_json_writing::{JsonPath, JsonPathError, JsonPathLeg};
 }
 
-/// What asks its callers for something, for `binlog-tools`: lines of JSON in memory that is reused, and events that are read from a
-/// payload for the reader of a stream.
+/// What asks its callers for something, for `binlog-tools`: lines of JSON in memory that is reused, events that are read from a
+/// payload for the reader of a stream, the frames of a file, and the columns of an image as its bytes have them.
 #[doc(hidden)]
 pub mod json_lines {
+    pub use crate::binary_json_lines::{has_text, write_document_if_text, write_value_if_text};
+    pub use crate::binlog_events::{Frame, split_frame};
+    pub use crate::binlog_images::{StoredColumn, StoredRow, read_stored_columns};
     pub use crate::binlog_payloads::{content_description, read_decompressed};
     pub use crate::binlog_json_values::{KeptColumns, RowImages, ValueWriter};
     pub use crate::json_line::Line;

@@ -1,5 +1,5 @@
 //! Readers that fail.
-use crate::ends::devices::{ByteReader, Plan};
+use crate::devices::{FailingReader, Plan};
 use binlog_ends::{Counted, CountsFailures, Failed, ReadCounted, SliceReader};
 use std::io::ErrorKind;
 
@@ -36,7 +36,7 @@ fn loses_nothing(calls_before: usize, failures: usize, kind: ErrorKind) -> bool 
         failures,
         kind,
     };
-    let mut input = Counted::new(ByteReader::new(BYTES, plan));
+    let mut input = Counted::new(FailingReader::new(BYTES, 1, plan));
     let none = (
         input.read_some(&mut []),
         input.failures(),

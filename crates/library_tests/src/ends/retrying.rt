@@ -1,5 +1,5 @@
 //! Calls that are interrupted.
-use crate::ends::devices::{ByteReader, ByteWriter, Plan};
+use crate::devices::{FailingReader, FailingWriter, Plan};
 use binlog_ends::{ATTEMPTS, Counted, CountsFailures, ReadCounted, Retrying, WriteCounted};
 use std::alloc::Global;
 use std::io::{ErrorKind, Read};
@@ -16,7 +16,7 @@ fn interrupted(calls_before: usize, failures: usize) -> Plan {
 // The number of bytes that are read of three up to the end, the number of failures, and the kind of the last one, under
 // this plan.
 fn reads(plan: Plan) -> (usize, u64, Option<ErrorKind>) {
-    let mut input = Counted::new(Retrying::new(ByteReader::new(b"abc", plan)));
+    let mut input = Counted::new(Retrying::new(FailingReader::new(b"abc", 1, plan)));
     let mut len: usize = 0;
     for _ in 0..10 {
         if let Ok(count) = input.read_some(&mut [0; 4]) {
@@ -55,7 +55,7 @@ fn another_failure_is_not_tried_again(rt: HostRuntime) {
 
 // The number of bytes that are read by a call that is interrupted, and the bytes.
 fn first_read(plan: Plan) -> (usize, [u8; 2]) {
-    let mut input = Retrying::new(ByteReader::new(b"abc", plan));
+    let mut input = Retrying::new(FailingReader::new(b"abc", 1, plan));
     let mut piece = [0; 2];
     let count = input.read(&mut piece).unwrap_or(9);
     drop(input);
@@ -70,7 +70,7 @@ fn a_read_without_a_buffer_is_tried_again(rt: HostRuntime) {
 // Writes four bytes and flushes under this plan. Returns whether each was Ok, the number of failures, and whether these bytes
 // were written.
 fn writes(alloc: Global, plan: Plan, wanted: &[u8]) -> (bool, bool, u64, bool) {
-    let mut output = Counted::new(Retrying::new(ByteWriter::new(alloc, 4, plan)));
+    let mut output = Counted::new(Retrying::new(FailingWriter::new(alloc, 4, plan)));
     let is_whole = output.write_whole(b"abcd") == Ok(());
     let is_flushed = output.flush_counted() == Ok(());
     let failures = output.failures();

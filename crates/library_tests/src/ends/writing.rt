@@ -1,5 +1,5 @@
 //! Writers that fail, and writers that take a part of the bytes.
-use crate::ends::devices::{ByteWriter, Plan};
+use crate::devices::{FailingWriter, Plan};
 use binlog_ends::{Counted, CountsFailures, WriteCounted};
 use std::alloc::Global;
 use std::io::ErrorKind;
@@ -22,12 +22,8 @@ type Row = (usize, usize, &'static [u8], Answers);
 
 // Makes these calls of a borrowed writer.
 fn answers(alloc: Global, row: &Row) -> Answers {
-    let plan = Plan {
-        calls_before: row.0,
-        failures: 1,
-        kind: ErrorKind::BrokenPipe,
-    };
-    let mut output = Counted::new(ByteWriter::new(alloc, row.1, plan));
+    let plan = Plan::once(row.0, ErrorKind::BrokenPipe);
+    let mut output = Counted::new(FailingWriter::new(alloc, row.1, plan));
     let are_ok = calls(&mut &mut output);
     let (failures, last) = (output.failures(), output.last_failure());
     let device = output.into_inner();

@@ -1,21 +1,22 @@
 //! Sums over the fields of MariaDB's GTIDs.
-use crate::BUFFER_SIZE;
-use crate::measured::numbers::Numbers;
-use binlog_file::{BinlogFile, BinlogVersion, Error, EventRef};
-use binlog_mariadb::{
-    GtidExtra, MariaEventData, MariaEventType, MariaGtidEvent, XaId, read_maria_data,
-};
+use crate::measured::numbers::write_numbers;
+use binlog_file::{BinlogCtx, BinlogFile, BinlogVersion, Error, EventRef};
+use binlog_mariadb::{GtidExtra, MariaEventType, MariaGtidEvent, XaId, read_maria_body};
 use std::alloc::Global;
-use std::io::{BufRead, BufReader};
+use std::io::{BufRead, Write};
 
-/// Prints the sums over the log on standard input.
-pub(crate) fn run(rt: &(impl Input + Print + AllocGlobal)) -> Result<(), Error> {
-    let Ok(input) = BufReader::with_capacity(rt.alloc(), BUFFER_SIZE, rt.reader()) else {
-        return Err(Error::Memory);
-    };
-    let sums = sums_of(rt.alloc(), input)?;
-    let numbers = [sums.gtids, sums.xa_bytes, sums.numbers];
-    println!(rt; "{}", Numbers(&numbers)).map_err(|_| Error::Writer)
+/// Writes the line of the sums over a log.
+///
+/// # Errors
+///
+/// That of the first item that is one, of a GTID that can't be read, of memory, and of the output.
+pub(crate) fn write_sums<R: BufRead + Drop, W: Write>(
+    alloc: Global,
+    input: R,
+    output: &mut W,
+) -> Result<(), Error> {
+    let sums = sums_of(alloc, input)?;
+    write_numbers(&[sums.gtids, sums.xa_bytes, sums.numbers], output)
 }
 
 /// Sums over the GTIDs of a log, modulo 2^64.
@@ -36,17 +37,10 @@ impl Sums {
         if raw_type != u8::from(MariaEventType::GTID_EVENT) {
             return Ok(());
         }
-        let read = read_maria_data(alloc, event.fde(), raw_type, event.data());
-        let counted = match &read {
-            Ok(Some(MariaEventData::GtidEvent(gtid))) => {
-                self.count(gtid);
-                Ok(())
-            }
-            Ok(_) => Ok(()),
-            Err(error) => Err(*error),
-        };
-        drop(read);
-        counted
+        let ctx = BinlogCtx::new(event.frame().len(), event.fde(), raw_type);
+        let gtid: MariaGtidEvent<'_> = read_maria_body(alloc, ctx, event.data())?;
+        self.count(&gtid);
+        Ok(())
     }
 
     fn count(&mut self, gtid: &MariaGtidEvent<'_>) {

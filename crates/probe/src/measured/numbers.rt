@@ -1,17 +1,25 @@
 //! The line that a mode prints.
-use std::fmt;
+use binlog_file::Error;
+use std::io;
+use std::io::Write;
 
-/// Numbers, which are displayed in order, separated by spaces.
-#[derive(Clone, Copy)]
-pub(crate) struct Numbers<'a>(pub(crate) &'a [u64]);
-
-impl fmt::Display for Numbers<'_> {
-    fn fmt<W: fmt::Write>(&self, f: &mut fmt::Formatter<W>) -> fmt::Result {
-        let mut separator = "";
-        for number in self.0 {
-            write!(f, "{separator}{number}")?;
-            separator = " ";
-        }
-        Ok(())
+/// Writes a line of numbers, separated by spaces.
+///
+/// # Errors
+///
+/// [`Error::Writer`].
+pub(crate) fn write_numbers<W: Write>(numbers: &[u64], output: &mut W) -> Result<(), Error> {
+    match write_line(numbers, output) {
+        Ok(()) => Ok(()),
+        Err(_) => Err(Error::Writer),
     }
+}
+
+fn write_line<W: Write>(numbers: &[u64], output: &mut W) -> io::Result<()> {
+    let mut separator = "";
+    for number in numbers {
+        write!(output, "{separator}{number}")?;
+        separator = " ";
+    }
+    writeln!(output)
 }

@@ -1,8 +1,8 @@
 //! Counting the events of a log.
-use crate::BUFFER_SIZE;
-use binlog_file::{BinlogFile, BinlogSlice, BinlogVersion};
+use crate::measured::numbers::write_numbers;
+use binlog_file::{BinlogFile, BinlogSlice, BinlogVersion, Error};
 use std::alloc::Global;
-use std::io::{BufRead, BufReader, Read};
+use std::io::{BufRead, Read, Write};
 
 /// How events are read.
 #[derive(Clone, Copy)]
@@ -17,12 +17,15 @@ pub(crate) enum Way {
     Memory,
 }
 
-/// Prints the number of events of the log on standard input, in this way; None if the reader, memory or the writer fails, or an item is
-/// an error.
-pub(crate) fn run(rt: &(impl Input + Print + AllocGlobal), way: Way) -> Option<()> {
-    let input = BufReader::with_capacity(rt.alloc(), BUFFER_SIZE, rt.reader()).ok()?;
-    let count = count(rt.alloc(), input, way)?;
-    println!(rt; "{count}").ok()
+/// Writes the number of events of a log, read in this way; None if the reader, memory or the writer fails, or an item is an error.
+pub(crate) fn write_count<R: BufRead + Drop, W: Write>(
+    alloc: Global,
+    input: R,
+    way: Way,
+    output: &mut W,
+) -> Option<()> {
+    let count = count(alloc, input, way)?;
+    write_numbers(&[count], output).ok()
 }
 
 fn count<R: BufRead + Drop>(alloc: Global, input: R, way: Way) -> Option<u64> {
@@ -63,10 +66,17 @@ fn count_owned<R: BufRead + Drop>(alloc: Global, input: R) -> Option<u64> {
 fn count_items<R: BufRead + Drop>(file: BinlogFile<R>) -> Option<u64> {
     let mut count: u64 = 0;
     for item in file.items() {
-        item.ok()?;
+        if !is_read(item) {
+            return None;
+        }
         count = count.checked_add(1)?;
     }
     Some(count)
+}
+
+// Whether an item is no error.
+fn is_read<T: Drop>(item: Result<T, Error>) -> bool {
+    item.is_ok()
 }
 
 // Takes the log into memory, and counts the events of its slice, or none.

@@ -2,36 +2,29 @@
 mod table;
 mod values;
 
-use crate::measured::numbers::Numbers;
+use crate::measured::numbers::write_numbers;
 use binlog_file::{
-    BinlogFileOf, BinlogVersion, Counted, Error, EventRef, EventStreamReader, EventType,
-    ReadCounted, Retrying, RowsEventOf, Unverified,
+    BinlogFile, BinlogVersion, Error, EventRef, EventStreamReader, EventType, RowsEventOf,
 };
 use binlog_images::{HasWholeRows, Rows, RowsEventError, RowsEventExt};
 use binlog_rows::{DeleteRows, DeleteRowsV1, UpdateRows, UpdateRowsV1, WriteRows, WriteRowsV1};
 use std::alloc::Global;
-use std::io::Write;
+use std::io::{BufRead, Write};
 use table::Table;
 use values::ValueSums;
-
-/// Prints the sums over the log on standard input.
-pub(crate) fn run(rt: &(impl Input + Print + AllocGlobal)) -> Result<(), Error> {
-    let input = Counted::new(Retrying::new(rt.reader()));
-    let sums = sums_of(rt.alloc(), input)?;
-    println!(rt; "{}", Numbers(&sums.numbers())).map_err(|_| Error::Writer)
-}
 
 /// Writes the line of the sums over a log.
 ///
 /// # Errors
 ///
 /// That of the first item that is one, of a row event that can't be read, of memory, and of the output.
-pub(crate) fn write_sums<W: Write>(alloc: Global, log: &[u8], output: &mut W) -> Result<(), Error> {
-    let sums = sums_of(alloc, Counted::new(log))?;
-    match writeln!(output, "{}", Numbers(&sums.numbers())) {
-        Ok(()) => Ok(()),
-        Err(_) => Err(Error::Writer),
-    }
+pub(crate) fn write_sums<R: BufRead + Drop, W: Write>(
+    alloc: Global,
+    input: R,
+    output: &mut W,
+) -> Result<(), Error> {
+    let sums = sums_of(alloc, input)?;
+    write_numbers(&sums.numbers(), output)
 }
 
 /// Sums over the rows of a log, modulo 2^64.
@@ -151,16 +144,16 @@ impl Sums {
 
 // The sums over a binlog file with a file header. The error is that of the first item that is one, or of a row event that can't be
 // read.
-fn sums_of<R: ReadCounted + Drop>(alloc: Global, input: R) -> Result<Sums, Error> {
-    match BinlogFileOf::new_counted(alloc, BinlogVersion::Version4, input) {
+fn sums_of<R: BufRead + Drop>(alloc: Global, input: R) -> Result<Sums, Error> {
+    match BinlogFile::new(alloc, BinlogVersion::Version4, input) {
         Ok(mut file) => sums_of_events(alloc, &mut file),
         Err(error) => Err(error),
     }
 }
 
-fn sums_of_events<R: ReadCounted + Drop>(
+fn sums_of_events<R: BufRead + Drop>(
     alloc: Global,
-    file: &mut BinlogFileOf<R, Unverified>,
+    file: &mut BinlogFile<R>,
 ) -> Result<Sums, Error> {
     let mut sums = Sums::default();
     let mut table = Table::new(alloc);

@@ -2,8 +2,7 @@
 mod gtids;
 mod rows;
 
-use crate::BUFFER_SIZE;
-use crate::measured::numbers::Numbers;
+use crate::measured::numbers::write_numbers;
 use binlog_file::{
     BinlogFile, BinlogVersion, Error, EventRef, EventType, GtidEvent, RowsEventOf, TableMapEvent,
 };
@@ -12,15 +11,20 @@ use binlog_statements::{QueryEvent, StatusVarVal, StatusVars};
 use gtids::GtidSums;
 use rows::RowSums;
 use std::alloc::Global;
-use std::io::{BufRead, BufReader};
+use std::io::{BufRead, Write};
 
-/// Prints the sums over the log on standard input.
-pub(crate) fn run(rt: &(impl Input + Print + AllocGlobal)) -> Result<(), Error> {
-    let Ok(input) = BufReader::with_capacity(rt.alloc(), BUFFER_SIZE, rt.reader()) else {
-        return Err(Error::Memory);
-    };
-    let sums = sums_of(rt.alloc(), input)?;
-    println!(rt; "{}", Numbers(&sums.numbers())).map_err(|_| Error::Writer)
+/// Writes the line of the sums over a log.
+///
+/// # Errors
+///
+/// That of the first item that is one, of an event of a type that is summed up and can't be read, of memory, and of the output.
+pub(crate) fn write_sums<R: BufRead + Drop, W: Write>(
+    alloc: Global,
+    input: R,
+    output: &mut W,
+) -> Result<(), Error> {
+    let sums = sums_of(alloc, input)?;
+    write_numbers(&sums.numbers(), output)
 }
 
 /// Sums over the statements, the GTIDs and the rows of a log, modulo 2^64.
@@ -109,15 +113,20 @@ impl Sums {
     fn count_variables(&mut self, alloc: Global, variables: &StatusVars<'_>) -> Result<(), Error> {
         for variable in variables.iter() {
             let value = variable.get_value(alloc);
-            let number = match &value {
-                Ok(value) => number(value),
-                Err(_) => return Err(Error::Memory),
-            };
+            let number = number_of(&value);
             drop(value);
+            self.values = self.values.wrapping_add(number?);
             self.variables = self.variables.wrapping_add(1);
-            self.values = self.values.wrapping_add(number);
         }
         Ok(())
+    }
+}
+
+// The number of a value that was read; it isn't only where memory is refused.
+fn number_of(value: &Result<StatusVarVal<'_>, &[u8]>) -> Result<u64, Error> {
+    match value {
+        Ok(value) => Ok(number(value)),
+        Err(_) => Err(Error::Memory),
     }
 }
 

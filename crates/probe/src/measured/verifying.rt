@@ -1,41 +1,28 @@
 //! Verifying the checksums of a log.
-use crate::BUFFER_SIZE;
+use crate::measured::numbers::write_numbers;
 use binlog_file::Error;
-use binlog_visits::exit_status;
 use examples::verifying::{count_mismatches, list_by_crc32};
-use std::io;
-use std::io::{BufReader, BufWriter, Write};
-use std::process::ExitCode;
+use std::alloc::Global;
+use std::io::{BufRead, Write};
 
-/// The size of the input's buffer, in bytes. The file reads past it into its own, which is larger.
-const INPUT_BUFFER_SIZE: usize = 512;
-
-/// Lists the log on standard input with its checksums verified, or prints only the number of events whose checksum isn't right.
-/// The exit status is that of a listing.
-pub(crate) fn run(rt: &(impl Input + Print + AllocGlobal), counts: bool) -> ExitCode {
-    let answer = if counts { count(rt) } else { list(rt) };
-    ExitCode::from(exit_status(&answer))
+/// Lists a log with its checksums verified. The result is the exit status of a listing.
+pub(crate) fn list<R: BufRead + Drop, W: Write>(alloc: Global, input: R, output: &mut W) -> u8 {
+    let answer = list_by_crc32(alloc, input, &mut *output);
+    crate::listing_status(answer, output)
 }
 
-fn list(rt: &(impl Input + Print + AllocGlobal)) -> Result<bool, Error> {
-    let Ok(input) = BufReader::with_capacity(rt.alloc(), INPUT_BUFFER_SIZE, rt.reader()) else {
-        return Err(Error::Memory);
-    };
-    let Ok(mut output) = BufWriter::with_capacity(rt.alloc(), BUFFER_SIZE, io::writer(rt)) else {
-        return Err(Error::Memory);
-    };
-    let answer = list_by_crc32(rt.alloc(), input, &mut output);
-    if output.flush().is_err() {
-        return Err(Error::Writer);
-    }
-    answer
+/// Writes the number of events whose checksum isn't right. The result is the exit status of a listing.
+pub(crate) fn count<R: BufRead + Drop, W: Write>(alloc: Global, input: R, output: &mut W) -> u8 {
+    let answer = write_mismatches(alloc, input, &mut *output);
+    crate::listing_status(answer, output)
 }
 
-fn count(rt: &(impl Input + Print + AllocGlobal)) -> Result<bool, Error> {
-    let Ok(input) = BufReader::with_capacity(rt.alloc(), INPUT_BUFFER_SIZE, rt.reader()) else {
-        return Err(Error::Memory);
-    };
-    let count = count_mismatches(rt.alloc(), input)?;
-    println!(rt; "{count}").map_err(|_| Error::Writer)?;
+fn write_mismatches<R: BufRead + Drop, W: Write>(
+    alloc: Global,
+    input: R,
+    output: &mut W,
+) -> Result<bool, Error> {
+    let count = count_mismatches(alloc, input)?;
+    write_numbers(&[count], output)?;
     Ok(count > 0)
 }

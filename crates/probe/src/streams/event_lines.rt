@@ -39,33 +39,43 @@ pub(crate) fn write_error(alloc: Global, error: Error, line: &mut Line) -> Resul
 fn write_body(alloc: Global, event: EventRef<'_>, line: &mut Line) -> Result<(), Error> {
     let raw_type = event.header().event_type_raw();
     if is_maria_log(&event.fde()) && MariaEventType::try_from(raw_type).is_ok() {
-        write_data(
-            alloc,
-            read_maria_data(alloc, event.fde(), raw_type, event.data())?,
-            line,
-        )
+        let read = read_maria_data(alloc, event.fde(), raw_type, event.data());
+        write_data(alloc, read, line)
     } else {
-        write_data(alloc, event.read_data(alloc)?, line)
+        write_data(alloc, event.read_data(alloc), line)
     }
 }
 
 // Writes the bytes that are written for event data and, where others are written for a copy that owns its bytes, those.
-fn write_data<T>(alloc: Global, data: Option<T>, line: &mut Line) -> Result<(), Error>
+fn write_data<T>(
+    alloc: Global,
+    read: Result<Option<T>, Error>,
+    line: &mut Line,
+) -> Result<(), Error>
 where
     T: TryClone + IntoOwned + MySerialize + Drop,
     T::Owned: MySerialize + Drop,
 {
-    let Some(data) = data else {
+    let Some(data) = read? else {
         return Ok(());
     };
     let bytes = written(alloc, &data)?;
-    let copy = data.clone(alloc)?.into_owned(alloc)?;
-    let copied = written(alloc, &copy)?;
+    let copied = written_of_copy(alloc, data)?;
     line.bytes_member("written", &bytes)?;
     if copied != bytes {
         line.bytes_member("copied", &copied)?;
     }
     Ok(())
+}
+
+// The bytes that are written for a copy that owns its bytes.
+fn written_of_copy<T>(alloc: Global, value: T) -> Result<Vec<u8>, Error>
+where
+    T: TryClone + IntoOwned + Drop,
+    T::Owned: MySerialize + Drop,
+{
+    let copy = value.clone(alloc)?.into_owned(alloc)?;
+    written(alloc, &copy)
 }
 
 // The bytes that are written for a value.

@@ -1,14 +1,11 @@
-//! Reads the body of each event of the binary log on standard input by the event's type, and writes it again. A line of JSON for
-//! each event has the raw type, and `written`, the bytes that are written for the body, or `refused`, why the data is no such
-//! body; neither for an unknown type. That of an error in the place of an event has `refused` alone. `tests/cases.py` compares
-//! the lines.
-use crate::BUFFER_SIZE;
+//! Reads the body of each event of a binary log by the event's type, and writes it again. A line of JSON for each event has the raw type,
+//! and `written`, the bytes that are written for the body, or `refused`, why the data is no such body; neither for an unknown type. That
+//! of an error in the place of an event has `refused` alone. `tests/cases.py` compares the lines.
 use crate::streams::event_lines::{write_error, write_event};
-use binlog_file::{BinlogFile, BinlogVersion, Error};
+use binlog_file::{BinlogFile, BinlogVersion, Error, EventRef};
 use json_line::Line;
 use std::alloc::Global;
-use std::io;
-use std::io::{BufRead, BufReader, BufWriter, Write};
+use std::io::{BufRead, Write};
 
 /// Writes the line of each item of a log.
 ///
@@ -20,36 +17,40 @@ pub(crate) fn write_items<R: BufRead + Drop, W: Write>(
     input: R,
     output: &mut W,
 ) -> Result<(), Error> {
-    let file = BinlogFile::new(alloc, BinlogVersion::Version4, input)?;
+    let mut file = BinlogFile::new(alloc, BinlogVersion::Version4, input)?;
     let mut line = Line::new(alloc);
-    for item in file.items() {
-        line.clear();
-        match item {
-            Ok(event) => write_event(alloc, event.as_ref(), &mut line)?,
-            Err(error) => write_error(alloc, error, &mut line)?,
-        }
-        if output.write_all(line.end()?).is_err() {
-            return Err(Error::Writer);
-        }
+    write_lines(alloc, &mut file, &mut line, output)
+}
+
+fn write_lines<R: BufRead + Drop, W: Write>(
+    alloc: Global,
+    file: &mut BinlogFile<R>,
+    line: &mut Line,
+    output: &mut W,
+) -> Result<(), Error> {
+    // Bounded, so that the loop is proved to end; borrowed events can't be given by an iterator.
+    'items: for _ in 0..u64::MAX {
+        let Some(item) = file.next_ref() else {
+            return Ok(());
+        };
+        write_line(alloc, item, line, output)?;
     }
     Ok(())
 }
 
-/// Writes the line of each item.
-///
-/// # Errors
-///
-/// Those of memory, of standard input and of standard output. The lines before are written.
-pub(crate) fn run(rt: &(impl Input + Print + AllocGlobal)) -> Result<(), Error> {
-    let Ok(input) = BufReader::with_capacity(rt.alloc(), BUFFER_SIZE, rt.reader()) else {
-        return Err(Error::Memory);
-    };
-    let Ok(mut output) = BufWriter::with_capacity(rt.alloc(), BUFFER_SIZE, io::writer(rt)) else {
-        return Err(Error::Memory);
-    };
-    let answer = write_items(rt.alloc(), input, &mut output);
-    if output.flush().is_err() {
-        return Err(Error::Writer);
+fn write_line<W: Write>(
+    alloc: Global,
+    item: Result<EventRef<'_>, Error>,
+    line: &mut Line,
+    output: &mut W,
+) -> Result<(), Error> {
+    line.clear();
+    match item {
+        Ok(event) => write_event(alloc, event, line)?,
+        Err(error) => write_error(alloc, error, line)?,
     }
-    answer
+    match output.write_all(line.end()?) {
+        Ok(()) => Ok(()),
+        Err(_) => Err(Error::Writer),
+    }
 }

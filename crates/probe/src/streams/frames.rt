@@ -1,8 +1,7 @@
 //! Answers questions of Zstandard frames, for `tests/zstd.py` and `tests/zstd_library.py`.
-use crate::BUFFER_SIZE;
 use std::alloc::Global;
 use std::io;
-use std::io::{BufReader, BufWriter, Read, Write};
+use std::io::{Read, Write};
 use zstd_decode::{ZstdError, decompress};
 
 /// The number of bytes of a number.
@@ -48,20 +47,26 @@ fn write_answer<W: Write>(
 ///
 /// # Errors
 ///
-/// Those of memory, of standard input and of standard output.
-pub(crate) fn run(rt: &(impl Input + Print + AllocGlobal)) -> io::Result<()> {
-    let mut input = BufReader::with_capacity(rt.alloc(), BUFFER_SIZE, rt.reader())?;
-    let mut output = BufWriter::with_capacity(rt.alloc(), BUFFER_SIZE, io::writer(rt))?;
-    let mut questions = Vec::new(rt.alloc());
+/// Those of memory, of the input and of the output.
+pub(crate) fn write_answers<R: Read + Drop, W: Write>(
+    alloc: Global,
+    mut input: R,
+    output: &mut W,
+) -> io::Result<()> {
+    let mut questions = Vec::new(alloc);
     input.read_to_end(&mut questions)?;
-    let mut rest = questions.as_slice();
+    answer_all(alloc, &questions, output)
+}
+
+fn answer_all<W: Write>(alloc: Global, questions: &[u8], output: &mut W) -> io::Result<()> {
+    let mut rest = questions;
     // Each question has at least one byte.
     for _ in 0..questions.len() {
         let Some((asked, behind)) = next_question(rest) else {
             break;
         };
-        write_answer(rt.alloc(), &asked, &mut output)?;
+        write_answer(alloc, &asked, output)?;
         rest = behind;
     }
-    output.flush()
+    Ok(())
 }

@@ -1,5 +1,5 @@
 use Rattle.std.proofs.Common.{◌++◌, refl}
-use Rattle.binlog_summaries.proofs.WrittenTexts.{on_ok, appends_both}
+use Rattle.change_statistics.proofs.WrittenTexts.{on_ok, appends_both}
 use Rattle.binlog_summaries.specs.IntervalText.{intervals_head}
 use Rattle.binlog_summaries.proofs.interval_text.write_intervals.Goals as goal
 

@@ -1,5 +1,5 @@
 use Rattle.std.proofs.Common.{append_assoc}
-use Rattle.binlog_summaries.proofs.WrittenTexts.{on_ok, appends_both, appends_same}
+use Rattle.change_statistics.proofs.WrittenTexts.{on_ok, appends_both, appends_same}
 use Rattle.binlog_summaries.proofs.stats_text.write_largest_event.Goals as goal
 
 pub returns : goal.returns

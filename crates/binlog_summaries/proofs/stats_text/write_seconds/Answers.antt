@@ -1,5 +1,5 @@
 use Rattle.std.proofs.Common.{append_assoc}
-use Rattle.binlog_summaries.proofs.WrittenTexts.{on_ok}
+use Rattle.change_statistics.proofs.WrittenTexts.{on_ok}
 use Rattle.binlog_summaries.proofs.stats_text.write_seconds.Goals as goal
 
 pub returns : goal.returns

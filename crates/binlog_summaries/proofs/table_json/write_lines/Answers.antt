@@ -1,6 +1,6 @@
 use Rattle.std.proofs.Common.{◌<◌, length, arith}
 use Rattle.binlog_summaries.specs.TableJson.{table_line}
-use Rattle.binlog_summaries.proofs.TableLines.{row_written}
+use Rattle.change_statistics.proofs.WrittenLists.{row_written}
 use Rattle.binlog_summaries.proofs.table_json.write_lines.Goals as goal
 
 pub tables-preserved : goal.tables-preserved

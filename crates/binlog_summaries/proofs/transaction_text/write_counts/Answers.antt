@@ -1,5 +1,5 @@
 use Rattle.std.proofs.Common.{append_assoc}
-use Rattle.binlog_summaries.proofs.WrittenTexts.{on_ok, appends_same}
+use Rattle.change_statistics.proofs.WrittenTexts.{on_ok, appends_same}
 use Rattle.binlog_summaries.proofs.transaction_text.write_counts.Goals as goal
 
 pub returns : goal.returns

@@ -1,4 +1,4 @@
-use Rattle.binlog_summaries.proofs.WrittenTexts.{on_ok, appends_both}
+use Rattle.change_statistics.proofs.WrittenTexts.{on_ok, appends_both}
 use Rattle.binlog_summaries.proofs.transaction_text.write_table.Goals as goal
 
 pub returns : goal.returns

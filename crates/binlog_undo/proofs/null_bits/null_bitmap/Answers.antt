@@ -1,6 +1,6 @@
 use Rattle.std.proofs.Common.{◌≡◌, ◌+◌, ◌*◌, ◌/◌, [], ◌∷◌, ◌++◌, length, drop, ◌∙◌, ap, arith, rules}
-use Rattle.binlog_undo.specs.NullBits.{null_byte, nulls_of}
-use Rattle.binlog_undo.proofs.NullBits.{nulls_step}
+use Rattle.binlog_images.specs.NullBits.{null_byte, nulls_of}
+use Rattle.binlog_images.proofs.NullBits.{nulls_step}
 use Rattle.binlog_undo.proofs.null_bits.null_bitmap.Goals as goal
 
 pub loop-index-preserved : goal.loop-index-preserved

@@ -1,5 +1,5 @@
 use Rattle.std.proofs.Common.{◌≡◌, ◌+◌, ◌-◌, ◌*◌, ◌/◌, ◌++◌, length}
-use Rattle.binlog_undo.specs.NullBits.{null_bytes, nulls_of}
+use Rattle.binlog_images.specs.NullBits.{null_bytes, nulls_of}
 use Rattle.binlog_undo.proofs.null_bits.null_bitmap.Given as goal
 
 abbrev pub invariant-loop-index : goal.invariant-loop-index

@@ -8,10 +8,10 @@ loop-name-init g c = λ end all. all
 
 pub loop-name-preserved : goal.loop-name-preserved
 loop-name-preserved g c = λ end more.
-    c.loop-name.invariant end (finds_next (g.L.Logs.bytes c.args.logs.now) c.args.skips c.loop-name.number _ c.args.later.now c.loop-name.name-index _ c.loop-name.tables c.in_ok-tables.tables end _
-    c.loop-name-test.true c.new-undone.ensures c.in_ok-tables.ensures.ok c.saturating_add-number.ensures more)
+    c.loop-name.invariant end (finds_next (g.L.Logs.bytes c.args.logs.now) c.args.rules c.loop-name.number _ c.args.later.now c.loop-name.name-index _ c.loop-name.changes c.in_ok-changes.changes end _
+    c.loop-name-test.true c.new-undone.ensures c.in_ok-changes.ensures.ok c.saturating_add-number.ensures more)
 
 pub returns-clause-ok : goal.returns-clause-ok
 returns-clause-ok g c =
-    c.loop-name.invariant c.loop-name.tables (subst (λ (l : List (Bor (List ℕ))). FindsInLater (g.L.Logs.bytes c.args.logs.now) c.args.skips c.loop-name.number (map (λ (name : Bor (List ℕ)). name.now) l) c.loop-name.tables c.loop-name.tables)
+    c.loop-name.invariant c.loop-name.changes (subst (λ (l : List (Bor (List ℕ))). FindsInLater (g.L.Logs.bytes c.args.logs.now) c.args.rules c.loop-name.number (map (λ (name : Bor (List ℕ)). name.now) l) c.loop-name.changes c.loop-name.changes)
     (sym (left_end c.args.later.now c.loop-name.name-index c.loop-name-test.false)) refl)

@@ -10,7 +10,7 @@ returns-clause-ok g c =
     let are = c.in_ok-are_inside.are_inside.items in
     let places : places_of c.new-undone.result ≡ places_in parts.transactions are parts.changes =
     (let a = c.index-index.ensures in let b = c.transactions.ensures in let d = c.as_slice.ensures.value in let e = c.changes.ensures in let f = c.new-undone.ensures in cc) in
-    if_ok c.look_at.result _ _ (λ tables finds. record {
+    if_ok c.look_at.result _ _ (λ changes finds. record {
       undone = places_of c.new-undone.result;
       are = record { are_inside = are; inside = c.in_ok-are_inside.ensures.ok; places = places };
       finds = finds;

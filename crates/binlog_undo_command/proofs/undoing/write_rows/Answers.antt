@@ -1,8 +1,8 @@
 use Rattle.std.proofs.Common.{◌++◌, Option, List, ℕ}
 use Rattle.std.proofs.KnownBytes.{Appends-kept}
 use Rattle.std.specs.Prelude.{flat_map}
-use Rattle.binlog_summaries.proofs.WrittenTexts.{appends_both}
-use Rattle.binlog_summaries.specs.RowText.{rows_line}
+use Rattle.change_statistics.proofs.WrittenTexts.{appends_both}
+use Rattle.change_statistics.specs.RowText.{rows_line}
 use Rattle.binlog_undo_command.specs.Undoing.{counts_line}
 use Rattle.binlog_undo_command.proofs.Counts.{on_any}
 use Rattle.binlog_undo_command.proofs.undoing.write_rows.Goals as goal

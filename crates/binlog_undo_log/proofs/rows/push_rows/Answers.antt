@@ -8,7 +8,7 @@ use Rattle.binlog_events.specs.Parts.{data_of}
 use Rattle.binlog_undo.specs.declared.inverse_event.InverseEvent.{InverseEvent}
 use Rattle.binlog_undo_log.specs.Heads.{has_rows_length}
 use Rattle.binlog_undo_log.specs.Undoing.{undone_parts, undone_events}
-use Rattle.binlog_undo_writing.specs.Transactions.{AreWritten}
+use Rattle.binlog_undo.specs.Transactions.{AreWritten}
 use Rattle.binlog_undo_log.proofs.rows.push_rows.Goals as goal
 
 pub returns : goal.returns

@@ -12,13 +12,13 @@ told writer position gtid = record writer { position = position; gtid = gtid }
 pub returns-clause-ok : goal.returns-clause-ok
 returns-clause-ok g c =
     let was = c.args.self.now.filtered.filtered.visitor.visitor.visitor.visitor in
-    let gtid = c.follow.new.text in
+    let gtid = c.follow_gtid.new.text in
     map_ok c.visit_event.result c.visit_event.ensures.ok
-    (λ filters. (told was c.of_event-position.result gtid, (ap (λ (p : Option ℕ). told was p gtid) c.of_event-position.ensures, c.in_ok-follow.ensures.ok), filters))
+    (λ filters. (told was c.of_event-position.result gtid, (ap (λ (p : Option ℕ). told was p gtid) c.of_event-position.ensures, c.in_ok-follow_gtid.ensures.ok), filters))
 
 pub returns-clause-err : goal.returns-clause-err
 returns-clause-err g c =
     let was = c.args.self.now.filtered.filtered.visitor.visitor.visitor.visitor in
-    let gtid = c.follow.new.text in
+    let gtid = c.follow_gtid.new.text in
     map_if c.visit_event.result c.visit_event.ensures.err
-    (λ e refused. inr (told was c.of_event-position.result gtid, (ap (λ (p : Option ℕ). told was p gtid) c.of_event-position.ensures, c.in_ok-follow.ensures.ok), refused))
+    (λ e refused. inr (told was c.of_event-position.result gtid, (ap (λ (p : Option ℕ). told was p gtid) c.of_event-position.ensures, c.in_ok-follow_gtid.ensures.ok), refused))

@@ -6,5 +6,5 @@ use Rattle.binlog_change_lines.proofs.change_lines.ChangeLines.show_event.Goals 
 
 pub returns-clause-shown : goal.returns-clause-shown
 returns-clause-shown c =
-    shows_event c.show_read-shown.result c.args.files.now (place_of c.args.place.now) (view_of c.args.event.now) (option_copied c.args.table_map) c.read_log_data-read.result _
-    c.read_log_data-read.ensures c.show_read-shown.ensures.read c.show_read-shown.ensures.shown
+    shows_event c.show_read.result c.args.files.now (place_of c.args.place.now) (view_of c.args.event.now) (option_copied c.args.table_map) c.args.read.now _
+    c.requires c.show_read.ensures.read c.show_read.ensures.shown

@@ -4,13 +4,12 @@ use Rattle.binlog_json_lines.proofs.part_writer.JsonWriterPartVisitor.visit_part
 
 pub returns-clause-ok : goal.returns-clause-ok
 returns-clause-ok g c =
-    let line = rw c.part_table_map-table_map.ensures at c.in_ok-line.ensures.line in
-    let notes = rw c.part_table_map-table_map.ensures at c.in_ok-note.ensures.noted in
+    let shown = c.in_ok-text.ensures.shown in
     map_ok c.write_line.result c.write_line.ensures.ok
-    (λ appended. (c.in_ok-line.line.contradiction, record { text = c.in_ok-line.line.text.now; line = line; written = rw c.new-output.ensures.value at appended }, notes, or_none _, refl))
+    (λ appended. (shown.contradiction, record { text = c.in_ok-text.text.now; line = shown.line; written = rw c.new-output.ensures.value at appended }, shown.noted, or_none _, refl))
 
 pub returns-clause-err : goal.returns-clause-err
 returns-clause-err g c =
-    let line = rw c.part_table_map-table_map.ensures at c.in_ok-line.ensures.line in
+    let shown = c.in_ok-text.ensures.shown in
     map_err c.write_line.result c.write_line.ensures.front c.write_line.ensures.err
-    (λ e front is. (inl (is, record { text = c.in_ok-line.line.text.now; line = (c.in_ok-line.line.contradiction, line); written = rw c.new-output.ensures.value at front }), refl, refl))
+    (λ e front is. (inl (is, record { text = c.in_ok-text.text.now; line = (shown.contradiction, shown.line); written = rw c.new-output.ensures.value at front }), refl, refl))

@@ -1,5 +1,5 @@
 use Rattle.std.proofs.Common.{refl}
-use Rattle.binlog_later_changes.proofs.NamedTables.{updates_name}
+use Rattle.change_statistics.proofs.NamedTables.{updates_name}
 use Rattle.binlog_later_changes.proofs.later_tables.LaterTables.put.Goals as goal
 
 pub returns : goal.returns

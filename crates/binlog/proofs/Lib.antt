@@ -1,6 +1,0 @@
-pub mod Reading
-pub mod ColumnFiles
-pub mod WrittenRows
-pub mod FollowedFiles
-pub mod Rests
-pub mod RepeatedTables

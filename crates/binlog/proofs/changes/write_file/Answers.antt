@@ -1,5 +1,0 @@
-use Rattle.std.proofs.Common.{inr}
-use Rattle.binlog.proofs.changes.write_file.Goals as goal
-
-pub returns-in-Ok : goal.returns-in-Ok
-returns-in-Ok g c = inr (c.begin.new.self, rw c.in-Ok.is at c.begin.ensures.ok, c.show_file.ensures)

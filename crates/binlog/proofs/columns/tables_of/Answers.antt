@@ -1,5 +1,0 @@
-use Rattle.binlog.proofs.ColumnFiles.{refused}
-use Rattle.binlog.proofs.columns.tables_of.Goals as goal
-
-pub returns-in-Err-clause-err : goal.returns-in-Err-clause-err
-returns-in-Err-clause-err g c = refused c.args.text.now c.in-Err.error c.refuse.result c.refuse.ensures c.in-Err.ensures.err

@@ -1,5 +1,0 @@
-use Rattle.binlog.specs.Rests.{GoesAll}
-use Rattle.binlog.proofs.growing.show_items.Given as goal
-
-abbrev pub invariant-items : goal.invariant-items
-invariant-items g l = GoesAll g.T.Pausing.rests l.fn.follower l.follower

@@ -1,5 +1,0 @@
-use Rattle.binlog.specs.Rests.{HasRested}
-use Rattle.binlog.proofs.rotations.wait_for.Given as goal
-
-abbrev pub invariant-looks : goal.invariant-looks
-invariant-looks g l = HasRested g.F.Follower.rests l.fn.follower l.follower

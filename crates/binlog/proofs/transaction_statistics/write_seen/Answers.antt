@@ -1,8 +1,0 @@
-use Rattle.binlog.proofs.WrittenRows.{lines_written, text_written}
-use Rattle.binlog.proofs.transaction_statistics.write_seen.Goals as goal
-
-pub returns-then-is_json : goal.returns-then-is_json
-returns-then-is_json g c = rw c.if-is_json.true (lines_written _ c.write_transactions_json-written.result c.outcome_of_lines.result c.outcome_of_lines.ensures c.write_transactions_json-written.ensures)
-
-pub returns : goal.returns
-returns g c = rw c.if-is_json.false (text_written _ c.write_transactions.result c.outcome_of_text.result c.outcome_of_text.ensures c.write_transactions.ensures)

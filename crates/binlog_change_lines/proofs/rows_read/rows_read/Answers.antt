@@ -1,0 +1,17 @@
+use Rattle.std.proofs.Common.{sym, ◌∙◌}
+use Rattle.binlog_consts.specs.EventTypes.{event_type_of}
+use Rattle.binlog_event_format.specs.Headers.{header_of}
+use Rattle.binlog_events.specs.EventRefs.{view_of}
+use Rattle.binlog_events.specs.Parts.{data_of}
+use Rattle.binlog_filters.proofs.RowsRead.{of_other_type}
+use Rattle.binlog_change_lines.proofs.ReadRows.{of_log}
+use Rattle.binlog_change_lines.proofs.rows_read.rows_read.Goals as goal
+
+pub returns-then-is_row_event : goal.returns-then-is_row_event
+returns-then-is_row_event c =
+    c.rows_of_read.ensures ∙ of_log (view_of c.args.event.now) c.args.read.now (sym c.is_row_event.ensures ∙ c.if-is_row_event.true) c.requires
+
+pub returns-else-is_row_event : goal.returns-else-is_row_event
+returns-else-is_row_event c =
+    let e = view_of c.args.event.now in
+    sym (of_other_type e.fde (data_of e.fde.footer e.frame) (event_type_of (header_of e.frame).event_type) (sym c.is_row_event.ensures ∙ c.if-is_row_event.false))

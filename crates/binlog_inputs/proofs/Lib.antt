@@ -1,0 +1,4 @@
+pub mod Reporting
+pub mod TakenFiles
+pub mod FollowedFiles
+pub mod Rests

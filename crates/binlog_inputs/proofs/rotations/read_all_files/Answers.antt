@@ -1,0 +1,5 @@
+use Rattle.std.proofs.Common.{refl}
+use Rattle.binlog_inputs.proofs.rotations.read_all_files.Goals as goal
+
+pub returns-in-Some-clause-read : goal.returns-in-Some-clause-read
+returns-in-Some-clause-read g c = rw ((c.if-goes_on.ensures.0 refl).0, c.in-Some.ensures.cases.0) c.follow_last.ensures.read

@@ -1,0 +1,6 @@
+pub mod Requests
+pub mod Reports
+pub mod Outputs
+pub mod Reading
+pub mod Rests
+pub mod FollowedEnds

@@ -1,2 +1,0 @@
-pub mod NotedItems
-pub mod Counted

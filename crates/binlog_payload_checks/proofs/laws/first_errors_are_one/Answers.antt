@@ -1,5 +1,0 @@
-use Rattle.binlog_payload_checks.proofs.Counted.{one_first_error}
-use Rattle.binlog_payload_checks.proofs.laws.first_errors_are_one.Goals as goal
-
-pub returns : goal.returns
-returns c = one_first_error

@@ -1,4 +1,0 @@
-pub mod Finding
-pub mod Noting
-pub mod Checking
-pub mod Damaged

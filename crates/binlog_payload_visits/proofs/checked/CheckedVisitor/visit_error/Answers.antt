@@ -1,0 +1,10 @@
+use Rattle.std.proofs.Common.{Err}
+use Rattle.binlog_payload_visits.proofs.Counted.{error_checked, error_refused}
+use Rattle.binlog_payload_visits.proofs.checked.CheckedVisitor.visit_error.Goals as goal
+
+pub returns-clause-ok : goal.returns-clause-ok
+returns-clause-ok g c = error_checked c.visit_error.result g.T.Visitor.visits c.args.self.now _ c.args.index c.args.error.now c.visit_error.new.self c.visit_error.ensures.ok
+
+pub returns-clause-err : goal.returns-clause-err
+returns-clause-err g c =
+    error_refused c.visit_error.result g.T.Visitor.visits g.T.Visitor.refuses c.args.self.now _ c.args.index (Err c.args.error.now) c.visit_error.new.self c.visit_error.ensures.err

@@ -1,5 +1,0 @@
-use Rattle.binlog_statistics.proofs.SplicedTypes.{types_spliced}
-use Rattle.binlog_statistics.proofs.laws.spliced_type_counts_are_of_all_items.Goals as goal
-
-pub returns : goal.returns
-returns c = types_spliced

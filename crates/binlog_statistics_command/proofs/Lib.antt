@@ -1,0 +1,2 @@
+pub mod WrittenRows
+pub mod RepeatedTables

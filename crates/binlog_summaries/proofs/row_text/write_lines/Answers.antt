@@ -1,9 +1,0 @@
-use Rattle.std.proofs.Common.{◌<◌, length, arith}
-use Rattle.binlog_summaries.specs.RowText.{rows_line}
-use Rattle.binlog_summaries.proofs.TableLines.{row_written}
-use Rattle.binlog_summaries.proofs.row_text.write_lines.Goals as goal
-
-pub tables-preserved : goal.tables-preserved
-tables-preserved g c =
-    let within : c.tables.index < length c.args.stats.now.tables.entries = omega arith in
-    row_written rows_line c.args.stats.now.tables.entries c.tables.index _ _ _ within c.tables.invariant c.in_ok-write_line.ensures

@@ -1,2 +1,0 @@
-pub mod Transactions
-pub mod Written

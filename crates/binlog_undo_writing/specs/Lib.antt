@@ -1,3 +1,0 @@
-pub mod Events
-pub mod Headings
-pub mod Transactions

@@ -1,0 +1,6 @@
+use Rattle.std.proofs.Common.{append_assoc}
+use Rattle.change_statistics.proofs.WrittenTexts.{on_ok, appends_same}
+use Rattle.change_statistics.proofs.row_text.write_rows.Goals as goal
+
+pub returns : goal.returns
+returns g c = on_ok c.writeln.result (λ appended. appends_same _ _ _ _ (simp append_assoc) appended) c.writeln.ensures.bytes
