@@ -40,8 +40,6 @@ SPELLING = encode.Spelling(id_width=6)
 ROW_TYPES = {kind[0]: kind[2:] for kind in encode.ROWS_KINDS}
 WHOLE = [kind for kind in encode.ROWS_KINDS if kind[0] != 39]
 (PARTIAL,) = [kind for kind in encode.ROWS_KINDS if kind[0] == 39]
-# Why an event has no rows: its table's columns, or their number.
-NO_ROWS = (("error", "Columns"), ("error", "ColumnCount"))
 JSON = 245
 
 
@@ -578,13 +576,18 @@ def of_row_event(line):
     """The members of a row event's line of `json`: its index, and its rows or why there are none; the line says more of both."""
     members = dict(line)
     rows = members["rows"]
-    return [("index", members["index"]), rows[0][0] if rows and rows[0][0] in NO_ROWS else ("rows", rows)]
+    refusal = dict(rows[0]) if rows else {}
+    if "error" not in refusal or "row" in refusal:
+        return [("index", members["index"]), ("rows", rows)]
+    # A refusal that is of no row is one of the table's columns, or of their number.
+    return [("index", members["index"]), ("error", "ColumnCount" if refusal["error"] == "ColumnCount" else "Columns")]
 
 
 def printed(words, version, events):
     """The status, and the lines of row events: of `json` those that have a table."""
     content = start(version) + b"".join(framed(kind, body) for kind, body in events)
-    finished = subprocess.run(words, input=content, stdout=subprocess.PIPE)
+    # The messages of damaged events are those of their lines.
+    finished = subprocess.run(words, input=content, stdout=subprocess.PIPE, stderr=subprocess.DEVNULL)
     parsed = functools.partial(json.loads, object_pairs_hook=list)
     if not programs.is_command(words):
         return finished.returncode, [parsed(line) for line in finished.stdout.splitlines()]

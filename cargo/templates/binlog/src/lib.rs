@@ -280,7 +280,7 @@ pub mod jsondiff {
 /// payload for the reader of a stream, the frames of a file, and the columns of an image as its bytes have them.
 #[doc(hidden)]
 pub mod json_lines {
-    pub use crate::binary_json_lines::{has_text, write_document_if_text, write_value_if_text};
+    pub use crate::binary_json_lines::{has_text, value_has_text, write_document_if_text, write_value_if_text};
     pub use crate::binlog_events::{Frame, split_frame};
     pub use crate::binlog_images::{StoredColumn, StoredRow, read_stored_columns};
     pub use crate::binlog_payloads::{content_description, read_decompressed};
