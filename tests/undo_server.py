@@ -7,7 +7,8 @@ FLAG is one of `programs.py`. A server makes tables, with keys and without, of i
 fills them. At a checkpoint its tables are selected, and its log is closed. N random loads (4 if not given) of inserts, updates,
 deletes and transactions of several statements follow, over several files. `binlog undo` undoes them, every other load as one
 transaction; the server's programs apply that, and the tables are selected again. Then what undid them is undone. Logs behind all that are looked at: one that
-changes another table, one that changes a table that was undone, and one that makes a table. Where there is no server
+changes another table, one that inserts into a table that was undone, one that deletes a row that was left behind, and one that makes
+a table; also with their rows checked. Where there is no server
 (`maria_daemon.py` and `mysql_daemon.py` say where they come from) nothing is done with it. The last line is `N passed, M failed`; the
 exit status is 1 if something failed.
 """
@@ -132,23 +133,31 @@ def undone(words, options, logs, out):
     return None if run.returncode == 0 else f"status {run.returncode}: {run.stderr[-300:]}"
 
 
-# What logs behind the load do, and what is said of it as a later log: nothing, or a table, or that any table may be changed.
+# The last row of a load, which it leaves behind, and its key.
+LEFT = 1_000_000
+LAST = f"INSERT INTO keyed VALUES ({LEFT}, 'left', 1.5, '2024-01-01', NULL, 1);"
+
+# What logs behind the load do, and what is said of it as a later log: nothing, or a table, or that any table may be changed; and
+# whether that is said where rows are checked, too.
 LATER = [
-    ("INSERT INTO apart VALUES (1);", None),
-    ("INSERT INTO keyless VALUES (1, 'b', 1.5, 'x');", "LaterChanges: s.keyless: "),
-    ("CREATE TABLE made (a INT);", "LaterChanges: unknown: a statement "),
+    ("INSERT INTO apart VALUES (1);", None, False),
+    ("INSERT INTO keyless VALUES (1, 'b', 1.5, 'x');", "LaterChanges: s.keyless: ", False),
+    (f"DELETE FROM keyed WHERE id = {LEFT};", "LaterChanges: s.keyed: ", True),
+    ("CREATE TABLE made (a INT);", "LaterChanges: unknown: a statement ", True),
 ]
 
 
-def unlooked(words, server, logs):
-    """What is wrong with what is said of later logs, if something is. These logs are undone."""
+def unlooked(words, server, logs, are_known):
+    """What is wrong with what is said of later logs, if something is. These logs are undone. Their rows are known, or not, as those of
+    events that are compressed one by one."""
     # The log that is open has what was applied.
-    server.run(("USE s; FLUSH BINARY LOGS;" + "".join(f"{statement} FLUSH BINARY LOGS;" for statement, _ in LATER)).encode())
-    for log, (statement, wanted) in zip(server.logs()[-1 - len(LATER) : -1], LATER):
-        run = subprocess.run([*words, "undo", "--dry-run", "--later", str(log), *map(str, logs)], capture_output=True, text=True)
-        said = run.stderr.splitlines()
-        if run.returncode != (2 if wanted else 0) or len(said) != bool(wanted) or wanted and wanted not in said[0]:
-            return f"behind {statement!r}: status {run.returncode}: {run.stderr[-300:]}"
+    server.run(("USE s; FLUSH BINARY LOGS;" + "".join(f"{statement} FLUSH BINARY LOGS;" for statement, *_ in LATER)).encode())
+    for log, (statement, wanted, is_near) in zip(server.logs()[-1 - len(LATER) : -1], LATER):
+        for options, line in (([], wanted), (["--check-rows"], wanted if is_near or not are_known else None)):
+            run = subprocess.run([*words, "undo", "--dry-run", *options, "--later", str(log), *map(str, logs)], capture_output=True, text=True)
+            said = run.stderr.splitlines()
+            if run.returncode != (2 if line else 0) or len(said) != bool(line) or line and line not in said[0]:
+                return f"behind {statement!r}, with {options}: status {run.returncode}: {run.stderr[-300:]}"
     return None
 
 
@@ -161,10 +170,11 @@ def failure(words, kind, folder, seed):
     chance, keys = random.Random(seed), dict.fromkeys(TABLES, 100)
     # A statement that fails in the middle, or is rolled back, would stay in tables that can't roll back.
     made = "CREATE DATABASE s; USE s;" + "".join(f"CREATE TABLE {name} {form};" for name, form in TABLES.items()).replace("ENGINE=;", f"ENGINE={kind.engine};") + "CREATE TABLE apart (a INT);"
-    with kind.server(folder / f"{kind.name}-{seed}", [*kind.forms[seed % len(kind.forms)], *kind.options]) as server:
+    form = kind.forms[seed % len(kind.forms)]
+    with kind.server(folder / f"{kind.name}-{seed}", [*form, *kind.options]) as server:
         server.run((made + load(chance, keys, 30).replace("ROLLBACK", "COMMIT")).encode())
         checkpoint, count = tables_of(server), len(server.logs()) - 1
-        server.run(load(chance, keys, 60).replace("ROLLBACK", "COMMIT").encode())
+        server.run((load(chance, keys, 60).replace("ROLLBACK", "COMMIT") + f"{LAST}\nFLUSH BINARY LOGS;\n").encode())
         end, logs = tables_of(server), behind(server, count)
         wrong = undone(words, ["--one-transaction"] * (seed % 2), logs, folder / f"{kind.name}-{seed}.out")
         if wrong:
@@ -178,7 +188,7 @@ def failure(words, kind, folder, seed):
         applied(kind, server, folder / f"{kind.name}-{seed}.back")
         if tables_of(server) != end:
             return f"{kind.name}, seed {seed}: the tables aren't those of the end"
-        wrong = unlooked(words, server, logs)
+        wrong = unlooked(words, server, logs, "--log-bin-compress=ON" not in form)
         return wrong and f"{kind.name}, seed {seed}, {wrong}"
 
 
