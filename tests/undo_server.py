@@ -36,6 +36,8 @@ OPTIONS = [
 TABLES = {
     "keyed": "(id INT PRIMARY KEY, name VARCHAR(40), price DECIMAL(10,2), at DATETIME(3), content BLOB, flags BIT(5)) ENGINE=InnoDB",
     "keyless": "(a BIGINT, b TEXT, c DOUBLE, d ENUM('x','y','z')) ENGINE=InnoDB",
+    "parent": "(id INT PRIMARY KEY, size INT, twice INT AS (size * 2) VIRTUAL) ENGINE=InnoDB",
+    "child": "(id INT PRIMARY KEY, parent INT, FOREIGN KEY (parent) REFERENCES parent (id)) ENGINE=InnoDB",
     "other": "(id INT AUTO_INCREMENT PRIMARY KEY, t TIMESTAMP(6) NOT NULL DEFAULT '2020-01-01', j LONGTEXT, s SET('p','q')) ENGINE=",
 }
 
@@ -86,9 +88,23 @@ def row(chance, table, key):
     return f"({key}, '2023-02-{chance.randint(1, 28):02d} 11:12:13.5', {text(chance)}, '{chance.choice(('p', 'q', 'p,q', ''))}')"
 
 
+def family(chance, keys):
+    """A row that another one refers to by a foreign key; and from time to time both are changed, or removed."""
+    keys["parent"] += 1
+    key, way = keys["parent"], chance.random()
+    made = f"INSERT INTO parent (id, size) VALUES ({key}, {chance.randrange(99)}); INSERT INTO child VALUES ({key}, {key});"
+    if way < 0.4:
+        return made
+    if way < 0.7:
+        return f"{made} UPDATE parent SET size = size + 1 WHERE id % 3 = {chance.randrange(3)}; UPDATE child SET parent = {key} WHERE id % 4 = 1;"
+    return f"{made} UPDATE child SET parent = NULL WHERE parent = {key}; DELETE FROM parent WHERE id = {key};"
+
+
 def change(chance, keys):
-    """A random statement on a random table."""
+    """A random statement on a random table, or several on the two tables of a foreign key."""
     table, way = chance.choice(list(TABLES)), chance.random()
+    if table in ("parent", "child"):
+        return family(chance, keys)
     if way < 0.45:
         keys[table] += 3
         rows = ", ".join(row(chance, table, keys[table] - place) for place in range(chance.randint(1, 3)))
