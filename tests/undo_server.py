@@ -8,7 +8,7 @@ fills them. At a checkpoint its tables are selected, and its log is closed. N ra
 deletes and transactions of several statements follow, over several files. `binlog undo` undoes them, every other load as one
 transaction; the server's programs apply that, and the tables are selected again. Then what undid them is undone. Logs behind all that are looked at: one that
 changes another table, one that inserts into a table that was undone, one that deletes a row that was left behind, and one that makes
-a table; also with their rows checked. Where there is no server
+a table; also with their rows checked. At last changes are made that can't be undone. Where there is no server
 (`maria_daemon.py` and `mysql_daemon.py` say where they come from) nothing is done with it. The last line is `N passed, M failed`; the
 exit status is 1 if something failed.
 """
@@ -163,6 +163,27 @@ LATER = [
 ]
 
 
+# What can't be undone, and why.
+REFUSED = [
+    ("TRUNCATE keyless;", "Statement"),
+    ("ALTER TABLE keyless ADD COLUMN more INT; ALTER TABLE keyless DROP COLUMN more;", "Statement"),
+    ("SET SESSION binlog_format = 'STATEMENT'; INSERT INTO apart VALUES (7); SET SESSION binlog_format = 'ROW';", "Statement"),
+    ("SET SESSION binlog_row_image = 'MINIMAL'; DELETE FROM keyed; SET SESSION binlog_row_image = 'FULL';", "Image"),
+    ("XA START 'x'; INSERT INTO apart VALUES (8); XA END 'x'; XA PREPARE 'x'; XA COMMIT 'x';", "Xa"),
+]
+
+
+def taken(words, server):
+    """What is wrong with what is said of changes that can't be undone, if something is."""
+    for statement, reason in REFUSED:
+        server.run(f"USE s; FLUSH BINARY LOGS; {statement} FLUSH BINARY LOGS;".encode())
+        log = server.logs()[-2]
+        run = subprocess.run([*words, "undo", "-o", f"{log}.undo", str(log)], capture_output=True, text=True)
+        if run.returncode != 2 or f": {reason}: " not in run.stderr or Path(f"{log}.undo").exists():
+            return f"{statement!r}: status {run.returncode}: {run.stderr[-300:]}"
+    return None
+
+
 def unlooked(words, server, logs, are_known):
     """What is wrong with what is said of later logs, if something is. These logs are undone. Their rows are known, or not, as those of
     events that are compressed one by one."""
@@ -205,6 +226,7 @@ def failure(words, kind, folder, seed):
         if tables_of(server) != end:
             return f"{kind.name}, seed {seed}: the tables aren't those of the end"
         wrong = unlooked(words, server, logs, "--log-bin-compress=ON" not in form)
+        wrong = wrong or taken(words, server)
         return wrong and f"{kind.name}, seed {seed}, {wrong}"
 
 
