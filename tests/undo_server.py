@@ -6,7 +6,7 @@ Usage: undo_server.py [--count N] FLAG
 FLAG is one of `programs.py`. A server makes tables, with keys and without, of integers, texts, decimals, times, blobs and bits, and
 fills them. At a checkpoint its tables are selected, and its log is closed. N random loads (4 if not given) of inserts, updates,
 deletes and transactions of several statements follow, over several files. `binlog undo` undoes them, every other load as one
-transaction; the server's programs apply that, and the tables are selected again. Then what undid them is undone. Logs behind all that are looked at: one that
+transaction; the server's programs apply that, and the tables are selected again. Then what undid them is undone, and both once more for one table. Logs behind all that are looked at: one that
 changes another table, one that inserts into a table that was undone, one that deletes a row that was left behind, and one that makes
 a table; also with their rows checked. At last changes are made that can't be undone. Where there is no server
 (`maria_daemon.py` and `mysql_daemon.py` say where they come from) nothing is done with it. The last line is `N passed, M failed`; the
@@ -163,6 +163,15 @@ LATER = [
 ]
 
 
+def brought(words, kind, server, options, logs, out, wanted):
+    """What is wrong with what undoes these logs, if something is. Behind it the tables have to be these."""
+    wrong = undone(words, options, logs, out)
+    if wrong:
+        return f"{out.name}: {wrong}"
+    applied(kind, server, out)
+    return None if tables_of(server) == wanted else f"{out.name}: the tables aren't the wanted ones"
+
+
 # What can't be undone, and why.
 REFUSED = [
     ("TRUNCATE keyless;", "Statement"),
@@ -213,20 +222,16 @@ def failure(words, kind, folder, seed):
         checkpoint, count = tables_of(server), len(server.logs()) - 1
         server.run((load(chance, keys, 60).replace("ROLLBACK", "COMMIT") + f"{LAST}\nFLUSH BINARY LOGS;\n").encode())
         end, logs = tables_of(server), behind(server, count)
-        wrong = undone(words, ["--one-transaction"] * (seed % 2), logs, folder / f"{kind.name}-{seed}.out")
-        if wrong:
-            return f"{kind.name}, seed {seed}: {wrong}"
-        applied(kind, server, folder / f"{kind.name}-{seed}.out")
-        if tables_of(server) != checkpoint:
-            return f"{kind.name}, seed {seed}: the tables aren't those of the checkpoint"
-        wrong = undone(words, [], [folder / f"{kind.name}-{seed}.out"], folder / f"{kind.name}-{seed}.back")
-        if wrong:
-            return f"{kind.name}, seed {seed}, again: {wrong}"
-        applied(kind, server, folder / f"{kind.name}-{seed}.back")
-        if tables_of(server) != end:
-            return f"{kind.name}, seed {seed}: the tables aren't those of the end"
-        wrong = unlooked(words, server, logs, "--log-bin-compress=ON" not in form)
-        wrong = wrong or taken(words, server)
+        named = lambda name: folder / f"{kind.name}-{seed}.{name}"
+        one = {**end, "other": checkpoint["other"]}
+        wrong = (
+            brought(words, kind, server, ["--one-transaction"] * (seed % 2), logs, named("out"), checkpoint)
+            or brought(words, kind, server, [], [named("out")], named("back"), end)
+            or brought(words, kind, server, ["--table", "s.other"], logs, named("one"), one)
+            or brought(words, kind, server, [], [named("one")], named("two"), end)
+            or unlooked(words, server, logs, "--log-bin-compress=ON" not in form)
+            or taken(words, server)
+        )
         return wrong and f"{kind.name}, seed {seed}, {wrong}"
 
 
