@@ -38,6 +38,18 @@ def drop_derives(source):
             yield source.span(index - 2, source.partner[index - 1])
 
 
+def drop_impls(source):
+    """An `impl` of `Drop` that drops parts of the value, as Rust does by itself."""
+    for index in source.places("impl", "Drop", "for"):
+        body = next(place for place in range(index, len(source.code)) if source.is_at(place, "{"))
+        end = source.partner[body]
+        for call in range(body, end):
+            is_call = source.is_at(call + 1, "(") and source.code[call].kind == "word" and not source.is_at(call - 1, "::")
+            if is_call and not (source.is_at(call, "drop") or source.is_at(call - 1, "fn")):
+                raise source.refusal(call, "an `impl` of `Drop` that does more than dropping parts")
+        yield source.span(index, end)
+
+
 def formatters(source):
     """A formatter over any writer is Rust's own."""
     for index in source.places(*FORMATTER):
@@ -76,7 +88,7 @@ def is_jumped_to(source, label):
 
 def without_drops(source):
     """The source with Rust's bounds and signatures."""
-    source = source.changed([*drop_derives(source), *formatters(source), *copies(source), *labels(source)])
+    source = source.changed([*drop_derives(source), *drop_impls(source), *formatters(source), *copies(source), *labels(source)])
     source = source.changed(drop_bounds(source))
     for index in source.places("Drop"):
         raise source.refusal(index, "a bound of `Drop` in a place that isn't known")

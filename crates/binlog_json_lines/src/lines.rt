@@ -32,12 +32,27 @@ use json_line::Line;
 use std::alloc::{AllocError, Global};
 
 /// Makes the lines of JSON of a log, in memory that is reused from line to line.
-#[derive(Drop)]
 pub struct JsonLines {
     line: Line,
     text: String,
     rows: RowsWriter,
     status_vars: KeptStatusVars,
+}
+
+impl Drop for JsonLines {
+    // By hand, so that it is proved here and not again in each crate that owns lines.
+    fn drop(self) {
+        let Self {
+            line,
+            text,
+            rows,
+            status_vars,
+        } = self;
+        drop(line);
+        drop(text);
+        drop(rows);
+        drop(status_vars);
+    }
 }
 
 /// The line of an event, its line feed included.
