@@ -20,6 +20,8 @@ VERSION = b"Ver 10.11."
 
 # The server's package, the one with its plugins, and the libraries that it needs and others seldom do.
 PACKAGES = ["mariadb-server-core", "mariadb-server", "libaio1", "liburing2", "libnuma1"]
+KEYS_PLUGIN = "file_key_management"
+KEYS = "1;0123456789abcdef0123456789abcdef\n"
 SECONDS_TO_DOWNLOAD = 60
 SECONDS_TO_START = 300
 SECONDS_TO_RUN = 600
@@ -79,6 +81,15 @@ def environment_of(program):
 
 def plugins_of(program):
     return program.parent.parent / "lib/mysql/plugin"
+
+
+def encrypting(program, keys):
+    """The options of a server that encrypts its log, with keys that are written into a file."""
+    if not (plugins_of(program) / f"{KEYS_PLUGIN}.so").exists():
+        raise LeftOut(f"there is no plugin {KEYS_PLUGIN}")
+    keys.write_text(KEYS)
+    options = [f"--plugin-dir={plugins_of(program)}", f"--plugin-load-add={KEYS_PLUGIN}", "--encrypt-binlog=1"]
+    return [*options, f"--file-key-management-filename={keys}"]
 
 
 def is_within(seconds, condition):

@@ -38,7 +38,7 @@ import results
 import server_statistics
 import written_back
 from damaged_copies import failure
-from maria_daemon import SECONDS_TO_RUN, LeftOut, Server, is_within, plugins_of, program_in
+from maria_daemon import SECONDS_TO_RUN, LeftOut, Server, encrypting, is_within, program_in
 
 LOAD = programs.REPOSITORY / "tests/maria_load.sql"
 
@@ -51,9 +51,6 @@ MIXED = [
     "--log-bin-compress=1",
     "--log-bin-compress-min-len=10",
 ]
-
-KEYS_PLUGIN = "file_key_management"
-KEYS = "1;0123456789abcdef0123456789abcdef\n"
 
 # ---- The load
 
@@ -213,12 +210,7 @@ def server_failures(build):
 
 def encrypted_failures(build, daemon, folder):
     """Of an encrypted log the start is compared, and how the whole is split."""
-    if not (plugins_of(daemon) / f"{KEYS_PLUGIN}.so").exists():
-        raise LeftOut(f"there is no plugin {KEYS_PLUGIN}")
-    keys = folder / "keys"
-    keys.write_text(KEYS)
-    options = [f"--plugin-dir={plugins_of(daemon)}", f"--plugin-load-add={KEYS_PLUGIN}", "--encrypt-binlog=1"]
-    with Server(daemon, folder / "encrypted", [*options, f"--file-key-management-filename={keys}"]) as server:
+    with Server(daemon, folder / "encrypted", encrypting(daemon, folder / "keys")) as server:
         server.run(b"create database shop;")
     (path,) = server.logs()
     content = path.read_bytes()

@@ -1,16 +1,29 @@
 #!/usr/bin/env python3
-"""Undoes what a MariaDB server did, and a MySQL server: its tables have to be those of a checkpoint again.
+"""Undoes what a MariaDB server did, and a MySQL server: dumps of its tables have to be those of a checkpoint again.
 
 Usage: undo_server.py [--count N] FLAG
 
-FLAG is one of `programs.py`. A server makes tables, with keys and without, of integers, texts, decimals, times, blobs and bits, and
-fills them. At a checkpoint its tables are selected, and its log is closed. N random loads (4 if not given) of inserts, updates,
-deletes and transactions of several statements follow, over several files. `binlog undo` undoes them, every other load as one
-transaction; the server's programs apply that, and the tables are selected again. Then what undid them is undone, and both once more for one table. Logs behind all that are looked at: one that
-changes another table, one that inserts into a table that was undone, one that deletes a row that was left behind, and one that makes
-a table; also with their rows checked. At last changes are made that can't be undone. Where there is no server
-(`maria_daemon.py` and `mysql_daemon.py` say where they come from) nothing is done with it. The last line is `N passed, M failed`; the
-exit status is 1 if something failed.
+FLAG is one of `programs.py`. A server makes tables with columns of all of its types, with keys and without, with foreign keys and with
+generated columns, and fills them. At a checkpoint the server's own program dumps them, and the log is closed. N random loads (4 if not
+given) of inserts, updates, deletes and transactions of several statements follow, over several files, with checksums and without, with
+compressed events or transactions, with GTIDs and, of MySQL, without. `binlog undo` undoes them, every other load as one transaction; the
+server's programs apply that, and the tables are dumped again. Then what undid them is undone, and both once more for one table, and for
+the transaction of one GTID. Logs behind all that are looked at: one that changes another table, one that inserts into a table that was
+undone, one that deletes a row that was left behind, and one that makes a table; also with their rows checked.
+
+Then servers do what can't be undone (`undo_refusals.py`). Each reason of `docs/UNDO.md` has to be named, and nothing be written; with
+`--skip`, where that takes the reason, the rest is undone:
+
+- servers of both kinds log `Statement`, `LoadData`, `Image`, `Xa`, `Rollback` and `Incident`, and what `LaterChanges` and `Straddles` are
+  about; MariaDB also `OldTemporal` and `Encrypted`, MySQL `PartialJson`; logs with checksums and without give `Description`;
+- of a log of a server that is cut, or has a byte changed: `Unfinished`, `Tail`, `Damaged`.
+
+All others come from the encoder's logs alone (`undo_command.py`). No server writes rows without a table map (`NoTableMap`), rows that
+can't be read (`Rows`), or events of a type without a meaning (`UnknownEvent`), and none of today those of a test version of MySQL 5.1
+(`OldRows`); `Payload` and `Compressed` need more than 1 GiB in one event.
+
+Where there is no server (`maria_daemon.py` and `mysql_daemon.py` say where they come from) nothing is done with it. The last line is
+`N passed, M failed`; the exit status is 1 if something failed.
 """
 
 import argparse
@@ -18,140 +31,18 @@ import random
 import subprocess
 import sys
 import tempfile
-from contextlib import contextmanager
 from pathlib import Path
 
-import maria_daemon
-import mysql_daemon
 import programs
 import results
+import undo_refusals
 from maria_daemon import LeftOut
-
-OPTIONS = [
-    ["--binlog-checksum=CRC32"],
-    ["--binlog-checksum=NONE", "--binlog-row-metadata=FULL"],
-    ["--binlog-checksum=CRC32", "--binlog-row-metadata=MINIMAL"],
-]
-# The engine of the last table is that of the server's kind.
-TABLES = {
-    "keyed": "(id INT PRIMARY KEY, name VARCHAR(40), price DECIMAL(10,2), at DATETIME(3), content BLOB, flags BIT(5)) ENGINE=InnoDB",
-    "keyless": "(a BIGINT, b TEXT, c DOUBLE, d ENUM('x','y','z')) ENGINE=InnoDB",
-    "parent": "(id INT PRIMARY KEY, size INT, twice INT AS (size * 2) VIRTUAL) ENGINE=InnoDB",
-    "child": "(id INT PRIMARY KEY, parent INT, FOREIGN KEY (parent) REFERENCES parent (id)) ENGINE=InnoDB",
-    "other": "(id INT AUTO_INCREMENT PRIMARY KEY, t TIMESTAMP(6) NOT NULL DEFAULT '2020-01-01', j LONGTEXT, s SET('p','q')) ENGINE=",
-}
-
-
-class Maria:
-    """A MariaDB server. One of its tables can't roll back."""
-
-    name, engine, options = "MariaDB", "Aria", ["--binlog-format=ROW"]
-    forms = [*OPTIONS, ["--binlog-checksum=CRC32", "--log-bin-compress=ON", "--log-bin-compress-min-len=10"]]
-
-    def __init__(self, folder):
-        self.program = maria_daemon.program_in(folder / "package")
-        self.printer = [maria_daemon.PRINTER, "--no-defaults"]
-
-    @contextmanager
-    def server(self, folder, options):
-        with maria_daemon.Server(self.program, folder, options) as server:
-            yield server
-
-
-class Mysql:
-    """A MySQL server. What it does has new GTIDs, so what is applied states none."""
-
-    name, engine, options = "MySQL", "InnoDB", []
-    forms = [*OPTIONS, ["--binlog-checksum=CRC32", "--binlog-transaction-compression=ON"]]
-
-    def __init__(self, folder):
-        self.programs, self.data = mysql_daemon.unpacked()
-        self.printer = [*self.programs.command("mysqlbinlog"), "--skip-gtids"]
-
-    @contextmanager
-    def server(self, folder, options):
-        with mysql_daemon.Server(self.programs, self.data, folder) as server:
-            server.start(*options)
-            yield server
-
-
-def text(chance):
-    letters = "abc'\\\\ é\x01"
-    return "NULL" if chance.random() < 0.1 else "X'" + "".join(chance.choice(letters) for _ in range(chance.randrange(12))).encode().hex() + "'"
-
-
-def row(chance, table, key):
-    if table == "keyed":
-        return f"({key}, {text(chance)}, {chance.randrange(-9999, 9999) / 100}, '2024-01-{chance.randint(1, 28):02d} 01:02:03.456', {text(chance)}, {chance.randrange(32)})"
-    if table == "keyless":
-        return f"({chance.randrange(8)}, {text(chance)}, {chance.random()}, '{chance.choice('xyz')}')"
-    return f"({key}, '2023-02-{chance.randint(1, 28):02d} 11:12:13.5', {text(chance)}, '{chance.choice(('p', 'q', 'p,q', ''))}')"
-
-
-def family(chance, keys):
-    """A row that another one refers to by a foreign key; and from time to time both are changed, or removed."""
-    keys["parent"] += 1
-    key, way = keys["parent"], chance.random()
-    made = f"INSERT INTO parent (id, size) VALUES ({key}, {chance.randrange(99)}); INSERT INTO child VALUES ({key}, {key});"
-    if way < 0.4:
-        return made
-    if way < 0.7:
-        return f"{made} UPDATE parent SET size = size + 1 WHERE id % 3 = {chance.randrange(3)}; UPDATE child SET parent = {key} WHERE id % 4 = 1;"
-    return f"{made} UPDATE child SET parent = NULL WHERE parent = {key}; DELETE FROM parent WHERE id = {key};"
-
-
-def change(chance, keys):
-    """A random statement on a random table, or several on the two tables of a foreign key."""
-    table, way = chance.choice(list(TABLES)), chance.random()
-    if table in ("parent", "child"):
-        return family(chance, keys)
-    if way < 0.45:
-        keys[table] += 3
-        rows = ", ".join(row(chance, table, keys[table] - place) for place in range(chance.randint(1, 3)))
-        return f"INSERT INTO {table} VALUES {rows};"
-    where = {"keyed": f"id % 7 = {chance.randrange(7)}", "keyless": f"a = {chance.randrange(8)}", "other": f"id % 5 = {chance.randrange(5)}"}[table]
-    if way < 0.8:
-        column, value = {"keyed": ("name", text(chance)), "keyless": ("b", text(chance)), "other": ("s", "'p'")}[table]
-        return f"UPDATE {table} SET {column} = {value} WHERE {where};"
-    return f"DELETE FROM {table} WHERE {where};"
-
-
-def load(chance, keys, count):
-    statements = []
-    for _ in range(count):
-        if chance.random() < 0.3:
-            inner = " ".join(change(chance, keys) for _ in range(chance.randint(1, 4)))
-            statements.append(f"START TRANSACTION; {inner} {chance.choice(('COMMIT', 'COMMIT', 'ROLLBACK'))};")
-        else:
-            statements.append(change(chance, keys))
-        if chance.random() < 0.03:
-            statements.append("FLUSH BINARY LOGS;")
-    # What is rolled back stays in a table that can't roll back, and then isn't undone: the load has none of these.
-    return "USE s;\n" + "\n".join(statements) + "\nFLUSH BINARY LOGS;\n"
-
-
-def tables_of(server):
-    """The sorted rows of all tables."""
-    found = {}
-    for table in TABLES:
-        columns = "*" if table != "keyed" else "id, HEX(name), price, at, HEX(content), HEX(flags)"
-        found[table] = sorted(server.run(f"SELECT {columns} FROM s.{table};".encode()).splitlines())
-    return found
-
-
-def applied(kind, server, log):
-    printed = subprocess.run([*kind.printer, str(log)], stdout=subprocess.PIPE, check=True)
-    server.run(printed.stdout)
-
-
-def undone(words, options, logs, out):
-    run = subprocess.run([*words, "undo", *options, "-o", str(out), *map(str, logs)], capture_output=True, text=True)
-    return None if run.returncode == 0 else f"status {run.returncode}: {run.stderr[-300:]}"
-
+from undo_loads import Load
+from undone_servers import Maria, Mysql, Undo, events_of
 
 # The last row of a load, which it leaves behind, and its key.
 LEFT = 1_000_000
-LAST = f"INSERT INTO keyed VALUES ({LEFT}, 'left', 1.5, '2024-01-01', NULL, 1);"
+LAST = f"USE s; INSERT INTO keyed VALUES ({LEFT}, 'left', 1.5, '2024-01-01', NULL, 1); FLUSH BINARY LOGS;\n"
 
 # What logs behind the load do, and what is said of it as a later log: nothing, or a table, or that any table may be changed; and
 # whether that is said where rows are checked, too.
@@ -163,76 +54,79 @@ LATER = [
 ]
 
 
-def brought(words, kind, server, options, logs, out, wanted):
-    """What is wrong with what undoes these logs, if something is. Behind it the tables have to be these."""
-    wrong = undone(words, options, logs, out)
-    if wrong:
-        return f"{out.name}: {wrong}"
-    applied(kind, server, out)
-    return None if tables_of(server) == wanted else f"{out.name}: the tables aren't the wanted ones"
-
-
-# What can't be undone, and why.
-REFUSED = [
-    ("TRUNCATE keyless;", "Statement"),
-    ("ALTER TABLE keyless ADD COLUMN more INT; ALTER TABLE keyless DROP COLUMN more;", "Statement"),
-    ("SET SESSION binlog_format = 'STATEMENT'; INSERT INTO apart VALUES (7); SET SESSION binlog_format = 'ROW';", "Statement"),
-    ("SET SESSION binlog_row_image = 'MINIMAL'; DELETE FROM keyed; SET SESSION binlog_row_image = 'FULL';", "Image"),
-    ("XA START 'x'; INSERT INTO apart VALUES (8); XA END 'x'; XA PREPARE 'x'; XA COMMIT 'x';", "Xa"),
-]
-
-
-def taken(words, server):
-    """What is wrong with what is said of changes that can't be undone, if something is."""
-    for statement, reason in REFUSED:
-        server.run(f"USE s; FLUSH BINARY LOGS; {statement} FLUSH BINARY LOGS;".encode())
-        log = server.logs()[-2]
-        run = subprocess.run([*words, "undo", "-o", f"{log}.undo", str(log)], capture_output=True, text=True)
-        if run.returncode != 2 or f": {reason}: " not in run.stderr or Path(f"{log}.undo").exists():
-            return f"{statement!r}: status {run.returncode}: {run.stderr[-300:]}"
-    return None
-
-
-def unlooked(words, server, logs, are_known):
+def unlooked(undo, logs, are_known):
     """What is wrong with what is said of later logs, if something is. These logs are undone. Their rows are known, or not, as those of
     events that are compressed one by one."""
     # The log that is open has what was applied.
-    server.run(("USE s; FLUSH BINARY LOGS;" + "".join(f"{statement} FLUSH BINARY LOGS;" for statement, *_ in LATER)).encode())
-    for log, (statement, wanted, is_near) in zip(server.logs()[-1 - len(LATER) : -1], LATER):
+    undo.server.run(("USE s; FLUSH BINARY LOGS;" + "".join(f"{statement} FLUSH BINARY LOGS;" for statement, *_ in LATER)).encode())
+    for log, (statement, wanted, is_near) in zip(undo.server.logs()[-1 - len(LATER) : -1], LATER):
         for options, line in (([], wanted), (["--check-rows"], wanted if is_near or not are_known else None)):
-            run = subprocess.run([*words, "undo", "--dry-run", *options, "--later", str(log), *map(str, logs)], capture_output=True, text=True)
+            words = [*undo.words, "undo", "--dry-run", *options, "--later", str(log), *map(str, logs)]
+            run = subprocess.run(words, capture_output=True, text=True)
             said = run.stderr.splitlines()
             if run.returncode != (2 if line else 0) or len(said) != bool(line) or line and line not in said[0]:
                 return f"behind {statement!r}, with {options}: status {run.returncode}: {run.stderr[-300:]}"
     return None
 
 
-def behind(server, count):
-    """The logs that were closed behind the first ones."""
-    return server.logs()[count:-1]
+def uncompressed(kind, form, logs):
+    """Whether events of these logs should be compressed, and none is."""
+    found = {number for log in logs for number, *_ in events_of(log)}
+    return "nothing is compressed" if kind.compressing in form and not found & set(kind.compressed) else None
+
+
+def undone(undo, options, logs, wanted, end):
+    """What is wrong with what undoes these logs, and with what undoes that, if something is. The tables are those of the end."""
+    return undo.brings(options, logs, wanted) or undo.brings([], [undo.out], end)
 
 
 def failure(words, kind, folder, seed):
-    chance, keys = random.Random(seed), dict.fromkeys(TABLES, 100)
-    # A statement that fails in the middle, or is rolled back, would stay in tables that can't roll back.
-    made = "CREATE DATABASE s; USE s;" + "".join(f"CREATE TABLE {name} {form};" for name, form in TABLES.items()).replace("ENGINE=;", f"ENGINE={kind.engine};") + "CREATE TABLE apart (a INT);"
-    form = kind.forms[seed % len(kind.forms)]
-    with kind.server(folder / f"{kind.name}-{seed}", [*form, *kind.options]) as server:
-        server.run((made + load(chance, keys, 30).replace("ROLLBACK", "COMMIT")).encode())
-        checkpoint, count = tables_of(server), len(server.logs()) - 1
-        server.run((load(chance, keys, 60).replace("ROLLBACK", "COMMIT") + f"{LAST}\nFLUSH BINARY LOGS;\n").encode())
-        end, logs = tables_of(server), behind(server, count)
-        named = lambda name: folder / f"{kind.name}-{seed}.{name}"
-        one = {**end, "other": checkpoint["other"]}
-        wrong = (
-            brought(words, kind, server, ["--one-transaction"] * (seed % 2), logs, named("out"), checkpoint)
-            or brought(words, kind, server, [], [named("out")], named("back"), end)
-            or brought(words, kind, server, ["--table", "s.other"], logs, named("one"), one)
-            or brought(words, kind, server, [], [named("one")], named("two"), end)
-            or unlooked(words, server, logs, "--log-bin-compress=ON" not in form)
-            or taken(words, server)
+    """What is wrong with the undo of a load, if something is."""
+    load, form = Load(random.Random(seed), kind.columns), kind.forms[seed % len(kind.forms)]
+    with kind.server(folder, form) as server:
+        undo = Undo(words, kind, server, folder)
+        server.run(f"{kind.made()}{load.statements(30)}".encode())
+        checkpoint, count = undo.tables(), len(server.logs()) - 1
+        server.run(load.statements(60).encode())
+        before_last = undo.tables()
+        server.run(LAST.encode())
+        end, logs, gtid = undo.tables(), server.logs()[count:-1], kind.newest_gtid(server)
+        # Each form has loads of both sorts, if there are enough.
+        is_one = (seed + seed // len(kind.forms)) % 2
+        return (
+            uncompressed(kind, form, logs)
+            or undone(undo, ["--one-transaction"] * is_one, logs, checkpoint, end)
+            or undone(undo, ["--table", "s.other"], logs, {**end, "other": checkpoint["other"]}, end)
+            or (gtid and undone(undo, ["--include-gtids", gtid], logs, before_last, end))
+            or unlooked(undo, logs, "--log-bin-compress=ON" not in form)
+            or None
         )
-        return wrong and f"{kind.name}, seed {seed}, {wrong}"
+
+
+def told(name, test, *arguments):
+    """What is wrong by a test, also if it is ended by a program that fails, with the test's name; None if nothing is."""
+    try:
+        wrong = test(*arguments)
+    except (RuntimeError, subprocess.SubprocessError) as error:
+        wrong = results.of_exception(error)
+    return wrong and f"{name}: {wrong}"
+
+
+def server_results(words, kind, folder, count):
+    """For each test of a kind of servers, None or what is wrong."""
+    for seed in range(count):
+        yield told(f"{kind.name}, seed {seed}", failure, words, kind, folder / f"{kind.name}-{seed}", seed)
+    for name, test, *arguments in undo_refusals.tests(words, kind, folder):
+        yield told(f"{kind.name}, {name}", test, *arguments)
+
+
+def all_results(words, count):
+    with tempfile.TemporaryDirectory() as name:
+        for made in (Maria, Mysql):
+            try:
+                yield from server_results(words, made(Path(name)), Path(name), count)
+            except LeftOut as why:
+                print(f"left out: {why}")
 
 
 def main():
@@ -240,19 +134,7 @@ def main():
     programs.add_flags(parser)
     parser.add_argument("--count", type=int, default=4)
     arguments = programs.parsed(parser, "binlog")
-    words = arguments.build.command("binlog")
-    passed, failures = 0, []
-    with tempfile.TemporaryDirectory() as name:
-        folder = Path(name)
-        for made in (Maria, Mysql):
-            try:
-                kind = made(folder)
-                for seed in range(arguments.count):
-                    wrong = failure(words, kind, folder, seed)
-                    passed, failures = (passed, [*failures, wrong]) if wrong else (passed + 1, failures)
-            except LeftOut as why:
-                print(f"left out: {why}")
-    return results.report_counts(passed, failures)
+    return results.report(all_results(arguments.build.command("binlog"), arguments.count))
 
 
 if __name__ == "__main__":
