@@ -50,21 +50,15 @@ pub fn changes<'a, S: Inputs, R: Clock + Eprint + AllocGlobal, W: Write + Drop>(
     ensures err { IfErr result (λ status. NeverBegins (found_of request.now.options.now) status ⊎ IsUnreadColumns request.now.columns.now status) }
 {
     let files = read_columns(rt, inputs, request.columns)?;
-    let asked = filter(rt, request.options)?;
+    let mut asked = filter(rt, request.options)?;
+    let tables = asked.tables.take();
     let filter = filter(rt, request.options)?;
     let output = Output::new(rt, request.reading.output_capacity(), writer)?;
     let options = LineOptions {
         keeps_stored: request.keeps_stored,
         files,
     };
-    let lines = ChangeFilter::new(
-        rt.alloc(),
-        filter,
-        asked.tables,
-        CONTENT_LIMIT,
-        output,
-        options,
-    );
+    let lines = ChangeFilter::new(rt.alloc(), filter, tables, CONTENT_LIMIT, output, options);
     let (outcome, lines) = write_files(rt, inputs, request.files, request.reading, lines);
     report_left_out(rt, lines.left_out());
     report_contradictions(rt, lines.contradictions());

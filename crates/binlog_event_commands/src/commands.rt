@@ -74,8 +74,9 @@ pub fn json<'a, S: Inputs, R: Clock + Eprint + AllocGlobal, W: Write + Drop>(
         files,
     };
     let lines = JsonWriter::new(rt.alloc(), output, options);
-    let asked = filter(rt, request.options)?;
-    let taken = TakenParts::new(rt.alloc(), asked.tables, lines);
+    let mut asked = filter(rt, request.options)?;
+    let tables = asked.tables.take();
+    let taken = TakenParts::new(rt.alloc(), tables, lines);
     let noted = Noted::new(taken);
     let spliced = Spliced::new(rt.alloc(), CONTENT_LIMIT, noted);
     let (outcome, spliced) = read_all(rt, inputs, request, spliced)?;

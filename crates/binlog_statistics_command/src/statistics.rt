@@ -200,8 +200,9 @@ fn counting<'a, R: Eprint + AllocGlobal, T: Drop>(
     ensures ok { IfOk result (CountsFrom (found_of request.now.options.now) counter) }
     ensures err { IfErr result (λ status. NeverBegins (found_of request.now.options.now) status) }
 {
-    let asked = filter(rt, request.options)?;
-    let taken = TakenParts::new(rt.alloc(), asked.tables, counter);
+    let mut asked = filter(rt, request.options)?;
+    let tables = asked.tables.take();
+    let taken = TakenParts::new(rt.alloc(), tables, counter);
     let noted = Noted::new(taken);
     Ok(Spliced::new(rt.alloc(), CONTENT_LIMIT, noted))
 }

@@ -16,7 +16,7 @@ returns-clause-ok g c = record {
     c.new-lines.ensures.limits.0,
     c.new-lines.ensures.limits.1,
     c.new-lines.ensures.undamaged,
-    (c.in_ok-asked.asked, c.in_ok-asked.ensures.ok, c.new-lines.ensures.tables),
+    (c.in_ok-asked.asked, c.in_ok-asked.ensures.ok, c.new-lines.ensures.tables ∙ c.take-tables.ensures.value),
     rw c.new-lines.ensures.options refl,
     rw c.new-lines.ensures.options c.in_ok-files.ensures.ok,
     rw c.new-lines.ensures.output (c.in_ok-output.ensures.capacity ∙ c.output_capacity.ensures),
