@@ -537,6 +537,10 @@ def rows_of(chance, chosen, table, is_sound):
     return kind[0], event.body
 
 
+# Events that can't be undone, whatever their bodies are: an old row event, an incident, parts of LOAD DATA and of XA, and one of an unknown type.
+OTHERS = [(20, bytes(8)), (26, bytes(3)), (17, bytes(5)), (18, bytes(40)), (38, bytes(20)), (99, b"")]
+
+
 def random_transaction(chance, kinds, is_sound, is_maria):
     events = [(chance.choice((33, 34)), bytes([1]) + bytes(chance.randrange(256) for _ in range(16)) + bytes([chance.randrange(1, 200)]) + bytes(7))] if chance.random() < 0.5 else []
     way = chance.choice(("xid", "xid", "COMMIT", "rows"))
@@ -551,6 +555,8 @@ def random_transaction(chance, kinds, is_sound, is_maria):
     if not is_sound and chance.random() < 0.4:
         text = chance.choice(("CREATE TABLE t (a INT)", "ROLLBACK TO a", "XA START 'a'", "ROLLBACK"))
         events.insert(chance.randint(0, len(events)), (2, query(text)))
+    if not is_sound and chance.random() < 0.15:
+        events.insert(chance.randint(0, len(events)), chance.choice(OTHERS))
     if not is_sound and chance.random() < 0.2:
         del events[chance.randrange(len(events))]
     if way == "xid" and (is_sound or chance.random() < 0.9):
@@ -585,13 +591,19 @@ def random_file(chance, kinds, is_sound):
     return log_of(events, algorithm, version)
 
 
-def whole_payloads(chance, kinds):
-    """Names and logs of compressed transactions that aren't decompressed: rows are in front of one, and one states more than 1 GiB."""
+def long_logs(chance, kinds):
+    """Names and logs of compressed transactions and rows that aren't decompressed, and why: rows are in front, or more than 1 GiB is stated."""
     xid = HEADER.pack(0, 16, 1, HEADER.size + 8, 0, 0) + bytes(8)
-    front = [(2, query("BEGIN")), *statement_rows(chance, kinds, True, False)]
-    for name, events, size in (("rows in front", front, len(xid)), ("more than 1 GiB", [], MOST_BYTES + 1)):
-        own = [*events, (PAYLOAD, payload_model.written(255, size, xid))]
-        yield name, log_of([(kind, body, random_header(chance)) for kind, body in own], 1, "8.0.36")
+    table, *_, (kind, body) = statement_rows(chance, kinds, True, False)
+    front = [(2, query("BEGIN")), table, (kind, body)]
+    rows = event_data_model.fields(kind, body, POST_HEADER_LENGTHS)["rows_data"].bytes
+    long_rows = body[: len(body) - len(rows)] + b"\x84" + (MOST_BYTES + 1).to_bytes(4, "big")
+    for name, version, events, reason in (
+        ("rows in front", "8.0.36", [*front, (PAYLOAD, payload_model.written(255, len(xid), xid))], "Payload"),
+        ("a transaction of more than 1 GiB", "8.0.36", [(PAYLOAD, payload_model.written(255, MOST_BYTES + 1, xid))], "Payload"),
+        ("rows of more than 1 GiB", "10.11.6-MariaDB", [*front[:2], (COMPRESSED[kind], long_rows), (16, bytes(8))], "Compressed"),
+    ):
+        yield name, log_of([(kind, body, random_header(chance)) for kind, body in events], 1, version), reason
 
 
 def later_file(chance, kinds, is_sound):
@@ -703,13 +715,13 @@ def long_failure(words, folder):
     return difference(words, [], [str(log)], model, folder / "long.out", "the long log")
 
 
-def payload_failure(words, folder, name, content):
-    """What is wrong with the undo of a log whose compressed transaction isn't decompressed, if something is."""
-    log, model = folder / "payload.bin", Model()
+def long_log_failure(words, folder, name, content, reason):
+    """What is wrong with the undo of a log that isn't decompressed for this reason, if something is."""
+    log, model = folder / "long.bin", Model()
     log.write_bytes(content)
     model.take(str(log), content)
     reasons = [reason for *_, reason in model.refused]
-    return difference(words, [], [str(log)], model, folder / "payload.out", name) if reasons == ["Payload"] else f"{name}: the model has {reasons}"
+    return difference(words, [], [str(log)], model, folder / "long-log.out", name) if reasons == [reason] else f"{name}: the model has {reasons}"
 
 
 def difference(words, options, files, model, out, name, later=()):
@@ -790,8 +802,8 @@ def main():
             passed, failures = (passed, [*failures, wrong]) if wrong else (passed + 1, failures)
         wrong = long_failure(words, Path(folder))
         passed, failures = (passed, [*failures, wrong]) if wrong else (passed + 1, failures)
-        for log in whole_payloads(random.Random(0), list(row_events.kinds())):
-            wrong = payload_failure(words, Path(folder), *log)
+        for log in long_logs(random.Random(0), list(row_events.kinds())):
+            wrong = long_log_failure(words, Path(folder), *log)
             passed, failures = (passed, [*failures, wrong]) if wrong else (passed + 1, failures)
         for refused in REFUSALS:
             wrong = refusal(words, Path(folder), *refused)

@@ -212,8 +212,10 @@ class Load:
     def transaction(self):
         """Several statements, of which some are rolled back, or all, if all tables can roll back."""
         first, inner = self.change(), " ".join(self.change() for _ in range(self.chance.randint(0, 3)))
-        ends = ["COMMIT"] if " other " in first + inner else ["COMMIT", "COMMIT", "ROLLBACK", "ROLLBACK TO here; COMMIT"]
-        return f"START TRANSACTION; {first} SAVEPOINT here; {inner} {self.chance.choice(ends)};"
+        if " other " in first + inner:
+            return f"START TRANSACTION; {first} {inner} COMMIT;"
+        end = self.chance.choice(("COMMIT", "COMMIT", "ROLLBACK", "ROLLBACK TO here; COMMIT"))
+        return f"START TRANSACTION; {first} SAVEPOINT here; {inner} {end};"
 
     def statements(self, count):
         """So many statements and transactions, over one log or several."""

@@ -46,18 +46,15 @@ SCENES = [
     Scene("Statement", by_statement("INSERT INTO changed (b) VALUES ('by a statement');")),
     Scene("Image", "SET SESSION binlog_row_image = 'MINIMAL'; DELETE FROM changed; SET SESSION binlog_row_image = 'FULL';"),
     Scene("Xa", f"XA START 'x'; {ROWS} XA END 'x'; XA PREPARE 'x'; XA COMMIT 'x';"),
-    Scene("Incident", MANY, "solid"),
 ]
-# Of what is rolled back, MariaDB logs what is in front of a new temporary table, or of a change that stays; MySQL all of a statement
-# that changes both tables.
-BOTH = "UPDATE changed, solid SET changed.b = 'both', solid.b = 'both';"
+# The last one, since it leaves rows behind.
+INCIDENT = Scene("Incident", MANY, "solid")
+# What is rolled back is in MariaDB's log if a temporary table was made, or a change stays.
 MARIA = [
     Scene("Rollback", f"START TRANSACTION; {ROWS} CREATE TEMPORARY TABLE scratch (a INT); ROLLBACK; DROP TEMPORARY TABLE scratch;"),
     Scene("Rollback", f"START TRANSACTION; {ROWS} SAVEPOINT here; {ROWS} INSERT INTO solid (b) VALUES ('x'); ROLLBACK TO here; COMMIT;"),
 ]
 MYSQL = [
-    Scene("Rollback", f"START TRANSACTION; {BOTH} ROLLBACK;"),
-    Scene("Rollback", f"START TRANSACTION; {BOTH} SAVEPOINT here; {ROWS} ROLLBACK TO here; COMMIT;"),
     Scene(
         "PartialJson",
         "SET SESSION binlog_row_value_options = 'PARTIAL_JSON'; UPDATE changed SET j = JSON_SET(j, '$.a', 2);"
@@ -79,6 +76,15 @@ def refused(undo, scene):
     """What is wrong with what is said of a scene, if something is."""
     before, behind, logs = staged(undo, f"{KEPT} {scene.statements} {KEPT}")
     return undo.refuses(scene.reason, [], logs) or undo.skips(scene.reason, logs, {**before, scene.table: behind[scene.table]})
+
+
+def rolled_back(undo):
+    """What is wrong with what is said of statements of which some are rolled back, if something is. MySQL logs no such rows."""
+    statements = f"START TRANSACTION; {ROWS} SAVEPOINT here; {ROWS} INSERT INTO solid (b) VALUES ('x'); ROLLBACK TO here; COMMIT;"
+    before, behind, logs = staged(undo, f"{KEPT} {by_statement(statements)} {KEPT}")
+    wanted = {**before, "changed": behind["changed"], "solid": behind["solid"]}
+    skipped = ["--skip", "Statement"]
+    return undo.refuses("Rollback", skipped, logs) or undo.brings([*skipped, "--skip", "Rollback"], logs, wanted)
 
 
 # ---- What happens to logs
@@ -161,10 +167,10 @@ def tests(words, kind, folder):
     with kind.server(place, [*OPTIONS, *([] if is_maria else WITHOUT_GTIDS)]) as server:
         undo = Undo(words, kind, server, place)
         server.run(f"{kind.made()}{TABLES}{OLD if is_maria else ''}FLUSH BINARY LOGS;".encode())
-        for scene in [*SCENES, files, *own]:
-            yield f"{scene.reason} of {scene.statements!r}", refused, undo, scene
-        for test in (cut, straddled, redescribed, *([outdated] if is_maria else [])):
+        for test in (rolled_back, cut, straddled, redescribed, *([outdated] if is_maria else [])):
             yield test.__name__, test, undo
+        for scene in [*SCENES, files, *own, INCIDENT]:
+            yield f"{scene.reason} of {scene.statements!r}", refused, undo, scene
     if is_maria:
         try:
             options = maria_daemon.encrypting(kind.program, folder / "keys")

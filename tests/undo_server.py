@@ -14,8 +14,9 @@ undone, one that deletes a row that was left behind, and one that makes a table;
 Then servers do what can't be undone (`undo_refusals.py`). Each reason of `docs/UNDO.md` has to be named, and nothing be written; with
 `--skip`, where that takes the reason, the rest is undone:
 
-- servers of both kinds log `Statement`, `LoadData`, `Image`, `Xa`, `Rollback` and `Incident`, and what `LaterChanges` and `Straddles` are
-  about; MariaDB also `OldTemporal` and `Encrypted`, MySQL `PartialJson`; logs with checksums and without give `Description`;
+- servers of both kinds log `Statement`, `LoadData`, `Image`, `Xa`, `Rollback` (MySQL of statements, MariaDB of rows, too) and `Incident`,
+  and what `LaterChanges` and `Straddles` are about; MariaDB also `OldTemporal` and `Encrypted`, MySQL `PartialJson`; logs with checksums
+  and without give `Description`;
 - of a log of a server that is cut, or has a byte changed: `Unfinished`, `Tail`, `Damaged`.
 
 All others come from the encoder's logs alone (`undo_command.py`). No server writes rows without a table map (`NoTableMap`), rows that
