@@ -41,7 +41,7 @@ from statistics_model import Counts
 
 PROCESSES_AT_A_TIME = 12
 # How long a line may take, and how long nothing may come where nothing is wanted, in seconds.
-PATIENCE, QUIET = 60, 0.7
+PATIENCE, WAIT = 60, 0.7
 # How long it takes a run that waits for its turn to look at a file, in seconds.
 LOOK = 2
 MODELS = {"list": listing_model, "json": json_model}
@@ -123,7 +123,7 @@ class Followed:
         shown = self.next_lines(text.count(b"\n"))
         if shown != text:
             return f"the lines are {shown[-300:]!r}, not {text[-300:]!r}; messages {self.messages!r}"
-        return self.wrong_quiet()
+        return self.wrong_after_wait()
 
     def wrong_table(self, wanted, name):
         """None if this table, an empty line behind it, comes in time, behind others and twice in a row."""
@@ -138,10 +138,10 @@ class Followed:
                 table, before = b"", table
         return f"{name}: the tables before {table[-300:]!r} aren't {wanted[-300:]!r}; messages {self.messages!r}"
 
-    def wrong_quiet(self):
+    def wrong_after_wait(self):
         """None if no line comes and the command waits."""
         try:
-            return f"one line more: {self.lines.get(timeout=QUIET)!r}"
+            return f"one line more: {self.lines.get(timeout=WAIT)!r}"
         except queue.Empty:
             return None if self.running.poll() is None else f"ended with {self.running.returncode}: {self.messages!r}"
 
@@ -293,9 +293,9 @@ def late(program, folder):
     message = rb"binlog: log\.000002: .*isn't there yet\n"
     yield run.message(message, PATIENCE)
     (folder / "log.000002").write_bytes(second[:3])
-    yield run.wrong_quiet()
+    yield run.wrong_after_wait()
     (folder / "log.000002").write_bytes(second[:30])
-    yield run.wrong_quiet()
+    yield run.wrong_after_wait()
     (folder / "log.000002").write_bytes(second)
     yield run.wrong_lines(lines_of(second))
     yield run.message(message, 0)
@@ -385,7 +385,7 @@ def transactions(program, folder):
         for place in range(len(whole) - 1):
             file.write(whole[place : place + 1])
             time.sleep(0.02)
-        yield run.wrong_quiet()
+        yield run.wrong_after_wait()
         yield run.message(rb"binlog: log\.000001: the rest of a transaction isn't there yet\n", PATIENCE)
         file.write(whole[-1:])
     yield run.wrong_lines(lines_of(front + whole)[len(lines_of(front)) :])
@@ -406,7 +406,7 @@ def begun_again(program, folder):
             for place in range(0, len(front), 31):
                 file.write(front[place : place + 31])
                 time.sleep(0.03)
-            yield run.wrong_quiet()
+            yield run.wrong_after_wait()
             file.write(rest)
         front += rest
         yield run.wrong_lines(lines_of(front)[len(lines_of(front[: -len(rest)])) :])
@@ -513,7 +513,7 @@ def late_lists(program, folder):
     yield run.wrong_lines(lines_of(first))
     for count in (2, 60, len(maria_file(5)) - 1):
         (folder / "log.000002").write_bytes(second[:count])
-        yield run.wrong_quiet()
+        yield run.wrong_after_wait()
     (folder / "log.000002").write_bytes(second)
     yield run.wrong_lines(lines_of(second))
     run.end()
@@ -539,7 +539,7 @@ def old_files(program, folder):
         run.end()
         yield None if b"log.000001" in (folder / "state").read_bytes() else "the state has a file whose list differs"
         run = followed(program, folder, "--state", "state", "log.000001")
-        yield run.wrong_quiet()
+        yield run.wrong_after_wait()
         yield run.message(rb"binlog: log\.000002: the next file's list of GTIDs has other ones[^\n]*\n", PATIENCE)
         (folder / "log.000002").write_bytes(second)
         yield run.wrong_lines(lines_of(second))
@@ -559,7 +559,7 @@ def new_lists(program, folder):
         yield run.wrong_lines(lines_of(first))
         for count in (2, 60, len(listless(second)), len(listless(second)) + 25):
             (folder / "log.000002").write_bytes(second[:count])
-            yield run.wrong_quiet()
+            yield run.wrong_after_wait()
         (folder / "log.000002").write_bytes(second)
         yield run.wrong_lines(lines_of(second))
         run.end()
@@ -692,7 +692,7 @@ def killed_at_once(program, folder):
             yield None if (folder / output).read_bytes() == wanted[:limit] else f"other lines before a kill at {limit} bytes"
         run = with_state(program, folder, output, "log.000001", command="list")
         is_written = is_within(PATIENCE, lambda: (folder / output).stat().st_size >= len(wanted))
-        time.sleep(QUIET)
+        time.sleep(WAIT)
         run.kill()
         run.wait()
         yield None if is_written and (folder / output).read_bytes() == wanted else f"other lines in {output}"
@@ -713,7 +713,7 @@ def repeated(program, folder):
     state = (folder / "state").read_bytes()
     yield None if b"position %d\n" % len(content) in state and b"inode 0\n" in state else f"the state is {state!r}"
     run = followed(program, folder, "--state", "state", "log.000001")
-    yield run.wrong_quiet()
+    yield run.wrong_after_wait()
     with open(folder / "log.000001", "ab") as file:
         file.write(XID)
     yield run.wrong_lines(lines_of(content + XID)[len(b"".join(lines)) :])

@@ -32,7 +32,7 @@ from row_lines import DELETE, UPDATE, WRITE
 
 FIRST, SECOND = "log.000001", "log.000002"
 # How long nothing may come where nothing is wanted, and between two pieces of a file, in seconds.
-QUIET, PIECE = 0.3, 0.005
+WAIT, PIECE = 0.3, 0.005
 PROCESSES_AT_A_TIME = 12
 BYTES_BETWEEN_CUTS, BYTES_BETWEEN_KILLS = 11, 17
 # A fault ends the program if it is still there behind this time.
@@ -132,14 +132,14 @@ def made_again_to(files, cut, follower):
     (follower.logs / FIRST).unlink()
     write_front(files, follower, cut)
     with follower.run():
-        yield wrong_quiet(follower, files.lines(min(max(cut, files.front), files.next)))
+        yield wrong_after_wait(follower, files.lines(min(max(cut, files.front), files.next)))
         write_rest(files, follower, cut)
         yield follower.wrong_lines(files.lines()) or follower.wrong_end()
 
 
-def wrong_quiet(follower, wanted):
+def wrong_after_wait(follower, wanted):
     """None if no lines come but these, of which the last ones may be missing yet."""
-    time.sleep(QUIET)
+    time.sleep(WAIT)
     found = follower.lines.read_bytes()
     return None if wanted.startswith(found) else f"lines that aren't wanted: {found[-300:]!r}"
 
@@ -157,7 +157,7 @@ def byte_by_byte(files, follower):
                     follower.kill()
                     follower.begin()
     yield follower.wrong_lines(files.lines())
-    yield wrong_quiet(follower, files.lines())
+    yield wrong_after_wait(follower, files.lines())
     follower.kill()
     yield from (None, *follower.wrong_ends)
 
@@ -192,9 +192,9 @@ def removed_behind(files, follower):
         yield follower.wrong_place(SECOND, 0)
     (follower.logs / FIRST).unlink()
     with follower.run():
-        yield wrong_quiet(follower, files.lines(files.next))
+        yield wrong_after_wait(follower, files.lines(files.next))
         written(follower.logs / SECOND, files.second[:3])
-        yield wrong_quiet(follower, files.lines(files.next))
+        yield wrong_after_wait(follower, files.lines(files.next))
         written(follower.logs / SECOND, files.second[3:], "ab")
         yield follower.wrong_lines(files.lines()) or follower.wrong_end()
 
