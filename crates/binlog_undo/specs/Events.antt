@@ -33,6 +33,11 @@ abbrev pub with_checksum : Bool → List ℕ → List ℕ
 with_checksum false s = s
 with_checksum true s = s ++ little_bytes 4 (crc32 s)
 
+-- Bytes may be behind the others.
+pub record HasMore (old new : List ℕ) : Type 0 where
+  pub more : List ℕ
+  pub is : new ≡ old ++ more
+
 -- The bytes of an event that begins at this place of the log.
 abbrev pub event_bytes : Bool → ℕ → Heading → EventType → List ℕ → List ℕ
 event_bytes has_checksum place heading event_type body =

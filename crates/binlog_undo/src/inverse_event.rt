@@ -17,6 +17,9 @@ use binlog_variable_fields::LenEnc;
 use binlog_wire::{BitView, IntRepr, LeU16, LeU48, MySerialize, RawInt};
 use std::alloc::{AllocError, Global};
 
+/// Room for what is in front of the rows of an event: more than is there for a table with at most 100 columns.
+const HEAD_ROOM: usize = 48;
+
 /// Whether a server checks foreign keys while it applies the event that undoes another one.
 #[derive(Clone, Copy, Debug, PartialEq, Eq, Hash)]
 pub enum ForeignKeyChecks {
@@ -181,7 +184,7 @@ impl UndoneRows {
         ensures event_type { IfOk result (λ written. written.event_type ≡ inverse_type event.now) }
         ensures body { IfOk result (λ written. written.body.items ≡ rows_written (inverse_parts self.now.completes checks self.now.bytes.items (event_in event.now))) }
     {
-        let mut body = Vec::new(alloc);
+        let mut body = Vec::with_capacity(alloc, self.as_bytes().len() + HEAD_ROOM)?;
         push_head(alloc, event, checks, &mut body)?;
         push_columns(alloc, event, self.completes(), &mut body)?;
         body.extend_from_slice(self.as_bytes())?;
