@@ -43,7 +43,7 @@ pub both_true : (a b : Bool) → a && b ≡ true → (a ≡ true) × (b ≡ true
 both_true true b h = (refl, h)
 both_true false b h = absurd cc
 
-all_by : (count i k : ℕ) (test : ℕ → Bool) → all_from count i test ≡ true → k < count → test (i + k) ≡ true
+pub all_by : (count i k : ℕ) (test : ℕ → Bool) → all_from count i test ≡ true → k < count → test (i + k) ≡ true
 all_by zero i k test h less = absurd (omega arith)
 all_by (suc count) i zero test h less = let e : i + 0 ≡ i = omega arith in ap test e ∙ (both_true (test i) (all_from count (i + 1) test) h).0
 all_by (suc count) i (suc k) test h less =

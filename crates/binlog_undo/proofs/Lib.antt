@@ -2,9 +2,12 @@ pub mod Completed
 pub mod Columns
 pub mod Covered
 pub mod EventChanges
+pub mod FullImages
+pub mod FullRows
 pub mod InverseEvents
 pub mod Local
 pub mod Loop
+pub mod NullWords
 pub mod Prepending
 pub mod RowBytes
 pub mod RowChanges

@@ -1,5 +1,6 @@
 -- The rows of an event are undone one after the other.
-use Rattle.std.proofs.Common.{◌≡◌, ℕ, ◌+◌, inl, inr, List, [], Some, Result, Ok, Err, sym, ◌∙◌, ap, subst}
+use Rattle.std.proofs.Common.{◌≡◌, ℕ, ◌+◌, inl, inr, List, [], false, Some, Result, Ok, Err, sym, ◌∙◌, ap, subst}
+use Rattle.std.specs.Global.{Vec}
 use Rattle.binlog_wire.specs.Fields.{IsBytes}
 use Rattle.binlog_columns.specs.TableColumns.{columns_of}
 use Rattle.binlog_rows.specs.Images.{bitmap_of}
@@ -13,7 +14,7 @@ use Rattle.binlog_images.specs.declared.rows_error.RowsError.{RowsError}
 use Rattle.binlog_images.specs.declared.stored_row.StoredRow.{StoredRow}
 use Rattle.binlog_undo.specs.Outcomes.{undone_by, Fits, IsUnreadable, IsPrepended, PrependsRow, GivesUndoing}
 use Rattle.binlog_undo.specs.RowBytes.{IsRowBytes}
-use Rattle.binlog_undo.specs.Undoing.{Undoes, IsRefused, stored_bytes}
+use Rattle.binlog_undo.specs.Undoing.{Undoes, IsRefused, IsExchangedBy, stored_bytes}
 use Rattle.binlog_undo.specs.declared.undo_error.UndoError.{UndoError}
 use Rattle.binlog_undo.specs.declared.undo_error.UndoError.TheVariants as errors
 use Rattle.binlog_undo.specs.declared.undoing.Undoing.{Undoing}
@@ -79,6 +80,15 @@ never_unreadable undoing start shape other s index rest next bytes row fits same
 -- No row is undone yet.
 pub nothing_yet : (undoing : Undoing) (start : ℕ) (shape : RowShape) (s bytes : List ℕ) → bytes ≡ [] → IsBytes s → SoFar (undone_by undoing) shape start s start s bytes
 nothing_yet undoing start shape s bytes none fits = none_so_far (undone_by undoing) shape start s bytes fits none
+
+-- ---- images that are exchanged
+
+pub whole_if : (undoing : Undoing) (shape : RowsShape) → undoing ≡ Exchange → Fits undoing shape → shape.is_partial ≡ false
+whole_if undoing shape is fits = subst (λ (u : Undoing). Fits u shape) is fits
+
+pub exchanged_as : (undoing : Undoing) (rows : Rows) (answer : Result (Vec ℕ) UndoError) → undoing ≡ Exchange → (IsBytes rows.rest.now → GivesUndoing IsExchangedBy rows answer)
+    → IsBytes rows.rest.now → GivesUndoing (undone_by undoing) rows answer
+exchanged_as undoing rows answer is h bytes = subst (λ (u : Undoing). GivesUndoing (undone_by u) rows answer) (sym is) (h bytes)
 
 -- ---- one turn of the loop
 

@@ -44,26 +44,29 @@ module _ (IsUndoneBy : RowBytes → RowBytes → Type 0) (shape : RowShape) wher
     at = omega arith;
   }
 
+  pub row_so_far : (start : ℕ) (s : List ℕ) (index : ℕ) (rest next undoing undone : List ℕ) (bytes other : RowBytes) (cells : RowCells)
+      → SoFar IsUndoneBy shape start s index rest undoing → IsRowBytes shape bytes cells → rest ≡ row_bytes bytes ++ next → IsBytes next → IsUndoneBy bytes other
+      → undone ≡ row_bytes other ++ undoing → SoFar IsUndoneBy shape start s (index + 1) next undone
+  row_so_far start s index rest next undoing undone bytes other cells h is split fits by more = record {
+    rows = h.rows ++ cells ∷ [];
+    bytes = h.bytes ++ bytes ∷ [];
+    others = h.others ++ other ∷ [];
+    each_row = zip_one_more (IsRowBytes shape) h.bytes h.rows bytes cells h.each_row is;
+    split = h.split ∙ ap (λ (t : List ℕ). flat_map row_bytes h.bytes ++ t) split ∙ sym (append_assoc (flat_map row_bytes h.bytes) (row_bytes bytes) next)
+        ∙ ap (λ (t : List ℕ). (flat_map row_bytes h.bytes ++ t) ++ next) (sym (append-nil (row_bytes bytes)))
+        ∙ ap (λ (t : List ℕ). t ++ next) (sym (flat-append h.bytes (bytes ∷ [])));
+    each = zip_one_more IsUndoneBy h.bytes h.others bytes other h.each by;
+    all = more ∙ ap (λ (t : List ℕ). row_bytes other ++ t) h.all ∙ ap (flat_map row_bytes) (sym (reverse-append h.others (other ∷ [])));
+    fits = fits;
+    at = let e = h.at in omega (arith, e, length-append h.rows (cells ∷ []));
+  }
+
   pub one_more_so_far : (start : ℕ) (s : List ℕ) (index : ℕ) (rest next undoing undone : List ℕ) (stored : declared.StoredRow) (other : RowBytes)
       → SoFar IsUndoneBy shape start s index rest undoing → IsStored index (whole shape) rest stored next → IsUndoneBy (stored_bytes stored) other
       → undone ≡ row_bytes other ++ undoing → SoFar IsUndoneBy shape start s (index + 1) next undone
   one_more_so_far start s index rest next undoing undone stored other h row by more =
       let is = stored_is index shape rest next stored h.fits row in
-      let bytes : RowBytes = stored_bytes stored in
-      let cells : RowCells = row_cells stored.row in
-      record {
-        rows = h.rows ++ cells ∷ [];
-        bytes = h.bytes ++ bytes ∷ [];
-        others = h.others ++ other ∷ [];
-        each_row = zip_one_more (IsRowBytes shape) h.bytes h.rows bytes cells h.each_row is.0;
-        split = h.split ∙ ap (λ (t : List ℕ). flat_map row_bytes h.bytes ++ t) is.1 ∙ sym (append_assoc (flat_map row_bytes h.bytes) (row_bytes bytes) next)
-            ∙ ap (λ (t : List ℕ). (flat_map row_bytes h.bytes ++ t) ++ next) (sym (append-nil (row_bytes bytes)))
-            ∙ ap (λ (t : List ℕ). t ++ next) (sym (flat-append h.bytes (bytes ∷ [])));
-        each = zip_one_more IsUndoneBy h.bytes h.others bytes other h.each by;
-        all = more ∙ ap (λ (t : List ℕ). row_bytes other ++ t) h.all ∙ ap (flat_map row_bytes) (sym (reverse-append h.others (other ∷ [])));
-        fits = is.2;
-        at = let e = h.at in omega (arith, e, length-append h.rows (cells ∷ []));
-      }
+      row_so_far start s index rest next undoing undone (stored_bytes stored) other (row_cells stored.row) h is.0 is.1 is.2 by more
 
   pub all_so_far : (start : ℕ) (s : List ℕ) (index : ℕ) (rest undoing : List ℕ) → SoFar IsUndoneBy shape start s index rest undoing → rest ≡ []
       → Undoes IsUndoneBy shape s undoing

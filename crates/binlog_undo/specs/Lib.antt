@@ -2,8 +2,10 @@ pub mod Backwards
 pub mod Completion
 pub mod Coverage
 pub mod EventChanges
+pub mod FullImages
 pub mod InverseEvents
 pub mod NewImages
+pub mod NullWords
 pub mod Outcomes
 pub mod RowBytes
 pub mod RowChanges

@@ -15,7 +15,7 @@ fn is_set(bits: BitView<'_>, index: u64) -> bool
 
 /// Whether each column of the table is in the image.
 #[tactic(auto, using(crate::proofs::Covered::one_holds, crate::proofs::Covered::one_fails, crate::proofs::Covered::all_hold))]
-fn has_all(bits: BitView<'_>) -> bool
+pub(crate) fn has_all(bits: BitView<'_>) -> bool
     ensures { result ≡ has_all (bitmap_of bits.entry) }
 {
     for index in 0..bits.len() {

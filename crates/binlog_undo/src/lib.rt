@@ -9,14 +9,18 @@
 #![tactic(auto)]
 
 mod backward;
+mod bytes;
 mod completion;
 mod coverage;
 mod events_writer;
+mod full_image;
+mod full_rows;
 mod heading;
 mod image_pair;
 mod inverse_event;
 pub mod laws;
 mod null_bits;
+mod null_word;
 mod undo_error;
 mod undoing;
 mod undone_change;

@@ -1,11 +1,15 @@
 //! How the rows of an event are undone.
+ghost use Rattle.std.specs.Prelude.{◌≡◌, false, IfSome};
 ghost use Rattle.binlog_images.specs.RowsLeft.{row_shape};
 ghost use Rattle.binlog_wire.specs.Fields.{IsBytes};
+ghost use Rattle.binlog_undo.specs.FullImages.{rows_shape};
 ghost use Rattle.binlog_undo.specs.Outcomes.{undone_by, Fits, PrependsRow, GivesUndoing};
+ghost use Rattle.binlog_undo.specs.Undoing.{IsExchangedBy};
 ghost use Rattle.binlog_undo.specs.declared.undoing.Undoing.TheVariants.{Complete};
 
 use crate::backward::Backward;
 use crate::completion::completed;
+use crate::full_rows::FullRows;
 use crate::image_pair::ImagePair;
 use crate::undo_error::UndoError;
 use binlog_images::{Rows, StoredRow, read_stored_columns};
@@ -91,5 +95,50 @@ impl<'a> Undoing<'a> {
             }
         }
         Ok(bytes.into_bytes(alloc)?)
+    }
+
+    /// The same of rows that have these images if they are full. Images that are exchanged are found faster so.
+    ///
+    /// # Errors
+    ///
+    /// Those of [`Undoing::undo`].
+    #[tactic(auto, using(crate::proofs::Loop::whole_if, crate::proofs::Loop::exchanged_as))]
+    pub(crate) fn undo_full(
+        &self,
+        alloc: Global,
+        full: &Option<FullRows<'_>>,
+        rows: Rows<'_>,
+    ) -> Result<Vec<u8>, UndoError>
+        requires fits { Fits self.now (row_shape rows) }
+        requires shape { IfSome full.now (λ full. rows_shape full ≡ (row_shape rows).images) }
+        ensures { IsBytes rows.entry.rest.now → GivesUndoing (undone_by self.now) rows.entry result }
+    {
+        let Some(full) = full else {
+            return self.undo(alloc, rows);
+        };
+        match self {
+            Undoing::Exchange => full.exchange(alloc, rows),
+            Undoing::Complete(_) => self.undo(alloc, rows),
+        }
+    }
+}
+
+impl<'a> FullRows<'a> {
+    /// The bytes with the images of each row exchanged, the last row first.
+    ///
+    /// # Errors
+    ///
+    /// Those of [`Undoing::undo`].
+    fn exchange(&self, alloc: Global, rows: Rows<'_>) -> Result<Vec<u8>, UndoError>
+        requires whole { (row_shape rows).is_partial ≡ false }
+        requires shape { rows_shape self.now ≡ (row_shape rows).images }
+        ensures { IsBytes rows.entry.rest.now → GivesUndoing IsExchangedBy rows.entry result }
+    {
+        let found = self.exchanged(alloc, rows.rest_data())?;
+        match found {
+            Some(bytes) => Ok(bytes),
+            // A row is refused, and why is found by its values.
+            None => Undoing::Exchange.undo(alloc, rows),
+        }
     }
 }

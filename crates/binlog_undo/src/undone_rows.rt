@@ -1,13 +1,14 @@
 //! The rows that undo a row event.
 ghost use Rattle.std.specs.Prelude.{◌≡◌, option_map};
-ghost use Rattle.binlog_wire.specs.Fields.{IsBytes};
 ghost use Rattle.binlog_columns.specs.TableColumns.{columns_of};
 ghost use Rattle.binlog_rows.specs.Images.{bitmap_of};
 ghost use Rattle.binlog_images.specs.EventRows.{is_partial};
 ghost use Rattle.binlog_images.specs.Events.{HasBitEach};
 ghost use Rattle.binlog_undo.specs.UndoneEvents.{IsUndoing, GivesUndone};
 
+use crate::bytes::are_bytes;
 use crate::coverage::{can_undo, completes};
+use crate::full_rows::FullRows;
 use crate::image_pair::ImagePair;
 use crate::undo_error::UndoError;
 use crate::undoing::Undoing;
@@ -40,11 +41,6 @@ impl UndoneRows {
         self.bytes.as_slice()
     }
 }
-
-/// A slice holds bytes.
-fn are_bytes(bytes: &[u8])
-    ensures { IsBytes bytes.now }
-{}
 
 /// Whether the event holds partial updates.
 fn is_partial(event: &RowsEventData<'_>) -> bool
@@ -111,8 +107,9 @@ pub fn undo_rows(
         return Err(UndoError::PartialJson(0));
     }
     let undoing = undoing_of(columns, before, after);
+    let full = FullRows::new(columns, before, after);
     are_bytes(rows.rest_data());
-    let bytes = undoing.undo(alloc, rows)?;
+    let bytes = undoing.undo_full(alloc, &full, rows)?;
     Ok(UndoneRows {
         completes: completes(before, after),
         bytes,
