@@ -101,7 +101,7 @@ module _ {Table : Type 0} (table : Table) (key : List ℕ) (columns : List Typed
       record {
         rows = inverse_rows is.rows;
         are = subst (λ (e : RowsEventData). HasRows columns e (inverse_rows is.rows)) (sym u.is)
-            (rows_of_inverse u.undone.completes checks u.undone.bytes.items columns event (inverse_rows is.rows) is.undo);
+            (rows_of_inverse u.undone.completes checks u.undone.bytes columns event (inverse_rows is.rows) is.undo);
         is = ap inverse (h.is ∙ ap (row_changes table) same) ∙ sym (changes_back table is.rows is.old);
       }
 
@@ -196,14 +196,14 @@ pub undone_twice : (key others : List ℕ) (columns : List Typed) (checks again 
 undone_twice key others columns checks again event undoing redoing u v whole =
     let e : RowsEvent = event_in event in
     let shape : RowShape = event_shape columns e in
-    let bytes : List ℕ = u.undone.bytes.items in
+    let bytes : List ℕ = u.undone.bytes in
     let first : IsUndone false shape e.rows bytes = subst (λ (c : Bool). IsUndone c shape e.rows bytes) whole u.undoes.rows in
     let between : event_in undoing ≡ inverse_parts false checks bytes e =
     ap event_in u.is ∙ parts_are u.undone.completes checks bytes event ∙ ap (λ (c : Bool). inverse_parts c checks bytes e) whole in
     let none : v.undone.completes ≡ false =
     v.undoes.completed ∙ ap (λ (x : RowsEvent). completes x.columns.before x.columns.after) between ∙ never_completed key e.columns.before e.columns.after u.undoes.images in
-    let second : IsUndone false (exchanged_shape shape) bytes v.undone.bytes.items =
-    subst (λ (x : RowsEvent). IsUndone false (event_shape columns x) x.rows v.undone.bytes.items) between
-    (subst (λ (c : Bool). IsUndone c (event_shape columns (event_in undoing)) (event_in undoing).rows v.undone.bytes.items) none v.undoes.rows) in
-    ap (λ (d : RowsEventData). (event_in d).rows) v.is ∙ ap (λ (x : RowsEvent). x.rows) (parts_are v.undone.completes again v.undone.bytes.items undoing)
-    ∙ exchanged_twice shape e.rows bytes v.undone.bytes.items first.bytes second.bytes
+    let second : IsUndone false (exchanged_shape shape) bytes v.undone.bytes =
+    subst (λ (x : RowsEvent). IsUndone false (event_shape columns x) x.rows v.undone.bytes) between
+    (subst (λ (c : Bool). IsUndone c (event_shape columns (event_in undoing)) (event_in undoing).rows v.undone.bytes) none v.undoes.rows) in
+    ap (λ (d : RowsEventData). (event_in d).rows) v.is ∙ ap (λ (x : RowsEvent). x.rows) (parts_are v.undone.completes again v.undone.bytes undoing)
+    ∙ exchanged_twice shape e.rows bytes v.undone.bytes first.bytes second.bytes

@@ -14,13 +14,13 @@ use Rattle.binlog_rows.specs.declared.rows_form.RowsForm.{RowsForm}
 use Rattle.binlog_rows.specs.declared.rows_event.RowsEvent.{RowsEvent}
 use Rattle.binlog_rows.specs.declared.rows_event_data.RowsEventData.{RowsEventData}
 use Rattle.binlog_rows.specs.declared.rows_event_data.RowsEventData.TheVariants as types
+use Rattle.binlog_consts.specs.declared.event_type.EventType.{EventType}
 use Rattle.binlog_undo.specs.Coverage.{completes}
-use Rattle.binlog_undo.specs.InverseEvents.{added_flags, inverse_parts, inverse_event, inverse_type, type_of, GivesInverse}
-use Rattle.binlog_undo.specs.UndoneEvents.{UndoesRows}
+use Rattle.binlog_undo.specs.InverseEvents.{added_flags, inverse_parts, inverse_event, inverse_type, type_of, GivesInverse, ChecksInverse}
+use Rattle.binlog_undo.specs.UndoneEvents.{Undone, UndoesRows}
 use Rattle.binlog_undo.specs.declared.inverse_event.ForeignKeyChecks.{ForeignKeyChecks}
 use Rattle.binlog_undo.specs.declared.inverse_event.ForeignKeyChecks.TheVariants.{AsLogged, Off}
 use Rattle.binlog_undo.specs.declared.inverse_event.InverseEvent.{InverseEvent}
-use Rattle.binlog_undo.specs.declared.undone_rows.UndoneRows.{UndoneRows}
 
 -- ---- the type and the parts
 
@@ -162,13 +162,13 @@ parts_read completed checks undone form event is range h =
     )
 
 -- The event that undoes this one is written.
-pub inverse_written : (key : List ℕ) (columns : List Typed) (checks : ForeignKeyChecks) (event : RowsEventData) (undone : UndoneRows) (written : InverseEvent)
+pub inverse_written : (key : List ℕ) (columns : List Typed) (checks : ForeignKeyChecks) (event : RowsEventData) (undone : Undone) (written : InverseEvent)
     → UndoesRows key columns event undone → IsOfForm (form_in event) (event_in event) → RowsInRange (event_in event)
-    → written.event_type ≡ inverse_type event → written.body.items ≡ rows_written (inverse_parts undone.completes checks undone.bytes.items (event_in event))
+    → written.event_type ≡ inverse_type event → written.body.items ≡ rows_written (inverse_parts undone.completes checks undone.bytes (event_in event))
     → GivesInverse key columns checks event (Ok written)
 inverse_written key columns checks event undone written undoes form range event_type body =
     let c : Bool = undone.completes in
-    let u : List ℕ = undone.bytes.items in
+    let u : List ℕ = undone.bytes in
     let inverse : RowsEventData = inverse_event c checks u event in
     let parts : RowsEvent = inverse_parts c checks u (event_in event) in
     let read = parts_read c checks u (form_in event) (event_in event) form range undoes.completed in
@@ -183,3 +183,12 @@ inverse_written key columns checks event undone written undoes form range event_
         is_read = subst (λ (s : List ℕ). (rows (form_in inverse) (default_length (form_in inverse))).spells s (event_in inverse) []) (sym bytes) held.1;
       },
     )
+
+-- An event that can be undone has an inverse, of this type.
+pub inverse_found : (key : List ℕ) (columns : List Typed) (event : RowsEventData) (event_type : EventType) (undone : Undone) → UndoesRows key columns event undone
+    → event_type ≡ inverse_type event → ChecksInverse key columns event (Ok event_type)
+inverse_found key columns event event_type undone undoes is checks = (
+  inverse_event undone.completes checks undone.bytes event,
+  record { undone = undone; undoes = undoes; is = refl },
+  is ∙ sym (type_is undone.completes checks undone.bytes event),
+)

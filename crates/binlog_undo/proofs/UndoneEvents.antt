@@ -21,10 +21,9 @@ use Rattle.binlog_undo.specs.Outcomes.{undone_by}
 use Rattle.binlog_undo.specs.RowBytes.{RowBytes, IsRowBytes, exchanged_shape, exchanged, exchanged_row, HasSameColumns}
 use Rattle.binlog_undo.specs.RowChanges.{inverse_row, inverse_rows, HasOldColumns}
 use Rattle.binlog_undo.specs.Undoing.{Undoes, IsExchangedBy}
-use Rattle.binlog_undo.specs.UndoneEvents.{IsUndone, IsUndoing, UndoesRows}
+use Rattle.binlog_undo.specs.UndoneEvents.{IsUndone, IsUndoing, Undone, UndoesRows}
 use Rattle.binlog_undo.specs.declared.undoing.Undoing.{Undoing}
 use Rattle.binlog_undo.specs.declared.undoing.Undoing.TheVariants.{Exchange, Complete}
-use Rattle.binlog_undo.specs.declared.undone_rows.UndoneRows.{UndoneRows}
 use Rattle.binlog_undo.proofs.Completed.{completed_undoes}
 use Rattle.binlog_undo.proofs.Covered.{both_true, covers_is, same_is}
 use Rattle.binlog_undo.proofs.RowBytes.{bytes_are_rows, zip_reversed, exchange_one}
@@ -115,10 +114,10 @@ undone_is (Complete images) columns key before after shape s undone completed is
     (record { rows = here.rows; are = all.0; undo = all.1; old = all.2; bytes = here }))
 
 -- The event is undone.
-pub event_undone : (undoing : Undoing) (columns : List Typed) (key : List ℕ) (event : RowsEventData) (b a : Option Bitmap) (rows : Rows) (undone : UndoneRows) (can partial : Bool)
+pub event_undone : (undoing : Undoing) (columns : List Typed) (key : List ℕ) (event : RowsEventData) (b a : Option Bitmap) (rows : Rows) (undone : Undone) (can partial : Bool)
     → b ≡ (event_in event).columns.before → a ≡ (event_in event).columns.after → GivesRowsOf (is_partial event) columns (event_in event) (Ok rows)
     → can ≡ can_undo key b a → can ≡ true → partial ≡ is_partial event → partial ≡ false → IsUndoing columns b a undoing → undone.completes ≡ completes b a
-    → (IsBytes rows.rest.now → Undoes (undone_by undoing) (row_shape rows).images rows.rest.now undone.bytes.items) → IsBytes rows.rest.now → UndoesRows key columns event undone
+    → (IsBytes rows.rest.now → Undoes (undone_by undoing) (row_shape rows).images rows.rest.now undone.bytes) → IsBytes rows.rest.now → UndoesRows key columns event undone
 event_undone undoing columns key event b a rows undone can partial before after given can_is can_be partial_is whole_is is completed undoes bytes =
     let old : Option Bitmap = (event_in event).columns.before in
     let new : Option Bitmap = (event_in event).columns.after in
@@ -127,13 +126,13 @@ event_undone undoing columns key event b a rows undone can partial before after 
     subst (λ (o : Option Bitmap). IsUndoing columns o new undoing) before (subst (λ (o : Option Bitmap). IsUndoing columns b o undoing) after is) in
     let ends : undone.completes ≡ completes old new = completed ∙ ap (λ (o : Option Bitmap). completes o a) before ∙ ap (completes old) after in
     let shape : (row_shape rows).images ≡ event_shape columns (event_in event) = ap (λ (p : RowsShape). p.images) given.1.shape in
-    let all : Undoes (undone_by undoing) (event_shape columns (event_in event)) (event_in event).rows undone.bytes.items =
-    subst (λ (s : List ℕ). Undoes (undone_by undoing) (event_shape columns (event_in event)) s undone.bytes.items) given.1.bytes
-    (subst (λ (p : RowShape). Undoes (undone_by undoing) p rows.rest.now undone.bytes.items) shape (undoes bytes)) in
+    let all : Undoes (undone_by undoing) (event_shape columns (event_in event)) (event_in event).rows undone.bytes =
+    subst (λ (s : List ℕ). Undoes (undone_by undoing) (event_shape columns (event_in event)) s undone.bytes) given.1.bytes
+    (subst (λ (p : RowShape). Undoes (undone_by undoing) p rows.rest.now undone.bytes) shape (undoes bytes)) in
     record {
       count = given.0;
       images = may;
       is_whole = sym partial_is ∙ whole_is;
       completed = ends;
-      rows = undone_is undoing columns key old new (event_shape columns (event_in event)) (event_in event).rows undone.bytes.items undone.completes how may refl ends all;
+      rows = undone_is undoing columns key old new (event_shape columns (event_in event)) (event_in event).rows undone.bytes undone.completes how may refl ends all;
     }

@@ -10,6 +10,7 @@ use Rattle.binlog_images.specs.Images.{image_if_at}
 use Rattle.binlog_images.specs.StoredColumns.{front}
 use Rattle.binlog_images.specs.declared.rows_error.ImageKind.TheVariants.{Before}
 use Rattle.binlog_undo.specs.RowBytes.{RowBytes}
+use Rattle.binlog_undo.specs.Undoing.{Undoes, IsExchangedBy}
 use Rattle.binlog_undo.specs.declared.full_image.FullImage.{FullImage}
 use Rattle.binlog_undo.specs.declared.full_rows.FullRows.{FullRows}
 use Rattle.binlog_undo.specs.declared.full_rows.RowSlices.{RowSlices}
@@ -40,3 +41,8 @@ pub record IsFirstRow (shape : RowShape) (s : List ℕ) (row : RowSlices) : Type
 -- The bytes of the row's images.
 abbrev pub sliced_bytes : RowSlices → RowBytes
 sliced_bytes row = record { before = row.before.now; after = row.after.now }
+
+-- The bytes are rows that are undone by other bytes, with their images exchanged.
+pub record CanExchange (shape : RowShape) (s : List ℕ) : Type 0 where
+  pub undoing : List ℕ
+  pub undoes : Undoes IsExchangedBy shape s undoing

@@ -11,12 +11,11 @@ use Rattle.binlog_rows.specs.declared.rows_columns.RowsColumns.{RowsColumns}
 use Rattle.binlog_rows.specs.declared.rows_event.RowsEvent.{RowsEvent}
 use Rattle.binlog_rows.specs.declared.rows_event_data.RowsEventData.{RowsEventData}
 use Rattle.binlog_rows.specs.declared.rows_event_data.RowsEventData.TheVariants as types
-use Rattle.binlog_undo.specs.UndoneEvents.{UndoesRows, GivesUndone}
+use Rattle.binlog_undo.specs.UndoneEvents.{Undone, UndoesRows, GivesUndone}
 use Rattle.binlog_undo.specs.declared.inverse_event.ForeignKeyChecks.{ForeignKeyChecks}
 use Rattle.binlog_undo.specs.declared.inverse_event.ForeignKeyChecks.TheVariants.{AsLogged, Off}
 use Rattle.binlog_undo.specs.declared.inverse_event.InverseEvent.{InverseEvent}
 use Rattle.binlog_undo.specs.declared.undo_error.UndoError.{UndoError}
-use Rattle.binlog_undo.specs.declared.undone_rows.UndoneRows.{UndoneRows}
 
 -- ---- the parts
 
@@ -76,9 +75,9 @@ inverse_type (types.PartialUpdateRowsEvent event) = UPDATE_ROWS_EVENT
 
 -- The second event undoes the first one, of a table with these columns and this primary key.
 pub record UndoesEvent (key : List ℕ) (columns : List Typed) (checks : ForeignKeyChecks) (event inverse : RowsEventData) : Type 0 where
-  pub undone : UndoneRows
+  pub undone : Undone
   pub undoes : UndoesRows key columns event undone
-  pub is : inverse ≡ inverse_event undone.completes checks undone.bytes.items event
+  pub is : inverse ≡ inverse_event undone.completes checks undone.bytes event
 
 -- It is written with its type, and its body is read as exactly this event.
 pub record IsWritten (event : RowsEventData) (written : InverseEvent) : Type 0 where
@@ -90,3 +89,9 @@ pub record IsWritten (event : RowsEventData) (written : InverseEvent) : Type 0 w
 abbrev pub GivesInverse : List ℕ → List Typed → ForeignKeyChecks → RowsEventData → Result InverseEvent UndoError → Type 0
 GivesInverse key columns checks event (Ok written) = (inverse : RowsEventData) × UndoesEvent key columns checks event inverse × IsWritten inverse written
 GivesInverse key columns checks event (Err error) = GivesUndone key columns event (Err error)
+
+-- There is an event of this type that undoes this one, whether foreign keys are checked then or not; or why it can't be undone.
+abbrev pub ChecksInverse : List ℕ → List Typed → RowsEventData → Result EventType UndoError → Type 0
+ChecksInverse key columns event (Ok event_type) =
+    (checks : ForeignKeyChecks) → (inverse : RowsEventData) × UndoesEvent key columns checks event inverse × (event_type ≡ type_of inverse)
+ChecksInverse key columns event (Err error) = GivesUndone key columns event (Err error)

@@ -51,17 +51,30 @@ IsUndoing columns before after Exchange = completes before after ≡ false
 IsUndoing columns before after (Complete images) =
     (completes before after ≡ true) × (before ≡ Some (bitmap_of images.before)) × (after ≡ Some (bitmap_of images.after)) × (columns_of images.columns ≡ columns)
 
+-- Rows that undo others: whether they are completed, and their bytes.
+pub record Undone : Type 0 where
+  pub completes : Bool
+  pub bytes : List ℕ
+
+abbrev pub undone_of : UndoneRows → Undone
+undone_of rows = record { completes = rows.completes; bytes = rows.bytes.items }
+
 -- The event of a table with these columns and this primary key is undone.
-pub record UndoesRows (key : List ℕ) (columns : List Typed) (event : RowsEventData) (undone : UndoneRows) : Type 0 where
+pub record UndoesRows (key : List ℕ) (columns : List Typed) (event : RowsEventData) (undone : Undone) : Type 0 where
   pub count : count_error (event_in event).columns.count (length columns) ≡ None
   pub images : can_undo key (event_in event).columns.before (event_in event).columns.after ≡ true
   pub is_whole : is_partial event ≡ false
   pub completed : undone.completes ≡ completes (event_in event).columns.before (event_in event).columns.after
-  pub rows : IsUndone undone.completes (event_shape columns (event_in event)) (event_in event).rows undone.bytes.items
+  pub rows : IsUndone undone.completes (event_shape columns (event_in event)) (event_in event).rows undone.bytes
+
+-- It can be undone.
+pub record CanUndoRows (key : List ℕ) (columns : List Typed) (event : RowsEventData) : Type 0 where
+  pub undone : Undone
+  pub undoes : UndoesRows key columns event undone
 
 -- So it is; or the first of the refusals is the answer; or memory was refused.
 abbrev pub GivesUndone : List ℕ → List Typed → RowsEventData → Result UndoneRows UndoError → Type 0
-GivesUndone key columns event (Ok undone) = UndoesRows key columns event undone
+GivesUndone key columns event (Ok undone) = UndoesRows key columns event (undone_of undone)
 GivesUndone key columns event (Err (errors.Event error)) = count_error (event_in event).columns.count (length columns) ≡ Some error
 GivesUndone key columns event (Err errors.Image) = can_undo key (event_in event).columns.before (event_in event).columns.after ≡ false
 GivesUndone key columns event (Err (errors.PartialJson row)) = (is_partial event ≡ true) × (row ≡ 0)

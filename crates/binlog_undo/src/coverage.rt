@@ -1,5 +1,5 @@
 //! Which columns are in the images of a row event.
-ghost use Rattle.std.specs.Prelude.{◌≡◌, option_map};
+ghost use Rattle.std.specs.Prelude.{◌≡◌, ◌&&◌, not, option_map};
 ghost use Rattle.binlog_rows.specs.Images.{bitmap_of};
 ghost use Rattle.binlog_images.specs.Bits.{is_set};
 ghost use Rattle.binlog_undo.specs.Coverage.{has_all, covers, is_covered, all_set, has_key, can_undo, completes};
@@ -92,4 +92,17 @@ pub(crate) fn completes(before: Option<BitView<'_>>, after: Option<BitView<'_>>)
         (Some(before), Some(after)) => !covers(after, before),
         _ => false,
     }
+}
+
+/// Whether what is needed to undo a row event is in images with these columns, and they are exchanged for that. `key` is as for
+/// [`can_undo`].
+pub(crate) fn exchanges(
+    key: &[u64],
+    before: Option<BitView<'_>>,
+    after: Option<BitView<'_>>,
+) -> bool
+    ensures { result ≡ (can_undo key.now (option_map bitmap_of before.entry) (option_map bitmap_of after.entry)
+        && not (completes (option_map bitmap_of before.entry) (option_map bitmap_of after.entry))) }
+{
+    can_undo(key, before, after) && !completes(before, after)
 }

@@ -1,5 +1,5 @@
 //! Rows that have full images, found by the lengths of their values alone.
-ghost use Rattle.std.specs.Prelude.{◌≡◌, option_map, IfOk, IfSome};
+ghost use Rattle.std.specs.Prelude.{◌≡◌, true, option_map, IfOk, IfSome};
 ghost use Rattle.binlog_wire.specs.Fields.{IsBytes};
 ghost use Rattle.binlog_columns.specs.TableColumns.{columns_of};
 ghost use Rattle.binlog_rows.specs.Images.{bitmap_of};
@@ -8,7 +8,7 @@ ghost use Rattle.binlog_images.specs.Events.{HasBitEach};
 ghost use Rattle.binlog_images.specs.Images.{image_if_at};
 ghost use Rattle.binlog_images.specs.StoredColumns.{front};
 ghost use Rattle.binlog_images.specs.declared.rows_error.ImageKind.TheVariants.{Before};
-ghost use Rattle.binlog_undo.specs.FullImages.{image_shape, rows_shape, shape_with, IsFirstRow};
+ghost use Rattle.binlog_undo.specs.FullImages.{image_shape, rows_shape, shape_with, IsFirstRow, CanExchange};
 ghost use Rattle.binlog_undo.specs.Undoing.{Undoes, IsExchangedBy};
 
 use crate::backward::Backward;
@@ -98,6 +98,21 @@ impl<'a> FullRows<'a> {
             after,
             rest,
         })
+    }
+
+    /// Whether these bytes are rows.
+    #[tactic(auto, using(crate::proofs::FullRows::none_checked))]
+    pub(crate) fn are_rows(&self, rows: &[u8]) -> bool
+        ensures { result ≡ true → IsBytes rows.now → CanExchange (rows_shape self.now) rows.now }
+    {
+        let mut rest = rows;
+        'rows: while !rest.is_empty() {
+            let Some(row) = self.first(rest) else {
+                return false;
+            };
+            rest = row.rest;
+        }
+        true
     }
 
     /// The bytes of these rows with the images of each exchanged, the last row first. None if a row is refused.

@@ -6,10 +6,10 @@ ghost use Rattle.binlog_rows.specs.Rows.{head_written, columns_written, image_wr
 ghost use Rattle.binlog_rows.specs.Columns.{IsBitmap};
 ghost use Rattle.binlog_rows.specs.Writable.{RowsInRange};
 ghost use Rattle.binlog_rows.specs.RowsData.{event_in, form_in};
-ghost use Rattle.binlog_undo.specs.InverseEvents.{added_flags, inverse_head, inverse_columns, inverse_parts, inverse_type, GivesInverse};
+ghost use Rattle.binlog_undo.specs.InverseEvents.{added_flags, inverse_head, inverse_columns, inverse_parts, inverse_type, GivesInverse, ChecksInverse};
 
 use crate::undo_error::UndoError;
-use crate::undone_rows::{UndoneRows, undo_rows};
+use crate::undone_rows::{UndoneRows, can_exchange, undo_rows};
 use binlog_columns::TableColumns;
 use binlog_consts::EventType;
 use binlog_rows::RowsEventData;
@@ -215,4 +215,26 @@ pub fn undo_event(
     is_sound(event);
     let rows = undo_rows(alloc, event, columns, key)?;
     Ok(rows.into_event(alloc, event, checks)?)
+}
+
+/// The type of the event that undoes this one, as [`undo_event`] makes it. Where the images of the rows are full, no event is made for
+/// that, and no memory is taken.
+///
+/// # Errors
+///
+/// Those of [`undo_rows`].
+pub fn check_event(
+    alloc: Global,
+    event: &RowsEventData<'_>,
+    columns: TableColumns<'_>,
+    key: &[u64],
+) -> Result<EventType, UndoError>
+    ensures { ChecksInverse key.now (columns_of columns.entry) event.now result }
+{
+    let event_type = inverse_type(event);
+    if can_exchange(event, columns, key) {
+        return Ok(event_type);
+    }
+    undo_rows(alloc, event, columns, key)?;
+    Ok(event_type)
 }

@@ -2,7 +2,7 @@
 //!
 //! Which changes rows are is defined in `specs/RowChanges`, over the format of rows of `binlog_images` and the changes of
 //! `table_changes`; the bytes that undo rows are in `specs/RowBytes`. [`laws`] says that both are the inverse changes.
-//! [`undo_rows`] makes these bytes, or says why the event can't be undone.
+//! [`undo_rows`] makes these bytes, or says why the event can't be undone; [`check_event`] says that alone.
 //!
 //! [`Heading`] is what the headers of written events take from the events of the log, and [`EventsWriter`] makes their bytes, one event after
 //! the other. `specs/Events` has the bytes of an event, and `specs/Transactions` the events of a transaction.
@@ -30,7 +30,7 @@ mod write_error;
 
 pub use events_writer::EventsWriter;
 pub use heading::Heading;
-pub use inverse_event::{ForeignKeyChecks, InverseEvent, undo_event};
+pub use inverse_event::{ForeignKeyChecks, InverseEvent, check_event, undo_event};
 pub use undo_error::UndoError;
 pub use undone_change::UndoneChange;
 pub use undone_rows::{UndoneRows, undo_rows};

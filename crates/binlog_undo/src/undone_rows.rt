@@ -1,13 +1,13 @@
 //! The rows that undo a row event.
-ghost use Rattle.std.specs.Prelude.{◌≡◌, option_map};
+ghost use Rattle.std.specs.Prelude.{◌≡◌, true, option_map};
 ghost use Rattle.binlog_columns.specs.TableColumns.{columns_of};
 ghost use Rattle.binlog_rows.specs.Images.{bitmap_of};
 ghost use Rattle.binlog_images.specs.EventRows.{is_partial};
 ghost use Rattle.binlog_images.specs.Events.{HasBitEach};
-ghost use Rattle.binlog_undo.specs.UndoneEvents.{IsUndoing, GivesUndone};
+ghost use Rattle.binlog_undo.specs.UndoneEvents.{IsUndoing, CanUndoRows, GivesUndone};
 
 use crate::bytes::are_bytes;
-use crate::coverage::{can_undo, completes};
+use crate::coverage::{can_undo, completes, exchanges};
 use crate::full_rows::FullRows;
 use crate::image_pair::ImagePair;
 use crate::undo_error::UndoError;
@@ -114,4 +114,32 @@ pub fn undo_rows(
         completes: completes(before, after),
         bytes,
     })
+}
+
+/// Whether the rows of this event are undone by an exchange of their images, which are full. That takes no memory. Other rows may be
+/// undone, too. `key` is as for [`undo_rows`].
+pub(crate) fn can_exchange(
+    event: &RowsEventData<'_>,
+    columns: TableColumns<'_>,
+    key: &[u64],
+) -> bool
+    ensures { result ≡ true → CanUndoRows key.now (columns_of columns.entry) event.now }
+{
+    let Ok(rows) = event.rows_of_table(columns) else {
+        return false;
+    };
+    let before = event.columns_before_image();
+    let after = event.columns_after_image();
+    if is_partial(event) {
+        return false;
+    }
+    if !exchanges(key, before, after) {
+        return false;
+    }
+    let Some(full) = FullRows::new(columns, before, after) else {
+        return false;
+    };
+    let bytes = rows.rest_data();
+    are_bytes(bytes);
+    full.are_rows(bytes)
 }

@@ -11,14 +11,15 @@ use Rattle.binlog_optional_metadata.specs.declared.field.OptionalMetadataField.{
 use Rattle.binlog_optional_metadata.specs.declared.metadata_error.OptionalMetadataError.{OptionalMetadataError}
 use Rattle.binlog_optional_metadata.specs.declared.optional_metadata.OptionalMetadata.{OptionalMetadata}
 use Rattle.binlog_columns.specs.Metadata.{Typed}
+use Rattle.binlog_consts.specs.declared.event_type.EventType.{EventType}
 use Rattle.binlog_rows.specs.declared.rows_event_data.RowsEventData.{RowsEventData}
 use Rattle.binlog_rows.specs.declared.table_map_event.TableMapEvent.{TableMapEvent}
-use Rattle.binlog_undo.specs.InverseEvents.{GivesInverse}
+use Rattle.binlog_undo.specs.InverseEvents.{GivesInverse, ChecksInverse}
 use Rattle.binlog_undo.specs.declared.inverse_event.ForeignKeyChecks.{ForeignKeyChecks}
 use Rattle.binlog_undo.specs.declared.inverse_event.InverseEvent.{InverseEvent}
 use Rattle.binlog_undo.specs.declared.undo_error.UndoError.{UndoError}
 use Rattle.binlog_undo.specs.declared.undo_error.UndoError.TheVariants as undo_errors
-use Rattle.binlog_undo_log.specs.Keys.{states_key, newer_key, LeavesKey, GivesAtOnce, GivesByKey}
+use Rattle.binlog_undo_log.specs.Keys.{states_key, newer_key, LeavesKey, GivesAtOnce, GivesByKey, ChecksByKey}
 
 abbrev Items : Type 0
 Items = List (Result OptionalMetadataField OptionalMetadataError)
@@ -92,3 +93,19 @@ pub some_key : (is_maria_log : Bool) (map : TableMapEvent) (columns : List Typed
     → GivesByKey is_maria_log map columns checks rows (Ok inverse) → (key : List ℕ) × GivesInverse key columns checks rows (Ok inverse)
 some_key is_maria_log map columns checks rows inverse (inl h) = (h.key, h.gives)
 some_key is_maria_log map columns checks rows inverse (inr h) = ([], h)
+
+-- The same of a check.
+pub some_checked : (is_maria_log : Bool) (map : TableMapEvent) (columns : List Typed) (rows : RowsEventData) (event_type : EventType)
+    → ChecksByKey is_maria_log map columns rows (Ok event_type) → (key : List ℕ) × ChecksInverse key columns rows (Ok event_type)
+some_checked is_maria_log map columns rows event_type (inl h) = (h.key, h.gives)
+some_checked is_maria_log map columns rows event_type (inr h) = ([], h)
+
+-- What a check refuses isn't undone, for the same reason.
+pub refused_alike : (is_maria_log : Bool) (map : TableMapEvent) (columns : List Typed) (checks : ForeignKeyChecks) (rows : RowsEventData) (error : UndoError)
+    → ChecksByKey is_maria_log map columns rows (Err error) → GivesByKey is_maria_log map columns checks rows (Err error)
+refused_alike is_maria_log map columns checks rows error (inl h) = inl (record { lacks = h.lacks; key = h.key; is_key = h.is_key; gives = h.gives })
+refused_alike is_maria_log map columns checks rows (undo_errors.Event error) (inr h) = inr h
+refused_alike is_maria_log map columns checks rows (undo_errors.Rows error) (inr h) = inr h
+refused_alike is_maria_log map columns checks rows undo_errors.Image (inr h) = absurd h
+refused_alike is_maria_log map columns checks rows (undo_errors.PartialJson row) (inr h) = inr h
+refused_alike is_maria_log map columns checks rows undo_errors.Memory (inr h) = inr h

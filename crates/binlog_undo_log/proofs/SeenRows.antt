@@ -10,6 +10,7 @@ use Rattle.std.proofs.lemmas.Bool.{eq-eqb, le-ltb}
 use Rattle.binlog_columns.specs.Metadata.{Typed}
 use Rattle.binlog_columns.specs.Refusals.{refusal, columns_in}
 use Rattle.binlog_columns.specs.declared.column_error.ColumnError.{ColumnError}
+use Rattle.binlog_consts.specs.declared.event_type.EventType.{EventType}
 use Rattle.binlog_consts.specs.declared.event_type.EventType.TheVariants.{TABLE_MAP_EVENT}
 use Rattle.binlog_event_format.specs.PostHeaders.{post_header}
 use Rattle.binlog_event_format.specs.declared.format_description.FormatDescriptionEvent.{FormatDescriptionEvent}
@@ -27,9 +28,9 @@ use Rattle.binlog_undo.specs.declared.inverse_event.InverseEvent.{InverseEvent}
 use Rattle.binlog_undo.specs.declared.undo_error.UndoError.{UndoError}
 use Rattle.binlog_undo.specs.declared.undo_error.UndoError.TheVariants as errors
 use Rattle.binlog_undo_index.specs.declared.places.ChangePlace.{ChangePlace}
-use Rattle.binlog_undo_log.proofs.Keys.{some_key}
+use Rattle.binlog_undo_log.proofs.Keys.{some_checked, refused_alike}
 use Rattle.binlog_undo_log.specs.Heads.{is_writable, has_rows_length}
-use Rattle.binlog_undo_log.specs.Keys.{GivesByKey}
+use Rattle.binlog_undo_log.specs.Keys.{GivesByKey, ChecksByKey}
 use Rattle.binlog_undo_log.specs.Looking.{NamesTable, AsksFor, IsUnknownTemporal, look_if, LooksAs, LooksAtColumns, LooksUnlessOld, LooksUnlessRefused, LooksIfMapped, LooksIfWritable, LooksIfAsked, LooksByPlace, id_of}
 use Rattle.binlog_undo_log.specs.UndoneTwice.{TakesAll}
 use Rattle.binlog_undo_log.specs.declared.choice.Choice.{Choice}
@@ -105,20 +106,21 @@ module _ (scan : UndoScan) (maps : TableMaps) (event : EventView) (rows : RowsEv
   abbrev change : ChangePlace
   change = record { table_map = table_map; rows = scan.place }
 
-  length_is : (maria : Bool) (inverse : InverseEvent) → has_rows_length event.fde (inverse_type rows) ≡ true → GivesByKey maria map columns scan.checks rows (Ok inverse)
-      → has_rows_length event.fde inverse.event_type ≡ true
-  length_is maria inverse long gives =
-      let given = (some_key maria map columns scan.checks rows inverse gives).1 in
-      ap (has_rows_length event.fde) (given.2.event_type ∙ ap type_of given.1.is ∙ type_is given.1.undone.completes scan.checks given.1.undone.bytes.items rows) ∙ long
+  length_is : (maria : Bool) (event_type : EventType) → has_rows_length event.fde (inverse_type rows) ≡ true → ChecksByKey maria map columns rows (Ok event_type)
+      → has_rows_length event.fde event_type ≡ true
+  length_is maria event_type long given =
+      let found = (some_checked maria map columns rows event_type given).1 scan.checks in
+      ap (has_rows_length event.fde) (found.2 ∙ ap type_of found.1.is ∙ type_is found.1.undone.completes scan.checks found.1.undone.bytes rows) ∙ long
 
-  answered : (maria : Bool) (answer : Result InverseEvent UndoError) (look : RowsLook) → has_rows_length event.fde (inverse_type rows) ≡ true
-      → GivesByKey maria map columns scan.checks rows answer → IsOkUnless answer errors.Memory → LooksAs event.fde change answer look → look ≡ Undone change
-  answered maria (Ok inverse) look long gives ok h = h ∙ ap (λ (b : Bool). look_if b change) (length_is maria inverse long gives)
-  answered maria (Err errors.Image) look long gives ok h = absurd cc
-  answered maria (Err (errors.PartialJson row)) look long gives ok h = absurd cc
-  answered maria (Err (errors.Event error)) look long gives ok h = absurd cc
-  answered maria (Err (errors.Rows error)) look long gives ok h = absurd cc
-  answered maria (Err errors.Memory) look long gives ok h = absurd h
+  answered : (maria : Bool) (answer : Result EventType UndoError) (look : RowsLook) → has_rows_length event.fde (inverse_type rows) ≡ true
+      → ChecksByKey maria map columns rows answer
+      → ((undone : Result InverseEvent UndoError) → GivesByKey maria map columns scan.checks rows undone → IsOkUnless undone errors.Memory)
+      → LooksAs event.fde change answer look → look ≡ Undone change
+  answered maria (Ok event_type) look long given ok h = h ∙ ap (λ (b : Bool). look_if b change) (length_is maria event_type long given)
+  answered maria (Err errors.Memory) look long given ok h = absurd h
+  answered maria (Err error) look long given ok h =
+      let is : error ≡ errors.Memory = ok (Err error) (refused_alike maria map columns scan.checks rows error given) in
+      absurd (subst (λ (e : UndoError). LooksAs event.fde change (Err e) look) is h)
 
   -- Their places, if they have bytes: nothing is in the way.
   pub rows_undone : (look : RowsLook) → TakesAll scan.choice → is_some scan.description ≡ true → is_writable event.fde ≡ true
@@ -136,4 +138,4 @@ module _ (scan : UndoScan) (maps : TableMaps) (event : EventView) (rows : RowsEv
       let unrefused : LooksUnlessRefused None scan event rows map table_map look = subst (λ (e : Option ColumnError). LooksUnlessRefused e scan event rows map table_map look) none found in
       let last : LooksAtColumns scan event rows map columns table_map look =
       subst (λ (b : Bool). LooksUnlessOld b scan event rows map columns table_map look) (times unrefused.0 unrefused.1) unrefused.2 in
-      answered last.0 last.2 look long last.3 (accepted last.0 last.2 last.3) last.4
+      answered last.0 last.2 look long last.3 (accepted last.0) last.4

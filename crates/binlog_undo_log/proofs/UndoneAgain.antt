@@ -99,7 +99,7 @@ module _ (key : List ℕ) (columns : List Typed) (checks again : ForeignKeyCheck
   its_columns : (event_in undoing).columns ≡ inverse_columns u.undone.completes (event_in event).columns
   its_columns =
       ap (λ (e : RowsEventData). (event_in e).columns) u.is
-      ∙ ap (λ e. e.columns) (parts_are u.undone.completes checks u.undone.bytes.items event)
+      ∙ ap (λ e. e.columns) (parts_are u.undone.completes checks u.undone.bytes event)
 
   its_images : can_undo [] (event_in undoing).columns.before (event_in undoing).columns.after ≡ true
   its_images =
@@ -113,7 +113,7 @@ module _ (key : List ℕ) (columns : List Typed) (checks again : ForeignKeyCheck
       ∙ same_count u.undone.completes (event_in event).columns (length columns) ∙ u.undoes.count
 
   is_whole_again : is_partial undoing ≡ false
-  is_whole_again = ap is_partial u.is ∙ whole_again u.undone.completes checks u.undone.bytes.items event
+  is_whole_again = ap is_partial u.is ∙ whole_again u.undone.completes checks u.undone.bytes event
 
   -- Its changes, of a table of any name, show its rows.
   not_refused : (error : RowsError) → IsRefused (event_shape columns (event_in undoing)) 0 (event_in undoing).rows error → ⊥

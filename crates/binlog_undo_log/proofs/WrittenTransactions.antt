@@ -115,7 +115,7 @@ module _ (is_at : FramesOf) (fde : FormatDescriptionEvent) (checks : ForeignKeyC
       let found = some_changes (name_of map) key columns checks source undoing gives.1 in
       let table_id : (event_in undoing).head.table_id ≡ (event_in source).head.table_id =
       ap (λ (e : RowsEventData). (event_in e).head.table_id) gives.1.is
-      ∙ ap (λ e. e.head.table_id) (parts_are gives.1.undone.completes checks gives.1.undone.bytes.items source) in
+      ∙ ap (λ e. e.head.table_id) (parts_are gives.1.undone.completes checks gives.1.undone.bytes source) in
       let pair : WrittenPair = record {
         map_event = record { heading = source_heading (header_of h.map_event.frame); event_type = TABLE_MAP_EVENT; body = data_of h.map_event.fde.footer h.map_event.frame };
         rows_event = record { heading = source_heading (header_of h.event.frame); event_type = rows.inverse.event_type; body = rows.inverse.body.items };

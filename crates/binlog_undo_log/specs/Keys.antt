@@ -9,9 +9,10 @@ use Rattle.binlog_optional_metadata.specs.Fields.{Content, numbers, indexed}
 use Rattle.binlog_optional_metadata.specs.FieldsLeft.{FieldContent}
 use Rattle.binlog_optional_metadata.specs.declared.class_counts.ClassCounts.{ClassCounts}
 use Rattle.binlog_optional_metadata.specs.declared.field_type.OptionalMetadataFieldType.TheVariants.{SIMPLE_PRIMARY_KEY, PRIMARY_KEY_WITH_PREFIX}
+use Rattle.binlog_consts.specs.declared.event_type.EventType.{EventType}
 use Rattle.binlog_rows.specs.declared.rows_event_data.RowsEventData.{RowsEventData}
 use Rattle.binlog_rows.specs.declared.table_map_event.TableMapEvent.{TableMapEvent}
-use Rattle.binlog_undo.specs.InverseEvents.{GivesInverse}
+use Rattle.binlog_undo.specs.InverseEvents.{GivesInverse, ChecksInverse}
 use Rattle.binlog_undo.specs.declared.inverse_event.ForeignKeyChecks.{ForeignKeyChecks}
 use Rattle.binlog_undo.specs.declared.inverse_event.InverseEvent.{InverseEvent}
 use Rattle.binlog_undo.specs.declared.undo_error.UndoError.{UndoError}
@@ -62,6 +63,20 @@ GivesAtOnce columns checks rows answer = GivesInverse [] columns checks rows ans
 abbrev pub GivesByKey : Bool → TableMapEvent → List Typed → ForeignKeyChecks → RowsEventData → Result InverseEvent UndoError → Type 0
 GivesByKey is_maria_log table_map columns checks rows answer =
     GivesWithKey is_maria_log table_map columns checks rows answer ⊎ GivesAtOnce columns checks rows answer
+
+-- The same of a check, which answers the type of the event that undoes the rows.
+pub record ChecksWithKey (is_maria_log : Bool) (table_map : TableMapEvent) (columns : List Typed) (rows : RowsEventData) (answer : Result EventType UndoError) : Type 0 where
+  pub lacks : ChecksInverse [] columns rows (Err errors.Image)
+  pub key : List ℕ
+  pub is_key : IsKey is_maria_log columns table_map key
+  pub gives : ChecksInverse key columns rows answer
+
+abbrev pub ChecksAtOnce : List Typed → RowsEventData → Result EventType UndoError → Type 0
+ChecksAtOnce columns rows (Err errors.Image) = ⊥
+ChecksAtOnce columns rows answer = ChecksInverse [] columns rows answer
+
+abbrev pub ChecksByKey : Bool → TableMapEvent → List Typed → RowsEventData → Result EventType UndoError → Type 0
+ChecksByKey is_maria_log table_map columns rows answer = ChecksWithKey is_maria_log table_map columns rows answer ⊎ ChecksAtOnce columns rows answer
 
 -- The event is of a log of MariaDB's.
 abbrev pub IsMariaEvent : EventView → Bool → Type 0

@@ -6,6 +6,7 @@ use Rattle.std.specs.List.{list_any}
 use Rattle.binlog_columns.specs.Metadata.{Typed}
 use Rattle.binlog_columns.specs.Refusals.{refusal, columns_in}
 use Rattle.binlog_columns.specs.declared.column_error.ColumnError.{ColumnError}
+use Rattle.binlog_consts.specs.declared.event_type.EventType.{EventType}
 use Rattle.binlog_event_format.specs.declared.format_description.FormatDescriptionEvent.{FormatDescriptionEvent}
 use Rattle.binlog_events.specs.Events.{EventView}
 use Rattle.binlog_file.specs.TableMapsInForce.{TableMaps}
@@ -24,14 +25,13 @@ use Rattle.binlog_wire.specs.declared.error.Error.TheVariants.{Memory}
 use Rattle.binlog_rows.specs.RowsData.{event_in}
 use Rattle.binlog_rows.specs.declared.rows_event_data.RowsEventData.{RowsEventData}
 use Rattle.binlog_rows.specs.declared.table_map_event.TableMapEvent.{TableMapEvent}
-use Rattle.binlog_undo.specs.declared.inverse_event.InverseEvent.{InverseEvent}
 use Rattle.binlog_undo.specs.declared.undo_error.UndoError.{UndoError}
 use Rattle.binlog_undo.specs.declared.undo_error.UndoError.TheVariants as errors
 use Rattle.binlog_undo_index.specs.declared.places.ChangePlace.{ChangePlace}
 use Rattle.binlog_undo_index.specs.declared.reason.Reason.TheVariants as reasons
 use Rattle.binlog_undo_log.specs.Compressed.{most_bytes, IsUncompressed, ReadsUncompressed}
 use Rattle.binlog_undo_log.specs.Heads.{is_writable, has_rows_length}
-use Rattle.binlog_undo_log.specs.Keys.{IsMariaEvent, GivesByKey}
+use Rattle.binlog_undo_log.specs.Keys.{IsMariaEvent, ChecksByKey}
 use Rattle.binlog_undo_log.specs.declared.choice.Choice.{Choice}
 use Rattle.binlog_undo_log.specs.declared.scan.seeing.RowsLook.{RowsLook}
 use Rattle.binlog_undo_log.specs.declared.scan.seeing.RowsLook.TheVariants.{Left, Undone, Refused, Damaged}
@@ -71,9 +71,9 @@ abbrev pub look_if : Bool → ChangePlace → RowsLook
 look_if true place = Undone place
 look_if false place = Refused reasons.Description
 
--- Of rows at these places, whose inverse is this one, or which are refused so.
-abbrev pub LooksAs : FormatDescriptionEvent → ChangePlace → Result InverseEvent UndoError → RowsLook → Type 0
-LooksAs d place (Ok inverse) look = look ≡ look_if (has_rows_length d inverse.event_type) place
+-- Of rows at these places, which an event of this type undoes, or which are refused so.
+abbrev pub LooksAs : FormatDescriptionEvent → ChangePlace → Result EventType UndoError → RowsLook → Type 0
+LooksAs d place (Ok event_type) look = look ≡ look_if (has_rows_length d event_type) place
 LooksAs d place (Err errors.Image) look = look ≡ Refused reasons.Image
 LooksAs d place (Err (errors.PartialJson row)) look = look ≡ Refused reasons.PartialJson
 LooksAs d place (Err (errors.Event error)) look = look ≡ Refused reasons.Rows
@@ -83,7 +83,7 @@ LooksAs d place (Err errors.Memory) look = ⊥
 -- Of a table with this map and these columns.
 abbrev pub LooksAtColumns : UndoScan → EventView → RowsEventData → TableMapEvent → List Typed → (table_map : ℕ) → RowsLook → Type 0
 LooksAtColumns scan event rows map columns table_map look =
-    (maria : Bool) × IsMariaEvent event maria × (answer : Result InverseEvent UndoError) × GivesByKey maria map columns scan.checks rows answer
+    (maria : Bool) × IsMariaEvent event maria × (answer : Result EventType UndoError) × ChecksByKey maria map columns rows answer
     × LooksAs event.fde (record { table_map = table_map; rows = scan.place }) answer look
 
 -- ---- a row event, one condition after the other

@@ -6,14 +6,15 @@ ghost use Rattle.binlog_optional_metadata.specs.FieldValues.{content_of};
 ghost use Rattle.binlog_optional_metadata.specs.FieldsLeft.{answer_field_content};
 ghost use Rattle.binlog_optional_metadata.specs.IndexedNumbers.{indexed_of};
 ghost use Rattle.binlog_optional_metadata.specs.Numbers.{numbers_of};
-ghost use Rattle.binlog_undo_log.specs.Keys.{states_key, newer_key, key_of, LeavesKey, IsKey, GivesByKey};
+ghost use Rattle.binlog_undo_log.specs.Keys.{states_key, newer_key, key_of, LeavesKey, IsKey, GivesByKey, ChecksByKey};
 
 use binlog_columns::{Column, TableColumns};
+use binlog_consts::EventType;
 use binlog_file::{RowsEventData, TableMapEvent};
 use binlog_optional_metadata::{
     IndexedNumbers, Numbers, OptionalMetadata, OptionalMetadataError, OptionalMetadataField,
 };
-use binlog_undo::{ForeignKeyChecks, InverseEvent, UndoError, undo_event};
+use binlog_undo::{ForeignKeyChecks, InverseEvent, UndoError, check_event, undo_event};
 use std::alloc::{AllocError, Global};
 
 /// With at most so many bytes for each column there are one or two rows, whose columns are read as they are needed.
@@ -123,6 +124,25 @@ fn undo_by_columns(
     }
 }
 
+// The type of the event that undoes rows of a table with this map and these columns.
+fn check_by_columns(
+    alloc: Global,
+    map: &TableMapEvent<'_>,
+    rows: &RowsEventData<'_>,
+    columns: TableColumns<'_>,
+    is_maria_log: bool,
+) -> Result<EventType, UndoError>
+    ensures { ChecksByKey is_maria_log map.now (columns_of columns.entry) rows.now result }
+{
+    match check_event(alloc, rows, columns, &[]) {
+        Err(UndoError::Image) => {
+            let key = primary_key(alloc, map, columns, is_maria_log)?;
+            check_event(alloc, rows, columns, key.as_slice())
+        }
+        answer => answer,
+    }
+}
+
 // The columns, in memory, where each row is read by them.
 fn collected(alloc: Global, columns: TableColumns<'_>) -> Result<Vec<Column>, AllocError>
     ensures { IfOk result (λ known. map typed_of known.items ≡ columns_of columns.entry) }
@@ -156,4 +176,26 @@ pub(crate) fn undo_by_key(
     let read = collected(alloc, columns)?;
     let known = TableColumns::known(read.as_slice());
     undo_by_columns(alloc, map, rows, known, is_maria_log, checks)
+}
+
+/// The type of the event that [`undo_by_key`] gives, or its error.
+///
+/// # Errors
+///
+/// Those of [`check_event`].
+pub(crate) fn check_by_key(
+    alloc: Global,
+    map: &TableMapEvent<'_>,
+    rows: &RowsEventData<'_>,
+    columns: TableColumns<'_>,
+    is_maria_log: bool,
+) -> Result<EventType, UndoError>
+    ensures { ChecksByKey is_maria_log map.now (columns_of columns.entry) rows.now result }
+{
+    if rows.rows_data().len() / FEW_BYTES <= columns.num_columns() {
+        return check_by_columns(alloc, map, rows, columns, is_maria_log);
+    }
+    let read = collected(alloc, columns)?;
+    let known = TableColumns::known(read.as_slice());
+    check_by_columns(alloc, map, rows, known, is_maria_log)
 }

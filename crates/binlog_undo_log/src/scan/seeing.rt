@@ -10,13 +10,14 @@ ghost use Rattle.binlog_undo_log.specs.Looking.{NamesTable, AsksFor, is_old_temp
 
 use crate::events::is_maria_event;
 use crate::heads::{has_rows_length, is_writable};
-use crate::primary_key::undo_by_key;
+use crate::primary_key::check_by_key;
 use crate::scan::UndoScan;
 use binlog_columns::TableColumns;
+use binlog_consts::EventType;
 use binlog_event_format::DescriptionRef;
 use binlog_file::{Error, EventRef, EventStreamReader, RowsEventData, TableMapEvent};
 use binlog_filters::TableFilter;
-use binlog_undo::{InverseEvent, UndoError};
+use binlog_undo::UndoError;
 use binlog_undo_index::{ChangePlace, Reason};
 
 /// What is seen of a row event.
@@ -63,18 +64,18 @@ fn is_unknown_temporal(is_plain: bool, event: &EventRef<'_>, types: &[u8]) -> bo
     is_old_temporal(event, types)
 }
 
-// What is seen of rows at these places, of which this undoes them.
+// What is seen of rows at these places, which an event of this type undoes.
 fn look_of(
     fde: DescriptionRef<'_>,
-    undone: &Result<InverseEvent, UndoError>,
+    checked: Result<EventType, UndoError>,
     place: ChangePlace,
 ) -> Result<RowsLook, Error>
-    ensures ok { IfOk result (LooksAs (description_of fde.entry) place undone.now) }
+    ensures ok { IfOk result (LooksAs (description_of fde.entry) place checked) }
     ensures memory { IfErr result (λ e. e ≡ Memory) }
 {
-    match undone {
-        Ok(inverse) => {
-            if has_rows_length(fde, inverse.event_type()) {
+    match checked {
+        Ok(event_type) => {
+            if has_rows_length(fde, event_type) {
                 Ok(RowsLook::Undone(place))
             } else {
                 Ok(RowsLook::Refused(Reason::Description))
@@ -135,10 +136,8 @@ impl UndoScan {
             rows: self.place,
         };
         let is_maria_log = is_maria_event(event);
-        let undone = undo_by_key(self.alloc, map, rows, columns, is_maria_log, self.checks);
-        let look = look_of(event.fde(), &undone, place);
-        drop(undone);
-        look
+        let checked = check_by_key(self.alloc, map, rows, columns, is_maria_log);
+        look_of(event.fde(), checked, place)
     }
 
     // What is seen of rows of a table with this map, which is at this place.

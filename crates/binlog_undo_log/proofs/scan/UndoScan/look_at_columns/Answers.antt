@@ -11,12 +11,12 @@ use Rattle.binlog_undo_log.proofs.scan.UndoScan.look_at_columns.Goals as goal
 pub returns-clause-ok : goal.returns-clause-ok
 returns-clause-ok c =
     let place : ChangePlace = record { table_map = c.args.table_map; rows = c.args.self.now.place } in
-    if_ok (LooksAs (description_of c.fde.result) place c.undo_by_key-undone.result)
-    (LooksAtColumns c.args.self.now (view_of c.args.event.now) c.args.rows.now c.args.map.now (columns_of c.args.columns) c.args.table_map) c.look_of-look.result
+    if_ok (LooksAs (description_of c.fde.result) place c.check_by_key-checked.result)
+    (LooksAtColumns c.args.self.now (view_of c.args.event.now) c.args.rows.now c.args.map.now (columns_of c.args.columns) c.args.table_map) c.look_of.result
     (λ look h. (
       c.is_maria_event-is_maria_log.result,
       c.is_maria_event-is_maria_log.ensures,
-      c.undo_by_key-undone.result,
-      c.undo_by_key-undone.ensures,
-      subst (λ (d : FormatDescriptionEvent). LooksAs d place c.undo_by_key-undone.result look) c.fde.ensures h,
-    )) c.look_of-look.ensures.ok
+      c.check_by_key-checked.result,
+      c.check_by_key-checked.ensures,
+      subst (λ (d : FormatDescriptionEvent). LooksAs d place c.check_by_key-checked.result look) c.fde.ensures h,
+    )) c.look_of.ensures.ok
