@@ -217,8 +217,8 @@ pub fn undo_event(
     Ok(rows.into_event(alloc, event, checks)?)
 }
 
-/// The type of the event that undoes this one, as [`undo_event`] makes it. Where the images of the rows are full, no event is made for
-/// that, and no memory is taken.
+/// The type of the event that undoes this one, as [`undo_event`] makes it, with the same `columns` and `key`. Where the images of the
+/// rows have all columns, at most 64, and no row is refused, this takes no memory.
 ///
 /// # Errors
 ///

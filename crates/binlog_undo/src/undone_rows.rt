@@ -116,8 +116,8 @@ pub fn undo_rows(
     })
 }
 
-/// Whether the rows of this event are undone by an exchange of their images, which are full. That takes no memory. Other rows may be
-/// undone, too. `key` is as for [`undo_rows`].
+/// Whether the rows of this event are known to be undone by an exchange of their images, which are full. Other rows may be undone, too.
+/// This takes no memory. `key` is as for [`undo_rows`].
 pub(crate) fn can_exchange(
     event: &RowsEventData<'_>,
     columns: TableColumns<'_>,
