@@ -105,13 +105,13 @@ none_remain columns others present nulls s rest word h none = h.same ∙ ap (λ 
 -- ---- an image
 
 pub image_behind : (columns : List Typed) (present nulls : Bitmap) (len : ℕ) (s m n : List ℕ) (answer : Option (Bor (List ℕ))) → len ≡ present.0 → present.0 ≡ length columns
-    → has_all present ≡ true → (bitmap len).reads s ≡ Ok (nulls, m) → n ≡ m → IfSome answer (λ rest. left None columns (first_bits present nulls) n ≡ Ok rest.now)
+    → has_all present ≡ true → (bitmap len).reads s ≡ Ok (nulls, m) → IfSome answer (λ rest. left None columns (first_bits present nulls) n ≡ Ok rest.now) → n ≡ m
     → IfSome answer (λ rest. IsPassed rest.now (image_at (columns, present) s))
-image_behind columns present nulls len s m n (Some rest) is each all read same h =
+image_behind columns present nulls len s m n (Some rest) is each all read h same =
     let count : len ≡ set_count (length columns) 0 present = is ∙ sym (all_counted present.0 0 present all) ∙ ap (λ (k : ℕ). set_count k 0 present) each in
     let taken : left None columns (first_bits present nulls) m ≡ Ok rest.now = ap (λ (t : List ℕ). left None columns (first_bits present nulls) t) (sym same) ∙ h in
     record { value = cells_in None columns (first_bits present nulls) m; is = image_taken None None (columns, present) len s m rest.now nulls refl count read taken }
-image_behind columns present nulls len s m n None is each all read same h = tt
+image_behind columns present nulls len s m n None is each all read h same = tt
 
 pub image_there : (image : Option FullImage) (found : FullImage) (s : List ℕ) (answer : Option (Bor (List ℕ))) → image ≡ Some found
     → IfSome answer (λ rest. IsPassed rest.now (image_at (image_shape found) s)) → IfSome answer (λ rest. IsPassed rest.now (image_if_at 0 Before (option_map image_shape image) s))
