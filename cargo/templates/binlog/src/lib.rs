@@ -143,7 +143,7 @@ pub mod undo {
     #[doc(hidden)]
     pub use crate::binlog_transactions::statement_kind;
     pub use crate::binlog_undo::{EventsWriter, ForeignKeyChecks, Heading, InverseEvent, UndoError, UndoneChange, UndoneRows};
-    pub use crate::binlog_undo::{WriteError, undo_event, undo_rows};
+    pub use crate::binlog_undo::{WriteError, check_event, undo_event, undo_rows};
     pub use crate::binlog_undo_index::{ChangePlace, Positions, Reason, Refused, Rules, SeenEvent, Skips, TransactionPlace, UndoIndex};
 }
 
