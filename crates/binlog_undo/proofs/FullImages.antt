@@ -84,14 +84,13 @@ pub others_remain : (columns others behind : List Typed) (column : Typed) (prese
     → IsPassed next ((cell_in column true (word % 2 == 1)).reads rest) → Remains columns present nulls s behind (word / 2) next
 others_remain columns others behind column present nulls s rest next word h all each too split passed =
     let count : h.index + length others ≡ length columns = h.count in
-    let more : length others ≡ suc (length behind) = ap length split in
-    let less : h.index < present.0 = omega (arith, count, more, each) in
+    let less : h.index < present.0 = omega (arith, count, ap length split, each) in
     let within : h.index < nulls.0 = omega (arith, less, too) in
     let there : is_set present h.index ≡ true = is_there present h.index all less in
     let read = read_there column present nulls h.index (word % 2 == 1) rest next passed.value there (first_null nulls h.index word h.holds within) passed.is in
     record {
       index = h.index + 1;
-      count = omega (arith, count, more);
+      count = omega (arith, count, ap length split);
       same = h.same
           ∙ left_step None others behind column (bits_at present nulls h.index) rest next passed.value split read
           ∙ ap (λ (b : Bits). left None behind b next) (next_bits_are present nulls h.index there);
