@@ -12,7 +12,6 @@ use Rattle.binlog_images.specs.Bits.{Bits, is_set, set_count, first_bits, next_b
 use Rattle.binlog_images.specs.Cells.{Cell, cell_in, cell_at}
 use Rattle.binlog_images.specs.Cells as cells
 use Rattle.binlog_images.specs.Images.{left, cells_in, image_at, placed, image_if_at}
-use Rattle.binlog_images.specs.declared.rows_error.ImageError.{ImageError}
 use Rattle.binlog_images.specs.declared.rows_error.ImageKind.TheVariants.{Before}
 use Rattle.binlog_images.proofs.Steps.{left_step, image_taken}
 use Rattle.binlog_undo.specs.Coverage.{all_from, has_all}
@@ -116,7 +115,7 @@ pub image_there : (image : Option FullImage) (found : FullImage) (s : List ℕ) 
     → IfSome answer (λ rest. IsPassed rest.now (image_at (image_shape found) s)) → IfSome answer (λ rest. IsPassed rest.now (image_if_at 0 Before (option_map image_shape image) s))
 image_there image found s (Some rest) is h = record {
   value = Some h.value;
-  is = ap (λ (o : Option FullImage). image_if_at 0 Before (option_map image_shape o) s) is ∙ ap (λ (r : Result (List Cell × List ℕ) ImageError). placed 0 Before r) h.is;
+  is = ap (λ (o : Option FullImage). image_if_at 0 Before (option_map image_shape o) s) is ∙ ap (placed 0 Before) h.is;
 }
 image_there image found s None is h = tt
 

@@ -7,7 +7,7 @@ use Rattle.binlog_undo.proofs.full_rows.FullRows.exchanged.Goals as goal
 
 pub rows-preserved : goal.rows-preserved
 rows-preserved c =
-    one_exchanged (rows_shape c.args.self.now) c.args.rows.now c.rows.rest.now c.rows.bytes.made c.prepend.new.self.made c.prepend-2.new.self.made c.in-Some.row c.rows.invariant
+    one_exchanged (rows_shape c.args.self.now) c.args.rows.now c.rows.rest.now c.rows.bytes.made c.prepend.new.self.made c.prepend-in-rows.new.self.made c.in-Some.row c.rows.invariant
     c.in-Some.ensures c.in_ok-prepend.ensures c.in_ok-prepend-2.ensures
 
 pub rows-smaller : goal.rows-smaller
