@@ -1,4 +1,3 @@
-use Rattle.std.proofs.Common.{◌≡◌}
 use Rattle.binlog_columns.specs.TableColumns.{columns_of}
 use Rattle.binlog_rows.specs.Images.{bitmap_of}
 use Rattle.binlog_undo.proofs.FullImages.{Remains}
