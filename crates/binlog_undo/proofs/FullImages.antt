@@ -1,7 +1,7 @@
 -- Images that have all columns of their table.
 use Rattle.std.proofs.Common.{◌≡◌, ℕ, zero, suc, ◌+◌, ◌/◌, ◌%◌, ◌<◌, Bool, true, false, List, [], ◌∷◌, length, Option, None, Some, Ok, refl, sym, ◌∙◌, ap, subst, arith}
 use Rattle.std.specs.Borrow.{Bor}
-use Rattle.std.specs.Prelude.{◌==◌, ◌&&◌, if◌then◌else◌, option_map, IfSome}
+use Rattle.std.specs.Prelude.{◌==◌, if◌then◌else◌, option_map, IfSome}
 use Rattle.binlog_columns.specs.Layouts.{layout_of}
 use Rattle.binlog_columns.specs.Metadata.{Typed}
 use Rattle.binlog_rows.specs.Columns.{Bitmap, bitmap}
