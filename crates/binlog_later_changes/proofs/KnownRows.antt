@@ -7,7 +7,6 @@ use Rattle.binlog_columns.specs.Metadata.{Typed}
 use Rattle.binlog_columns.specs.Refusals.{refusal, columns_in}
 use Rattle.binlog_columns.specs.declared.column_error.ColumnError.{ColumnError}
 use Rattle.binlog_events.specs.Events.{EventView}
-use Rattle.binlog_file.specs.declared.log_data.LogEventData.{LogEventData}
 use Rattle.binlog_images.specs.Cells.{Cell, ImageShape, image_if, RowShape, RowsShape, RowCells, whole, shape_as}
 use Rattle.binlog_images.specs.EventRows.{is_partial, GivesRowsOf, AreAllRows}
 use Rattle.binlog_images.specs.Events.{event_shape, count_error}
@@ -35,10 +34,9 @@ use Rattle.binlog_undo.proofs.SoFar.{SoFar, refused_so_far}
 use Rattle.binlog_undo.proofs.Stored.{stored_is}
 use Rattle.binlog_wire.specs.Fields.{IsBytes}
 use Rattle.binlog_wire.specs.declared.bit_view.BitView.{BitView}
-use Rattle.binlog_wire.specs.declared.error.Error.{Error}
 use Rattle.change_statistics.specs.Facts.{Name}
 use Rattle.binlog_later_changes.specs.KeyedRows.{Keys, code_of, keys_in, keys_of, shape_if, IsFaultIf, GivesKey, GivesKeyIf, GivesKeys, HasKeys, IsUnread, AreKeys, GivesKnown}
-use Rattle.binlog_later_changes.specs.KnownRows.{RowImages, image_of, images_of, BeginsWith, HasImages, GivesImages, is_complete, has_all_if, HasKnown, KnowsRows, KnowsUnlessRefused, KnowsUnlessOld, KnowsMapped, KnowsIfRows, KnowsRead, KnowsIfMapped, HasOldTemporal, rows_read}
+use Rattle.binlog_later_changes.specs.KnownRows.{RowImages, image_of, images_of, BeginsWith, HasImages, GivesImages, is_complete, has_all_if, HasKnown, KnowsRows, KnowsUnlessRefused, KnowsUnlessOld, KnowsMapped, KnowsIfRows, KnowsRowsIf, HasOldTemporal}
 use Rattle.binlog_later_changes.specs.RowKeys.{key_code}
 use Rattle.binlog_later_changes.specs.declared.known_rows.KeyedRow.{KeyedRow}
 use Rattle.binlog_later_changes.specs.declared.known_rows.RowFault.{RowFault}
@@ -305,12 +303,8 @@ module _ (event : EventView) (map : TableMapEvent) (rows : RowsEventData) (name 
     keys = h.keys;
   }
 
-pub read_known : (event : EventView) (map : TableMapEvent) (name : Name) (read : Result (Option LogEventData) Error) (rows : RowsEventData) (given : Option (List KeyedRow)) → Some rows ≡ rows_read read
-    → GivesKnown (KnowsMapped event map rows) name given → GivesKnown (KnowsRead event map read) name given
-read_known event map name read rows given is h = record { known = h.known; is = subst (λ (o : Option RowsEventData). KnowsIfRows event map o h.known) is h.is; keys = h.keys }
+pub no_rows : (event : EventView) (map : TableMapEvent) (name : Name) → GivesKnown (KnowsIfRows event map None) name None
+no_rows event map name = record { known = None; is = refl; keys = tt }
 
-pub read_none : (event : EventView) (map : TableMapEvent) (name : Name) (read : Result (Option LogEventData) Error) → None ≡ rows_read read → GivesKnown (KnowsRead event map read) name None
-read_none event map name read is = record { known = None; is = subst (λ (o : Option RowsEventData). KnowsIfRows event map o None) is refl; keys = tt }
-
-pub unmapped : (event : EventView) (name : Name) (read : Result (Option LogEventData) Error) → GivesKnown (KnowsIfMapped event None read) name None
-unmapped event name read = record { known = None; is = refl; keys = tt }
+pub unmapped : (event : EventView) (name : Name) (rows : Option RowsEventData) → GivesKnown (KnowsRowsIf event None rows) name None
+unmapped event name rows = record { known = None; is = refl; keys = tt }

@@ -1,5 +1,5 @@
 -- What is seen of a whole log.
-use Rattle.std.proofs.Common.{◌≡◌, ℕ, ◌+◌, ◌<◌, ◌^◌, Bool, List, [], ◌∷◌, ◌++◌, length, IfSome, Option, Some, None, Result, Ok, Err, refl, sym, ap, subst, ◌∙◌, append_assoc, append-nil}
+use Rattle.std.proofs.Common.{◌≡◌, ℕ, ◌+◌, ◌<◌, ◌^◌, Bool, List, [], ◌∷◌, ◌++◌, length, IfSome, OnOk, Option, Some, None, Result, Ok, Err, refl, sym, ap, subst, ◌∙◌, append_assoc, append-nil}
 use Rattle.binlog_wire.specs.declared.error.Error.{Error}
 use Rattle.binlog_events.specs.Events.{EventView}
 use Rattle.binlog_file.specs.TableMapsInForce.{TableMaps, no_table_maps}
@@ -13,7 +13,7 @@ use Rattle.binlog_payload_visits.proofs.Splicing.{all_spliced}
 use Rattle.crc32_ieee.specs.Checksums.{IsCrc32}
 use Rattle.binlog_later_changes.specs.Later.{Look}
 use Rattle.binlog_later_changes.specs.Looks.{At, at_of, in_front, SeesItemIf, SeesPartIf, AreSeen, tail_looks}
-use Rattle.binlog_later_changes.specs.Logs.{most_bytes, sees, refuses, visits_part, SeesLog, FindsLater}
+use Rattle.binlog_later_changes.specs.Logs.{most_bytes, sees, refuses, visits_part, VisitsWhole, SeesLog, FindsLater}
 use Rattle.binlog_later_changes.specs.RowsLeft.{Left, left_of}
 use Rattle.binlog_later_changes.specs.Tables.{Holds, Grows}
 use Rattle.binlog_later_changes.specs.Visits.{Sees, VisitsItem, VisitsOne, EndsLog}
@@ -107,6 +107,12 @@ finds_later rules log undone bytes changes found old between ended tail_len limi
           (subst (λ (t : LaterTables). Grows (seen.looks ++ tail) t ended.tables) is_tables
           (grows_both seen.looks tail old.visitor.tables between.visitor.tables ended.tables seen.grows tail_grows));
     }
+
+pub whole_if : (answer : Result (Unit {0}) Error) (remaining : Option (List ℕ)) (old between : Spliced LaterScan) (ended : LaterScan) (tail_len : Option ℕ)
+    → IfSome remaining (λ bytes. length bytes < 2 ^ 64 → VisitsVerifiedLog IsCrc32 sees refuses bytes old (Ok tail_len) between) → OnOk answer (EndsLog tail_len between.visitor ended)
+    → OnOk answer (VisitsWhole remaining old (record between { visitor = ended }))
+whole_if (Ok done) remaining old between ended tail_len visits ends = record { tail_len = tail_len; between = between; visits = visits; ends = ends }
+whole_if (Err error) remaining old between ended tail_len visits ends = tt
 
 pub later_if : (found : Option LaterChanges) (remaining : Option (List ℕ)) (rules : LaterRules) (log : ℕ) (undone : List RowsPlace) (changes : LaterChanges) (old between : Spliced LaterScan) (ended : LaterScan) (tail_len : Option ℕ)
     → old.limit ≡ most_bytes → old.visitor.rules ≡ rules → old.visitor.log ≡ log → at_of old.visitor ≡ in_front (left_of changes.rows) undone → old.visitor.tables ≡ changes.tables

@@ -119,13 +119,13 @@ abbrev pub KnowsIfRows : EventView → TableMapEvent → Option RowsEventData �
 KnowsIfRows event map None known = known ≡ None
 KnowsIfRows event map (Some rows) known = KnowsMapped event map rows known
 
--- Of an event of which this was read.
-abbrev pub KnowsRead : EventView → TableMapEvent → Result (Option LogEventData) Error → Option (List RowImages) → Type 0
-KnowsRead event map read known = KnowsIfRows event map (rows_read read) known
+abbrev pub KnowsRowsIf : EventView → Option TableMapEvent → Option RowsEventData → Option (List RowImages) → Type 0
+KnowsRowsIf event None rows known = known ≡ None
+KnowsRowsIf event (Some map) rows known = KnowsIfRows event map rows known
 
+-- Of an event of which this was read.
 abbrev pub KnowsIfMapped : EventView → Option TableMapEvent → Result (Option LogEventData) Error → Option (List RowImages) → Type 0
-KnowsIfMapped event None read known = known ≡ None
-KnowsIfMapped event (Some map) read known = KnowsRead event map read known
+KnowsIfMapped event map read known = KnowsRowsIf event map (rows_read read) known
 
 -- What is known of the rows of an event, where these table maps are in force behind it.
 pub record Knows (maps : TableMaps) (event : EventView) (known : Option (List RowImages)) : Type 0 where

@@ -1,5 +1,5 @@
 -- What is seen of whole logs, and found in them.
-use Rattle.std.specs.Prelude.{◌≡◌, ℕ, List, [], ◌++◌, Option, Result, Some, IfSome}
+use Rattle.std.specs.Prelude.{◌≡◌, ℕ, ◌<◌, ◌^◌, List, [], ◌++◌, length, Option, Result, Ok, Some, IfSome}
 use Rattle.binlog_wire.specs.declared.error.Error.{Error}
 use Rattle.binlog_events.specs.Events.{EventView}
 use Rattle.binlog_file.specs.FileHeader.{file_header}
@@ -9,14 +9,14 @@ use Rattle.binlog_payload_visits.specs.PartVisits.{PartVisitRelation, PartRefusa
 use Rattle.binlog_payload_visits.specs.Splicing.{Shown, AreSpliced}
 use Rattle.binlog_payload_visits.specs.declared.spliced.Spliced.{Spliced}
 use Rattle.binlog_visits.specs.Places.{first_place, LeavesVerified}
-use Rattle.binlog_visits.specs.Visits.{VisitRelation, RefusalRelation, HasTailAt}
+use Rattle.binlog_visits.specs.Visits.{VisitRelation, RefusalRelation, HasTailAt, VisitsVerifiedLog}
 use Rattle.binlog_wire.specs.declared.error.Error.TheVariants.{Memory}
 use Rattle.crc32_ieee.specs.Checksums.{IsCrc32}
 use Rattle.binlog_later_changes.specs.Later.{Look}
 use Rattle.binlog_later_changes.specs.Looks.{At, in_front, AreSeen, tail_looks}
 use Rattle.binlog_later_changes.specs.RowsLeft.{Left, left_of}
 use Rattle.binlog_later_changes.specs.Tables.{Grows}
-use Rattle.binlog_later_changes.specs.Visits.{VisitsItem, VisitsOne}
+use Rattle.binlog_later_changes.specs.Visits.{VisitsItem, VisitsOne, EndsLog}
 use Rattle.binlog_later_changes.specs.declared.later_changes.LaterChanges.{LaterChanges}
 use Rattle.binlog_later_changes.specs.declared.later_rules.LaterRules.{LaterRules}
 use Rattle.binlog_later_changes.specs.declared.later_scan.LaterScan.{LaterScan}
@@ -41,6 +41,13 @@ sees old maps index item new = VisitsSpliced VisitsItem visits_part old.limit ol
 
 abbrev pub refuses : RefusalRelation (Spliced LaterScan)
 refuses old maps index item error new = RefusesSpliced VisitsItem visits_part refuses_item refuses_part old.limit old.visitor maps index item error new.visitor × (new.limit ≡ old.limit)
+
+-- Each item of a log is visited, of these bytes, if they are known, and then its end.
+pub record VisitsWhole (remaining : Option (List ℕ)) (old new : Spliced LaterScan) : Type 0 where
+  pub tail_len : Option ℕ
+  pub between : Spliced LaterScan
+  pub visits : IfSome remaining (λ bytes. length bytes < 2 ^ 64 → VisitsVerifiedLog IsCrc32 sees refuses bytes old (Ok tail_len) between)
+  pub ends : EndsLog tail_len between.visitor new.visitor
 
 -- This is seen of the log with this number, of these bytes: of its verified items, each with the events inside behind it, and of its end. All of the
 -- row events that are undone are met, one after the other. If rows are checked, these were left behind in front of the log, and others are behind it.

@@ -1,9 +1,9 @@
 //! The later changes of a log.
 ghost use Rattle.std.specs.Fn.{FnReturnsAt};
-ghost use Rattle.std.specs.Prelude.{◌≡◌, ◌<◌, ◌^◌, length, IfOk, IfSome};
+ghost use Rattle.std.specs.Prelude.{◌≡◌, ◌<◌, ◌^◌, length, IfOk, IfSome, OnOk};
 ghost use Rattle.crc32_ieee.specs.Checksums.{IsCrc32, GivesCrc32};
 ghost use Rattle.binlog_visits.specs.Visits.{VisitsVerifiedLog};
-ghost use Rattle.binlog_later_changes.specs.Logs.{sees, refuses, FindsLater};
+ghost use Rattle.binlog_later_changes.specs.Logs.{sees, refuses, VisitsWhole, FindsLater};
 ghost use Rattle.binlog_later_changes.specs.Places.{places_of};
 
 use crate::later_changes::LaterChanges;
@@ -38,10 +38,22 @@ pub fn find_later<R: ReadCounted>(
 {
     let scan = LaterScan::new(alloc, rules, log, undone, changes);
     let mut spliced = Spliced::new(alloc, MOST_BYTES, scan);
-    let tail_len = visit_log(alloc, input, &mut spliced)?;
-    let mut scan = spliced.visitor;
-    scan.end(tail_len)?;
-    Ok(scan.into_changes())
+    match visit_whole(alloc, input, &mut spliced) {
+        Ok(()) => Ok(spliced.visitor.into_changes()),
+        Err(error) => Err(error),
+    }
+}
+
+// Visits each item of a log, and then its end.
+fn visit_whole<R: ReadCounted>(
+    alloc: Global,
+    input: &mut R,
+    scan: &mut Spliced<LaterScan<'_>>,
+) -> Result<(), Error>
+    ensures { OnOk result (VisitsWhole (R.remaining input.old) scan.old scan.new) }
+{
+    let tail_len = visit_log(alloc, input, scan)?;
+    scan.visitor.end(tail_len)
 }
 
 // Visits each item of a log, and returns the length of its tail.

@@ -14,7 +14,7 @@ ghost use Rattle.binlog_undo.specs.Undoing.{stored_bytes};
 ghost use Rattle.binlog_wire.specs.Fields.{IsBytes};
 ghost use Rattle.change_statistics.specs.Names.{name_of};
 ghost use Rattle.binlog_later_changes.specs.KeyedRows.{GivesKey, GivesKeyIf, GivesKeys, GivesKnown, HasKeys, IsUnread, shape_if};
-ghost use Rattle.binlog_later_changes.specs.KnownRows.{HasOldTemporal, KnowsIfMapped, KnowsMapped, KnowsRead, KnowsRows, has_all_if, is_complete, is_old_temporal, rows_of_body, rows_of_mysql, rows_read};
+ghost use Rattle.binlog_later_changes.specs.KnownRows.{HasOldTemporal, KnowsIfRows, KnowsMapped, KnowsRows, KnowsRowsIf, has_all_if, is_complete, is_old_temporal, rows_of_body, rows_of_mysql, rows_read};
 
 use crate::row_key::RowKey;
 use binlog_columns::TableColumns;
@@ -27,14 +27,14 @@ use change_statistics::TableName;
 use std::alloc::{AllocError, Global};
 
 /// A row of a row event: the key of the row that is removed from the table, and that of the row that is added to it.
-#[derive(Debug, Drop)]
+#[derive(Drop)]
 pub(crate) struct KeyedRow {
     pub(crate) removed: Option<RowKey>,
     pub(crate) added: Option<RowKey>,
 }
 
 /// Why rows aren't read.
-#[derive(Clone, Copy, Debug, PartialEq, Eq)]
+#[derive(Clone, Copy)]
 pub(crate) enum RowFault {
     /// A row is refused.
     Unreadable,
@@ -286,8 +286,8 @@ fn rows_of_body<'d, 'a>(body: &'d LogEventData<'a>) -> Option<&'d RowsEventData<
     }
 }
 
-// The same of an event of which this was read.
-fn rows_read<'d, 'a>(
+/// The same of an event of which this was read.
+pub(crate) fn rows_read<'d, 'a>(
     read: &'d Result<Option<LogEventData<'a>>, Error>,
 ) -> Option<&'d RowsEventData<'a>>
     ensures { option_copied result ≡ rows_read read.now }
@@ -301,36 +301,36 @@ fn rows_read<'d, 'a>(
     }
 }
 
-// The rows of an event of which this was read, of a table with this table map; None if they aren't known.
-fn read_rows(
+// The rows of an event, if it has some, of a table with this table map; None if they aren't known.
+fn rows_if(
     alloc: Global,
     name: &TableName,
     event: &EventRef<'_>,
-    read: &Result<Option<LogEventData<'_>>, Error>,
+    rows: Option<&RowsEventData<'_>>,
     map: &TableMapEvent<'_>,
 ) -> Result<Option<Vec<KeyedRow>>, AllocError>
-    ensures { IfOk result (λ given. GivesKnown (KnowsRead (view_of event.now) map.now read.now) (name_of name.now) (option_map (λ rows. rows.items) given)) }
+    ensures { IfOk result (λ given. GivesKnown (KnowsIfRows (view_of event.now) map.now (option_copied rows.entry)) (name_of name.now) (option_map (λ rows. rows.items) given)) }
 {
-    match rows_read(read) {
+    match rows {
         Some(rows) => mapped_rows(alloc, name, event, rows, map),
         None => Ok(None),
     }
 }
 
-/// The rows of an event of which this was read, of the table with this name, whose table map is this one, if there is one. None if they aren't known:
+/// The rows of an event, if it has some, of the table with this name, whose table map is this one, if there is one. None if they aren't known:
 /// if they are no rows of its columns, if an image lacks a column, if they are partial updates or compressed, or if the log of MariaDB's doesn't say
 /// which form values have.
 pub(crate) fn event_rows(
     alloc: Global,
     name: &TableName,
     event: &EventRef<'_>,
-    read: &Result<Option<LogEventData<'_>>, Error>,
+    rows: Option<&RowsEventData<'_>>,
     map: Option<&TableMapEvent<'_>>,
 ) -> Result<Option<Vec<KeyedRow>>, AllocError>
-    ensures { IfOk result (λ given. GivesKnown (KnowsIfMapped (view_of event.now) (option_copied map.entry) read.now) (name_of name.now) (option_map (λ rows. rows.items) given)) }
+    ensures { IfOk result (λ given. GivesKnown (KnowsRowsIf (view_of event.now) (option_copied map.entry) (option_copied rows.entry)) (name_of name.now) (option_map (λ rows. rows.items) given)) }
 {
     match map {
-        Some(map) => read_rows(alloc, name, event, read, map),
+        Some(map) => rows_if(alloc, name, event, rows, map),
         None => Ok(None),
     }
 }

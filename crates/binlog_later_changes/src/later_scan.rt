@@ -7,7 +7,7 @@ ghost use Rattle.binlog_file.specs.LogData.{ReadsLogData};
 ghost use Rattle.binlog_payload_visits.specs.PartMaps.{maps_of};
 ghost use Rattle.binlog_undo_index.specs.declared.reason.Reason.TheVariants.{Damaged};
 ghost use Rattle.change_statistics.specs.Names.{name_of};
-ghost use Rattle.binlog_later_changes.specs.KnownRows.{KnowsIfMapped};
+ghost use Rattle.binlog_later_changes.specs.KnownRows.{KnowsRowsIf};
 ghost use Rattle.binlog_later_changes.specs.Later.{table, other};
 ghost use Rattle.binlog_later_changes.specs.Looks.{at_of, in_front, at_event, at_error, at_part, behind, look_at, look_of, stopped, event_at, unknown_at, is_limit};
 ghost use Rattle.binlog_later_changes.specs.Places.{places_of};
@@ -15,7 +15,7 @@ ghost use Rattle.binlog_later_changes.specs.Said.{said_of, rows_in, map_for, is_
 ghost use Rattle.binlog_later_changes.specs.RowsLeft.{left_of};
 ghost use Rattle.binlog_later_changes.specs.Visits.{Sees, SeesSaid, SeesUndoneRows, SeesKeptRows, SeesCheckedRows, SeesRead, EndsLog, Enters};
 
-use crate::known_rows::event_rows;
+use crate::known_rows::{event_rows, rows_read};
 use crate::later_change::EventPlace;
 use crate::later_changes::LaterChanges;
 use crate::later_rules::LaterRules;
@@ -28,7 +28,7 @@ use binlog_file::{
 };
 use binlog_payload_visits::{PartTableMaps, PartVisitor};
 use binlog_payloads::PayloadError;
-use binlog_rows::TableMapEvent;
+use binlog_rows::{RowsEventData, TableMapEvent};
 use binlog_transactions::Refusal;
 use binlog_undo_index::Reason;
 use binlog_visits::Visitor;
@@ -194,96 +194,96 @@ impl<'a> LaterScan<'a> {
         Ok(())
     }
 
-    // Notes that an event of which this was read has rows of this table, which are undone.
+    // Notes that an event has these rows, if it has some, of this table, which are undone.
     fn check_undone(
         &mut self,
         name: TableName,
         event: &EventRef<'_>,
-        read: &Result<Option<LogEventData<'_>>, Error>,
+        rows: Option<&RowsEventData<'_>>,
         map: Option<&TableMapEvent<'_>>,
     ) -> Result<(), Error>
-        ensures ok { OnOk result (SeesUndoneRows (KnowsIfMapped (view_of event.now) (option_copied map.entry) read.now) (name_of name) self.old self.new) }
+        ensures ok { OnOk result (SeesUndoneRows (KnowsRowsIf (view_of event.now) (option_copied map.entry) (option_copied rows.entry)) (name_of name) self.old self.new) }
         ensures memory { IfErr result (λ e. e ≡ Memory) }
     {
-        let rows = event_rows(self.alloc, &name, event, read, map)?;
-        self.rows.undo(&name, rows)?;
+        let keyed = event_rows(self.alloc, &name, event, rows, map)?;
+        self.rows.undo(&name, keyed)?;
         self.tables.undo(name)?;
         Ok(())
     }
 
-    // Notes that an event of which this was read has rows of this table, and isn't undone, unless it removes no row that was left behind.
+    // Notes that an event has these rows, if it has some, of this table, and isn't undone, unless it removes no row that was left behind.
     fn check_kept(
         &mut self,
         name: TableName,
         event: &EventRef<'_>,
-        read: &Result<Option<LogEventData<'_>>, Error>,
+        rows: Option<&RowsEventData<'_>>,
         map: Option<&TableMapEvent<'_>>,
     ) -> Result<(), Error>
-        ensures ok { OnOk result (SeesKeptRows (KnowsIfMapped (view_of event.now) (option_copied map.entry) read.now) (name_of name) self.old self.new) }
+        ensures ok { OnOk result (SeesKeptRows (KnowsRowsIf (view_of event.now) (option_copied map.entry) (option_copied rows.entry)) (name_of name) self.old self.new) }
         ensures memory { IfErr result (λ e. e ≡ Memory) }
     {
         if !self.rows.knows(&name) {
             return self.note_kept(name);
         }
-        let rows = event_rows(self.alloc, &name, event, read, map)?;
-        if self.rows.is_apart(rows) {
+        let keyed = event_rows(self.alloc, &name, event, rows, map)?;
+        if self.rows.is_apart(keyed) {
             return Ok(());
         }
         self.note_kept(name)
     }
 
-    // Notes that an event at this place has rows of this table, where rows are checked.
+    // Notes that an event at this place has these rows, if it has some, of this table, where rows are checked.
     fn check_rows(
         &mut self,
         place: RowsPlace,
         name: TableName,
         event: &EventRef<'_>,
-        read: &Result<Option<LogEventData<'_>>, Error>,
+        rows: Option<&RowsEventData<'_>>,
         map: Option<&TableMapEvent<'_>>,
     ) -> Result<(), Error>
-        ensures ok { OnOk result (SeesCheckedRows (KnowsIfMapped (view_of event.now) (option_copied map.entry) read.now) place (name_of name) self.old self.new) }
+        ensures ok { OnOk result (SeesCheckedRows (KnowsRowsIf (view_of event.now) (option_copied map.entry) (option_copied rows.entry)) place (name_of name) self.old self.new) }
         ensures memory { IfErr result (λ e. e ≡ Memory) }
     {
         if self.undone.meet(place) {
-            return self.check_undone(name, event, read, map);
+            return self.check_undone(name, event, rows, map);
         }
-        self.check_kept(name, event, read, map)
+        self.check_kept(name, event, rows, map)
     }
 
-    // Notes that an event at this place has rows of this table, where rows are checked or aren't.
+    // Notes that an event at this place has these rows, if it has some, of this table, where rows are checked or aren't.
     fn note_rows_by_rules(
         &mut self,
         place: RowsPlace,
         name: TableName,
         event: &EventRef<'_>,
-        read: &Result<Option<LogEventData<'_>>, Error>,
+        rows: Option<&RowsEventData<'_>>,
         map: Option<&TableMapEvent<'_>>,
     ) -> Result<(), Error>
-        ensures ok { OnOk result (SeesSaid (KnowsIfMapped (view_of event.now) (option_copied map.entry) read.now) place (Some (table (name_of name))) self.old self.new) }
+        ensures ok { OnOk result (SeesSaid (KnowsRowsIf (view_of event.now) (option_copied map.entry) (option_copied rows.entry)) place (Some (table (name_of name))) self.old self.new) }
         ensures memory { IfErr result (λ e. e ≡ Memory) }
     {
         if self.rules.checks_rows {
-            return self.check_rows(place, name, event, read, map);
+            return self.check_rows(place, name, event, rows, map);
         }
         self.note_rows(place, name)
     }
 
-    // Notes what an event says that is at this place, and of which this was read.
+    // Notes what an event says that is at this place, and has these rows, if it has some.
     fn note(
         &mut self,
         place: RowsPlace,
         said: Said,
         event: &EventRef<'_>,
-        read: &Result<Option<LogEventData<'_>>, Error>,
+        rows: Option<&RowsEventData<'_>>,
         map: Option<&TableMapEvent<'_>>,
     ) -> Result<(), Error>
-        ensures ok { OnOk result (SeesSaid (KnowsIfMapped (view_of event.now) (option_copied map.entry) read.now) place (said_of said) self.old self.new) }
+        ensures ok { OnOk result (SeesSaid (KnowsRowsIf (view_of event.now) (option_copied map.entry) (option_copied rows.entry)) place (said_of said) self.old self.new) }
         ensures memory { IfErr result (λ e. e ≡ Memory) }
     {
         match said {
             Said::Nothing => Ok(()),
             Said::Unknown(reason) => self.note_unknown(reason),
-            Said::Rows(name) => self.note_rows_by_rules(place, name, event, read, map),
+            Said::Rows(name) => self.note_rows_by_rules(place, name, event, rows, map),
         }
     }
 
@@ -311,7 +311,8 @@ impl<'a> LaterScan<'a> {
             return Err(Error::Memory);
         }
         let said = say(self.alloc, role_of(event), read, map)?;
-        self.note(place, said, event, read, map)
+        let rows = rows_read(read);
+        self.note(place, said, event, rows, map)
     }
 }
 

@@ -12,7 +12,6 @@ use std::alloc::{AllocError, Global};
 
 /// The tables of which rows are undone so far, and the first event behind that of each that may be in the way. Memory is taken for the names of
 /// these tables alone.
-#[derive(Drop)]
 pub(crate) struct LaterTables {
     alloc: Global,
     // Whether a later change of the table was found.
@@ -22,6 +21,21 @@ pub(crate) struct LaterTables {
     // Whether an event that may change any table was found.
     has_unknown: bool,
     found: Vec<LaterChange>,
+}
+
+impl Drop for LaterTables {
+    // By hand, so that it is proved here and not again in each crate that owns later changes.
+    fn drop(self) {
+        let Self {
+            alloc: _,
+            tables,
+            has_undone: _,
+            has_unknown: _,
+            found,
+        } = self;
+        drop(tables);
+        drop(found);
+    }
 }
 
 impl LaterTables {

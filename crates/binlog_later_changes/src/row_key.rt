@@ -10,7 +10,7 @@ use change_statistics::TableName;
 use std::alloc::{AllocError, Global};
 
 /// The bytes that tell a row of a table from all others: they have the names of the table, and the values of the row.
-#[derive(Debug, PartialEq, Eq, Hash, Drop)]
+#[derive(PartialEq, Eq, Hash, Drop)]
 pub(crate) struct RowKey {
     code: Vec<u8>,
 }

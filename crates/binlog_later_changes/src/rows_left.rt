@@ -13,13 +13,25 @@ use std::alloc::{AllocError, Global};
 
 /// The rows that undone changes have left behind. Memory is taken for each of these rows once, and for the names of the tables of which rows are
 /// undone.
-#[derive(Drop)]
 pub(crate) struct RowsLeft {
     alloc: Global,
     // How often each row was left behind, if it was.
     counts: IndexMap<RowKey, u64>,
     // Of each table of which rows are undone, whether rows of some of these events aren't known.
     tables: IndexMap<TableName, bool>,
+}
+
+impl Drop for RowsLeft {
+    // By hand, so that it is proved here and not again in each crate that owns later changes.
+    fn drop(self) {
+        let Self {
+            alloc: _,
+            counts,
+            tables,
+        } = self;
+        drop(counts);
+        drop(tables);
+    }
 }
 
 impl RowsLeft {

@@ -17,7 +17,7 @@ use std::alloc::{AllocError, Global};
 const IGNORABLE: u16 = 0x80;
 
 /// What an event says of changes of tables.
-#[derive(Debug, Drop)]
+#[derive(Drop)]
 pub(crate) enum Said {
     /// It changes no table.
     Nothing,
@@ -28,7 +28,7 @@ pub(crate) enum Said {
 }
 
 /// The rows of an event.
-#[derive(Clone, Copy, Debug, PartialEq, Eq)]
+#[derive(Clone, Copy)]
 pub(crate) enum RowsIn {
     /// It has none.
     Nothing,
