@@ -5,6 +5,7 @@ ghost use Rattle.binlog_cli.specs.declared.exit_status.Status.TheVariants.{Damag
 ghost use Rattle.binlog_undo_command.specs.Descriptions.{HasNone, IsUnder, IsUnderOther, HaveOneDescription, HaveDescriptions};
 
 use crate::logs::Logs;
+use crate::messages::report_error;
 use crate::scanning::ScannedLog;
 use crate::writing::seek;
 use binlog_cli::Status;
@@ -108,7 +109,7 @@ fn description_of<L: Logs, R: Eprint + AllocGlobal>(
     match read_description(rt.alloc(), &mut frames, &log.scan) {
         Ok(found) => Ok(found),
         Err(error) => {
-            let _ = eprintln!(rt; "binlog: {}: {error}", log.name);
+            report_error(rt, log.name, &error);
             Err(Status::Failed)
         }
     }

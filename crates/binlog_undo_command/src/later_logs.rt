@@ -8,6 +8,7 @@ ghost use Rattle.binlog_later_changes.specs.Places.{places_of};
 ghost use Rattle.binlog_undo_command.specs.LaterLogs.{is_payload, AreInside, FindsIn, FindsInLog, FindsInLater, FindsInAll, IsInsideOf, LeavesNothing, HasLater, skips_later};
 
 use crate::logs::Logs;
+use crate::messages::report_error;
 use crate::options::{rules_in, skips_later};
 use crate::scanning::ScannedLog;
 use crate::writing::seek;
@@ -175,7 +176,7 @@ fn contents_of<L: Logs, R: Eprint + AllocGlobal>(
     match are_payloads(rt.alloc(), &mut frames, log.scan.index().transactions()) {
         Ok(are_inside) => Ok(are_inside),
         Err(error) => {
-            let _ = eprintln!(rt; "binlog: {}: {error}", log.name);
+            report_error(rt, log.name, &error);
             Err(Status::Failed)
         }
     }
@@ -227,7 +228,7 @@ fn look_at<L: Logs, R: Eprint + AllocGlobal>(
     match logs.open(name) {
         Ok(input) => look_at_open(rt, name, input, rules, number, undone, changes),
         Err(error) => {
-            let _ = eprintln!(rt; "binlog: {name}: {error}");
+            report_error(rt, name, &error);
             Err(Status::NotOpened)
         }
     }
@@ -250,11 +251,11 @@ fn look_at_open<R: Eprint + AllocGlobal, I: Read + Drop>(
     match find_later(rt.alloc(), &mut input, rules, number, undone, changes) {
         Ok(Some(changes)) => Ok(changes),
         Ok(None) => {
-            let _ = eprintln!(rt; "binlog: {name}: {}", UndoLogError::Changed);
+            report_error(rt, name, &UndoLogError::Changed);
             Err(Status::Failed)
         }
         Err(error) => {
-            let _ = eprintln!(rt; "binlog: {name}: {error}");
+            report_error(rt, name, &error);
             match error {
                 Error::EndOfInput | Error::InvalidFileHeader => Err(Status::NotOpened),
                 _ => Err(Status::Failed),

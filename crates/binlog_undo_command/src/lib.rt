@@ -7,6 +7,7 @@ mod later_logs;
 pub mod laws;
 mod log_place;
 mod logs;
+mod messages;
 mod new_file;
 mod options;
 mod reasons;

@@ -5,6 +5,7 @@ ghost use Rattle.binlog_undo_command.specs.RowCounts.{CountsLog, CountsRows};
 ghost use Rattle.change_statistics.specs.Tables.{AreEmpty};
 
 use crate::logs::Logs;
+use crate::messages::report_error;
 use crate::scanning::ScannedLog;
 use crate::writing::seek;
 use binlog_cli::Status;
@@ -101,7 +102,7 @@ fn count_log<L: Logs, R: Eprint + AllocGlobal>(
     match visit_undone_rows(rt.alloc(), &mut frames, &log.scan, rows) {
         Ok(()) => Ok(()),
         Err(error) => {
-            let _ = eprintln!(rt; "binlog: {}: {error}", log.name);
+            report_error(rt, log.name, &error);
             Err(Status::Failed)
         }
     }

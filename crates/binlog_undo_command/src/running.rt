@@ -5,6 +5,7 @@ ghost use Rattle.binlog_cli.specs.declared.exit_status.Status.TheVariants.{Faile
 ghost use Rattle.binlog_undo_command.specs.Options.{IsNotDry, NamesNoOutput, RefusesOptions, StatesOutput};
 
 use crate::logs::HostLogs;
+use crate::messages::report_error;
 use crate::new_file::HostFile;
 use crate::undoing::{count_undo, undo};
 use binlog_cli::{Status, out_of_memory};
@@ -81,7 +82,7 @@ fn is_free<R: Files + Eprint>(rt: &R, name: &str) -> Result<(), Status>
             Err(Status::Failed)
         }
         Err(error) => {
-            let _ = eprintln!(rt; "binlog: {name}: {error}");
+            report_error(rt, name, &error);
             Err(Status::Failed)
         }
     }

@@ -9,6 +9,7 @@ ghost use Rattle.binlog_undo_command.specs.Scanned.{IsUndone, AreUndone, IsRefus
 
 use crate::log_place::LogPlace;
 use crate::logs::Logs;
+use crate::messages::report_error;
 use crate::options::new_scan;
 use crate::reasons::reason_name;
 use binlog_cli::{Status, out_of_memory};
@@ -83,7 +84,7 @@ fn scan_log<L: Logs, R: Eprint + AllocGlobal>(
     match logs.open(name) {
         Ok(input) => scan_open(rt, name, input, &mut scan)?,
         Err(error) => {
-            let _ = eprintln!(rt; "binlog: {name}: {error}");
+            report_error(rt, name, &error);
             return Err(Status::NotOpened);
         }
     }
@@ -107,7 +108,7 @@ fn scan_open<R: Eprint + AllocGlobal, I: Read + Drop>(
     match scan_file(rt.alloc(), &mut input, scan) {
         Ok(()) => Ok(()),
         Err(error) => {
-            let _ = eprintln!(rt; "binlog: {name}: {error}");
+            report_error(rt, name, &error);
             match error {
                 Error::EndOfInput | Error::InvalidFileHeader => Err(Status::NotOpened),
                 _ => Err(Status::Failed),

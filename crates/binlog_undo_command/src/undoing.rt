@@ -12,6 +12,7 @@ ghost use Rattle.binlog_undo_command.specs.Undoing.{transactions_in, changes_in,
 use crate::descriptions::check_descriptions;
 use crate::later_logs::check_later;
 use crate::logs::Logs;
+use crate::messages::report_error;
 use crate::new_file::NewFile;
 use crate::options::is_one_transaction;
 use crate::row_counts::count_rows;
@@ -90,7 +91,7 @@ fn count_tables<L: Logs, R: Eprint + AllocGlobal, W: Write>(
     match write_rows(scanned.as_slice(), rows.stats(), writer) {
         Ok(()) => Ok(()),
         Err(error) => {
-            let _ = eprintln!(rt; "binlog: the output: {error}");
+            report_error(rt, "the output", &error);
             Err(Status::Failed)
         }
     }
@@ -116,7 +117,7 @@ fn count_logs<'a, L: Logs, R: Eprint + AllocGlobal, W: Write>(
     match write_counts(scanned.as_slice(), writer) {
         Ok(()) => Ok(scanned),
         Err(error) => {
-            let _ = eprintln!(rt; "binlog: the output: {error}");
+            report_error(rt, "the output", &error);
             Err(Status::Failed)
         }
     }
@@ -249,7 +250,7 @@ fn put_log<L: Logs, T: NewFile, R: Eprint + AllocGlobal>(
     let draft = match file.begin() {
         Ok(draft) => draft,
         Err(error) => {
-            let _ = eprintln!(rt; "binlog: {}: {error}", file.draft_name());
+            report_error(rt, file.draft_name(), &error);
             return Status::Failed;
         }
     };
@@ -273,7 +274,7 @@ fn finish<T: NewFile, R: Eprint>(rt: &R, file: &mut T, draft: T::Draft) -> Statu
     match file.finish(draft) {
         Ok(()) => Status::Fine,
         Err(error) => {
-            let _ = eprintln!(rt; "binlog: {}: {error}", file.name());
+            report_error(rt, file.name(), &error);
             file.discard();
             Status::Failed
         }

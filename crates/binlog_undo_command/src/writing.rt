@@ -7,6 +7,7 @@ ghost use Rattle.binlog_undo_log.specs.Undoing.{commit_event};
 ghost use Rattle.binlog_undo_command.specs.Written.{BeginsBy, BeginsLogs, WritesOne, WritesLogs, WritesOneTransaction, WritesAll, WritesWhole, WritesLog};
 
 use crate::logs::Logs;
+use crate::messages::report_error;
 use crate::scanning::ScannedLog;
 use binlog_cli::{BUFFER_SIZE, Status, out_of_memory};
 use binlog_file::{BinlogFileHeader, Counted, Retrying, WriteCounted};
@@ -45,7 +46,7 @@ pub(crate) fn write_log<L: Logs, R: Eprint + AllocGlobal, W: Write + Drop>(
         Ok(()) => close(rt, output, log.writer.into_inner()),
         Err(UndoLogError::Writer) => {
             if close(rt, output, log.writer.into_inner()).is_ok() {
-                let _ = eprintln!(rt; "binlog: {output}: {}", UndoLogError::Writer);
+                report_error(rt, output, &UndoLogError::Writer);
             }
             Err(Status::Failed)
         }
@@ -65,7 +66,7 @@ fn close<R: Eprint, W: Write + Drop>(
     match buffer.into_inner() {
         Ok(writer) => Ok(writer.into_inner()),
         Err(failure) => {
-            let _ = eprintln!(rt; "binlog: {output}: {}", failure.error());
+            report_error(rt, output, failure.error());
             Err(Status::Failed)
         }
     }
@@ -221,7 +222,7 @@ pub(crate) fn seek<L: Logs, R: Eprint>(
     match logs.seek(log.name) {
         Ok(frames) => Ok(frames),
         Err(error) => {
-            let _ = eprintln!(rt; "binlog: {}: {error}", log.name);
+            report_error(rt, log.name, &error);
             Err(UndoLogError::Reader)
         }
     }
@@ -230,6 +231,6 @@ pub(crate) fn seek<L: Logs, R: Eprint>(
 // Writes the message of an error. A failure of the writer has one when the writer is closed.
 fn tell<R: Eprint>(rt: &R, name: &str, error: UndoLogError) {
     if error != UndoLogError::Writer {
-        let _ = eprintln!(rt; "binlog: {name}: {error}");
+        report_error(rt, name, &error);
     }
 }
