@@ -27,6 +27,7 @@ pub mod WrittenFrames
 pub mod WrittenEvents
 pub mod WrittenDescription
 pub mod ReadMaps
+pub mod ReadBodies
 pub mod WrittenLogs
 pub mod ReadLogs
 pub mod SeenWritten

@@ -10,13 +10,13 @@ use Rattle.binlog_mariadb.specs.declared.event_data.MariaEventData.TheVariants a
 use Rattle.binlog_rows.specs.declared.rows_event_data.RowsEventData.{RowsEventData}
 use Rattle.binlog_undo_log.specs.Compressed.{IsUncompressed, ReadsUncompressed}
 use Rattle.binlog_event_format.specs.declared.format_description.FormatDescriptionEvent.{FormatDescriptionEvent}
-use Rattle.binlog_events.specs.Events.{EventView, event_at, ReadsEventData}
+use Rattle.binlog_events.specs.Events.{EventView, event_at}
 use Rattle.binlog_rows.specs.declared.table_map_event.TableMapEvent.{TableMapEvent}
 use Rattle.binlog_undo.specs.declared.inverse_event.ForeignKeyChecks.{ForeignKeyChecks}
 use Rattle.binlog_undo_index.specs.declared.places.ChangePlace.{ChangePlace}
 use Rattle.binlog_undo.specs.declared.events_writer.EventsWriter.{EventsWriter}
 use Rattle.binlog_undo_log.specs.Places.{FramesOf}
-use Rattle.binlog_undo_log.specs.Undoing.{IsEventAt, HasRightChecksum, Writes, UndoesRows, UndoesReadEvent, UndoesBody, UndoesCompressed, UndoesReadRows, UndoesMapped, UndoesReadMap, UndoesEvents, UndoesChange}
+use Rattle.binlog_undo_log.specs.Undoing.{IsEventAt, HasRightChecksum, Writes, UndoesRows, UndoesReadEvent, UndoesBody, UndoesCompressed, UndoesReadRows, UndoesMapped, ReadsMap, UndoesEvents, UndoesChange}
 use Rattle.binlog_undo_log.specs.declared.undo_error.UndoLogError.{UndoLogError}
 use Rattle.binlog_wire.specs.declared.error.Error.{Error}
 
@@ -67,18 +67,11 @@ read_event_if (Ok done) checks map_event map event read rows old new is h = (h.0
 read_event_if (Err error) checks map_event map event read rows old new is h = tt
 
 -- An event was read as a table map.
-pub read_map_if : (answer : Result (Unit {0}) UndoLogError) (checks : ForeignKeyChecks) (map_event : EventView) (read : Result (Option EventData) Error)
-    (map : TableMapEvent) (event : EventView) (old new : EventsWriter) → read ≡ Ok (Some (mysql.TableMapEvent map))
-    → OnOk answer (Writes (UndoesMapped checks map_event map event) old new) → OnOk answer (Writes (UndoesReadMap checks map_event read event) old new)
-read_map_if (Ok done) checks map_event read map event old new is h = (h.0, record { map = map; is = is; undoes = h.1 }, h.2)
-read_map_if (Err error) checks map_event read map event old new is h = tt
-
 pub events_if : (answer : Result (Unit {0}) UndoLogError) (checks : ForeignKeyChecks) (map_event : EventView) (event : EventView)
-    (read : Result (Option EventData) Error) (old new : EventsWriter) → ReadsEventData map_event read → OnOk answer (Writes (UndoesReadMap checks map_event read event) old new)
+    (map : TableMapEvent) (old new : EventsWriter) → ReadsMap map_event map → OnOk answer (Writes (UndoesMapped checks map_event map event) old new)
     → OnOk answer (Writes (UndoesEvents checks map_event event) old new)
-events_if (Ok done) checks map_event event read old new reads h =
-    (h.0, record { map = h.1.map; read = subst (λ (r : Result (Option EventData) Error). ReadsEventData map_event r) h.1.is reads; undoes = h.1.undoes }, h.2)
-events_if (Err error) checks map_event event read old new reads h = tt
+events_if (Ok done) checks map_event event map old new reads h = (h.0, record { map = map; read = reads; undoes = h.1 }, h.2)
+events_if (Err error) checks map_event event map old new reads h = tt
 
 pub change_if : (answer : Result (Unit {0}) UndoLogError) (is_at now : FramesOf) (fde : FormatDescriptionEvent) (checks : ForeignKeyChecks) (change : ChangePlace)
     (map_frame frame : List ℕ) (map_event event : EventView) (old new : EventsWriter) → ((place : ℕ) (s : List ℕ) → now place s → is_at place s)

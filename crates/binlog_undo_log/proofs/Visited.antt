@@ -6,22 +6,21 @@ use Rattle.std.proofs.lemmas.List.{nil_from_length}
 use Rattle.binlog_consts.specs.declared.version.BinlogVersion.TheVariants.{Version4}
 use Rattle.binlog_event_format.specs.FormatDescription.{default_description}
 use Rattle.binlog_event_format.specs.declared.format_description.FormatDescriptionEvent.{FormatDescriptionEvent}
-use Rattle.binlog_events.specs.Events.{EventView, event_at, ReadsEventData}
-use Rattle.binlog_event_data.specs.declared.event_data.EventData.{EventData}
+use Rattle.binlog_events.specs.Events.{EventView, event_at}
 use Rattle.binlog_payloads.specs.Contents.{content_of}
 use Rattle.binlog_payloads.specs.Events.{payload_in}
 use Rattle.binlog_payloads.specs.Fields.{Payload}
 use Rattle.binlog_payloads.specs.InnerEvents.{inner_fde}
+use Rattle.binlog_rows.specs.declared.table_map_event.TableMapEvent.{TableMapEvent}
 use Rattle.binlog_undo_index.specs.declared.places.ChangePlace.{ChangePlace}
 use Rattle.binlog_undo_index.specs.declared.places.TransactionPlace.{TransactionPlace}
 use Rattle.binlog_undo_log.proofs.Undone.{AreAmong}
 use Rattle.binlog_undo_log.specs.Compressed.{most_bytes}
 use Rattle.binlog_undo_log.specs.Files.{IsDescribed}
 use Rattle.binlog_undo_log.specs.Places.{FramesOf, IsFrameIn, InContent}
-use Rattle.binlog_undo_log.specs.Undoing.{HasRightChecksum, IsEventAt}
-use Rattle.binlog_undo_log.specs.Visiting.{MappedRows, RowsRelation, VisitsEach, VisitsThose, VisitsRead, AreMapped, AreAt, AreAtEach, AreOwn, AreOfTransaction, AreOfAll, AreUnder, AreIfAny}
+use Rattle.binlog_undo_log.specs.Undoing.{HasRightChecksum, IsEventAt, ReadsMap}
+use Rattle.binlog_undo_log.specs.Visiting.{MappedRows, RowsRelation, VisitsEach, VisitsThose, AreMapped, AreAt, AreAtEach, AreOwn, AreOfTransaction, AreOfAll, AreUnder, AreIfAny}
 use Rattle.binlog_undo_log.specs.declared.undo_error.UndoLogError.{UndoLogError}
-use Rattle.binlog_wire.specs.declared.error.Error.{Error}
 
 abbrev Answer : Type 0
 Answer = Result (Unit {0}) UndoLogError
@@ -70,15 +69,10 @@ module _ {V : Type 0} (visits : RowsRelation V) where
   both_visited (first ∷ front) rows old mid new (next, one, more) h = (next, one, both_visited front rows next mid new more h)
 
   -- One row event, whose table map was read.
-  pub event_visited : (map_event event : EventView) (read : Result (Option EventData) Error) (answer : Answer) (old new : V) → ReadsEventData map_event read
-      → OnOk answer (VisitsRead visits read event old new) → OnOk answer (VisitsThose visits (AreMapped map_event event) old new)
-  event_visited map_event event read answer old new reads =
-      on_answer answer
-      (λ one. (
-        record { map = one.map; event = event } ∷ [],
-        (one.map, subst (λ (r : Result (Option EventData) Error). ReadsEventData map_event r) one.is reads, refl),
-        (new, one.visited, refl),
-      ))
+  pub event_visited : (map_event event : EventView) (map : TableMapEvent) (answer : Answer) (old new : V) → ReadsMap map_event map
+      → OnOk answer (visits old map event new) → OnOk answer (VisitsThose visits (AreMapped map_event event) old new)
+  event_visited map_event event map answer old new reads =
+      on_answer answer (λ visited. (record { map = map; event = event } ∷ [], (map, reads, refl), (new, visited, refl)))
 
   -- The row event at a place.
   pub change_visited : (is_at now : FramesOf) (among : AreAmong now is_at) (fde : FormatDescriptionEvent) (change : ChangePlace) (map_frame frame : List ℕ) (map_event event : EventView)

@@ -94,16 +94,14 @@ pub record UndoesMapped (checks : ForeignKeyChecks) (map_event : EventView) (map
   pub read : ReadsRows event rows
   pub undoes : UndoesRows checks map_event map event rows events
 
--- What was read of an event is a table map, of whose table the other event has rows.
-pub record UndoesReadMap (checks : ForeignKeyChecks) (map_event : EventView) (read : Result (Option EventData) Error) (event : EventView) (events : List Event) : Type 0 where
-  pub map : TableMapEvent
-  pub is : read ≡ Ok (Some (mysql.TableMapEvent map))
-  pub undoes : UndoesMapped checks map_event map event events
+-- The event is read as this table map.
+abbrev pub ReadsMap : EventView → TableMapEvent → Type 0
+ReadsMap event map = ReadsEventData event (Ok (Some (mysql.TableMapEvent map)))
 
 -- The two events are read as a table map and rows.
 pub record UndoesEvents (checks : ForeignKeyChecks) (map_event event : EventView) (events : List Event) : Type 0 where
   pub map : TableMapEvent
-  pub read : ReadsEventData map_event (Ok (Some (mysql.TableMapEvent map)))
+  pub read : ReadsMap map_event map
   pub undoes : UndoesMapped checks map_event map event events
 
 -- A CRC-32 of the checksummed bytes of an event. An algorithm's number is among them for a description.

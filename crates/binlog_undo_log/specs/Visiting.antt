@@ -1,20 +1,17 @@
 -- The row events that are undone of a file, with their table maps.
-use Rattle.std.specs.Prelude.{◌≡◌, ℕ, List, [], ◌∷◌, ◌++◌, length, Option, Some, None, Result, Ok}
+use Rattle.std.specs.Prelude.{◌≡◌, ℕ, List, [], ◌∷◌, ◌++◌, length, Option, Some, None}
 use Rattle.binlog_consts.specs.declared.version.BinlogVersion.TheVariants.{Version4}
-use Rattle.binlog_event_data.specs.declared.event_data.EventData.{EventData}
-use Rattle.binlog_event_data.specs.declared.event_data.EventData.TheVariants as mysql
 use Rattle.binlog_event_format.specs.FormatDescription.{default_description}
 use Rattle.binlog_event_format.specs.declared.format_description.FormatDescriptionEvent.{FormatDescriptionEvent}
-use Rattle.binlog_events.specs.Events.{EventView, ReadsEventData}
+use Rattle.binlog_events.specs.Events.{EventView}
 use Rattle.binlog_rows.specs.declared.table_map_event.TableMapEvent.{TableMapEvent}
 use Rattle.binlog_undo_index.specs.Parts.{parts_of}
 use Rattle.binlog_undo_index.specs.declared.places.ChangePlace.{ChangePlace}
 use Rattle.binlog_undo_index.specs.declared.places.TransactionPlace.{TransactionPlace}
 use Rattle.binlog_undo_log.specs.Files.{IsDescribed}
 use Rattle.binlog_undo_log.specs.Places.{FramesOf, AtPlaces}
-use Rattle.binlog_undo_log.specs.Undoing.{IsEventAt}
+use Rattle.binlog_undo_log.specs.Undoing.{IsEventAt, ReadsMap}
 use Rattle.binlog_undo_log.specs.declared.scan.UndoScan.{UndoScan}
-use Rattle.binlog_wire.specs.declared.error.Error.{Error}
 
 -- A row event, and the table map of its table.
 pub record MappedRows : Type 0 where
@@ -37,17 +34,11 @@ module _ {V : Type 0} (visits : RowsRelation V) where
   abbrev pub VisitsThose : (List MappedRows → Type 0) → V → V → Type 0
   VisitsThose are old new = (rows : List MappedRows) × are rows × VisitsEach rows old new
 
-  -- Rows are visited of the table of a table map of which this was read.
-  pub record VisitsRead (read : Result (Option EventData) Error) (event : EventView) (old new : V) : Type 0 where
-    pub map : TableMapEvent
-    pub is : read ≡ Ok (Some (mysql.TableMapEvent map))
-    pub visited : visits old map event new
-
 -- ---- row events
 
 -- The table map that was read of an event.
 abbrev pub AreMapped : (map_event event : EventView) → List MappedRows → Type 0
-AreMapped map_event event rows = (map : TableMapEvent) × ReadsEventData map_event (Ok (Some (mysql.TableMapEvent map))) × (rows ≡ record { map = map; event = event } ∷ [])
+AreMapped map_event event rows = (map : TableMapEvent) × ReadsMap map_event map × (rows ≡ record { map = map; event = event } ∷ [])
 
 -- The row event at a place, with the table map at its place.
 pub record AreAt (is_at : FramesOf) (fde : FormatDescriptionEvent) (change : ChangePlace) (rows : List MappedRows) : Type 0 where

@@ -2,10 +2,10 @@
 ghost use Rattle.std.specs.Prelude.{◌≡◌, ℕ, List, IfOk, OnOk};
 ghost use Rattle.binlog_event_format.specs.DescriptionRefs.{description_of};
 ghost use Rattle.binlog_events.specs.EventRefs.{view_of};
-ghost use Rattle.binlog_undo_log.specs.Undoing.{Writes, UndoesTable, UndoesRows, UndoesReadEvent, UndoesBody, UndoesCompressed, UndoesReadRows, UndoesMapped, UndoesReadMap, UndoesEvents, UndoesChange};
+ghost use Rattle.binlog_undo_log.specs.Undoing.{Writes, UndoesTable, UndoesRows, UndoesReadEvent, UndoesBody, UndoesCompressed, UndoesReadRows, UndoesMapped, UndoesEvents, UndoesChange};
 
 use crate::compressed::{read_uncompressed, uncompressed_body};
-use crate::events::{event_of, is_maria_event};
+use crate::events::{event_of, is_maria_event, table_map_of};
 use crate::frames::Frames;
 use crate::heads::has_rows_length;
 use crate::primary_key::undo_by_key;
@@ -177,26 +177,6 @@ fn push_of_table(
     answer
 }
 
-// Writes what undoes a row event, of the table of a table map of which this was read.
-fn push_read_map(
-    alloc: Global,
-    map_event: &EventRef<'_>,
-    read: &Result<Option<EventData<'_>>, Error>,
-    event: &EventRef<'_>,
-    checks: ForeignKeyChecks,
-    writer: &mut EventsWriter,
-) -> Result<(), UndoLogError>
-    ensures { OnOk result (Writes (UndoesReadMap checks (view_of map_event.now) read.now (view_of event.now)) writer.old writer.new) }
-{
-    match read {
-        Ok(Some(EventData::TableMapEvent(map))) => {
-            push_of_table(alloc, map_event, map, event, checks, writer)
-        }
-        Err(Error::Memory) => Err(UndoLogError::Memory),
-        _ => Err(UndoLogError::Changed),
-    }
-}
-
 // Writes what undoes a row event, of the table of this table map.
 fn push_events(
     alloc: Global,
@@ -207,10 +187,8 @@ fn push_events(
 ) -> Result<(), UndoLogError>
     ensures { OnOk result (Writes (UndoesEvents checks (view_of map_event.now) (view_of event.now)) writer.old writer.new) }
 {
-    let read = map_event.read_data(alloc);
-    let answer = push_read_map(alloc, map_event, &read, event, checks, writer);
-    drop(read);
-    answer
+    let map = table_map_of(alloc, map_event)?;
+    push_of_table(alloc, map_event, &map, event, checks, writer)
 }
 
 /// Writes what undoes the row event at a place.

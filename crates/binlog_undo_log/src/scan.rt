@@ -28,7 +28,6 @@ use std::alloc::Global;
 const IGNORABLE: u16 = 0x80;
 
 /// The first pass over a file: a visitor of its verified items, which keeps the places of the row events that are undone.
-#[derive(Drop)]
 pub struct UndoScan {
     alloc: Global,
     choice: Choice,
@@ -39,6 +38,25 @@ pub struct UndoScan {
     is_stopped: bool,
     is_wanted: bool,
     items: u64,
+}
+
+impl Drop for UndoScan {
+    // By hand, so that it is proved here and not again in each crate that owns a scan.
+    fn drop(self) {
+        let Self {
+            alloc: _,
+            choice,
+            checks: _,
+            index,
+            place: _,
+            description: _,
+            is_stopped: _,
+            is_wanted: _,
+            items: _,
+        } = self;
+        drop(choice);
+        drop(index);
+    }
 }
 
 impl UndoScan {

@@ -5,17 +5,17 @@ ghost use Rattle.binlog_events.specs.EventRefs.{view_of};
 ghost use Rattle.binlog_payloads.specs.Events.{payload_in, payload_of};
 ghost use Rattle.binlog_undo_index.specs.Parts.{parts_of};
 ghost use Rattle.binlog_undo_log.specs.Places.{InContent};
-ghost use Rattle.binlog_undo_log.specs.Visiting.{RowsRelation, VisitsThose, VisitsRead, AreMapped, AreAt, AreAtEach, AreOwn, AreOfTransaction, AreOfAll, AreUnder, AreUndoneRows};
+ghost use Rattle.binlog_undo_log.specs.Visiting.{RowsRelation, VisitsThose, AreMapped, AreAt, AreAtEach, AreOwn, AreOfTransaction, AreOfAll, AreUnder, AreUndoneRows};
 
 use crate::compressed::MOST_BYTES;
 use crate::description::description_in;
-use crate::events::event_of;
+use crate::events::{event_of, table_map_of};
 use crate::frames::Frames;
 use crate::scan::UndoScan;
 use crate::slice_frames::SliceFrames;
 use crate::undo_error::UndoLogError;
 use binlog_event_format::{BinlogEventFooter, DescriptionRef};
-use binlog_file::{BinlogVersion, Error, EventData, EventRef, TableMapEvent};
+use binlog_file::{BinlogVersion, EventRef, TableMapEvent};
 use binlog_payloads::{PayloadError, TransactionPayloadEvent};
 use binlog_undo_index::{ChangePlace, TransactionPlace};
 use std::alloc::Global;
@@ -48,26 +48,8 @@ fn visit_event<V: RowsVisitor>(
 ) -> Result<(), UndoLogError>
     ensures { OnOk result (VisitsThose V.visits (AreMapped (view_of map_event.now) (view_of event.now)) visitor.old visitor.new) }
 {
-    let read = map_event.read_data(alloc);
-    let answer = visit_read_map(alloc, &read, event, visitor);
-    drop(read);
-    answer
-}
-
-// Visits a row event, of the table of a table map of which this was read.
-fn visit_read_map<V: RowsVisitor>(
-    alloc: Global,
-    read: &Result<Option<EventData<'_>>, Error>,
-    event: &EventRef<'_>,
-    visitor: &mut V,
-) -> Result<(), UndoLogError>
-    ensures { OnOk result (VisitsRead V.visits read.now (view_of event.now) visitor.old visitor.new) }
-{
-    match read {
-        Ok(Some(EventData::TableMapEvent(map))) => visitor.visit_rows(alloc, map, event),
-        Err(Error::Memory) => Err(UndoLogError::Memory),
-        _ => Err(UndoLogError::Changed),
-    }
+    let map = table_map_of(alloc, map_event)?;
+    visitor.visit_rows(alloc, &map, event)
 }
 
 // Visits the row event at a place.
