@@ -1,12 +1,13 @@
 -- The first pass over several logs, one after the other.
-use Rattle.std.proofs.Common.{◌≡◌, ◌≢◌, ◌⊎◌, inl, inr, ℕ, ◌+◌, ◌<◌, ◌^◌, arith, Bor, List, [], ◌∷◌, ◌++◌, length, take, map, get_or, Option, Some, None, IfSome, refl, sym, subst, ap, ◌∙◌}
+use Rattle.std.proofs.Common.{◌≡◌, ◌≢◌, ◌⊎◌, inl, inr, ℕ, ◌+◌, ◌<◌, ◌^◌, arith, Bor, List, [], ◌∷◌, ◌++◌, length, take, map, get_or, Option, Some, None, IfSome, Result, Ok, Err, OnOk, refl, sym, subst, ap, ◌∙◌}
+use Rattle.std.specs.Prelude.{IfErr}
 use Rattle.std.proofs.lemmas.List.{length-map, length-take-le, map-append, take_more}
 use Rattle.clap.specs.declared.parser.matches.Found.{Found}
 use Rattle.binlog_cli.specs.Statuses.{worse}
 use Rattle.binlog_cli.specs.declared.exit_status.Status.{Status}
 use Rattle.binlog_cli.specs.declared.exit_status.Status.TheVariants.{Fine, NotOpened, Damaged, Failed, Usage}
 use Rattle.binlog_undo_command.specs.LogPlaces.{place_at}
-use Rattle.binlog_undo_command.specs.Scanned.{AreUndoneFrom, HasRefusedFrom, IsRefused, IsUndone}
+use Rattle.binlog_undo_command.specs.Scanned.{AreUndoneFrom, HasRefusedFrom, IsRefused, IsUndone, ScansSkipped, ScansRefused}
 use Rattle.binlog_undo_command.specs.declared.log_place.LogPlace.{LogPlace}
 use Rattle.binlog_undo_command.specs.declared.scanning.ScannedLog.{ScannedLog}
 use Rattle.binlog_undo_log.specs.Files.{ScansWhole}
@@ -50,6 +51,17 @@ pub known_scans : (known remaining : Option (List ℕ)) (start scan : UndoScan) 
     → IfSome remaining (λ bytes. length bytes < 2 ^ 64 → ScansWhole bytes start scan) → IfSome known (λ bytes. length bytes < 2 ^ 64 → ScansWhole bytes start scan)
 known_scans None remaining start scan is given = tt
 known_scans (Some bytes) remaining start scan is given = rw is at given
+
+pub skipped_known : (answer : Result (Unit {0}) Status) (known remaining : Option (List ℕ)) (old new : UndoScan) → IfSome known (λ bytes. remaining ≡ Some bytes)
+    → OnOk answer (ScansSkipped remaining old new) → OnOk answer (ScansSkipped known old new)
+skipped_known (Ok done) known remaining old new is h = record { scans = known_scans known remaining old new is h.scans; skipped = h.skipped }
+skipped_known (Err status) known remaining old new is h = tt
+
+pub refused_known : (answer : Result (Unit {0}) Status) (known remaining : Option (List ℕ)) (old new : UndoScan) → IfSome known (λ bytes. remaining ≡ Some bytes)
+    → IfErr answer (λ status. status ≡ Damaged → ScansRefused remaining old new) → IfErr answer (λ status. status ≡ Damaged → ScansRefused known old new)
+refused_known (Ok done) known remaining old new is h = tt
+refused_known (Err status) known remaining old new is h =
+    λ damaged. record { scans = known_scans known remaining old new is (h damaged).scans; refused = (h damaged).refused }
 
 abbrev texts_of : List (Bor (List ℕ)) → List (List ℕ)
 texts_of names = map (λ (name : Bor (List ℕ)). name.now) names

@@ -9,6 +9,16 @@ use Rattle.binlog_undo_index.specs.Parts.{parts_of}
 use Rattle.binlog_undo_log.specs.Files.{AreSkipped, ScansWhole}
 use Rattle.binlog_undo_log.specs.declared.scan.UndoScan.{UndoScan}
 
+-- A log of these bytes, where they are known, is scanned, and nothing in it is refused, unless that is skipped.
+pub record ScansSkipped (known : Option (List ℕ)) (old new : UndoScan) : Type 0 where
+  pub scans : IfSome known (λ bytes. length bytes < 2 ^ 64 → ScansWhole bytes old new)
+  pub skipped : AreSkipped (parts_of new.index).refusals
+
+-- Something in it is refused that isn't skipped.
+pub record ScansRefused (known : Option (List ℕ)) (old new : UndoScan) : Type 0 where
+  pub scans : IfSome known (λ bytes. length bytes < 2 ^ 64 → ScansWhole bytes old new)
+  pub refused : AreSkipped (parts_of new.index).refusals → ⊥
+
 -- A log at this place of these bytes, where they are known, is scanned as the options ask for it.
 pub record IsScannedAs (found : Found) (place : LogPlace) (known : Option (List ℕ)) (scan : UndoScan) : Type 0 where
   pub start : UndoScan

@@ -5,7 +5,7 @@ ghost use Rattle.binlog_cli.specs.declared.exit_status.Status.TheVariants.{Fine,
 ghost use Rattle.binlog_undo_index.specs.Parts.{parts_of};
 ghost use Rattle.binlog_undo_log.specs.Files.{AreSkipped, ScansWhole};
 ghost use Rattle.binlog_undo_command.specs.Options.{RefusesOptions};
-ghost use Rattle.binlog_undo_command.specs.Scanned.{IsUndone, AreUndone, IsRefused, HasRefused};
+ghost use Rattle.binlog_undo_command.specs.Scanned.{ScansSkipped, ScansRefused, IsUndone, AreUndone, IsRefused, HasRefused};
 
 use crate::log_place::LogPlace;
 use crate::logs::Logs;
@@ -81,17 +81,50 @@ fn scan_log<L: Logs, R: Eprint + AllocGlobal>(
     ensures usage { IfErr result (λ status. status ≡ Usage → RefusesOptions (found_of options.now) Usage) }
 {
     let mut scan = new_scan(rt, options, place)?;
+    match scan_named(rt, logs, name, &mut scan) {
+        Ok(()) => Ok(scan),
+        Err(status) => Err(status),
+    }
+}
+
+// The first pass over the log of this name. Err if something in it can't be undone or read.
+fn scan_named<L: Logs, R: Eprint + AllocGlobal>(
+    rt: &R,
+    logs: &L,
+    name: &str,
+    scan: &mut UndoScan,
+) -> Result<(), Status>
+    ensures ok { OnOk result (ScansSkipped (L.bytes logs.now name.now) scan.old scan.new) }
+    ensures err { IfErr result (λ status. status ≢ Fine) }
+    ensures usage { IfErr result (λ status. status ≢ Usage) }
+    ensures refused { IfErr result (λ status. status ≡ Damaged → ScansRefused (L.bytes logs.now name.now) scan.old scan.new) }
+{
     match logs.open(name) {
-        Ok(input) => scan_open(rt, name, input, &mut scan)?,
+        Ok(input) => scan_opened(rt, name, input, scan),
         Err(error) => {
             report_error(rt, name, &error);
-            return Err(Status::NotOpened);
+            Err(Status::NotOpened)
         }
     }
+}
+
+// The same of an open log.
+fn scan_opened<R: Eprint + AllocGlobal, I: Read + Drop>(
+    rt: &R,
+    name: &str,
+    input: I,
+    scan: &mut UndoScan,
+) -> Result<(), Status>
+    ensures ok { OnOk result (ScansSkipped (I.remaining input) scan.old scan.new) }
+    ensures err { IfErr result (λ status. status ≢ Fine) }
+    ensures usage { IfErr result (λ status. status ≢ Usage) }
+    ensures refused { IfErr result (λ status. status ≡ Damaged → ScansRefused (I.remaining input) scan.old scan.new) }
+{
+    scan_open(rt, name, input, scan)?;
     if report(rt, name, scan.index()) {
         return Err(Status::Damaged);
     }
-    Ok(scan)
+    Ok(())
 }
 
 // The first pass over an open log.
