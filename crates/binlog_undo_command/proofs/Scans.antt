@@ -46,6 +46,15 @@ not_fine a b isnt is = elim (which_is a b Fine is) [
   | inr second ↦ isnt second
 ]
 
+pub failed_isnt_fine : (status : Status) → status ≡ Failed → status ≡ Fine → ⊥
+failed_isnt_fine status failed fine = cc
+
+pub failed_isnt_damaged : (status : Status) → status ≡ Failed → status ≡ Damaged → ⊥
+failed_isnt_damaged status failed damaged = cc
+
+pub failed_isnt_usage : (status : Status) → status ≡ Failed → status ≡ Usage → ⊥
+failed_isnt_usage status failed usage = cc
+
 -- The bytes that are left of a log that was opened are all of it.
 pub known_scans : (known remaining : Option (List ℕ)) (start scan : UndoScan) → IfSome known (λ bytes. remaining ≡ Some bytes)
     → IfSome remaining (λ bytes. length bytes < 2 ^ 64 → ScansWhole bytes start scan) → IfSome known (λ bytes. length bytes < 2 ^ 64 → ScansWhole bytes start scan)

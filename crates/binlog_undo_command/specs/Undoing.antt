@@ -62,6 +62,12 @@ pub record HaveLater {F : Type 0} (bytes : List ℕ → Option (List ℕ)) (has_
 abbrev pub IsRefusedAs : {F : Type 0} → (List ℕ → Option (List ℕ)) → (List ℕ → F → Type 0) → (F → ℕ → List ℕ → Type 0) → Found → Type 0
 IsRefusedAs bytes has_frames is_at found = AreRefused bytes has_frames is_at found ⊎ HaveLater bytes has_frames is_at found
 
+-- The counts of logs are written, those of their tables too.
+pub record WritesCounts {F : Type 0} (has_frames : List ℕ → F → Type 0) (is_at : F → ℕ → List ℕ → Type 0) (logs : List ScannedLog) (old new : Option (List ℕ)) : Type 0 where
+  pub stats : TableStats
+  pub rows : CountsRows has_frames is_at logs stats
+  pub counts : Appends old new (counts_line logs ++ flat_map rows_line stats.tables.entries)
+
 -- Nothing is refused in the logs that the words name, and their counts are written, those of their tables too. `bytes` are those of the
 -- log of a name.
 pub record CountsLogs {F : Type 0} (bytes : List ℕ → Option (List ℕ)) (has_frames : List ℕ → F → Type 0) (is_at : F → ℕ → List ℕ → Type 0) (found : Found)

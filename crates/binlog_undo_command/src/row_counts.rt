@@ -16,9 +16,16 @@ use change_statistics::{MAX_TABLES, TableStats};
 use std::alloc::Global;
 
 /// Counts row events that are undone, and their rows, by table.
-#[derive(Drop)]
 pub(crate) struct RowCounts {
     counter: Counter<TableStats>,
+}
+
+impl Drop for RowCounts {
+    // By hand, so that it is proved once.
+    fn drop(self) {
+        let Self { counter } = self;
+        drop(counter);
+    }
 }
 
 impl RowCounts {

@@ -20,12 +20,19 @@ use clap::ArgMatches;
 use std::io::Read;
 
 /// A log behind the first pass.
-#[derive(Drop)]
 pub struct ScannedLog<'a> {
     /// Its name.
     pub name: &'a str,
     /// The pass.
     pub scan: UndoScan,
+}
+
+impl Drop for ScannedLog<'_> {
+    // By hand, so that it is proved once.
+    fn drop(self) {
+        let Self { name: _, scan } = self;
+        drop(scan);
+    }
 }
 
 /// The first pass over all logs. Each refusal has a message, and so has a log that can't be read.

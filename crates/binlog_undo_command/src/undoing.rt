@@ -7,7 +7,7 @@ ghost use Rattle.binlog_cli.specs.declared.exit_status.Status.TheVariants.{Fine,
 ghost use Rattle.change_statistics.specs.RowText.{rows_line};
 ghost use Rattle.binlog_undo_command.specs.Options.{RefusesOptions, StatesFlag};
 ghost use Rattle.binlog_undo_command.specs.Scanned.{AreUndone, HasRefused};
-ghost use Rattle.binlog_undo_command.specs.Undoing.{transactions_in, changes_in, counts_line, AreScannedAs, AreRefused, AreUndoneAs, IsRefusedAs, CountsLogs, PutsLog, Undoes};
+ghost use Rattle.binlog_undo_command.specs.Undoing.{transactions_in, changes_in, counts_line, AreScannedAs, AreRefused, AreUndoneAs, IsRefusedAs, WritesCounts, CountsLogs, PutsLog, Undoes};
 
 use crate::descriptions::check_descriptions;
 use crate::later_logs::check_later;
@@ -87,8 +87,21 @@ fn count_tables<L: Logs, R: Eprint + AllocGlobal, W: Write>(
     ensures usage { IfErr result (λ status. status ≡ Usage → RefusesOptions (found_of options.now) Usage) }
 {
     let scanned = scan_as(rt, logs, options, is_one)?;
-    let rows = count_rows(rt, logs, scanned.as_slice())?;
-    match write_rows(scanned.as_slice(), rows.stats(), writer) {
+    count_scanned(rt, logs, scanned.as_slice(), writer)
+}
+
+// Counts the rows that are undone of logs, and writes the counts.
+fn count_scanned<L: Logs, R: Eprint + AllocGlobal, W: Write>(
+    rt: &R,
+    logs: &L,
+    scanned: &[ScannedLog<'_>],
+    writer: &mut W,
+) -> Result<(), Status>
+    ensures ok { OnOk result (WritesCounts (L.has_frames logs.now) L.Sought.is_at scanned.now (W.contents writer.old) (W.contents writer.new)) }
+    ensures err { IfErr result (λ status. status ≡ Failed) }
+{
+    let rows = count_rows(rt, logs, scanned)?;
+    match write_rows(scanned, rows.stats(), writer) {
         Ok(()) => Ok(()),
         Err(error) => {
             report_error(rt, "the output", &error);
