@@ -11,3 +11,4 @@ pub mod PlainMoments
 pub mod FixedPoints
 pub mod PlacedPlain
 mod CopiedMembers
+pub mod PlacedInPart

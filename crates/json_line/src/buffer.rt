@@ -10,10 +10,14 @@ ghost use Rattle.json_line.specs.Moments.{date_text, time_text, date_time_text};
 
 use crate::moment::{DateParts, TimeParts};
 use crate::place::{
-    place_byte, place_bytes, place_comma, place_hexadecimal, place_minus, place_number, place_short,
+    place_byte, place_comma, place_hexadecimal, place_minus, place_number, place_short,
 };
 use crate::place_fixed_point::place_fixed_point;
 use crate::place_moment::{place_date, place_time};
+use crate::place_next::{
+    place_next_between, place_next_bytes, place_next_name, place_next_named_number,
+    place_next_number, place_next_quoted,
+};
 use crate::place_plain::place_plain;
 use std::alloc::{AllocError, Global};
 use std::marker::Model;
@@ -148,9 +152,11 @@ impl Buffer {
         requires { length text.now + 1 ≤ self.old.room }
         ensures { self.new.text ≡ self.old.text ++ (comma after_value ++ text.now) }
     {
+        let start = self.len;
+        let end = start + (text.len() + 1);
         let memory = self.bytes.as_mut_slice();
-        let at = place_comma(memory, self.len, after_value);
-        self.len = place_bytes(memory, at, text);
+        let count = place_next_bytes(&mut memory[start..end], after_value, text);
+        self.len = start + count;
     }
 
     /// Writes a comma if wanted, and the bytes. The only error is a failed allocation, which leaves the written bytes
@@ -197,11 +203,11 @@ impl Buffer {
         requires { length text.now + 3 ≤ self.old.room }
         ensures { self.new.text ≡ self.old.text ++ (comma after_value ++ 34 ∷ (text.now ++ 34 ∷ [])) }
     {
+        let start = self.len;
+        let end = start + (text.len() + 3);
         let memory = self.bytes.as_mut_slice();
-        let at = place_comma(memory, self.len, after_value);
-        let at = place_byte(memory, at, b'"');
-        let at = place_bytes(memory, at, text);
-        self.len = place_byte(memory, at, b'"');
+        let count = place_next_quoted(&mut memory[start..end], after_value, text);
+        self.len = start + count;
     }
 
     /// Writes a comma if wanted, and the bytes in quotation marks.
@@ -249,12 +255,11 @@ impl Buffer {
         requires { length name.now + 4 ≤ self.old.room }
         ensures { self.new.text ≡ self.old.text ++ (comma after_value ++ 34 ∷ (name.now ++ 34 ∷ 58 ∷ [])) }
     {
+        let start = self.len;
+        let end = start + (name.len() + 4);
         let memory = self.bytes.as_mut_slice();
-        let at = place_comma(memory, self.len, after_value);
-        let at = place_byte(memory, at, b'"');
-        let at = place_bytes(memory, at, name);
-        let at = place_byte(memory, at, b'"');
-        self.len = place_byte(memory, at, b':');
+        let count = place_next_name(&mut memory[start..end], after_value, name);
+        self.len = start + count;
     }
 
     /// Writes a comma if wanted, the bytes in quotation marks, and a colon.
@@ -272,11 +277,11 @@ impl Buffer {
         requires { length before.now + length text.now + length after.now + 1 ≤ self.old.room }
         ensures { self.new.text ≡ self.old.text ++ (comma after_value ++ (before.now ++ (text.now ++ after.now))) }
     {
+        let start = self.len;
+        let end = start + (before.len() + text.len() + after.len() + 1);
         let memory = self.bytes.as_mut_slice();
-        let at = place_comma(memory, self.len, after_value);
-        let at = place_bytes(memory, at, before);
-        let at = place_bytes(memory, at, text);
-        self.len = place_bytes(memory, at, after);
+        let count = place_next_between(&mut memory[start..end], after_value, before, text, after);
+        self.len = start + count;
     }
 
     /// Writes a comma if wanted, and three texts, the first and the last of which are short.
@@ -301,9 +306,11 @@ impl Buffer {
         requires { 21 ≤ self.old.room }
         ensures { self.new.text ≡ self.old.text ++ (comma after_value ++ decimal number) }
     {
+        let start = self.len;
+        let end = start + (MAX_DIGITS + 1);
         let memory = self.bytes.as_mut_slice();
-        let at = place_comma(memory, self.len, after_value);
-        self.len = place_number(memory, at, number);
+        let count = place_next_number(&mut memory[start..end], after_value, number);
+        self.len = start + count;
     }
 
     /// Writes a comma if wanted, and a decimal number.
@@ -321,13 +328,11 @@ impl Buffer {
         requires { length name.now + 24 ≤ self.old.room }
         ensures { self.new.text ≡ self.old.text ++ (comma after_value ++ (34 ∷ (name.now ++ 34 ∷ 58 ∷ [])) ++ decimal number) }
     {
+        let start = self.len;
+        let end = start + (name.len() + MAX_DIGITS + 4);
         let memory = self.bytes.as_mut_slice();
-        let at = place_comma(memory, self.len, after_value);
-        let at = place_byte(memory, at, b'"');
-        let at = place_bytes(memory, at, name);
-        let at = place_byte(memory, at, b'"');
-        let at = place_byte(memory, at, b':');
-        self.len = place_number(memory, at, number);
+        let count = place_next_named_number(&mut memory[start..end], after_value, name, number);
+        self.len = start + count;
     }
 
     /// Writes a comma if wanted, the bytes in quotation marks, a colon, and a decimal number.

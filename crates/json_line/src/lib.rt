@@ -13,6 +13,7 @@ mod moment;
 mod place;
 mod place_fixed_point;
 mod place_moment;
+mod place_next;
 mod place_plain;
 mod plain;
 
