@@ -9,14 +9,12 @@ ghost use Rattle.json_line.specs.FixedPoints.{fixed_point_text};
 ghost use Rattle.json_line.specs.Moments.{date_text, time_text, date_time_text};
 
 use crate::moment::{DateParts, TimeParts};
-use crate::place::{
-    place_byte, place_comma, place_hexadecimal, place_minus, place_number, place_short,
-};
-use crate::place_fixed_point::place_fixed_point;
+use crate::place::{place_byte, place_comma, place_hexadecimal, place_minus};
 use crate::place_moment::{place_date, place_time};
 use crate::place_next::{
-    place_next_between, place_next_bytes, place_next_name, place_next_named_number,
-    place_next_number, place_next_quoted,
+    place_next_between, place_next_bytes, place_next_fixed_point, place_next_name,
+    place_next_named_number, place_next_number, place_next_quoted, place_next_short,
+    place_next_signed,
 };
 use crate::place_plain::place_plain;
 use std::alloc::{AllocError, Global};
@@ -175,9 +173,11 @@ impl Buffer {
         requires { (len ≤ 32) × (32 ≤ length bytes.now) × (33 ≤ self.old.room) }
         ensures { self.new.text ≡ self.old.text ++ (comma after_value ++ take len bytes.now) }
     {
+        let start = self.len;
+        let end = start + 33;
         let memory = self.bytes.as_mut_slice();
-        let at = place_comma(memory, self.len, after_value);
-        self.len = place_short(memory, at, bytes, len);
+        let count = place_next_short(&mut memory[start..end], after_value, bytes, len);
+        self.len = start + count;
     }
 
     /// Writes a comma if wanted, and the bytes that are written in another buffer.
@@ -355,10 +355,11 @@ impl Buffer {
         requires { 22 ≤ self.old.room }
         ensures { self.new.text ≡ self.old.text ++ (comma after_value ++ signed_decimal number) }
     {
+        let start = self.len;
+        let end = start + (MAX_DIGITS + 2);
         let memory = self.bytes.as_mut_slice();
-        let at = place_comma(memory, self.len, after_value);
-        let at = place_minus(memory, at, number < 0);
-        self.len = place_number(memory, at, number.unsigned_abs());
+        let count = place_next_signed(&mut memory[start..end], after_value, number);
+        self.len = start + count;
     }
 
     /// Writes a comma if wanted, and a signed decimal number.
@@ -372,17 +373,21 @@ impl Buffer {
     }
 
     #[inline(always)]
-    #[tactic(auto, unfolding(crate::specs::FixedPoints::fixed_point_text))]
     fn put_fixed_point(&mut self, after_value: bool, is_negative: bool, scale: u8, number: u64)
         requires { (scale ≤ 18) × (43 ≤ self.old.room) }
         ensures { self.new.text ≡ self.old.text ++ (comma after_value ++ 34 ∷ (fixed_point_text is_negative scale number ++ 34 ∷ [])) }
     {
+        let start = self.len;
+        let end = start + MAX_FIXED_POINT;
         let memory = self.bytes.as_mut_slice();
-        let at = place_comma(memory, self.len, after_value);
-        let at = place_byte(memory, at, b'"');
-        let at = place_minus(memory, at, is_negative);
-        let at = place_fixed_point(memory, at, scale, number);
-        self.len = place_byte(memory, at, b'"');
+        let count = place_next_fixed_point(
+            &mut memory[start..end],
+            after_value,
+            is_negative,
+            scale,
+            number,
+        );
+        self.len = start + count;
     }
 
     /// Writes a comma if wanted, and a number with a point in quotation marks.

@@ -1,11 +1,13 @@
 //! Writing what stands next in a line at the beginning of memory that has room for it: a comma if wanted, and a text, a name or a
 //! number. Each function returns how many bytes it wrote.
-ghost use Rattle.std.specs.Prelude.{◌≡◌, ◌+◌, ◌≤◌, [], ◌∷◌, ◌++◌, length};
-ghost use Rattle.std.specs.Fmt.{decimal};
+ghost use Rattle.std.specs.Prelude.{◌≡◌, ◌+◌, ◌≤◌, [], ◌∷◌, ◌++◌, length, take};
+ghost use Rattle.std.specs.Fmt.{decimal, signed_decimal};
 ghost use Rattle.json.specs.Filled.{Placed};
 ghost use Rattle.json_line.specs.Buffers.{comma};
+ghost use Rattle.json_line.specs.FixedPoints.{fixed_point_text};
 
-use crate::place::{place_byte, place_bytes, place_comma, place_number};
+use crate::place::{place_byte, place_bytes, place_comma, place_minus, place_number, place_short};
+use crate::place_fixed_point::place_fixed_point;
 
 /// Writes a comma if wanted, and the bytes.
 #[inline(always)]
@@ -15,6 +17,21 @@ pub(crate) fn place_next_bytes(memory: &mut [u8], after_value: bool, text: &[u8]
 {
     let at = place_comma(memory, 0, after_value);
     place_bytes(memory, at, text)
+}
+
+/// Writes a comma if wanted, and the first `len` bytes, at most 32, of as many.
+#[inline(always)]
+pub(crate) fn place_next_short(
+    memory: &mut [u8],
+    after_value: bool,
+    bytes: &[u8],
+    len: usize,
+) -> usize
+    requires { (len ≤ 32) × (32 ≤ length bytes.now) × (33 ≤ length memory.old) }
+    ensures { Placed memory.old memory.new 0 (comma after_value ++ take len bytes.now) result }
+{
+    let at = place_comma(memory, 0, after_value);
+    place_short(memory, at, bytes, len)
 }
 
 /// Writes a comma if wanted, and the bytes in quotation marks.
@@ -84,4 +101,34 @@ pub(crate) fn place_next_named_number(
 {
     let at = place_next_name(memory, after_value, name);
     place_number(memory, at, number)
+}
+
+/// Writes a comma if wanted, and a signed decimal number.
+#[inline(always)]
+pub(crate) fn place_next_signed(memory: &mut [u8], after_value: bool, number: i64) -> usize
+    requires { 22 ≤ length memory.old }
+    ensures { Placed memory.old memory.new 0 (comma after_value ++ signed_decimal number) result }
+{
+    let at = place_comma(memory, 0, after_value);
+    let at = place_minus(memory, at, number < 0);
+    place_number(memory, at, number.unsigned_abs())
+}
+
+/// Writes a comma if wanted, and a number with a point in quotation marks.
+#[inline(always)]
+pub(crate) fn place_next_fixed_point(
+    memory: &mut [u8],
+    after_value: bool,
+    is_negative: bool,
+    scale: u8,
+    number: u64,
+) -> usize
+    requires { (scale ≤ 18) × (43 ≤ length memory.old) }
+    ensures { Placed memory.old memory.new 0 (comma after_value ++ 34 ∷ (fixed_point_text is_negative scale number ++ 34 ∷ [])) result }
+{
+    let at = place_comma(memory, 0, after_value);
+    let at = place_byte(memory, at, b'"');
+    let at = place_minus(memory, at, is_negative);
+    let at = place_fixed_point(memory, at, scale, number);
+    place_byte(memory, at, b'"')
 }
