@@ -18,6 +18,21 @@ use Rattle.binlog_json_bodies.specs.Data.{name_value, data_value, short_data_val
 unfoldable pub type_members : ℕ → List Token
 type_members type = member (codes "type") (number_value type) ++ member (codes "name") (name_value (event_type_of type))
 
+-- The time and the server of an event.
+unfoldable pub source_members : (timestamp server_id : ℕ) → List Token
+source_members timestamp server_id = member (codes "timestamp") (number_value timestamp) ++ member (codes "server_id") (number_value server_id)
+
+-- The type of an event, its time and its server, with which the fields of its header begin.
+unfoldable pub origin_members : (type timestamp server_id : ℕ) → List Token
+origin_members type timestamp server_id = type_members type ++ source_members timestamp server_id
+
+-- The size of an event, the position behind it and its flags.
+unfoldable pub extent_members : BinlogEventHeader → List Token
+extent_members header =
+    member (codes "event_size") (number_value header.event_size)
+    ++ member (codes "log_pos") (number_value header.log_pos)
+    ++ member (codes "flags") (number_value header.flags)
+
 -- The other fields of the header.
 unfoldable pub header_members : BinlogEventHeader → List Token
 header_members header =

@@ -4,10 +4,12 @@
 ghost use Rattle.std.specs.Prelude.{true};
 ghost use Rattle.binlog_file.specs.EventRefs.{view_of};
 ghost use Rattle.json_line.specs.Tokens.{Adds};
-ghost use Rattle.binlog_json_lines.specs.ItemLines.{type_members, header_members, checksum_member, event_fields, event_head, data_member, event_members, event_object, error_object, mismatch_members};
+ghost use Rattle.binlog_json_lines.specs.ItemLines.{checksum_member, event_fields, event_head, data_member, event_members, event_object, error_object, mismatch_members};
 
-use binlog_file::{BinlogEventHeader, Error, EventRef};
-use binlog_json_bodies::{KeptStatusVars, write_data, write_name, write_next_data};
+use crate::header_members::{write_extent, write_header, write_type};
+use crate::kept_heads::KeptHeads;
+use binlog_file::{Error, EventRef};
+use binlog_json_bodies::{KeptStatusVars, write_data, write_next_data};
 use json_line::Line;
 use std::alloc::{AllocError, Global};
 
@@ -15,6 +17,7 @@ use std::alloc::{AllocError, Global};
 #[inline(always)]
 pub(crate) fn write_event(
     line: &mut Line,
+    heads: &mut KeptHeads,
     kept: &mut KeptStatusVars,
     alloc: Global,
     index: u64,
@@ -23,7 +26,7 @@ pub(crate) fn write_event(
     ensures { Adds result line.old line.new (event_object index (view_of event.now)) }
 {
     line.begin_object()?;
-    write_event_members(line, kept, alloc, index, event)?;
+    write_event_members(line, heads, kept, alloc, index, event)?;
     line.end_object()?;
     Ok(())
 }
@@ -32,6 +35,7 @@ pub(crate) fn write_event(
 #[inline(always)]
 fn write_event_members(
     line: &mut Line,
+    heads: &mut KeptHeads,
     kept: &mut KeptStatusVars,
     alloc: Global,
     index: u64,
@@ -39,7 +43,7 @@ fn write_event_members(
 ) -> Result<(), AllocError>
     ensures { Adds result line.old line.new (event_members index (view_of event.now)) }
 {
-    write_event_head(line, index, event)?;
+    write_next_event_head(line, heads, alloc, index, event)?;
     write_next_data_member(line, kept, alloc, event)?;
     Ok(())
 }
@@ -59,6 +63,29 @@ pub(crate) fn write_event_head(
 {
     line.number_member("index", index)?;
     write_event_fields(line, event)
+}
+
+/// The same of an event behind others, whose type, time and server may be kept.
+///
+/// # Errors
+///
+/// Those of [`write_event_head`].
+#[inline(always)]
+pub(crate) fn write_next_event_head(
+    line: &mut Line,
+    heads: &mut KeptHeads,
+    alloc: Global,
+    index: u64,
+    event: &EventRef<'_>,
+) -> Result<(), AllocError>
+    ensures { Adds result line.old line.new (event_head index (view_of event.now)) }
+{
+    line.number_member("index", index)?;
+    let header = event.header();
+    heads.write(line, alloc, &header)?;
+    write_extent(line, &header)?;
+    write_checksum(line, event)?;
+    Ok(())
 }
 
 /// Writes the members of the object of an event that state its header and its checksum.
@@ -117,35 +144,6 @@ fn write_next_data_member(
 {
     line.key("data")?;
     write_next_data(line, kept, alloc, event)
-}
-
-// Writes the raw type and the type's name.
-#[inline(always)]
-#[tactic(auto, using(std::proofs::Common::append_assoc), unfolding(crate::specs::ItemLines::type_members))]
-fn write_type(line: &mut Line, header: &BinlogEventHeader) -> Result<(), AllocError>
-    ensures { Adds result line.old line.new (type_members header.now.event_type) }
-{
-    line.number_member("type", u64::from(header.event_type_raw()))?;
-    line.key("name")?;
-    write_name(line, header.event_type())?;
-    Ok(())
-}
-
-/// Writes the fields of a header but for the event's type, as members of the object of an event.
-///
-/// # Errors
-///
-/// [`AllocError`] if an allocation fails.
-#[inline(always)]
-pub(crate) fn write_header(line: &mut Line, header: &BinlogEventHeader) -> Result<(), AllocError>
-    ensures { Adds result line.old line.new (header_members header.now) }
-{
-    line.number_member("timestamp", u64::from(header.timestamp()))?;
-    line.number_member("server_id", u64::from(header.server_id()))?;
-    line.number_member("event_size", u64::from(header.event_size()))?;
-    line.number_member("log_pos", u64::from(header.log_pos()))?;
-    line.number_member("flags", u64::from(header.flags_raw()))?;
-    Ok(())
 }
 
 /// Writes the object of an error.

@@ -7,6 +7,8 @@
 #![tactic(auto)]
 
 mod event_members;
+mod header_members;
+mod kept_heads;
 mod kept_tables;
 pub mod laws;
 mod lines;

@@ -17,7 +17,9 @@ ghost use Rattle.binlog_json_lines.specs.PartLines.{IsPartEventLine, part_error_
 ghost use Rattle.binlog_json_lines.specs.PayloadLines.{payload_line};
 ghost use Rattle.binlog_payloads.specs.Events.{payload_in, payload_of};
 
-use crate::event_members::{write_error, write_event, write_event_head, write_header};
+use crate::event_members::{write_error, write_event, write_next_event_head};
+use crate::header_members::write_header;
+use crate::kept_heads::KeptHeads;
 use crate::options::LineOptions;
 use crate::part_members::{PartPlace, write_part, write_part_error, write_payload_event};
 use crate::row_members::RowsWriter;
@@ -36,6 +38,7 @@ pub struct JsonLines {
     line: Line,
     text: String,
     rows: RowsWriter,
+    heads: KeptHeads,
     status_vars: KeptStatusVars,
 }
 
@@ -46,11 +49,13 @@ impl Drop for JsonLines {
             line,
             text,
             rows,
+            heads,
             status_vars,
         } = self;
         drop(line);
         drop(text);
         drop(rows);
+        drop(heads);
         drop(status_vars);
     }
 }
@@ -72,6 +77,7 @@ impl JsonLines {
             line: Line::new(alloc),
             text: String::new(alloc),
             rows: RowsWriter::new(alloc),
+            heads: KeptHeads::new(alloc),
             status_vars: KeptStatusVars::new(alloc),
         }
     }
@@ -275,6 +281,7 @@ impl JsonLines {
         self.line.clear();
         let contradiction = write_rows_event(
             &mut self.line,
+            &mut self.heads,
             &mut self.rows,
             alloc,
             index,
@@ -340,7 +347,14 @@ impl JsonLines {
         ensures memory { IfErr result (λ e. e ≡ Memory) }
     {
         self.line.clear();
-        write_event(&mut self.line, &mut self.status_vars, alloc, index, event)?;
+        write_event(
+            &mut self.line,
+            &mut self.heads,
+            &mut self.status_vars,
+            alloc,
+            index,
+            event,
+        )?;
         Ok(self.line.end()?)
     }
 }
@@ -385,6 +399,7 @@ fn write_own_event(
 // contradicts the files of columns.
 fn write_rows_event(
     line: &mut Line,
+    heads: &mut KeptHeads,
     writer: &mut RowsWriter,
     alloc: Global,
     index: u64,
@@ -397,7 +412,7 @@ fn write_rows_event(
     ensures { ShowsBy result line.old line.new (IsRowsObject (options_of options.now) (option_copied table_map.entry) index (view_of event.now)) }
 {
     line.begin_object()?;
-    write_event_head(line, index, event)?;
+    write_next_event_head(line, heads, alloc, index, event)?;
     let contradiction = writer.write_members(line, alloc, event, rows, table_map, options)?;
     line.end_object()?;
     Ok(contradiction)

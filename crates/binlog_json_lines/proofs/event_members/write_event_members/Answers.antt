@@ -4,4 +4,4 @@ use Rattle.binlog_json_lines.proofs.event_members.write_event_members.Goals as g
 
 pub returns : goal.returns
 unfolding event_members
-returns c = rw (c.in_ok-write_next_data_member.ensures, c.in_ok-write_event_head.ensures) (simp append_assoc)
+returns c = rw (c.in_ok-write_next_data_member.ensures, c.in_ok-write_next_event_head.ensures) (simp append_assoc)

@@ -10,5 +10,5 @@ returns c =
     record {
       tokens = object (event_head c.args.index (view_of c.args.event.now) ++ all.tokens);
       are = record { members = all.tokens; are = all.are; is = refl };
-      is = rw (c.in_ok-end_object.ensures.added, all.is, c.in_ok-write_event_head.ensures, c.in_ok-begin_object.ensures.added) (simp append_assoc);
+      is = rw (c.in_ok-end_object.ensures.added, all.is, c.in_ok-write_next_event_head.ensures, c.in_ok-begin_object.ensures.added) (simp append_assoc);
     }
