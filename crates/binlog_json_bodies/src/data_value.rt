@@ -17,7 +17,7 @@ use crate::bodies::{
     write_rotate, write_rows_query, write_xid,
 };
 use crate::gtids::{write_gtid, write_previous_gtids};
-use crate::kept_status_vars::KeptStatusVars;
+use crate::kept_statements::KeptStatements;
 use crate::rows::{write_rows, write_table_map};
 use crate::statements::{write_execute_load_query, write_next_query, write_query, write_user_var};
 use binlog_event_types::name_of;
@@ -53,18 +53,18 @@ pub fn write_data(line: &mut Line, alloc: Global, event: &EventRef<'_>) -> Resul
     ensures { Adds result line.old line.new (data_value (view_of event.now).fde
         (data_of (view_of event.now).fde.footer (view_of event.now).frame) (event_type_of (header_of (view_of event.now).frame).event_type)) }
 {
-    let mut none_kept = KeptStatusVars::new(alloc);
+    let mut none_kept = KeptStatements::new(alloc);
     write_next_data(line, &mut none_kept, alloc, event)
 }
 
-/// Writes the same of an event behind others. The status variables of a statement are copied where they are kept.
+/// Writes the same of an event behind others. What statements in turn have in common is copied where it is kept.
 ///
 /// # Errors
 ///
 /// Those of [`write_data`].
 pub fn write_next_data(
     line: &mut Line,
-    kept: &mut KeptStatusVars,
+    kept: &mut KeptStatements,
     alloc: Global,
     event: &EventRef<'_>,
 ) -> Result<(), AllocError>
@@ -98,7 +98,7 @@ fn write_other_data(line: &mut Line, alloc: Global, event: &EventRef<'_>) -> Res
 // `EventData`.
 fn write_statement(
     line: &mut Line,
-    kept: &mut KeptStatusVars,
+    kept: &mut KeptStatements,
     alloc: Global,
     event: &EventRef<'_>,
 ) -> Result<(), AllocError>

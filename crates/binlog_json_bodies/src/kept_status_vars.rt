@@ -58,7 +58,7 @@ impl PrintedStatusVars {
 /// same, as most of a session's do, and copied for those behind them. The memory is that of the variables of one statement, twice, and
 /// of their members.
 #[derive(Drop)]
-pub struct KeptStatusVars {
+pub(crate) struct KeptStatusVars {
     // The bytes of the last that were not copied.
     last: Vec<u8>,
     printed: Option<PrintedStatusVars>,
@@ -66,7 +66,7 @@ pub struct KeptStatusVars {
 
 impl KeptStatusVars {
     /// None yet. Nothing is allocated.
-    pub fn new(alloc: Global) -> Self {
+    pub(crate) fn new(alloc: Global) -> Self {
         KeptStatusVars {
             last: Vec::new(alloc),
             printed: None,

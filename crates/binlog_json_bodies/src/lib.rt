@@ -10,6 +10,7 @@ mod client_sets;
 mod compressed;
 mod data_value;
 mod gtids;
+mod kept_statements;
 mod kept_status_vars;
 mod maria_bodies;
 mod maria_data;
@@ -20,6 +21,6 @@ mod status_vars;
 
 pub use compressed::MOST_BYTES;
 pub use data_value::{write_data, write_name, write_next_data};
-pub use kept_status_vars::KeptStatusVars;
+pub use kept_statements::KeptStatements;
 pub use maria_data::write_maria_data;
 pub use rows::write_row_event;

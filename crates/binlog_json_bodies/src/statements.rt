@@ -11,6 +11,7 @@ ghost use Rattle.binlog_json_bodies.specs.ClientSets.{is_of_maria};
 ghost use Rattle.binlog_json_bodies.specs.Statements.{query_object, execute_load_query_object, loaded_file, user_var_object, user_var_value, head_members, statement_texts, texts_members, schema_and_query, value_type_number};
 
 use crate::client_sets::{client_set, maria_client_set};
+use crate::kept_statements::KeptStatements;
 use crate::kept_status_vars::KeptStatusVars;
 use crate::status_vars::write_status_vars;
 use binlog_file::{
@@ -30,15 +31,15 @@ pub(crate) fn write_query(
 ) -> Result<(), AllocError>
     ensures { Adds result line.old line.new (query_object (is_of_maria (view_of event.now).fde) statement.now) }
 {
-    let mut none_kept = KeptStatusVars::new(alloc);
+    let mut none_kept = KeptStatements::new(alloc);
     write_next_query(line, &mut none_kept, alloc, event, statement)
 }
 
-/// The same of a statement behind others, whose status variables may be kept.
+/// The same of a statement behind others, with which it may have members in common.
 #[inline(always)]
 pub(crate) fn write_next_query(
     line: &mut Line,
-    kept: &mut KeptStatusVars,
+    kept: &mut KeptStatements,
     alloc: Global,
     event: &EventRef<'_>,
     statement: &QueryEvent<'_>,
@@ -46,15 +47,16 @@ pub(crate) fn write_next_query(
     ensures { Adds result line.old line.new (query_object (is_of_maria (view_of event.now).fde) statement.now) }
 {
     line.begin_object()?;
-    write_statement_head(
+    kept.write_head(
         line,
+        alloc,
         statement.thread_id(),
         statement.execution_time(),
         statement.error_code(),
     )?;
     write_texts(
         line,
-        kept,
+        &mut kept.status_vars,
         alloc,
         event,
         statement.status_vars_raw(),

@@ -9,7 +9,7 @@ ghost use Rattle.binlog_json_lines.specs.ItemLines.{checksum_member, event_field
 use crate::header_members::{write_extent, write_header, write_type};
 use crate::kept_heads::KeptHeads;
 use binlog_file::{Error, EventRef};
-use binlog_json_bodies::{KeptStatusVars, write_data, write_next_data};
+use binlog_json_bodies::{KeptStatements, write_data, write_next_data};
 use json_line::Line;
 use std::alloc::{AllocError, Global};
 
@@ -18,7 +18,7 @@ use std::alloc::{AllocError, Global};
 pub(crate) fn write_event(
     line: &mut Line,
     heads: &mut KeptHeads,
-    kept: &mut KeptStatusVars,
+    kept: &mut KeptStatements,
     alloc: Global,
     index: u64,
     event: &EventRef<'_>,
@@ -36,7 +36,7 @@ pub(crate) fn write_event(
 fn write_event_members(
     line: &mut Line,
     heads: &mut KeptHeads,
-    kept: &mut KeptStatusVars,
+    kept: &mut KeptStatements,
     alloc: Global,
     index: u64,
     event: &EventRef<'_>,
@@ -132,11 +132,11 @@ pub(crate) fn write_data_member(
     write_data(line, alloc, event)
 }
 
-// The same of an event behind others, whose status variables may be kept.
+// The same of an event behind others, with which it may have members in common.
 #[inline(always)]
 fn write_next_data_member(
     line: &mut Line,
-    kept: &mut KeptStatusVars,
+    kept: &mut KeptStatements,
     alloc: Global,
     event: &EventRef<'_>,
 ) -> Result<(), AllocError>

@@ -27,7 +27,7 @@ use crate::rows_read::{read_rows, rows_of_read};
 use binlog_event_types::maria_name_of;
 use binlog_file::{Error, EventRef, RowsEventData, TableMapEvent};
 use binlog_filters::is_row_event;
-use binlog_json_bodies::{KeptStatusVars, write_maria_data};
+use binlog_json_bodies::{KeptStatements, write_maria_data};
 use binlog_mariadb::{MariaEventType, is_maria_log};
 use binlog_payloads::{PayloadError, TransactionPayloadEvent};
 use json_line::Line;
@@ -39,7 +39,7 @@ pub struct JsonLines {
     text: String,
     rows: RowsWriter,
     heads: KeptHeads,
-    status_vars: KeptStatusVars,
+    statements: KeptStatements,
 }
 
 impl Drop for JsonLines {
@@ -50,13 +50,13 @@ impl Drop for JsonLines {
             text,
             rows,
             heads,
-            status_vars,
+            statements,
         } = self;
         drop(line);
         drop(text);
         drop(rows);
         drop(heads);
-        drop(status_vars);
+        drop(statements);
     }
 }
 
@@ -78,7 +78,7 @@ impl JsonLines {
             text: String::new(alloc),
             rows: RowsWriter::new(alloc),
             heads: KeptHeads::new(alloc),
-            status_vars: KeptStatusVars::new(alloc),
+            statements: KeptStatements::new(alloc),
         }
     }
 
@@ -350,7 +350,7 @@ impl JsonLines {
         write_event(
             &mut self.line,
             &mut self.heads,
-            &mut self.status_vars,
+            &mut self.statements,
             alloc,
             index,
             event,
