@@ -792,7 +792,7 @@ REFUSALS = [
 def main():
     parser = argparse.ArgumentParser(description="Compares what undoes logs with a model.")
     programs.add_flags(parser)
-    parser.add_argument("--count", type=int, default=300)
+    parser.add_argument("--count", type=int, default=1000)
     arguments = programs.parsed(parser, "binlog")
     words = arguments.build.command("binlog")
     passed, failures = 0, []

@@ -16,7 +16,7 @@ use Rattle.binlog_wire.specs.declared.error.Error.{Error}
 use Rattle.binlog_wire.specs.declared.error.Error.TheVariants.{Memory}
 use Rattle.crc32_ieee.specs.Checksums.{IsCrc32}
 use Rattle.binlog_undo_log.specs.Files.{scans, refuses, ScansFile}
-use Rattle.binlog_undo_log.specs.Looking.{AsksFor, IsUnknownTemporal, LooksAtColumns, LooksUnlessOld, LooksUnlessRefused, LooksAtTable, LooksIfAsked, LooksByPlace, LooksIfAny, LooksAtRows, id_of}
+use Rattle.binlog_undo_log.specs.Looking.{AsksFor, IsUnknownTemporal, LooksAtColumns, LooksUnlessOld, LooksUnlessRefused, LooksAtTable, LooksIfAsked, LooksIfMapped, LooksByPlace, LooksIfAny, LooksAtRows, id_of}
 use Rattle.binlog_undo_log.specs.Scanning.{EndsScan}
 use Rattle.binlog_undo_log.specs.declared.scan.seeing.RowsLook.{RowsLook}
 use Rattle.binlog_undo_log.specs.declared.scan.UndoScan.{UndoScan}
@@ -60,14 +60,21 @@ any_looked : (bytes : List ℕ) (scan : UndoScan) (maps : TableMaps) (event : Ev
 any_looked [] scan maps event rows look any h = absurd cc
 any_looked (byte ∷ bytes) scan maps event rows look any h = h
 
-pub rows_if : (answer : Result RowsLook Error) (scan : UndoScan) (maps : TableMaps) (event : EventView) (rows : RowsEventData) (bytes : List ℕ) (table_map : ℕ) (asked : Bool)
-    → bytes ≡ (event_in rows).rows → (length bytes == 0) ≡ false → get nat_cmp scan.index.maps (id_of rows) ≡ Some table_map → AsksFor scan.choice maps event asked
-    → IfOk answer (LooksIfAsked asked scan maps event rows table_map) → IfOk answer (LooksAtRows scan maps event rows)
-rows_if (Ok look) scan maps event rows bytes table_map asked are any at asks h =
+pub mapped_if : (answer : Result RowsLook Error) (scan : UndoScan) (maps : TableMaps) (event : EventView) (rows : RowsEventData) (map : TableMapEvent) (table_map : ℕ) (asked : Bool)
+    → maps (id_of rows) ≡ Some map → AsksFor scan.choice maps event asked → IfOk answer (LooksIfAsked asked scan event rows map table_map)
+    → IfOk answer (LooksByPlace (Some table_map) scan maps event rows)
+mapped_if (Ok look) scan maps event rows map table_map asked mapped asks h =
+    subst (λ (m : Option TableMapEvent). LooksIfMapped m scan maps event rows table_map look) (sym mapped) (asked, asks, h)
+mapped_if (Err error) scan maps event rows map table_map asked mapped asks h = tt
+
+pub rows_if : (answer : Result RowsLook Error) (scan : UndoScan) (maps : TableMaps) (event : EventView) (rows : RowsEventData) (bytes : List ℕ) (table_map : ℕ)
+    → bytes ≡ (event_in rows).rows → (length bytes == 0) ≡ false → get nat_cmp scan.index.maps (id_of rows) ≡ Some table_map
+    → IfOk answer (LooksByPlace (Some table_map) scan maps event rows) → IfOk answer (LooksAtRows scan maps event rows)
+rows_if (Ok look) scan maps event rows bytes table_map are any at h =
     let by_place : LooksByPlace (get nat_cmp scan.index.maps (id_of rows)) scan maps event rows look =
-    subst (λ (p : Option ℕ). LooksByPlace p scan maps event rows look) (sym at) (asked, asks, h) in
+    subst (λ (p : Option ℕ). LooksByPlace p scan maps event rows look) (sym at) h in
     subst (λ (s : List ℕ). LooksIfAny s scan maps event rows look) are (any_looked bytes scan maps event rows look any by_place)
-rows_if (Err error) scan maps event rows bytes table_map asked are any at asks h = tt
+rows_if (Err error) scan maps event rows bytes table_map are any at h = tt
 
 -- ---- a file
 

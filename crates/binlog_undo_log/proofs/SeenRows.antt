@@ -130,12 +130,12 @@ module _ (scan : UndoScan) (maps : TableMaps) (event : EventView) (rows : RowsEv
       → has_rows_length event.fde (inverse_type rows) ≡ true → LooksByPlace (get nat_cmp scan.index.maps (id_of rows)) scan maps event rows look → look ≡ Undone change
   rows_undone look all described writable at mapped none times accepted long h =
       let placed : LooksByPlace (Some table_map) scan maps event rows look = subst (λ (p : Option ℕ). LooksByPlace p scan maps event rows look) at h in
-      let asked : LooksIfAsked true scan maps event rows table_map look =
-      subst (λ (b : Bool). LooksIfAsked b scan maps event rows table_map look) (asks_all scan.choice maps event placed.0 all placed.1) placed.2 in
-      let can : LooksIfWritable true scan maps event rows table_map look =
-      subst (λ (b : Bool). LooksIfWritable b scan maps event rows table_map look) (ap (λ (b : Bool). b && is_writable event.fde) described ∙ writable) asked in
-      let found : LooksIfMapped (Some map) scan event rows table_map look = subst (λ (m : Option TableMapEvent). LooksIfMapped m scan event rows table_map look) mapped can in
-      let unrefused : LooksUnlessRefused None scan event rows map table_map look = subst (λ (e : Option ColumnError). LooksUnlessRefused e scan event rows map table_map look) none found in
+      let found : LooksIfMapped (Some map) scan maps event rows table_map look = subst (λ (m : Option TableMapEvent). LooksIfMapped m scan maps event rows table_map look) mapped placed in
+      let asked : LooksIfAsked true scan event rows map table_map look =
+      subst (λ (b : Bool). LooksIfAsked b scan event rows map table_map look) (asks_all scan.choice maps event found.0 all found.1) found.2 in
+      let can : LooksIfWritable true scan event rows map table_map look =
+      subst (λ (b : Bool). LooksIfWritable b scan event rows map table_map look) (ap (λ (b : Bool). b && is_writable event.fde) described ∙ writable) asked in
+      let unrefused : LooksUnlessRefused None scan event rows map table_map look = subst (λ (e : Option ColumnError). LooksUnlessRefused e scan event rows map table_map look) none can in
       let last : LooksAtColumns scan event rows map columns table_map look =
       subst (λ (b : Bool). LooksUnlessOld b scan event rows map columns table_map look) (times unrefused.0 unrefused.1) unrefused.2 in
       answered last.0 last.2 look long last.3 (accepted last.0) last.4

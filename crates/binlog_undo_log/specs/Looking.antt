@@ -102,30 +102,31 @@ LooksUnlessRefused None scan event rows map table_map look =
 abbrev pub LooksAtTable : UndoScan → EventView → RowsEventData → TableMapEvent → (table_map : ℕ) → RowsLook → Type 0
 LooksAtTable scan event rows map table_map look = LooksUnlessRefused (refusal 0 map.columns.types map.columns.metadata) scan event rows map table_map look
 
-abbrev pub LooksIfMapped : Option TableMapEvent → UndoScan → EventView → RowsEventData → (table_map : ℕ) → RowsLook → Type 0
-LooksIfMapped None scan event rows table_map look = look ≡ Refused reasons.NoTableMap
-LooksIfMapped (Some map) scan event rows table_map look = LooksAtTable scan event rows map table_map look
+abbrev pub LooksIfWritable : Bool → UndoScan → EventView → RowsEventData → TableMapEvent → (table_map : ℕ) → RowsLook → Type 0
+LooksIfWritable false scan event rows map table_map look = look ≡ Refused reasons.Description
+LooksIfWritable true scan event rows map table_map look = LooksAtTable scan event rows map table_map look
+
+-- Of a table that is chosen, with this map, which is at this place. There has to be a description under which events can be written.
+abbrev pub LooksAtChosen : UndoScan → EventView → RowsEventData → TableMapEvent → (table_map : ℕ) → RowsLook → Type 0
+LooksAtChosen scan event rows map table_map look = LooksIfWritable (is_some scan.description && is_writable event.fde) scan event rows map table_map look
+
+abbrev pub LooksIfAsked : Bool → UndoScan → EventView → RowsEventData → TableMapEvent → (table_map : ℕ) → RowsLook → Type 0
+LooksIfAsked false scan event rows map table_map look = look ≡ Left
+LooksIfAsked true scan event rows map table_map look = LooksAtChosen scan event rows map table_map look
+
+-- A table map of their id is in force, or none is: inside a compressed transaction those outside aren't.
+abbrev pub LooksIfMapped : Option TableMapEvent → UndoScan → TableMaps → EventView → RowsEventData → (table_map : ℕ) → RowsLook → Type 0
+LooksIfMapped None scan maps event rows table_map look = look ≡ Refused reasons.NoTableMap
+LooksIfMapped (Some map) scan maps event rows table_map look =
+    (asked : Bool) × AsksFor scan.choice maps event asked × LooksIfAsked asked scan event rows map table_map look
 
 abbrev pub id_of : RowsEventData → ℕ
 id_of rows = (event_in rows).head.table_id
 
-abbrev pub LooksIfWritable : Bool → UndoScan → TableMaps → EventView → RowsEventData → (table_map : ℕ) → RowsLook → Type 0
-LooksIfWritable false scan maps event rows table_map look = look ≡ Refused reasons.Description
-LooksIfWritable true scan maps event rows table_map look = LooksIfMapped (maps (id_of rows)) scan event rows table_map look
-
--- Of a table that is chosen, whose map is at this place. There has to be a description under which events can be written.
-abbrev pub LooksAtChosen : UndoScan → TableMaps → EventView → RowsEventData → (table_map : ℕ) → RowsLook → Type 0
-LooksAtChosen scan maps event rows table_map look = LooksIfWritable (is_some scan.description && is_writable event.fde) scan maps event rows table_map look
-
-abbrev pub LooksIfAsked : Bool → UndoScan → TableMaps → EventView → RowsEventData → (table_map : ℕ) → RowsLook → Type 0
-LooksIfAsked false scan maps event rows table_map look = look ≡ Left
-LooksIfAsked true scan maps event rows table_map look = LooksAtChosen scan maps event rows table_map look
-
 -- The newest table map of their id in their transaction is at a place, or isn't there.
 abbrev pub LooksByPlace : Option ℕ → UndoScan → TableMaps → EventView → RowsEventData → RowsLook → Type 0
 LooksByPlace None scan maps event rows look = look ≡ Refused reasons.NoTableMap
-LooksByPlace (Some table_map) scan maps event rows look =
-    (asked : Bool) × AsksFor scan.choice maps event asked × LooksIfAsked asked scan maps event rows table_map look
+LooksByPlace (Some table_map) scan maps event rows look = LooksIfMapped (maps (id_of rows)) scan maps event rows table_map look
 
 abbrev pub LooksIfAny : List ℕ → UndoScan → TableMaps → EventView → RowsEventData → RowsLook → Type 0
 LooksIfAny [] scan maps event rows look = look ≡ Left

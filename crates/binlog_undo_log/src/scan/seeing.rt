@@ -1,12 +1,12 @@
 //! What the first pass sees of rows.
-ghost use Rattle.std.specs.Prelude.{◌≡◌, IfErr, IfOk};
+ghost use Rattle.std.specs.Prelude.{◌≡◌, Some, IfErr, IfOk};
 ghost use Rattle.std.specs.List.{list_any};
 ghost use Rattle.binlog_columns.specs.TableColumns.{columns_of};
 ghost use Rattle.binlog_event_format.specs.DescriptionRefs.{description_of};
 ghost use Rattle.binlog_wire.specs.declared.error.Error.TheVariants.{Memory};
 ghost use Rattle.binlog_events.specs.EventRefs.{view_of};
 ghost use Rattle.binlog_file.specs.State.{state_of};
-ghost use Rattle.binlog_undo_log.specs.Looking.{NamesTable, AsksFor, is_old_temporal, IsOldTemporal, IsUnknownTemporal, LooksAs, LooksAtColumns, LooksAtTable, LooksAtChosen, LooksAtRows};
+ghost use Rattle.binlog_undo_log.specs.Looking.{NamesTable, AsksFor, is_old_temporal, IsOldTemporal, IsUnknownTemporal, LooksAs, LooksAtColumns, LooksAtTable, LooksAtChosen, LooksByPlace, LooksAtRows};
 
 use crate::events::is_maria_event;
 use crate::heads::{has_rows_length, is_writable};
@@ -164,24 +164,43 @@ impl UndoScan {
         }
     }
 
-    // What is seen of rows of a table that is chosen, whose map is at this place.
+    // What is seen of rows of a table that is chosen, with this map, which is at this place.
     fn look_at_chosen(
         &self,
         event: &EventRef<'_>,
         rows: &RowsEventData<'_>,
+        map: &TableMapEvent<'_>,
         table_map: u64,
-        reader: &EventStreamReader,
     ) -> Result<RowsLook, Error>
-        ensures ok { IfOk result (LooksAtChosen self.now (state_of reader.now).table_maps (view_of event.now) rows.now table_map) }
+        ensures ok { IfOk result (LooksAtChosen self.now (view_of event.now) rows.now map.now table_map) }
         ensures memory { IfErr result (λ e. e ≡ Memory) }
     {
         let has_description = self.description.is_some() && is_writable(event.fde());
         if !has_description {
             return Ok(RowsLook::Refused(Reason::Description));
         }
-        match reader.get_tme(rows.table_id()) {
-            Some(map) => self.look_at_table(event, rows, map, table_map),
-            None => Ok(RowsLook::Refused(Reason::NoTableMap)),
+        self.look_at_table(event, rows, map, table_map)
+    }
+
+    // What is seen of rows with a table map at this place. One that isn't in force, as outside a compressed transaction, doesn't count.
+    fn look_at_placed(
+        &self,
+        event: &EventRef<'_>,
+        rows: &RowsEventData<'_>,
+        table_map: u64,
+        reader: &EventStreamReader,
+    ) -> Result<RowsLook, Error>
+        ensures ok { IfOk result (LooksByPlace (Some table_map) self.now (state_of reader.now).table_maps (view_of event.now) rows.now) }
+        ensures memory { IfErr result (λ e. e ≡ Memory) }
+    {
+        let Some(map) = reader.get_tme(rows.table_id()) else {
+            return Ok(RowsLook::Refused(Reason::NoTableMap));
+        };
+        let is_asked = self.asks_for(event, reader)?;
+        if is_asked {
+            self.look_at_chosen(event, rows, map, table_map)
+        } else {
+            Ok(RowsLook::Left)
         }
     }
 
@@ -198,14 +217,9 @@ impl UndoScan {
         if rows.rows_data().is_empty() {
             return Ok(RowsLook::Left);
         }
-        let Some(table_map) = self.index.table_map(rows.table_id()) else {
-            return Ok(RowsLook::Refused(Reason::NoTableMap));
-        };
-        let is_asked = self.asks_for(event, reader)?;
-        if is_asked {
-            self.look_at_chosen(event, rows, table_map, reader)
-        } else {
-            Ok(RowsLook::Left)
+        match self.index.table_map(rows.table_id()) {
+            None => Ok(RowsLook::Refused(Reason::NoTableMap)),
+            Some(table_map) => self.look_at_placed(event, rows, table_map, reader),
         }
     }
 }
