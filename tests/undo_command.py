@@ -3,7 +3,7 @@
 
 Usage: undo_command.py [--count N] FLAG
 
-FLAG is one of `programs.py`. N random logs (300 if not given) of one to three files have transactions of all kinds: with GTIDs or
+FLAG is one of `programs.py`. N random logs (1,000 if not given) of one to three files have transactions of all kinds: with GTIDs or
 without, ended by an XID, a COMMIT or the last row event, with statements and events that can't be undone, cut off, or with rows that
 are damaged or have partial images. Some tables are chosen, some table maps state a primary key, and MariaDB's rows may be compressed, and
 transactions of MySQL's may be compressed as a whole. Behind them there may be later logs, some of which are cut off or damaged, and rows may be checked; some logs have few
