@@ -44,7 +44,7 @@ use Rattle.binlog_undo_log.proofs.WrittenTransactions.{WrittenPair, events_of, c
 use Rattle.binlog_undo_log.specs.Heads.{is_writable}
 use Rattle.binlog_undo_log.specs.Keys.{IsMariaEvent}
 use Rattle.binlog_undo_log.specs.LogChanges.{LogChange, name_of}
-use Rattle.binlog_undo_log.specs.Looking.{IsUnknownTemporal, LooksByPlace, LooksIfAny, id_of}
+use Rattle.binlog_undo_log.specs.Looking.{IsUnknownTemporal, LooksByPlace, LooksWithoutBytes, LooksIfAny, left_if_undone, id_of}
 use Rattle.binlog_undo_log.specs.Scanning.{is_undone, change_in, refusal_in, seen_mark, seen_event, seen_as}
 use Rattle.binlog_undo_log.specs.UndoneTwice.{TakesAll}
 use Rattle.binlog_undo_log.specs.declared.choice.Choice.{Choice}
@@ -158,6 +158,15 @@ module _ (choice : Choice) (all : TakesAll choice) (d : FormatDescriptionEvent) 
           (λ unknown u. times_known unknown (subst (λ (c : Choice). IsUnknownTemporal c.has_plain_temporal t.view p.map.columns.types unknown) t.passing.choice_is u))
           (λ is_maria_log answer gives. p.accepted (t.can.images p.rows read) is_maria_log s.mid.checks answer gives) (t.can.lengths p.rows read) h
 
+      -- Without bytes there are none.
+      left_look : (look : RowsLook) → LooksIfAny [] s.mid (maps_behind (maps_behind maps (Ok s.view)) (Ok t.view)) t.view p.rows look → look ≡ Left
+      left_look look h =
+          let at : get nat_cmp s.mid.index.maps (id_of p.rows) ≡ Some old.place = ap (get nat_cmp s.mid.index.maps) (sym p.same) ∙ place_noted in
+          let placed : LooksWithoutBytes (Some old.place) s.mid (maps_behind (maps_behind maps (Ok s.view)) (Ok t.view)) t.view p.rows look =
+          subst (λ (q : Option ℕ). LooksWithoutBytes q s.mid (maps_behind (maps_behind maps (Ok s.view)) (Ok t.view)) t.view p.rows look) at h in
+          placed.2 ∙ ap left_if_undone
+          (undone_look placed.0 (subst (λ (q : Option ℕ). LooksByPlace q s.mid (maps_behind (maps_behind maps (Ok s.view)) (Ok t.view)) t.view p.rows placed.0) (sym at) placed.1))
+
       -- The rows are seen so.
       finished : (look : RowsLook) → t.seen.seen ≡ Some (rows_seen look) → refusal_in look ≡ None → AreOnly bytes d (change_list (change_in look) ++ []) pair.changes
           → SeesRows choice d bytes last pair.changes others old
@@ -183,7 +192,7 @@ module _ (choice : Choice) (all : TakesAll choice) (d : FormatDescriptionEvent) 
           → LooksIfAny content s.mid (maps_behind (maps_behind maps (Ok s.view)) (Ok t.view)) t.view p.rows look
           → t.seen.seen ≡ seen_as s.mid (index + 1) t.view (seen_mark roles.Rows (Mysql (mysql.RowsEvent p.rows)) look) None look → SeesRows choice d bytes last pair.changes others old
       pair_by [] look none h is =
-          finished Left (is ∙ ap (λ (l : RowsLook). seen_as s.mid (index + 1) t.view (seen_mark roles.Rows (Mysql (mysql.RowsEvent p.rows)) l) None l) h) refl
+          finished Left (is ∙ ap (λ (l : RowsLook). seen_as s.mid (index + 1) t.view (seen_mark roles.Rows (Mysql (mysql.RowsEvent p.rows)) l) None l) (left_look look h)) refl
           (λ found f. f ∙ sym (no_changes (name_of p.map) (columns_in p.map.columns.types p.map.columns.metadata) p.rows pair.changes none p.are))
       pair_by (byte ∷ content) look some h is =
           finished (Undone place) (is ∙ ap (λ (l : RowsLook). seen_as s.mid (index + 1) t.view (seen_mark roles.Rows (Mysql (mysql.RowsEvent p.rows)) l) None l) (undone_look look h)) refl

@@ -128,8 +128,25 @@ abbrev pub LooksByPlace : Option ℕ → UndoScan → TableMaps → EventView �
 LooksByPlace None scan maps event rows look = look ≡ Refused reasons.NoTableMap
 LooksByPlace (Some table_map) scan maps event rows look = LooksIfMapped (maps (id_of rows)) scan maps event rows table_map look
 
+-- What can be undone of an event without bytes are no rows.
+abbrev pub left_if_undone : RowsLook → RowsLook
+left_if_undone Left = Left
+left_if_undone (Undone place) = Left
+left_if_undone (Refused reason) = Refused reason
+left_if_undone Damaged = Damaged
+
+-- Of an event without bytes, where the newest table map of its id in its transaction is at a place, or isn't there. It has no rows without one, or
+-- if its images have what is needed to undo rows. Else it may have some: a row of no columns has no bytes.
+abbrev pub LooksWithoutBytes : Option ℕ → UndoScan → TableMaps → EventView → RowsEventData → RowsLook → Type 0
+LooksWithoutBytes None scan maps event rows look = look ≡ Left
+LooksWithoutBytes (Some table_map) scan maps event rows look =
+    (seen : RowsLook) × LooksByPlace (Some table_map) scan maps event rows seen × (look ≡ left_if_undone seen)
+
+abbrev pub LooksAtNone : UndoScan → TableMaps → EventView → RowsEventData → RowsLook → Type 0
+LooksAtNone scan maps event rows look = LooksWithoutBytes (get nat_cmp scan.index.maps (id_of rows)) scan maps event rows look
+
 abbrev pub LooksIfAny : List ℕ → UndoScan → TableMaps → EventView → RowsEventData → RowsLook → Type 0
-LooksIfAny [] scan maps event rows look = look ≡ Left
+LooksIfAny [] scan maps event rows look = LooksAtNone scan maps event rows look
 LooksIfAny (byte ∷ bytes) scan maps event rows look = LooksByPlace (get nat_cmp scan.index.maps (id_of rows)) scan maps event rows look
 
 -- What is seen of rows.

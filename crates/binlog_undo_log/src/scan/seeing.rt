@@ -6,7 +6,7 @@ ghost use Rattle.binlog_event_format.specs.DescriptionRefs.{description_of};
 ghost use Rattle.binlog_wire.specs.declared.error.Error.TheVariants.{Memory};
 ghost use Rattle.binlog_events.specs.EventRefs.{view_of};
 ghost use Rattle.binlog_file.specs.State.{state_of};
-ghost use Rattle.binlog_undo_log.specs.Looking.{NamesTable, AsksFor, is_old_temporal, IsOldTemporal, IsUnknownTemporal, LooksAs, LooksAtColumns, LooksAtTable, LooksAtChosen, LooksByPlace, LooksAtRows};
+ghost use Rattle.binlog_undo_log.specs.Looking.{NamesTable, AsksFor, is_old_temporal, IsOldTemporal, IsUnknownTemporal, LooksAs, LooksAtColumns, LooksAtTable, LooksAtChosen, LooksByPlace, LooksAtNone, LooksAtRows, left_if_undone};
 
 use crate::events::is_maria_event;
 use crate::heads::{has_rows_length, is_writable};
@@ -85,6 +85,19 @@ fn look_of(
         Err(UndoError::Image) => Ok(RowsLook::Refused(Reason::Image)),
         Err(UndoError::PartialJson(_)) => Ok(RowsLook::Refused(Reason::PartialJson)),
         Err(UndoError::Event(_) | UndoError::Rows(_)) => Ok(RowsLook::Refused(Reason::Rows)),
+    }
+}
+
+impl RowsLook {
+    // The same of an event without bytes: what can be undone of it are no rows.
+    fn without_bytes(self) -> RowsLook
+        ensures { result ≡ left_if_undone self }
+    {
+        match self {
+            RowsLook::Left | RowsLook::Undone(_) => RowsLook::Left,
+            RowsLook::Refused(reason) => RowsLook::Refused(reason),
+            RowsLook::Damaged => RowsLook::Damaged,
+        }
     }
 }
 
@@ -204,6 +217,25 @@ impl UndoScan {
         }
     }
 
+    // What is seen of an event without bytes. It may have rows if a table map of its id is in its transaction: a row of no columns has no bytes.
+    fn look_without_bytes(
+        &self,
+        event: &EventRef<'_>,
+        rows: &RowsEventData<'_>,
+        reader: &EventStreamReader,
+    ) -> Result<RowsLook, Error>
+        ensures ok { IfOk result (LooksAtNone self.now (state_of reader.now).table_maps (view_of event.now) rows.now) }
+        ensures memory { IfErr result (λ e. e ≡ Memory) }
+    {
+        match self.index.table_map(rows.table_id()) {
+            None => Ok(RowsLook::Left),
+            Some(table_map) => {
+                let look = self.look_at_placed(event, rows, table_map, reader)?;
+                Ok(look.without_bytes())
+            }
+        }
+    }
+
     /// What is seen of rows.
     pub(super) fn look_at_rows(
         &self,
@@ -215,7 +247,7 @@ impl UndoScan {
         ensures memory { IfErr result (λ e. e ≡ Memory) }
     {
         if rows.rows_data().is_empty() {
-            return Ok(RowsLook::Left);
+            return self.look_without_bytes(event, rows, reader);
         }
         match self.index.table_map(rows.table_id()) {
             None => Ok(RowsLook::Refused(Reason::NoTableMap)),
