@@ -173,6 +173,12 @@ def indexes_in(kind, content, count):
         yield index
 
 
+def is_complete(kind, event):
+    """Whether an event has no partial updates, and all columns in each image."""
+    images = (event[f"columns_{name}_image"] for name in ("before", "after"))
+    return kind != row_values.PARTIAL[0] and all(present is None or all(present) for present in images)
+
+
 def known_rows(kind, body, map_body, is_maria):
     """The rows of an event, each as its images, which have the bytes of each value, or None for NULL. None if the rows aren't known."""
     if kind in UNCOMPRESSED or kind == row_values.PARTIAL[0]:
@@ -180,7 +186,7 @@ def known_rows(kind, body, map_body, is_maria):
     event = event_data_model.fields(kind, body, POST_HEADER_LENGTHS)
     table = event_data_model.fields(19, map_body, POST_HEADER_LENGTHS)
     types, images = table["columns_type"].bytes, [event[f"columns_{name}_image"] for name in ("before", "after")]
-    if is_maria and set(types) & {7, 11, 12} or event["num_columns"] != len(types) or not all(present is None or all(present) for present in images):
+    if is_maria and set(types) & {7, 11, 12} or event["num_columns"] != len(types) or not is_complete(kind, event):
         return None
     data, rows = row_model.Bytes(event["rows_data"].bytes), []
     try:
@@ -318,12 +324,12 @@ class Model:
             raise Damaged
         except TooLong:
             return word(False), None, "Compressed"
-        if not event["rows_data"].bytes:
-            return word(False), None, None
+        # A row of no columns has no bytes.
+        is_empty = not event["rows_data"].bytes
         table_id = int.from_bytes(body[:6], "little")
         is_maria = "MariaDB" in description[3]
         if table_id not in maps:
-            return word(False), None, "NoTableMap"
+            return word(False), None, None if is_empty else "NoTableMap"
         map_header, map_body = maps[table_id]
         tables = undone_rows.Tables(is_maria, key_in(map_body))
         if not self.wants(map_body):
@@ -337,6 +343,8 @@ class Model:
         if "error" in members:
             names = {"Image": "Image", "PartialJson": "PartialJson"}
             return word(False), None, names.get(members["error"], "Rows")
+        if is_empty:
+            return word(False), None, None
         return word(True), (map_header, map_body, members["event"], tables.count), None
 
     def transactions(self):
@@ -423,7 +431,7 @@ class Model:
             except event_data_model.Fault:
                 return None, "Damaged"
             if kind in ROWS_TYPES and not event["rows_data"].bytes:
-                return None, None
+                return None if is_complete(kind, event) else maps.get(table_id), None
             return (maps[table_id], None) if table_id in maps else (None, "NoTableMap")
         if kind == 2:
             return None, ("Statement" if kind_of_statement(body) == "Other" else None) if is_read(2, body) else "Damaged"
@@ -591,8 +599,18 @@ def random_file(chance, kinds, is_sound):
     return log_of(events, algorithm, version)
 
 
-def long_logs(chance, kinds):
-    """Names and logs of compressed transactions and rows that aren't decompressed, and why: rows are in front, or more than 1 GiB is stated."""
+def bare_row(table):
+    """A row of no columns of the table of this map, as MySQL logs it with `binlog_row_image=MINIMAL`: it has no bytes."""
+    kind = next(kind for kind in encode.ROWS_KINDS if kind[0] == 30)
+    none = [False] * event_data_model.fields(19, table, POST_HEADER_LENGTHS)["columns_count"]
+    table_id = int.from_bytes(table[:6], "little")
+    event = encode.rows(kind, row_values.SPELLING, table_id=table_id, flags=1, extra=(2, b""), before=none, after=none, content=b"")
+    return kind[0], event.body
+
+
+def refused_logs(chance, kinds):
+    """Names and logs that are refused, and why: compressed transactions and rows that aren't decompressed, since rows are in front, or more than 1 GiB
+    is stated; and a row of no columns."""
     xid = HEADER.pack(0, 16, 1, HEADER.size + 8, 0, 0) + bytes(8)
     table, *_, (kind, body) = statement_rows(chance, kinds, True, False)
     front = [(2, query("BEGIN")), table, (kind, body)]
@@ -602,6 +620,7 @@ def long_logs(chance, kinds):
         ("rows in front", "8.0.36", [*front, (PAYLOAD, payload_model.written(255, len(xid), xid))], "Payload"),
         ("a transaction of more than 1 GiB", "8.0.36", [(PAYLOAD, payload_model.written(255, MOST_BYTES + 1, xid))], "Payload"),
         ("rows of more than 1 GiB", "10.11.6-MariaDB", [*front[:2], (COMPRESSED[kind], long_rows), (16, bytes(8))], "Compressed"),
+        ("a row of no columns", "8.0.36", [*front[:2], bare_row(table[1]), (16, bytes(8))], "Image"),
     ):
         yield name, log_of([(kind, body, random_header(chance)) for kind, body in events], 1, version), reason
 
@@ -715,13 +734,13 @@ def long_failure(words, folder):
     return difference(words, [], [str(log)], model, folder / "long.out", "the long log")
 
 
-def long_log_failure(words, folder, name, content, reason):
-    """What is wrong with the undo of a log that isn't decompressed for this reason, if something is."""
-    log, model = folder / "long.bin", Model()
+def refused_log_failure(words, folder, name, content, reason):
+    """What is wrong with the undo of a log that is refused for this reason, if something is."""
+    log, model = folder / "refused.bin", Model()
     log.write_bytes(content)
     model.take(str(log), content)
     reasons = [reason for *_, reason in model.refused]
-    return difference(words, [], [str(log)], model, folder / "long-log.out", name) if reasons == [reason] else f"{name}: the model has {reasons}"
+    return difference(words, [], [str(log)], model, folder / "refused.out", name) if reasons == [reason] else f"{name}: the model has {reasons}"
 
 
 def difference(words, options, files, model, out, name, later=()):
@@ -802,8 +821,8 @@ def main():
             passed, failures = (passed, [*failures, wrong]) if wrong else (passed + 1, failures)
         wrong = long_failure(words, Path(folder))
         passed, failures = (passed, [*failures, wrong]) if wrong else (passed + 1, failures)
-        for log in long_logs(random.Random(0), list(row_events.kinds())):
-            wrong = long_log_failure(words, Path(folder), *log)
+        for log in refused_logs(random.Random(0), list(row_events.kinds())):
+            wrong = refused_log_failure(words, Path(folder), *log)
             passed, failures = (passed, [*failures, wrong]) if wrong else (passed + 1, failures)
         for refused in REFUSALS:
             wrong = refusal(words, Path(folder), *refused)

@@ -35,8 +35,9 @@ use Rattle.binlog_undo.proofs.Stored.{stored_is}
 use Rattle.binlog_wire.specs.Fields.{IsBytes}
 use Rattle.binlog_wire.specs.declared.bit_view.BitView.{BitView}
 use Rattle.change_statistics.specs.Facts.{Name}
+use Rattle.binlog_later_changes.specs.CompleteRows.{has_all_if, is_complete}
 use Rattle.binlog_later_changes.specs.KeyedRows.{Keys, code_of, keys_in, keys_of, shape_if, IsFaultIf, GivesKey, GivesKeyIf, GivesKeys, HasKeys, IsUnread, AreKeys, GivesKnown}
-use Rattle.binlog_later_changes.specs.KnownRows.{RowImages, image_of, images_of, BeginsWith, HasImages, GivesImages, is_complete, has_all_if, HasKnown, KnowsRows, KnowsUnlessRefused, KnowsUnlessOld, KnowsMapped, KnowsIfRows, KnowsRowsIf, HasOldTemporal}
+use Rattle.binlog_later_changes.specs.KnownRows.{RowImages, image_of, images_of, BeginsWith, HasImages, GivesImages, HasKnown, KnowsRows, KnowsUnlessRefused, KnowsUnlessOld, KnowsMapped, KnowsIfRows, KnowsRowsIf, HasOldTemporal}
 use Rattle.binlog_later_changes.specs.RowKeys.{key_code}
 use Rattle.binlog_later_changes.specs.declared.known_rows.KeyedRow.{KeyedRow}
 use Rattle.binlog_later_changes.specs.declared.known_rows.RowFault.{RowFault}

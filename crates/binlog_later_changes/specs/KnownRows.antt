@@ -1,5 +1,5 @@
 -- The rows of row events as the bytes of their values, where they are known.
-use Rattle.std.specs.Prelude.{◌≡◌, ◌≢◌, ◌⊎◌, ◌&&◌, not, ℕ, Bool, true, false, List, [], ◌++◌, length, map, Option, Some, None, option_map, Result, Ok, Err, ◌↔◌, IsTrue, take, ◌==◌, ◌||◌}
+use Rattle.std.specs.Prelude.{◌≡◌, ◌≢◌, ◌⊎◌, ◌&&◌, ℕ, Bool, true, false, List, [], ◌++◌, length, map, Option, Some, None, option_map, Result, Ok, Err, ◌↔◌, IsTrue, take, ◌==◌, ◌||◌}
 use Rattle.std.specs.List.{AllZip, list_any, flat_map}
 use Rattle.binlog_columns.specs.Metadata.{Typed}
 use Rattle.binlog_columns.specs.Refusals.{refusal, columns_in}
@@ -12,19 +12,17 @@ use Rattle.binlog_file.specs.TableMapsInForce.{TableMaps}
 use Rattle.binlog_file.specs.declared.log_data.LogEventData.{LogEventData}
 use Rattle.binlog_file.specs.declared.log_data.LogEventData.TheVariants.{Mysql, Maria}
 use Rattle.binlog_images.specs.Cells.{ImageShape, RowShape, RowCells}
-use Rattle.binlog_images.specs.EventRows.{is_partial}
 use Rattle.binlog_images.specs.Events.{event_shape, count_error}
 use Rattle.binlog_images.specs.StoredColumns.{stored_image}
 use Rattle.binlog_images.specs.declared.rows_error.RowsError.{RowsError}
 use Rattle.binlog_mariadb.specs.Flavour.{IsMariaVersion}
-use Rattle.binlog_rows.specs.Columns.{Bitmap}
 use Rattle.binlog_rows.specs.RowsData.{event_in}
 use Rattle.binlog_rows.specs.declared.rows_event_data.RowsEventData.{RowsEventData}
 use Rattle.binlog_rows.specs.declared.table_map_event.TableMapEvent.{TableMapEvent}
-use Rattle.binlog_undo.specs.Coverage.{has_all}
 use Rattle.binlog_undo.specs.RowBytes.{RowBytes, row_bytes, IsRowBytes}
 use Rattle.binlog_undo.specs.Undoing.{IsRefused}
 use Rattle.binlog_wire.specs.declared.error.Error.{Error}
+use Rattle.binlog_later_changes.specs.CompleteRows.{is_complete}
 use Rattle.binlog_later_changes.specs.RowKeys.{Values}
 use Rattle.binlog_later_changes.specs.Said.{rows_in, map_for}
 
@@ -59,15 +57,6 @@ GivesImages shape s (Some images) = HasImages shape s images
 GivesImages shape s None = (error : RowsError) × IsRefused shape 0 s error
 
 -- ---- an event
-
--- Each column is in the image, if there is one.
-abbrev pub has_all_if : Option Bitmap → Bool
-has_all_if None = true
-has_all_if (Some bits) = has_all bits
-
--- The rows are no partial updates, and each column is in each image.
-abbrev pub is_complete : RowsEventData → Bool
-is_complete event = not (is_partial event) && has_all_if (event_in event).columns.before && has_all_if (event_in event).columns.after
 
 -- The rows are known: they are complete, and the bytes are rows of a table with these columns. Else they aren't.
 pub record HasKnown (columns : List Typed) (event : RowsEventData) (images : List RowImages) : Type 0 where

@@ -1,5 +1,6 @@
 pub mod Later
 pub mod RowKeys
+pub mod CompleteRows
 pub mod KnownRows
 pub mod KeyedRows
 pub mod RowsLeft

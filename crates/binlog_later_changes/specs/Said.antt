@@ -14,6 +14,7 @@ use Rattle.binlog_mariadb.specs.Flavour.{IsMariaVersion}
 use Rattle.binlog_mariadb.specs.declared.event_data.MariaEventData.{MariaEventData}
 use Rattle.binlog_mariadb.specs.declared.event_data.MariaEventData.TheVariants as maria
 use Rattle.binlog_rows.specs.RowsData.{event_in}
+use Rattle.binlog_rows.specs.declared.rows_event_data.RowsEventData.{RowsEventData}
 use Rattle.binlog_rows.specs.declared.table_map_event.TableMapEvent.{TableMapEvent}
 use Rattle.binlog_transactions.specs.DataMarks.{statement_mark}
 use Rattle.binlog_transactions.specs.Roles.{role_of}
@@ -31,6 +32,7 @@ use Rattle.binlog_undo_index.specs.declared.reason.Reason.{Reason}
 use Rattle.binlog_undo_index.specs.declared.reason.Reason.TheVariants as reasons
 use Rattle.change_statistics.specs.Facts.{Name}
 use Rattle.change_statistics.specs.Names.{name_of}
+use Rattle.binlog_later_changes.specs.CompleteRows.{is_complete}
 use Rattle.binlog_later_changes.specs.Later.{Cause, table, unknown}
 use Rattle.binlog_later_changes.specs.declared.saying.RowsIn.{RowsIn}
 use Rattle.binlog_later_changes.specs.declared.saying.RowsIn.TheVariants as rows
@@ -45,12 +47,20 @@ said_of (said.Unknown reason) = Some (unknown reason)
 
 -- ---- rows
 
-abbrev pub rows_if : (is_empty : Bool) → ℕ → RowsIn
-rows_if true id = rows.Nothing
-rows_if false id = rows.Table id
+-- Without bytes there are no rows if the images have all columns. Else there may be some: a row of no columns has no bytes.
+abbrev pub rows_without_bytes : (is_complete : Bool) → ℕ → RowsIn
+rows_without_bytes true id = rows.Nothing
+rows_without_bytes false id = rows.WithoutBytes id
+
+abbrev pub rows_if : (is_empty is_complete : Bool) → ℕ → RowsIn
+rows_if true whole id = rows_without_bytes whole id
+rows_if false whole id = rows.Table id
+
+abbrev pub rows_of_event : RowsEventData → RowsIn
+rows_of_event body = rows_if (length (event_in body).rows == 0) (is_complete body) (event_in body).head.table_id
 
 abbrev pub rows_in_mysql : EventData → RowsIn
-rows_in_mysql (mysql.RowsEvent body) = rows_if (length (event_in body).rows == 0) (event_in body).head.table_id
+rows_in_mysql (mysql.RowsEvent body) = rows_of_event body
 rows_in_mysql _ = rows.Unreadable
 
 abbrev pub rows_in_maria : MariaEventData → RowsIn
@@ -70,6 +80,7 @@ rows_in (Err error) = rows.Unreadable
 -- The table map in force for rows.
 abbrev pub map_for : TableMaps → RowsIn → Option TableMapEvent
 map_for maps (rows.Table id) = maps id
+map_for maps (rows.WithoutBytes id) = maps id
 map_for maps rows.Nothing = None
 map_for maps rows.Unreadable = None
 
@@ -81,10 +92,16 @@ abbrev pub cause_by_map : Option TableMapEvent → Option Cause
 cause_by_map None = Some (unknown reasons.NoTableMap)
 cause_by_map (Some map) = Some (table (name_in map))
 
+-- Of rows without bytes, which are none if no table map says whose they are.
+abbrev pub cause_if_mapped : Option TableMapEvent → Option Cause
+cause_if_mapped None = None
+cause_if_mapped (Some map) = Some (table (name_in map))
+
 abbrev pub cause_of_rows : RowsIn → Option TableMapEvent → Option Cause
 cause_of_rows rows.Nothing map = None
 cause_of_rows rows.Unreadable map = Some (unknown reasons.Damaged)
 cause_of_rows (rows.Table id) map = cause_by_map map
+cause_of_rows (rows.WithoutBytes id) map = cause_if_mapped map
 
 -- ---- other events
 

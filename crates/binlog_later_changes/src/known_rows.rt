@@ -14,7 +14,8 @@ ghost use Rattle.binlog_undo.specs.Undoing.{stored_bytes};
 ghost use Rattle.binlog_wire.specs.Fields.{IsBytes};
 ghost use Rattle.change_statistics.specs.Names.{name_of};
 ghost use Rattle.binlog_later_changes.specs.KeyedRows.{GivesKey, GivesKeyIf, GivesKeys, GivesKnown, HasKeys, IsUnread, shape_if};
-ghost use Rattle.binlog_later_changes.specs.KnownRows.{HasOldTemporal, KnowsIfRows, KnowsMapped, KnowsRows, KnowsRowsIf, has_all_if, is_complete, is_old_temporal, rows_of_body, rows_of_mysql, rows_read};
+ghost use Rattle.binlog_later_changes.specs.CompleteRows.{has_all_if, is_complete};
+ghost use Rattle.binlog_later_changes.specs.KnownRows.{HasOldTemporal, KnowsIfRows, KnowsMapped, KnowsRows, KnowsRowsIf, is_old_temporal, rows_of_body, rows_of_mysql, rows_read};
 
 use crate::row_key::RowKey;
 use binlog_columns::TableColumns;
@@ -190,8 +191,8 @@ fn is_partial(event: &RowsEventData<'_>) -> bool
     matches!(event, RowsEventData::PartialUpdateRowsEvent(_))
 }
 
-// Whether the rows are no partial updates, and each column is in each image.
-fn is_complete(event: &RowsEventData<'_>) -> bool
+/// Whether the rows are no partial updates, and each column is in each image.
+pub(crate) fn is_complete(event: &RowsEventData<'_>) -> bool
     ensures { result ≡ is_complete event.now }
 {
     !is_partial(event)

@@ -331,7 +331,7 @@ fn outside_map<'a>(
     ensures { option_copied result ≡ map_for (state_of reader.now).table_maps (rows_in read.now) }
 {
     match rows_in(read) {
-        RowsIn::Table(table_id) => reader.get_tme(table_id),
+        RowsIn::Table(table_id) | RowsIn::WithoutBytes(table_id) => reader.get_tme(table_id),
         _ => None,
     }
 }
@@ -344,7 +344,7 @@ fn inside_map<'a, 'c>(
     ensures { option_copied result ≡ map_for (maps_of maps.now) (rows_in read.now) }
 {
     match rows_in(read) {
-        RowsIn::Table(table_id) => maps.get(table_id),
+        RowsIn::Table(table_id) | RowsIn::WithoutBytes(table_id) => maps.get(table_id),
         _ => None,
     }
 }

@@ -3,11 +3,12 @@
 ghost use Rattle.std.specs.Prelude.{◌≡◌, option_copied, IfOk};
 ghost use Rattle.binlog_events.specs.EventRefs.{view_of};
 ghost use Rattle.change_statistics.specs.Names.{name_of};
-ghost use Rattle.binlog_later_changes.specs.Said.{said_of, rows_in, name_in, cause_of_rows, refused, cause_of_event, cause_of_mark, cause_of_statement, cause_in, IsRole};
+ghost use Rattle.binlog_later_changes.specs.Said.{said_of, rows_in, rows_of_event, name_in, cause_of_rows, refused, cause_of_event, cause_of_mark, cause_of_statement, cause_in, IsRole};
 
+use crate::known_rows::is_complete;
 use binlog_file::{Error, EventData, EventRef, LogEventData};
 use binlog_mariadb::{MariaEventData, is_maria_log};
-use binlog_rows::TableMapEvent;
+use binlog_rows::{RowsEventData, TableMapEvent};
 use binlog_transactions::{Mark, Refusal, Role, StatementKind, Unsupported};
 use binlog_undo_index::Reason;
 use change_statistics::TableName;
@@ -34,8 +35,24 @@ pub(crate) enum RowsIn {
     Nothing,
     /// It has some, of the table of this id. Compressed rows are some.
     Table(u64),
+    /// It has no bytes of any, but may have some of no columns, of the table of this id.
+    WithoutBytes(u64),
     /// They can't be read.
     Unreadable,
+}
+
+// The rows of an event that isn't compressed. Without bytes there are none if the images have all columns: a row of no columns has no bytes.
+fn rows_of_event(rows: &RowsEventData<'_>) -> RowsIn
+    ensures { result ≡ rows_of_event rows.now }
+{
+    if !rows.rows_data().is_empty() {
+        return RowsIn::Table(rows.table_id());
+    }
+    if is_complete(rows) {
+        RowsIn::Nothing
+    } else {
+        RowsIn::WithoutBytes(rows.table_id())
+    }
 }
 
 /// The rows of an event of which this was read.
@@ -43,13 +60,7 @@ pub(crate) fn rows_in(read: &Result<Option<LogEventData<'_>>, Error>) -> RowsIn
     ensures { result ≡ rows_in read.now }
 {
     match read {
-        Ok(Some(LogEventData::Mysql(EventData::RowsEvent(rows)))) => {
-            if rows.rows_data().is_empty() {
-                RowsIn::Nothing
-            } else {
-                RowsIn::Table(rows.table_id())
-            }
-        }
+        Ok(Some(LogEventData::Mysql(EventData::RowsEvent(rows)))) => rows_of_event(rows),
         Ok(Some(LogEventData::Maria(MariaEventData::RowsCompressedEvent(rows)))) => {
             RowsIn::Table(rows.table_id())
         }
@@ -133,6 +144,10 @@ fn say_of_rows(
         RowsIn::Table(_) => match map {
             Some(map) => Ok(Said::Rows(name_in(alloc, map)?)),
             None => Ok(Said::Unknown(Reason::NoTableMap)),
+        },
+        RowsIn::WithoutBytes(_) => match map {
+            Some(map) => Ok(Said::Rows(name_in(alloc, map)?)),
+            None => Ok(Said::Nothing),
         },
     }
 }
