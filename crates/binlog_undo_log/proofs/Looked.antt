@@ -16,7 +16,7 @@ use Rattle.binlog_wire.specs.declared.error.Error.{Error}
 use Rattle.binlog_wire.specs.declared.error.Error.TheVariants.{Memory}
 use Rattle.crc32_ieee.specs.Checksums.{IsCrc32}
 use Rattle.binlog_undo_log.specs.Files.{scans, refuses, ScansFile}
-use Rattle.binlog_undo_log.specs.Looking.{AsksFor, IsUnknownTemporal, LooksAtColumns, LooksUnlessOld, LooksUnlessRefused, LooksAtTable, LooksIfAsked, LooksIfMapped, LooksByPlace, LooksWithoutBytes, LooksAtNone, LooksIfAny, LooksAtRows, left_if_undone, id_of}
+use Rattle.binlog_undo_log.specs.Looking.{AsksFor, IsUnknownTemporal, LooksAtColumns, LooksUnlessOld, LooksUnlessRefused, LooksAtTable, LooksIfAsked, LooksIfMapped, LooksByPlace, LooksWithoutBytes, LooksAtEmpty, LooksIfAny, LooksAtRows, left_if_undone, id_of}
 use Rattle.binlog_undo_log.specs.Scanning.{EndsScan}
 use Rattle.binlog_undo_log.specs.declared.scan.seeing.RowsLook.{RowsLook}
 use Rattle.binlog_undo_log.specs.declared.scan.UndoScan.{UndoScan}
@@ -78,20 +78,20 @@ rows_if (Err error) scan maps event rows bytes table_map are any at h = tt
 
 -- ---- an event without bytes
 
-none_looked : (bytes : List ℕ) (scan : UndoScan) (maps : TableMaps) (event : EventView) (rows : RowsEventData) (look : RowsLook) → (length bytes == 0) ≡ true
-    → LooksAtNone scan maps event rows look → LooksIfAny bytes scan maps event rows look
-none_looked [] scan maps event rows look none h = h
-none_looked (byte ∷ bytes) scan maps event rows look none h = absurd cc
+empty_looked : (bytes : List ℕ) (scan : UndoScan) (maps : TableMaps) (event : EventView) (rows : RowsEventData) (look : RowsLook) → (length bytes == 0) ≡ true
+    → LooksAtEmpty scan maps event rows look → LooksIfAny bytes scan maps event rows look
+empty_looked [] scan maps event rows look none h = h
+empty_looked (byte ∷ bytes) scan maps event rows look none h = absurd cc
 
-pub none_if : (answer : Result RowsLook Error) (scan : UndoScan) (maps : TableMaps) (event : EventView) (rows : RowsEventData) (bytes : List ℕ)
-    → bytes ≡ (event_in rows).rows → (length bytes == 0) ≡ true → IfOk answer (LooksAtNone scan maps event rows) → IfOk answer (LooksAtRows scan maps event rows)
-none_if (Ok look) scan maps event rows bytes are none h =
-    subst (λ (s : List ℕ). LooksIfAny s scan maps event rows look) are (none_looked bytes scan maps event rows look none h)
-none_if (Err error) scan maps event rows bytes are none h = tt
+pub empty_if : (answer : Result RowsLook Error) (scan : UndoScan) (maps : TableMaps) (event : EventView) (rows : RowsEventData) (bytes : List ℕ)
+    → bytes ≡ (event_in rows).rows → (length bytes == 0) ≡ true → IfOk answer (LooksAtEmpty scan maps event rows) → IfOk answer (LooksAtRows scan maps event rows)
+empty_if (Ok look) scan maps event rows bytes are none h =
+    subst (λ (s : List ℕ). LooksIfAny s scan maps event rows look) are (empty_looked bytes scan maps event rows look none h)
+empty_if (Err error) scan maps event rows bytes are none h = tt
 
 pub left_if : {seen look : RowsLook} (scan : UndoScan) (maps : TableMaps) (event : EventView) (rows : RowsEventData) (table_map : ℕ)
     → get nat_cmp scan.index.maps (id_of rows) ≡ Some table_map → LooksByPlace (Some table_map) scan maps event rows seen → look ≡ left_if_undone seen
-    → LooksAtNone scan maps event rows look
+    → LooksAtEmpty scan maps event rows look
 left_if {seen} {look} scan maps event rows table_map at placed is =
     subst (λ (p : Option ℕ). LooksWithoutBytes p scan maps event rows look) (sym at) (seen, placed, is)
 

@@ -142,11 +142,11 @@ LooksWithoutBytes None scan maps event rows look = look ≡ Left
 LooksWithoutBytes (Some table_map) scan maps event rows look =
     (seen : RowsLook) × LooksByPlace (Some table_map) scan maps event rows seen × (look ≡ left_if_undone seen)
 
-abbrev pub LooksAtNone : UndoScan → TableMaps → EventView → RowsEventData → RowsLook → Type 0
-LooksAtNone scan maps event rows look = LooksWithoutBytes (get nat_cmp scan.index.maps (id_of rows)) scan maps event rows look
+abbrev pub LooksAtEmpty : UndoScan → TableMaps → EventView → RowsEventData → RowsLook → Type 0
+LooksAtEmpty scan maps event rows look = LooksWithoutBytes (get nat_cmp scan.index.maps (id_of rows)) scan maps event rows look
 
 abbrev pub LooksIfAny : List ℕ → UndoScan → TableMaps → EventView → RowsEventData → RowsLook → Type 0
-LooksIfAny [] scan maps event rows look = LooksAtNone scan maps event rows look
+LooksIfAny [] scan maps event rows look = LooksAtEmpty scan maps event rows look
 LooksIfAny (byte ∷ bytes) scan maps event rows look = LooksByPlace (get nat_cmp scan.index.maps (id_of rows)) scan maps event rows look
 
 -- What is seen of rows.

@@ -6,7 +6,7 @@ ghost use Rattle.binlog_event_format.specs.DescriptionRefs.{description_of};
 ghost use Rattle.binlog_wire.specs.declared.error.Error.TheVariants.{Memory};
 ghost use Rattle.binlog_events.specs.EventRefs.{view_of};
 ghost use Rattle.binlog_file.specs.State.{state_of};
-ghost use Rattle.binlog_undo_log.specs.Looking.{NamesTable, AsksFor, is_old_temporal, IsOldTemporal, IsUnknownTemporal, LooksAs, LooksAtColumns, LooksAtTable, LooksAtChosen, LooksByPlace, LooksAtNone, LooksAtRows, left_if_undone};
+ghost use Rattle.binlog_undo_log.specs.Looking.{NamesTable, AsksFor, is_old_temporal, IsOldTemporal, IsUnknownTemporal, LooksAs, LooksAtColumns, LooksAtTable, LooksAtChosen, LooksByPlace, LooksAtEmpty, LooksAtRows, left_if_undone};
 
 use crate::events::is_maria_event;
 use crate::heads::{has_rows_length, is_writable};
@@ -224,7 +224,7 @@ impl UndoScan {
         rows: &RowsEventData<'_>,
         reader: &EventStreamReader,
     ) -> Result<RowsLook, Error>
-        ensures ok { IfOk result (LooksAtNone self.now (state_of reader.now).table_maps (view_of event.now) rows.now) }
+        ensures ok { IfOk result (LooksAtEmpty self.now (state_of reader.now).table_maps (view_of event.now) rows.now) }
         ensures memory { IfErr result (λ e. e ≡ Memory) }
     {
         match self.index.table_map(rows.table_id()) {

@@ -3,7 +3,7 @@ use Rattle.std.specs.Ordering.{nat_cmp}
 use Rattle.std.specs.BTreeMap.{get}
 use Rattle.binlog_events.specs.EventRefs.{view_of}
 use Rattle.binlog_file.specs.State.{state_of}
-use Rattle.binlog_undo_log.proofs.Looked.{none_if, rows_if}
+use Rattle.binlog_undo_log.proofs.Looked.{empty_if, rows_if}
 use Rattle.binlog_undo_log.proofs.scan.UndoScan.look_at_rows.Goals as goal
 
 pub returns-in-Some-clause-ok : goal.returns-in-Some-clause-ok
@@ -15,5 +15,5 @@ returns-in-Some-clause-ok c =
 
 pub returns-then-is_empty-clause-ok : goal.returns-then-is_empty-clause-ok
 returns-then-is_empty-clause-ok c =
-    none_if c.look_without_bytes.result c.args.self.now (state_of c.args.reader.now).table_maps (view_of c.args.event.now) c.args.rows.now c.rows_data.result.now
+    empty_if c.look_without_bytes.result c.args.self.now (state_of c.args.reader.now).table_maps (view_of c.args.event.now) c.args.rows.now c.rows_data.result.now
     c.rows_data.ensures (sym c.is_empty.ensures ∙ c.if-is_empty.true) c.look_without_bytes.ensures.ok
