@@ -295,7 +295,8 @@ def random_undo(seed):
     stop = undo_command.random_position(chance, contents[-1]) if chance.random() < 0.3 else None
     model = undo_command.Model(chosen, excluded, is_plain)
     for number, content in enumerate(contents):
-        model.take(number, content, start if number == 0 else 0, stop if number == len(contents) - 1 else None)
+        is_first, is_last = number == 0, number == len(contents) - 1
+        model.take(number, content, undo_command.Choice(start=start if is_first else 0, stop=stop if is_last else None))
     stated = {"tables": table_names(chosen), "excluded": table_names(excluded), "flags": PLAIN_OLD_TEMPORAL * is_plain}
     is_one = chance.random() < 0.3
     stated["flags"] |= ONE_TRANSACTION * is_one

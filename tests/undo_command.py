@@ -6,8 +6,8 @@ Usage: undo_command.py [--count N] FLAG
 FLAG is one of `programs.py`. N random logs (1,000 if not given) of one to three files have transactions of all kinds: with GTIDs or
 without, ended by an XID, a COMMIT or the last row event, with statements and events that can't be undone, cut off, or with rows that
 are damaged or have partial images. Some tables are chosen, some table maps state a primary key, and MariaDB's rows may be compressed, and
-transactions of MySQL's may be compressed as a whole. Behind them there may be later logs, some of which are cut off or damaged, and rows may be checked; some logs have few
-different rows. The model, written from `docs/UNDO.md`, makes the bytes of the
+transactions of MySQL's may be compressed as a whole. Positions, times, servers and GTIDs choose, and reasons are skipped. Behind them there may be later logs, some of which
+are cut off or damaged, and rows may be checked; some logs have few different rows. The model, written from `docs/UNDO.md`, makes the bytes of the
 log that undoes them, and the lines of a dry run, or the refusals. Then wrong words and outputs that fail are tried: nothing is written. The last line is
 `N passed, M failed`; the exit status is 1 if something failed.
 """
@@ -17,8 +17,11 @@ import random
 import subprocess
 import sys
 import tempfile
+import uuid
 from collections import Counter
+from datetime import datetime, timezone
 from pathlib import Path
+from typing import NamedTuple
 
 import encoded_events as encode
 import event_data_model
@@ -55,6 +58,9 @@ WORDS = {
     **dict.fromkeys((20, 21, 22), "old-rows"),
     16: "xid", 19: "map", 26: "incident", 38: "xa-prepare", 40: "payload",
 }
+# The event of a GTID of MariaDB's. It announces one statement if its flags have one of the first two, and XA if they have one of the others.
+MARIA_GTID, STANDALONE, COMPLETED_XA, PREPARED_XA = 162, 1, 128, 64
+GTID, ANONYMOUS_GTID = 33, 34
 IGNORABLE = 0x80
 # Events whose bodies have to be read.
 READ = (2, 16, 19, 33, 34, 42)
@@ -114,6 +120,40 @@ def table_of(map_body):
     return "d." + map_body[12:13].decode()
 
 
+class Choice(NamedTuple):
+    """Which transactions are undone: by the position at which they begin, by the time of their last event, by the server of the first one, and by their
+    GTIDs, each of which has the server of a GTID of MariaDB's, and the source of one of MySQL's."""
+
+    start: int = 0
+    stop: int | None = None
+    first_time: int = 0
+    end_time: int | None = None
+    server: int | None = None
+    included: frozenset | None = None
+    excluded: frozenset = frozenset()
+
+    def is_past(self, place):
+        return self.stop is not None and place >= self.stop
+
+    def takes_first(self, place, header, is_wanted):
+        return is_wanted and self.start <= place and not self.is_past(place) and self.server in (None, header[2])
+
+    def takes_last(self, header):
+        return self.first_time <= header[0] and (self.end_time is None or header[0] < self.end_time)
+
+    def wants(self, gtid):
+        return (self.included is None or gtid in self.included) and gtid not in self.excluded
+
+
+def gtid_in(header, body, is_maria):
+    """The GTID of an event, as it is written; None if it has none."""
+    if header[1] == GTID:
+        return f"{uuid.UUID(bytes=body[1:17])}:{int.from_bytes(body[17:25], 'little')}"
+    if header[1] == MARIA_GTID and is_maria:
+        return f"{int.from_bytes(body[8:12], 'little')}-{header[2]}-{int.from_bytes(body[:8], 'little')}"
+    return None
+
+
 class Damaged(Exception):
     """A body that can't be read."""
 
@@ -143,6 +183,12 @@ def is_read(kind, body):
 def word_by_type(header):
     """The word of an event whose type says it."""
     return WORDS.get(header[1], "nothing" if header[5] & IGNORABLE else "unknown-event")
+
+
+def word_of_gtid(flags):
+    """The word of a GTID of MariaDB's with these flags."""
+    is_group, is_xa = not flags & (STANDALONE | COMPLETED_XA), flags & (COMPLETED_XA | PREPARED_XA)
+    return ("xa-" if is_xa else "") + ("group" if is_group else "gtid")
 
 
 def kind_of_statement(body):
@@ -226,30 +272,39 @@ def events_of(header, body, changes):
 
 class Model:
     """What is undone of files, or refused. `chosen` are the tables that are asked for, if there are some, and `excluded` are left out. `is_plain` says that old dates and
-    times have no fractions."""
+    times have no fractions. What is refused for one of the reasons `skipped` stays as it is."""
 
-    def __init__(self, chosen=(), excluded=(), is_plain=False):
-        self.refused, self.kept, self.chosen, self.excluded, self.is_plain = [], [], chosen, excluded, is_plain
+    def __init__(self, chosen=(), excluded=(), is_plain=False, skipped=()):
+        self.refused, self.kept, self.chosen, self.excluded, self.is_plain, self.skipped = [], [], chosen, excluded, is_plain, skipped
+
+    def is_refused(self):
+        """Whether something is refused that isn't skipped."""
+        return any(reason not in self.skipped for _, _, _, reason, *_ in self.refused)
+
+    def counted(self, found):
+        """Of the refusals of a transaction the first one that isn't skipped, or else the first one."""
+        return next((one for one in found if one[2] not in self.skipped), found[0])
 
     def wants(self, map_body):
         """Whether the table of a table map is one that is undone."""
         return (not self.chosen or table_of(map_body) in self.chosen) and table_of(map_body) not in self.excluded
 
-    def take(self, name, content, start=0, stop=None):
-        """Undoes the transactions of a file that begin at one position or behind it, and before the other."""
+    def take(self, name, content, choice=Choice()):
+        """Undoes the transactions of a file that are chosen."""
         reading, place, index = transactions.Reading(), len(FILE_HEADER), 0
         kept, changes, maps, first, found = [], [], {}, None, []
+        is_wanted, is_taken = choice.included is None, False
         description = self.description_of(content)
-        is_past = lambda place: stop is not None and place >= stop
-        is_taken = lambda first: start <= first[1] and not is_past(first[1])
         # A transaction that a position is within is refused, whether it is taken or not.
-        straddles = lambda end: [(*first, "Straddles", end)] if any(first[1] < position < end for position in (start, stop or 0)) else []
-        cut_off = lambda end: straddles(end) or ((found or [(*first, "Unfinished")])[:1] if is_taken(first) else [])
+        straddles = lambda end: [(*first, "Straddles", end)] if any(first[1] < position < end for position in (choice.start, choice.stop or 0)) else []
+        cut_off = lambda end: straddles(end) or ([self.counted([*found, (*first, "Unfinished")])] if is_taken else [])
         refuse = lambda refusals: self.refused.extend((name, *one) for one in refusals)
-        while place < len(content) and not (is_past(place) and reading.way is None):
+        while place < len(content) and not (choice.is_past(place) and reading.way is None):
             outer = HEADER.unpack_from(content, place)
             end = place + outer[3]
             outer_body = content[place + HEADER.size : end - (CHECKSUM if description[1] == 1 and outer[1] != 15 else 0)]
+            if outer[1] in (GTID, ANONYMOUS_GTID, MARIA_GTID):
+                is_wanted = choice.wants(gtid_in(outer, outer_body, "MariaDB" in description[3]))
             for number, (header, body) in enumerate(events_of(outer, outer_body, changes)):
                 is_inside = header is not outer
                 # The table maps of events inside are those inside.
@@ -270,19 +325,19 @@ class Model:
                 turn = turn.rstrip("!")
                 if turn in ("First", "Alone"):
                     first, changes, maps, found = (index, place), [], {}, []
+                    is_taken = choice.takes_first(place, header, is_wanted)
                 found += [(index, place, reason) for reason in (why, refusal) if reason]
                 if turn == "Outside":
-                    refuse(found if is_taken((index, place)) else [])
-                    found = []
+                    assert not found
                 if header and header[1] == 19:
                     maps[int.from_bytes(body[:6], "little")] = (header, body)
                 if change:
                     changes.append(change)
                 if turn in ("Last", "Alone"):
-                    if straddles(end) or not is_taken(first):
+                    if straddles(end) or not (is_taken and choice.takes_last(header)):
                         refuse(straddles(end))
                     elif found:
-                        refuse(found[:1])
+                        refuse([self.counted(found)])
                     elif changes:
                         # What is inside ends with the event that has it, which is no XID.
                         xid = int.from_bytes(body, "little") if header[1] == 16 and not is_inside else 0
@@ -310,6 +365,8 @@ class Model:
         kind = header[1]
         if kind in ROWS_TYPES or kind in UNCOMPRESSED and "MariaDB" in description[3]:
             return self.rows_of(kind, body, maps, description)
+        if kind == MARIA_GTID and "MariaDB" in description[3]:
+            return word_of_gtid(body[12]), None, None
         if kind in READ and not is_read(kind, body):
             raise Damaged
         return STATEMENTS[kind_of_statement(body)] if kind == 2 else word_by_type(header), None, None
@@ -380,6 +437,8 @@ class Model:
                     for before, after in rows or ():
                         left[table, before] -= before is not None and left[table, before] > 0
                         left[table, after] += after is not None
+                elif why in self.skipped:
+                    continue
                 elif table in undone if table else undone:
                     is_apart = table and rows is not None and table not in unknown and not any(left[row] for row in removed)
                     detail = f"{table}: its rows are changed behind those that are undone" if table else f"unknown: {PHRASES[why]}"
@@ -549,10 +608,21 @@ def rows_of(chance, chosen, table, is_sound):
 OTHERS = [(20, bytes(8)), (26, bytes(3)), (17, bytes(5)), (18, bytes(40)), (38, bytes(20)), (99, b"")]
 
 
+def random_gtid(chance, is_sound, is_maria, is_group):
+    """An event with which a transaction begins. One of MariaDB's says whether it is a group."""
+    if is_maria and chance.random() < 0.7:
+        flags = chance.choice((0, 4, 12)) if is_group else STANDALONE
+        flags = flags if is_sound or chance.random() < 0.7 else chance.choice((0, STANDALONE, COMPLETED_XA, PREPARED_XA))
+        xa = maria_events.xa_id(1, b"x", b"") if flags & (COMPLETED_XA | PREPARED_XA) else (b"", None)
+        return MARIA_GTID, maria_events.gtid(0, chance.randrange(2), chance.randrange(1, 200), flags=flags, xa=xa).body
+    return chance.choice((GTID, ANONYMOUS_GTID)), bytes([1]) + chance.randbytes(16) + bytes([chance.randrange(1, 200)]) + bytes(7)
+
+
 def random_transaction(chance, kinds, is_sound, is_maria):
-    events = [(chance.choice((33, 34)), bytes([1]) + bytes(chance.randrange(256) for _ in range(16)) + bytes([chance.randrange(1, 200)]) + bytes(7))] if chance.random() < 0.5 else []
     way = chance.choice(("xid", "xid", "COMMIT", "rows"))
-    if way != "rows":
+    events = [random_gtid(chance, is_sound, is_maria, way != "rows")] if chance.random() < 0.5 else []
+    # MariaDB's GTID of a group is its BEGIN.
+    if way != "rows" and not (events and events[0][0] == MARIA_GTID and chance.random() < 0.7):
         events.append((2, query("BEGIN")))
     for _ in range(1 if way == "rows" else chance.randint(0, 3)):
         events += statement_rows(chance, kinds, is_sound, is_maria)
@@ -697,6 +767,45 @@ def random_options(chance):
     return [word for words in named for word in words] + ["--plain-old-temporal"] * is_plain, chosen, excluded, is_plain
 
 
+# The reasons that may be skipped.
+SKIPPED = ["Unfinished", "Statement", "LoadData", "Xa", "Rollback", "Incident", "OldRows", "UnknownEvent", "NoTableMap", "Rows", "OldTemporal", "Image", "PartialJson", "Payload"]
+
+
+def random_choice(chance, contents):
+    """Options that choose transactions of logs, and what they choose."""
+    options, choice = [], Choice()
+    if chance.random() < 0.15:
+        server = chance.choice((1, 7))
+        options, choice = [*options, "--server-id", str(server)], choice._replace(server=server)
+    if chance.random() < 0.15:
+        first, end = (1_000_000_000 + chance.randrange(400) for _ in range(2))
+        text = lambda time: datetime.fromtimestamp(time, timezone.utc).strftime("%Y-%m-%dT%H:%M:%S")
+        options += ["--start-datetime", text(first)] if chance.random() < 0.7 else []
+        choice = choice._replace(first_time=first if "--start-datetime" in options else 0)
+        options += ["--stop-datetime", text(end)] if chance.random() < 0.7 else []
+        choice = choice._replace(end_time=end if "--stop-datetime" in options else None)
+    if chance.random() < 0.25:
+        is_maria = chance.random() < 0.5
+        gtids = sorted({gtid for content in contents for gtid in gtids_in(content) if (":" in gtid) != is_maria})
+        chosen = chance.sample(gtids, min(len(gtids), chance.randint(1, 4)))
+        is_included = chance.random() < 0.6
+        if chosen:
+            options += ["--include-gtids" if is_included else "--exclude-gtids", ",".join(chosen)]
+            choice = choice._replace(included=frozenset(chosen)) if is_included else choice._replace(excluded=frozenset(chosen))
+    return options, choice
+
+
+def gtids_in(content):
+    """The GTIDs of a log."""
+    is_maria, place = "MariaDB" in Model().description_of(content)[3], len(FILE_HEADER)
+    while place < len(content):
+        header = HEADER.unpack_from(content, place)
+        gtid = gtid_in(header, content[place + HEADER.size :], is_maria)
+        if gtid:
+            yield gtid
+        place += header[3]
+
+
 def failure(words, seed, folder):
     """What is wrong with the undo of one set of logs, if something is."""
     chance, checks = random.Random(seed), random.Random(f"rows {seed}")
@@ -706,7 +815,11 @@ def failure(words, seed, folder):
     checks_rows = checks.random() < 0.5
     options += ["--check-rows"] * checks_rows
     contents = [random_file(chance, kinds, is_sound) for _ in range(chance.randint(1, 3))]
-    files, model = [str(folder / f"{seed}-{number}.bin") for number in range(len(contents))], Model(*tables)
+    skipped = checks.sample(SKIPPED, checks.choice((1, 3, 8, len(SKIPPED)))) if checks.random() < 0.4 else []
+    options += [word for reason in skipped for word in ("--skip", reason)]
+    chosen, choice = random_choice(checks, contents)
+    options += chosen
+    files, model = [str(folder / f"{seed}-{number}.bin") for number in range(len(contents))], Model(*tables, skipped)
     # The start position is one of the first file, and the stop position of the last one.
     start = random_position(chance, contents[0]) if chance.random() < 0.3 else 0
     stop = random_position(chance, contents[-1]) if chance.random() < 0.3 else None
@@ -716,12 +829,13 @@ def failure(words, seed, folder):
     options += ["--skip", "LaterChanges"] if chance.random() < 0.3 else []
     for number, (name, content) in enumerate(zip(files, contents)):
         Path(name).write_bytes(content)
-        model.take(name, content, start if number == 0 else 0, stop if number == len(contents) - 1 else None)
+        is_first, is_last = number == 0, number == len(contents) - 1
+        model.take(name, content, choice._replace(start=start if is_first else 0, stop=stop if is_last else None))
     later = [(str(folder / f"{seed}-later-{number}.bin"), later_file(chance, kinds, is_sound)) for number in range(chance.choice((0, 0, 1, 2)))]
     for name, content in later:
         Path(name).write_bytes(content)
         options += ["--later", name]
-    found = model.later_changes(list(zip(files, contents)), later, checks_rows) if (later or checks_rows) and not model.refused else []
+    found = model.later_changes(list(zip(files, contents)), later, checks_rows) if (later or checks_rows) and not model.is_refused() else []
     return difference(words, options, files, model, folder / f"{seed}.out", f"seed {seed}", found)
 
 
@@ -747,20 +861,23 @@ def difference(words, options, files, model, out, name, later=()):
     """What is wrong with the undo of these files, if something is. `later` is what is behind what is undone and in its way."""
     is_one = "--one-transaction" in options
     run = subprocess.run([*words, "undo", *options, "-o", str(out), *files], capture_output=True, text=True)
-    messages = [f"binlog: {name}: event {index} at byte {place}: {reason}: {PHRASES[reason].format(*end)}" for name, index, place, reason, *end in model.refused]
-    if is_one and not messages and not model.is_under_one():
-        messages = [f"binlog: {model.other_log(files)}: event 0 at byte 4: Description: {OTHER_DESCRIPTION}"]
-    is_skipped = "LaterChanges" in options
-    skipped = "skipped: " if is_skipped else ""
-    told = messages or [f"binlog: {skipped}{log}: event {index} at byte {place}: LaterChanges: {detail}" for log, index, place, detail in later]
-    messages = messages or ([] if is_skipped else told)
+    skipped = lambda reason: "skipped: " if reason in model.skipped else ""
+    told = [f"binlog: {skipped(reason)}{name}: event {index} at byte {place}: {reason}: {PHRASES[reason].format(*end)}" for name, index, place, reason, *end in model.refused]
+    is_refused = model.is_refused()
+    if is_one and not is_refused and not model.is_under_one():
+        told.append(f"binlog: {model.other_log(files)}: event 0 at byte 4: Description: {OTHER_DESCRIPTION}")
+        is_refused = True
+    if not is_refused:
+        mark = "skipped: " if "LaterChanges" in options else ""
+        told += [f"binlog: {mark}{log}: event {index} at byte {place}: LaterChanges: {detail}" for log, index, place, detail in later]
+        is_refused = bool(later) and not mark
     if run.stderr.splitlines() != told:
         return f"{name}: {run.stderr!r}, not {told}"
     dry = subprocess.run([*words, "undo", *options, "--dry-run", *files], capture_output=True, text=True)
-    lines = "" if messages else run.stdout + model.table_lines()
+    lines = "" if is_refused else run.stdout + model.table_lines()
     if (dry.returncode, dry.stderr, dry.stdout) != (run.returncode, run.stderr, lines):
         return f"{name}: a dry run has status {dry.returncode} and {dry.stdout!r}, not {lines!r}"
-    if messages:
+    if is_refused:
         left = [path for path in (out, Path(f"{out}.part")) if path.exists()]
         return None if run.returncode == 2 and not left else f"{name}: status {run.returncode}, and {left}"
     counted = f"transactions {model.transactions()}, row events {model.changes()}\n"
