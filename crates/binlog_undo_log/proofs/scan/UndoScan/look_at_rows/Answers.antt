@@ -16,4 +16,4 @@ returns-in-Some-clause-ok c =
 pub returns-then-is_empty-clause-ok : goal.returns-then-is_empty-clause-ok
 returns-then-is_empty-clause-ok c =
     empty_if c.look_without_bytes.result c.args.self.now (state_of c.args.reader.now).table_maps (view_of c.args.event.now) c.args.rows.now c.rows_data.result.now
-    c.rows_data.ensures (sym c.is_empty.ensures ∙ c.if-is_empty.true) c.look_without_bytes.ensures.ok
+    c.rows_data.ensures (sym c.if-is_empty.ensures) c.look_without_bytes.ensures.ok
