@@ -18,6 +18,7 @@ TABLES = """
 CREATE TABLE kept (id INT AUTO_INCREMENT PRIMARY KEY, a INT) ENGINE=InnoDB;
 CREATE TABLE changed (id INT AUTO_INCREMENT PRIMARY KEY, b VARCHAR(100), j JSON) ENGINE=InnoDB;
 CREATE TABLE solid (id INT AUTO_INCREMENT PRIMARY KEY, b VARCHAR(100)) ENGINE=MyISAM;
+CREATE TABLE bare (a INT DEFAULT 5) ENGINE=InnoDB;
 INSERT INTO solid (b) VALUES ('first');
 """
 KEPT = "INSERT INTO kept (a) VALUES (1);"
@@ -54,7 +55,9 @@ MARIA = [
     Scene("Rollback", f"START TRANSACTION; {ROWS} CREATE TEMPORARY TABLE scratch (a INT); ROLLBACK; DROP TEMPORARY TABLE scratch;"),
     Scene("Rollback", f"START TRANSACTION; {ROWS} SAVEPOINT here; {ROWS} INSERT INTO solid (b) VALUES ('x'); ROLLBACK TO here; COMMIT;"),
 ]
+# MySQL logs a row of no columns, which has no bytes.
 MYSQL = [
+    Scene("Image", "SET SESSION binlog_row_image = 'MINIMAL'; INSERT INTO bare () VALUES (); SET SESSION binlog_row_image = 'FULL';", "bare"),
     Scene(
         "PartialJson",
         "SET SESSION binlog_row_value_options = 'PARTIAL_JSON'; UPDATE changed SET j = JSON_SET(j, '$.a', 2);"
