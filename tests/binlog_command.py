@@ -512,6 +512,10 @@ def maria_gtids(runner):
     of_mysql = f"{SID.replace('-', '')} 1-2 gaps -\n".encode()
     yield runner.check(["gtids", "1.bin", "2.bin"], Result(of_mysql + b"0-1-5\n0-2-5\n"), logs)
     yield runner.check(["gtids", "--missing-in", "2.bin", "1.bin", "2.bin"], Result(b"0-1-5\n0-2-5\n"), logs)
+    # One that can't be read has its line, and its message.
+    short = MAGIC + start() + gtid(0, 1, 3) + samples.frame(samples.MARIA_GTID, samples.maria_gtid_body(0, 4)[:12])
+    refused = message("0.bin", 2, list(frame_starts(short))[2], "an event's body ends within a field")
+    yield runner.check(["gtids", "0.bin"], Result(b"2 error E5\n0-1-3\n", DAMAGED, refused), [short])
 
 
 def stored(runner):
