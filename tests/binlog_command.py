@@ -643,6 +643,28 @@ def copies(runner):
     yield runner.check(wrong, Result(b"", USAGE, "binlog: .+\n"))
     is_kept = (runner.folder / "out.bin").read_bytes() == copied
     yield None if is_kept else "copy: wrong usage changes the output"
+    yield from copies_over_logs(runner)
+
+
+def copies_over_logs(runner):
+    """A file that is read isn't written over, under whichever name."""
+    linked, named = runner.folder / "linked.bin", runner.folder / "named.bin"
+    runner.run(["list"], [SAMPLE, GTIDS])
+    linked.hardlink_to(runner.folder / "1.bin")
+    named.symlink_to("1.bin")
+    for name in "1.bin", "./1.bin", linked.name, named.name:
+        refused = Result(b"", FAILED, re.escape(f"binlog: {name}: the output is one of the files that are read\n"))
+        yield runner.check(["copy", "-o", name, "0.bin", "1.bin"], refused)
+        with open(runner.folder / "1.bin", "rb") as log:
+            finished = subprocess.run([runner.program, "copy", "-o", name], cwd=runner.folder, stdin=log, capture_output=True)
+        yield difference(f"copy -o {name}", finished, refused)
+    is_kept = (runner.folder / "1.bin").read_bytes() == GTIDS
+    yield None if is_kept else "copy: a log that is read was written over"
+    linked.unlink()
+    named.unlink()
+    yield runner.check(["copy", "-o", "1.bin", "0.bin"], Result(b""))
+    is_copied = (runner.folder / "1.bin").read_bytes() == SAMPLE
+    yield None if is_copied else "copy: a file that isn't read isn't written over"
 
 
 def maria(runner):
