@@ -1,2 +1,3 @@
 pub mod WrittenRows
 pub mod RepeatedTables
+pub mod CountedTransactions

@@ -5,6 +5,7 @@ mod interval_statistics;
 mod repeated_stats;
 mod statistics;
 mod table_statistics;
+mod transaction_counter;
 mod transaction_statistics;
 mod type_statistics;
 
