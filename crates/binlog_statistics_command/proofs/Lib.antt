@@ -1,3 +1,4 @@
 pub mod WrittenRows
 pub mod RepeatedTables
 pub mod CountedTransactions
+pub mod WithinTransactions

@@ -2,6 +2,7 @@
 #![tactic(auto)]
 
 mod interval_statistics;
+pub mod laws;
 mod repeated_stats;
 mod statistics;
 mod table_statistics;
