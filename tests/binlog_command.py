@@ -512,6 +512,10 @@ def maria_gtids(runner):
     of_mysql = f"{SID.replace('-', '')} 1-2 gaps -\n".encode()
     yield runner.check(["gtids", "1.bin", "2.bin"], Result(of_mysql + b"0-1-5\n0-2-5\n"), logs)
     yield runner.check(["gtids", "--missing-in", "2.bin", "1.bin", "2.bin"], Result(b"0-1-5\n0-2-5\n"), logs)
+    # One that can't be read has its line, and its message.
+    short = MAGIC + start() + gtid(0, 1, 3) + samples.frame(samples.MARIA_GTID, samples.maria_gtid_body(0, 4)[:12])
+    refused = message("0.bin", 2, list(frame_starts(short))[2], "an event's body ends within a field")
+    yield runner.check(["gtids", "0.bin"], Result(b"2 error E5\n0-1-3\n", DAMAGED, refused), [short])
 
 
 def stored(runner):
@@ -639,6 +643,28 @@ def copies(runner):
     yield runner.check(wrong, Result(b"", USAGE, "binlog: .+\n"))
     is_kept = (runner.folder / "out.bin").read_bytes() == copied
     yield None if is_kept else "copy: wrong usage changes the output"
+    yield from copies_over_logs(runner)
+
+
+def copies_over_logs(runner):
+    """A file that is read isn't written over, under whichever name."""
+    linked, named = runner.folder / "linked.bin", runner.folder / "named.bin"
+    runner.run(["list"], [SAMPLE, GTIDS])
+    linked.hardlink_to(runner.folder / "1.bin")
+    named.symlink_to("1.bin")
+    for name in "1.bin", "./1.bin", linked.name, named.name:
+        refused = Result(b"", FAILED, re.escape(f"binlog: {name}: the output is one of the files that are read\n"))
+        yield runner.check(["copy", "-o", name, "0.bin", "1.bin"], refused)
+        with open(runner.folder / "1.bin", "rb") as log:
+            finished = subprocess.run([runner.program, "copy", "-o", name], cwd=runner.folder, stdin=log, capture_output=True)
+        yield difference(f"copy -o {name}", finished, refused)
+    is_kept = (runner.folder / "1.bin").read_bytes() == GTIDS
+    yield None if is_kept else "copy: a log that is read was written over"
+    linked.unlink()
+    named.unlink()
+    yield runner.check(["copy", "-o", "1.bin", "0.bin"], Result(b""))
+    is_copied = (runner.folder / "1.bin").read_bytes() == SAMPLE
+    yield None if is_copied else "copy: a file that isn't read isn't written over"
 
 
 def maria(runner):

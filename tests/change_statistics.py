@@ -229,6 +229,18 @@ def by_transaction(runner):
         place = chance.randrange(4, len(log))
         copy = log[:place] + bytes([log[place] ^ chance.randrange(1, 256)]) + log[place + 1 :]
         yield from runner.check_transactions(f"byte {place} changed", [copy])
+    yield rotation_fault(runner)
+
+
+def rotation_fault(runner):
+    """None if what is behind the last transaction of a file, and in front of the first one of the next, is in none, else what is wrong."""
+    xid, rotate = ((event.type, event.body) for event in (encode.xid(value=7), encode.rotate(position=4, name="log.000002")))
+    list_of = encode.previous_gtids([(SID, None, [(1, 2)])])
+    logs = [log_of(False, [gtid(1, False), xid, rotate], 3600), log_of(False, [(list_of.type, list_of.body), gtid(2, False), xid])]
+    finished = runner.run(logs, ["--by", "transaction", "--json"])
+    size = len(framed(*gtid(1, False))) + len(framed(*xid))
+    is_right = all(f'"duration":{seconds},"events":2,"bytes":{size},'.encode() in finished.stdout for seconds in (3600, 7))
+    return None if is_right else f"a rotation: {finished.stdout}"
 
 
 def by_type(runner):

@@ -16,6 +16,8 @@ SIZE_CLASSES = 65
 # How many of the largest transactions are printed if no number is asked for.
 DEFAULT_TOP = 20
 TYPE_NAMES = json_model.NAMES | maria_json_model.NAMES
+# The types of events that belong to the log and to no transaction.
+OF_LOG = (3, 4, 15, 35, 161, 163, 164)
 
 
 @dataclass
@@ -64,12 +66,15 @@ def intervals(events, seconds):
 
 
 def transactions(events):
-    """The events of each transaction. Those before the first one are in none."""
-    found = []
+    """The events of each transaction. Those before the first one are in none, and so are those from an event of the log to the next one."""
+    found, is_within = [], False
     for event in events:
         if event.begins:
             found.append([event])
-        elif found:
+            is_within = True
+        elif event.kind in OF_LOG and not event.is_inside:
+            is_within = False
+        elif is_within:
             found[-1].append(event)
     return found
 

@@ -8,7 +8,7 @@ ghost use Rattle.binlog_event_commands.specs.Copying.{CopiesFiles};
 use binlog_cli::{BUFFER_SIZE, Outcome, Output, Status, filter};
 use binlog_file::{BinlogFileHeader, BinlogVersion, Retrying};
 use binlog_filters::{Copier, Filter};
-use binlog_inputs::{Inputs, NoFollower, Request, read_taken};
+use binlog_inputs::{Inputs, NoFollower, Request, is_same_file, read_taken};
 use std::fs;
 use std::io::{BufWriter, Write};
 use std::rt::Files;
@@ -19,7 +19,7 @@ use std::time::Clock;
 /// # Errors
 ///
 /// The status of a command that can't begin, after its message: [`Status::Usage`] if an option can't be read, [`Status::Failed`] if
-/// there is no memory, or if the file can't be made.
+/// there is no memory, or if the file can't be made or is one that is read.
 pub fn copy<'a, S: Inputs, R: Files + Clock + Eprint + AllocGlobal, W: Write + Drop>(
     rt: &'a R,
     inputs: &S,
@@ -35,8 +35,15 @@ pub fn copy<'a, S: Inputs, R: Files + Clock + Eprint + AllocGlobal, W: Write + D
     if request.output == "-" {
         return copy_whole(rt, inputs, request, writer);
     }
-    // Wrong usage leaves the output as it is.
+    // Wrong usage leaves the output as it is, and no log is written over while it is read.
     filter(rt, request.options)?;
+    if is_read(inputs, request) {
+        let _ = eprintln!(rt;
+            "binlog: {}: the output is one of the files that are read",
+            request.output
+        );
+        return Err(Status::Failed);
+    }
     match fs::create(rt, request.output) {
         Ok(file) => copy_whole(rt, inputs, request, file),
         Err(error) => {
@@ -44,6 +51,17 @@ pub fn copy<'a, S: Inputs, R: Files + Clock + Eprint + AllocGlobal, W: Write + D
             Err(Status::Failed)
         }
     }
+}
+
+// Whether the output is one of the files that are read.
+fn is_read<S: Inputs>(inputs: &S, request: &Request<'_, '_>) -> bool {
+    let files = request.files;
+    for file in files {
+        if is_same_file(inputs, request.output, file) {
+            return true;
+        }
+    }
+    false
 }
 
 // Writes the log of the events that the filter takes, and closes the writer.

@@ -17,7 +17,7 @@ mod taken;
 
 pub use files::read_file;
 pub use follower::{Follower, NoFollower};
-pub use inputs::{HostInput, HostInputs, HostLog, Inputs};
+pub use inputs::{HostInput, HostInputs, HostLog, Inputs, is_same_file};
 pub use outputs::{outcome_of_lines, outcome_of_text};
 pub use progress::Progress;
 pub use reported::{CONTENT_LIMIT, Reported, report_left_out, shown_name};

@@ -5,7 +5,9 @@ ghost use Rattle.binlog_inputs.specs.Reports.{begun_file, ended_file, with_visit
 
 use crate::follower::Follower;
 use crate::progress::Progress;
-use binlog_file::{Error, EventData, EventRef, EventStreamReader, GtidTracker};
+use binlog_file::{
+    Error, EventData, EventRef, EventStreamReader, GtidTracker, LogEventData, read_log_data,
+};
 use binlog_filters::Place;
 use binlog_payload_filters::PayloadFiltered;
 use binlog_payload_visits::first_part_error;
@@ -214,12 +216,12 @@ fn report_refused<E: Eprint + AllocGlobal>(
     }
 }
 
-// Adds the GTIDs of an event to an empty set.
+// Adds the GTIDs of an event to an empty set. All GTIDs of MariaDB's that can be read can be added.
 fn add_alone(alloc: Global, event: &EventRef<'_>) -> Result<(), Error> {
-    let data = event.read_data(alloc);
+    let data = read_log_data(alloc, event);
     let added = match &data {
-        Ok(Some(data)) => add_data(alloc, data),
-        Ok(None) => Ok(()),
+        Ok(Some(LogEventData::Mysql(data))) => add_data(alloc, data),
+        Ok(_) => Ok(()),
         Err(error) => Err(*error),
     };
     drop(data);

@@ -1,2 +1,4 @@
 pub mod WrittenRows
 pub mod RepeatedTables
+pub mod CountedTransactions
+pub mod WithinTransactions

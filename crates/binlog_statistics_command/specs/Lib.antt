@@ -5,4 +5,5 @@ pub mod TypeStatistics
 pub mod TableStatistics
 pub mod IntervalStatistics
 pub mod TransactionStatistics
+pub mod WithinTransactions
 pub mod Statistics

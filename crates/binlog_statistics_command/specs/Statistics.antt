@@ -5,10 +5,9 @@ use Rattle.binlog_commands.specs.SplicedCounts.{CountsInside, CountsOutside, not
 use Rattle.change_statistics.specs.Facts.{Fact}
 use Rattle.change_statistics.specs.Intervals.{seconds_of, CountsNoInterval, AddsByTime, AreSameIntervals}
 use Rattle.change_statistics.specs.Tables.{AreEmpty, Adds, AreSame}
-use Rattle.change_statistics.specs.Transactions.{seen_by, none_seen, SeesEvent}
+use Rattle.change_statistics.specs.Transactions.{seen_by, none_seen}
 use Rattle.change_statistics.specs.declared.intervals.IntervalStats.{IntervalStats}
 use Rattle.change_statistics.specs.declared.tables.TableStats.{TableStats}
-use Rattle.change_statistics.specs.declared.transaction_stats.TransactionStats.{TransactionStats}
 use Rattle.binlog_statistics.specs.Counting.{CountsItem, CountsPart, RefusesItem, end_behind}
 use Rattle.binlog_statistics.specs.declared.counter.Counter.{Counter}
 use Rattle.clap.specs.declared.parser.matches.Found.{Found}
@@ -20,8 +19,9 @@ use Rattle.binlog_summaries.specs.declared.options.StatsOptions.{StatsOptions}
 use Rattle.binlog_statistics_command.specs.CountedFiles.{WritesCounts}
 use Rattle.binlog_statistics_command.specs.IntervalStatistics.{WritesIntervals}
 use Rattle.binlog_statistics_command.specs.TableStatistics.{WritesTables}
-use Rattle.binlog_statistics_command.specs.TransactionStatistics.{WritesTransactions}
+use Rattle.binlog_statistics_command.specs.TransactionStatistics.{CountsPartOf, CountsTransactions, KeepsSeen, WritesTransactions}
 use Rattle.binlog_statistics_command.specs.TypeStatistics.{WritesTypes}
+use Rattle.binlog_statistics_command.specs.declared.transaction_counter.TransactionCounter.{TransactionCounter}
 
 -- How many transactions are kept if no number is asked for.
 abbrev pub default_top : ℕ
@@ -52,9 +52,13 @@ module _ {B N : Type 0} (contents : B → Option (List ℕ)) (found : Found) (is
       (start : IntervalStats) × CountsNoInterval start × (seconds_of start ≡ seconds)
       × WritesCounted AddsByTime AreSameIntervals (λ stats outcome before after. WritesIntervals options.is_json stats outcome before after) start old status new
   WritesBy Transactions old status new =
-      (start : TransactionStats) × (seen_by start ≡ none_seen (unwrap_or options.top default_top))
-      × WritesCounted (λ before fact after. SeesEvent (seen_by before) fact (seen_by after)) (λ before after. seen_by after ≡ seen_by before)
-      (λ stats outcome before after. WritesTransactions options.is_json (seen_by stats) outcome before after) start old status new
+      (start : TransactionCounter) × (seen_by start.counter.stats ≡ none_seen (unwrap_or options.top default_top))
+      × WritesCounts contents found is_verified is_followed bytes names period
+      (λ (before : TransactionCounter) maps index item (after : TransactionCounter). CountsTransactions before.counter maps item after.counter)
+      (λ (before : TransactionCounter) maps index number part (after : TransactionCounter). CountsPartOf before.counter maps part after.counter)
+      (λ (before : TransactionCounter) maps index item error (after : TransactionCounter). RefusesItem KeepsSeen before.counter.stats error after.counter.stats)
+      (λ (before : TransactionCounter) maps index number part error (after : TransactionCounter). RefusesItem KeepsSeen before.counter.stats error after.counter.stats)
+      (λ (counter : TransactionCounter) outcome before after. WritesTransactions options.is_json (seen_by counter.counter.stats) outcome before after) start old status new
 
   abbrev pub WritesStats : (old : Option (List ℕ)) (status : Status) (new : Option (List ℕ)) → Type 0
   WritesStats old status new = WritesBy options.grouping old status new

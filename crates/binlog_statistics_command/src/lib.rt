@@ -2,9 +2,11 @@
 #![tactic(auto)]
 
 mod interval_statistics;
+pub mod laws;
 mod repeated_stats;
 mod statistics;
 mod table_statistics;
+mod transaction_counter;
 mod transaction_statistics;
 mod type_statistics;
 

@@ -11,6 +11,7 @@ ghost use Rattle.binlog_statistics_command.specs.RepeatedStats.{RefusesPeriod, S
 ghost use Rattle.binlog_statistics_command.specs.Statistics.{WritesStats};
 
 use crate::repeated_stats::{RepeatedStats, period_of};
+use crate::transaction_counter::TransactionCounter;
 use crate::transaction_statistics::DEFAULT_TOP;
 use binlog_cli::{BUFFER_SIZE, Outcome, Output, Status, filter};
 use binlog_commands::SplicedStats;
@@ -20,7 +21,7 @@ use binlog_payload_filters::TakenParts;
 use binlog_payload_visits::{Noted, PartVisitor, Spliced};
 use binlog_statistics::Counter;
 use binlog_summaries::{Grouping, StatsOptions, stats_options};
-use change_statistics::{IntervalStats, TableStats, TransactionStats};
+use change_statistics::{IntervalStats, TableStats};
 use std::io::{BufWriter, Write};
 use std::num::NonZeroU32;
 use std::time::Clock;
@@ -107,7 +108,7 @@ fn grouped_stats<'a, S: Inputs, R: Clock + Eprint + AllocGlobal, W: Write + Drop
         }
         Grouping::Transactions => {
             let limit = options.top.unwrap_or(DEFAULT_TOP) as usize;
-            let counter = Counter::new(rt.alloc(), TransactionStats::new(rt.alloc(), limit));
+            let counter = TransactionCounter::new(rt.alloc(), limit);
             count(rt, inputs, request, period, options, counter, writer)
         }
     }

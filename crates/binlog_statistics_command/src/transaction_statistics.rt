@@ -4,9 +4,9 @@ ghost use Rattle.binlog_statistics_command.specs.TransactionStatistics.{IsOrHasE
 ghost use Rattle.binlog_statistics_command.specs.WrittenRows.{WritesOr};
 
 use crate::statistics::Statistics;
+use crate::transaction_counter::TransactionCounter;
 use binlog_cli::{Outcome, Status, out_of_memory};
 use binlog_inputs::{outcome_of_lines, outcome_of_text};
-use binlog_statistics::Counter;
 use binlog_summaries::{StatsOptions, write_transactions, write_transactions_json};
 use change_statistics::{MAX_TABLES, TransactionStats};
 use std::io::Write;
@@ -14,14 +14,14 @@ use std::io::Write;
 /// How many transactions are kept if no number is asked for.
 pub(crate) const DEFAULT_TOP: u64 = 20;
 
-impl Statistics for Counter<TransactionStats> {
+impl Statistics for TransactionCounter {
     ghost use Rattle.std.specs.Prelude.{◌≡◌};
     ghost use Rattle.change_statistics.specs.Transactions.{seen_by};
     ghost use Rattle.binlog_statistics_command.specs.TransactionStatistics.{IsOrHasEnded, WritesTransactions};
 
-    ghost writes = { λ options counter outcome old new. WritesTransactions options.is_json (seen_by counter.stats) outcome old new };
+    ghost writes = { λ options counter outcome old new. WritesTransactions options.is_json (seen_by counter.counter.stats) outcome old new };
 
-    ghost keeps = { λ old new. IsOrHasEnded (seen_by old.stats) (seen_by new.stats) × (new.end_position ≡ old.end_position) };
+    ghost keeps = { λ old new. IsOrHasEnded (seen_by old.counter.stats) (seen_by new.counter.stats) × (new.counter.end_position ≡ old.counter.end_position) };
 
     fn write<R: Eprint + AllocGlobal, W: Write>(
         &mut self,
@@ -29,7 +29,7 @@ impl Statistics for Counter<TransactionStats> {
         options: StatsOptions,
         output: &mut W,
     ) -> Outcome {
-        write_transaction_stats(rt, &mut self.stats, options.is_json, output)
+        write_transaction_stats(rt, &mut self.counter.stats, options.is_json, output)
     }
 }
 

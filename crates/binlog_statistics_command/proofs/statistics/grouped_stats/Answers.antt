@@ -22,7 +22,6 @@ returns-in-Some-clause-ok g c =
 
 pub returns-in-Transactions-clause-ok : goal.returns-in-Transactions-clause-ok
 returns-in-Transactions-clause-ok g c =
-    let counted = c.new-in-Transactions in
     let counter = c.new-counter-in-Transactions in
-    rw c.in-Transactions.is (if_ok _ _ c.count-in-Transactions.result (λ ended writes. (counted.result, rw c.unwrap_or-limit.ensures at counted.ensures, (counter.result, counter.ensures, writes)))
+    rw c.in-Transactions.is (if_ok _ _ c.count-in-Transactions.result (λ ended writes. (counter.result, rw c.unwrap_or-limit.ensures at counter.ensures, writes))
     c.count-in-Transactions.ensures.ok)
