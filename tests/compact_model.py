@@ -38,14 +38,14 @@ class Rows(json_model.TableMaps):
     """The table maps in force, and the rows of row events by them."""
 
     def of_event(self, frame, data, in_force):
-        """The table map and the rows of a row event, if all of them are read; else None."""
+        """The table map and the rows of a row event, if all of them are read; else None, also without bytes of rows: rows of no columns have none."""
         type_number = listing_model.type_number(frame)
         try:
             event = event_data_model.fields(type_number, data, in_force.lengths)
         except Fault:
             return None
         table = self.maps.get(event["table_id"])
-        if table is None:
+        if table is None or not event["rows_data"].bytes:
             return None
         _, items = json_model.rows_of(type_number, event, table, is_maria(in_force.server_version), self.declared)
         return None if any(map(json_model.is_refused, items)) else (table, items)

@@ -64,7 +64,8 @@ def rows(log: Union[Path, Log], start: Optional[Cursor] = None) -> Iterator[Row]
 
     None is passed over. It raises LogError in the place of a damaged event, of one with rows or a GTID that can't be read, and of a
     compressed transaction that can't be, or has such an event; and RowsError where a row can't be read: its name is NoTableMap where no
-    table map is in force, and Unread of events that may have rows, or say that some are lost, and aren't read, whose type is in `details`.
+    table map is in force, and Unread of events that may have rows, or say that some are lost, and aren't read, or have no bytes of rows.
+    Their type is in `details`.
     """
     gtid: Optional[str] = None
     for event in (log if isinstance(log, Log) else open(log)).events(start):
@@ -100,6 +101,9 @@ def _rows_of(event: Event, position: int, part: Optional[int], gtid: Optional[st
         # The data may be no row event's.
         event.body
         raise RowsError({"error": "NoTableMap"}, event.position)
+    if not found:
+        # Rows without columns have no bytes, so how many there are isn't known.
+        raise _unread(event)
     return [Row(position, part, gtid, event.timestamp, table, op, row.get("before"), row.get("after")) for row in found]
 
 

@@ -130,6 +130,11 @@ class Rows(unittest.TestCase):
             _, error = self.raised(binlog.RowsError, payload_lines.log_of([*INSIDE, (kind, bytes(40))]))
             self.assertEqual((error.name, error.details), ("Unread", {"type": kind}))
 
+    def test_rows_without_columns(self):
+        none = row_lines.row_event(row_lines.WRITE, 1, [False, False], [False, False], b"")
+        found, error = self.raised(binlog.RowsError, payload_lines.log_of([*INSIDE, none]))
+        self.assertEqual((len(found), error.name, error.details), (2, "Unread", {"type": row_lines.WRITE[0]}))
+
     def test_compressed_transactions_that_are_refused(self):
         for body, errors in payload_lines.refused():
             content = payload_lines.log_of([*INSIDE, (PAYLOAD, body)])

@@ -37,7 +37,7 @@ use Rattle.binlog_filters.specs.RowEvents.{is_of_rows, rows_event_of}
 use Rattle.binlog_json_lines.specs.RowMembers.{name_of, IsFlavour, AreReadRows, AreRowsMembers, AreEventMembers, AreMembersOf, AreMembers}
 use Rattle.binlog_filters.proofs.RowsRead.{read_some}
 use Rattle.column_files.specs.declared.tables.DeclaredTables.{DeclaredTables}
-use Rattle.binlog_change_lines.specs.EventTexts.{rows_in, has_line, AreLinesBy, ShowsIf, ShowsRead, ShowsEvent, IsTextOf, IsEventText, IsPartText}
+use Rattle.binlog_change_lines.specs.EventTexts.{rows_in, has_line, has_bytes, AreLinesBy, AreLines, ShowsSomeRows, ShowsIf, ShowsRead, ShowsEvent, IsTextOf, IsEventText, IsPartText}
 use Rattle.binlog_change_lines.specs.Heads.{Place}
 use Rattle.binlog_change_lines.specs.RowLines.{AllAreRead}
 use Rattle.binlog_change_lines.specs.WholeLines.{EndWithRows, HasRows, AreRowsOfLine, IsOfNoRows}
@@ -159,11 +159,17 @@ module _ (files : List DeclaredTables) (place : Place) (map : Option TableMapEve
     each = record { facts = lines.facts; refusal = lines.refusal; contradiction = contradiction; stated = lines.stated; lines = lines.lines };
   }
 
+  lines_if : (is_there : Bool) (body : RowsEventData) (contradiction : Option ℕ) (text : List ℕ) → ShowsSomeRows files place event map is_there body (Rows contradiction) text
+      → AreLines files place event map body contradiction text
+  lines_if true body contradiction text shows = shows
+  lines_if false body contradiction text shows = absurd cc
+
   shown_rows : (content : LogEventData) (found : Option RowsEventData) (is_line : Bool) (contradiction : Option ℕ) (text : List ℕ) → is_of_rows (event_type_of (header_of event.frame).event_type) ≡ true
       → ReadsLogData event (Ok (Some content)) → rows_in content ≡ found → ShowsIf files place event map found is_line (Rows contradiction) text → AreRowsOfLine files place map event line text
-  shown_rows content (Some body) is_line contradiction text rows reads is (is_maria_log, flavour, lines) =
+  shown_rows content (Some body) is_line contradiction text rows reads is shows =
       let read = rw (is_rows content body is) at reads in
-      lines_of body map is_maria_log contradiction text refl flavour (row_event event body rows read) lines
+      let own : AreLines files place event map body contradiction text = lines_if (has_bytes (event_in body).rows) body contradiction text shows in
+      lines_of body map own.0 contradiction text refl own.1 (row_event event body rows read) own.2
   shown_rows content None true contradiction text rows reads is shows = absurd cc
   shown_rows content None false contradiction text rows reads is shows = absurd cc
 
@@ -173,8 +179,12 @@ module _ (files : List DeclaredTables) (place : Place) (map : Option TableMapEve
   read_shown (Ok None) contradiction text rows reads shows = absurd cc
   read_shown (Err error) contradiction text rows reads shows = absurd cc
 
+  not_nothing : (is_there : Bool) (body : RowsEventData) (text : List ℕ) → ShowsSomeRows files place event map is_there body Nothing text → ⊥
+  not_nothing true body text shows = shows
+  not_nothing false body text shows = absurd cc
+
   none_if : (found : Option RowsEventData) (is_line : Bool) (text : List ℕ) → ShowsIf files place event map found is_line Nothing text → found ≡ None
-  none_if (Some body) is_line text shows = absurd shows
+  none_if (Some body) is_line text shows = absurd (not_nothing (has_bytes (event_in body).rows) body text shows)
   none_if None is_line text shows = refl
 
   none_read : (read : Result (Option LogEventData) Error) (text : List ℕ) → ReadsLogData event read → ShowsRead files place event map read Nothing text → IsOfNoRows event

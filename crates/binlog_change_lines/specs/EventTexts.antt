@@ -1,5 +1,5 @@
 -- What is written for an event.
-use Rattle.std.specs.Prelude.{◌≡◌, ℕ, Bool, true, false, List, [], Option, Some, None, Result, Ok, Err}
+use Rattle.std.specs.Prelude.{◌≡◌, ℕ, Bool, true, false, List, [], ◌∷◌, Option, Some, None, Result, Ok, Err}
 use Rattle.binlog_wire.specs.declared.error.Error.{Error}
 use Rattle.binlog_wire.specs.declared.error.Error.TheVariants.{Memory}
 use Rattle.binlog_event_format.specs.Headers.{header_of}
@@ -13,6 +13,7 @@ use Rattle.binlog_file.specs.declared.log_data.LogEventData.{LogEventData}
 use Rattle.binlog_file.specs.declared.log_data.LogEventData.TheVariants.{Mysql, Maria}
 use Rattle.binlog_images.specs.Cells.{RowCells}
 use Rattle.binlog_images.specs.declared.rows_error.RowsError.{RowsError}
+use Rattle.binlog_rows.specs.RowsData.{event_in}
 use Rattle.binlog_rows.specs.declared.rows_event_data.RowsEventData.{RowsEventData}
 use Rattle.binlog_rows.specs.declared.table_map_event.TableMapEvent.{TableMapEvent}
 use Rattle.binlog_json_lines.specs.Lines.{IsLineWith}
@@ -54,6 +55,11 @@ abbrev pub rows_in : LogEventData → Option RowsEventData
 rows_in (Mysql body) = mysql_rows_in body
 rows_in (Maria body) = None
 
+-- Whether there are bytes of rows. Rows without columns have none, so without bytes it isn't known how many rows there are.
+abbrev pub has_bytes : List ℕ → Bool
+has_bytes [] = false
+has_bytes (byte ∷ bytes) = true
+
 -- ---- what is made of an event
 
 -- `time` is that of the event, and `map` the table map in force for it.
@@ -71,11 +77,15 @@ module _ (files : List DeclaredTables) (place : Place) (event : EventView) (map 
   abbrev pub AreUnread : RowsEventData → Type 0
   AreUnread body = (items : List (Result RowCells RowsError)) → AllAreReadBy body map items → ⊥
 
-  -- Of a row event: the lines of its rows, if all can be read; else its whole line.
+  -- Of a row event: the lines of its rows, if it has bytes of rows and all can be read; else its whole line.
+  abbrev pub ShowsSomeRows : (has_bytes : Bool) → RowsEventData → Shown → (text : List ℕ) → Type 0
+  ShowsSomeRows false body shown text = shown ≡ Whole
+  ShowsSomeRows true body Nothing text = ⊥
+  ShowsSomeRows true body (Rows contradiction) text = AreLines body contradiction text
+  ShowsSomeRows true body Whole text = AreUnread body
+
   abbrev pub ShowsRows : RowsEventData → Shown → (text : List ℕ) → Type 0
-  ShowsRows body Nothing text = ⊥
-  ShowsRows body (Rows contradiction) text = AreLines body contradiction text
-  ShowsRows body Whole text = AreUnread body
+  ShowsRows body shown text = ShowsSomeRows (has_bytes (event_in body).rows) body shown text
 
   -- Of another event: its whole line, or nothing.
   abbrev pub shown_if : (has_line : Bool) → Shown

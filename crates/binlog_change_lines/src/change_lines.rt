@@ -1,5 +1,5 @@
 //! What is written for an event.
-ghost use Rattle.std.specs.Prelude.{◌≡◌, ◌++◌, ℕ, Bool, Err, Some, None, codes, map, option_copied, IfErr, IfOk, OnOk};
+ghost use Rattle.std.specs.Prelude.{◌≡◌, ◌++◌, ℕ, Bool, true, Err, Some, None, codes, map, option_copied, IfErr, IfOk, OnOk};
 ghost use Rattle.json.specs.Print.{print};
 ghost use Rattle.binlog_wire.specs.Fields.{IsBytes};
 ghost use Rattle.binlog_wire.specs.declared.error.Error.TheVariants.{Memory};
@@ -14,7 +14,7 @@ ghost use Rattle.binlog_rows.specs.RowsData.{event_in};
 ghost use Rattle.binlog_json_lines.specs.Lines.{IsLine};
 ghost use Rattle.binlog_json_lines.specs.Options.{options_of};
 ghost use Rattle.binlog_json_lines.specs.PartLines.{part_error_object};
-ghost use Rattle.binlog_change_lines.specs.EventTexts.{has_line, ShowsRows, ShowsIf, ShowsRead, ShowsEvent, IsEventText, IsPartText, rows_in};
+ghost use Rattle.binlog_change_lines.specs.EventTexts.{has_line, ShowsSomeRows, ShowsRows, ShowsIf, ShowsRead, ShowsEvent, IsEventText, IsPartText, rows_in};
 ghost use Rattle.binlog_change_lines.specs.Heads.{place_of};
 ghost use Rattle.binlog_change_lines.specs.Mapped.{ShowsMapped};
 
@@ -94,7 +94,8 @@ impl ChangeLines {
     }
 
     /// What is written for an event that stands at this place, its line feeds included: the lines of its rows, if it is a row event and
-    /// all of them can be read by the table map, the one in force for its table id. The whole line of [`JsonLines`] if they can't; if the
+    /// all of them can be read by the table map, the one in force for its table id. The whole line of [`JsonLines`] if they can't; if it has
+    /// no bytes of rows, since rows of no columns have none; if the
     /// event's type is unknown, or its data can't be read; if it has rows that aren't read, those of old servers and MariaDB's
     /// compressed ones; and if it is an INCIDENT, which says that events are lost. Nothing for any other event; the events inside a
     /// compressed transaction have [texts of their own](ChangeLines::part_text).
@@ -293,7 +294,7 @@ impl ChangeLines {
         }
     }
 
-    // The same, of a row event.
+    // The same, of a row event. Without bytes of rows it may have rows of no columns.
     fn show_rows(
         &mut self,
         alloc: Global,
@@ -304,6 +305,24 @@ impl ChangeLines {
         files: &[DeclaredTables],
     ) -> Result<Shown, AllocError>
         ensures { IfOk result (λ shown. ShowsRows files.now (place_of place.now) (view_of event.now) (option_copied table_map.entry) body.now shown self.new.rows.text.items) }
+    {
+        if body.rows_data().is_empty() {
+            return Ok(Shown::Whole);
+        }
+        self.show_some_rows(alloc, place, event, body, table_map, files)
+    }
+
+    // The same, of a row event with bytes of rows.
+    fn show_some_rows(
+        &mut self,
+        alloc: Global,
+        place: &EventPlace<'_>,
+        event: &EventRef<'_>,
+        body: &RowsEventData<'_>,
+        table_map: Option<&TableMapEvent<'_>>,
+        files: &[DeclaredTables],
+    ) -> Result<Shown, AllocError>
+        ensures { IfOk result (λ shown. ShowsSomeRows files.now (place_of place.now) (view_of event.now) (option_copied table_map.entry) true body.now shown self.new.rows.text.items) }
     {
         let Some(table_map) = table_map else {
             return Ok(Shown::Whole);
