@@ -26,8 +26,8 @@ TABLES = [
 INT = 3
 
 # An event as its type and body. `kind` says what it is: a map or rows of a table, with its names; a statement, with its default
-# database; `beside` a statement, a `comment`, an `unknown` change, of the `frame` of a transaction or the log, or `unread`; or a `payload`,
-# with the events inside. `is_last` is that of the last row event of a statement.
+# database; `beside` a statement, a `comment`, an `unknown` change, of the `frame` of a transaction or the log, of `any` table, or `unread`; or a
+# `payload`, with the events inside. `is_last` is that of the last row event of a statement.
 Made = namedtuple("Made", "type body kind names is_last inside", defaults=[(), False, ()])
 
 
@@ -80,8 +80,7 @@ def statement(chance, is_maria):
 
 def frame(chance, is_maria):
     events = [encode.query(schema=chance.choice([b"shop", b"other"]), text=chance.choice(FRAMES)), encode.xid(value=7)]
-    events += [encode.kept(38, b"\1xa"), encode.ignored(27, b""), encode.unknown(200, b"what"), encode.kept(28, b"x")]
-    events += [encode.incident(incident_type=1, message="lost"), encode.ignored(3, b"")]
+    events += [encode.kept(38, b"\1xa"), encode.ignored(27, b""), encode.kept(28, b"x"), encode.ignored(3, b"")]
     sid = bytes(range(16))
     of_maria = [maria_events.gtid(1, 0, 7), maria_events.gtid_list(0, [(0, 1, 4)]), maria_events.binlog_checkpoint("maria-bin.000001")]
     of_mysql = [encode.gtid(33, sid=sid, gno=5), encode.gtid(34, sid=bytes(16), gno=0), encode.previous_gtids([])]
@@ -96,10 +95,11 @@ def beside(chance):
 
 def other(chance, is_maria):
     unknown = [encode.kept(number, b"content") for number in (6, 8, 10, 12, 20, 21, 22)]
+    lost = [encode.incident(incident_type=1, message="lost"), encode.unknown(200, b"what")]
     comment = maria_events.annotate_rows("update orders") if is_maria else encode.rows_query(text="update orders")
     cut = chance.choice([encode.ROWS_KINDS[3], encode.ROWS_KINDS[5]])
     unread = encode.Event(cut[0], cut[1], b"\1\0\0", None)
-    return chance.choice([made("unknown", chance.choice(unknown)), made("comment", comment), made("unread", unread)])
+    return chance.choice([made("unknown", chance.choice(unknown)), made("any", chance.choice(lost)), made("comment", comment), made("unread", unread)])
 
 
 def payload(chance):
@@ -186,7 +186,7 @@ class Asked:
             return None if self.tables else self.has_database(*event.names)
         if event.kind == "payload":
             return any(self.takes_inside(inner) for inner in event.inside)
-        known = {"frame": is_for_copy, "beside": not self.tables, "comment": False, "unread": True}
+        known = {"frame": is_for_copy, "any": is_for_copy or None, "beside": not self.tables, "comment": False, "unread": True}
         return known.get(event.kind)
 
     def takes_inside(self, event):

@@ -71,6 +71,11 @@ abbrev pub frame_concern : (is_for_copy : Bool) → Concern
 frame_concern true = Taken
 frame_concern false = Other
 
+-- An event that may change any table: a copy has it, as those of the frame.
+abbrev pub any_table_concern : (is_for_copy : Bool) → Concern
+any_table_concern true = Taken
+any_table_concern false = Unknown
+
 abbrev pub map_concern : TableFilter → TableMapEvent → Concern
 map_concern filter map = if asks_for_map filter map then Taken else Other
 
@@ -121,6 +126,7 @@ mysql_concern filter is_for_copy maps (mysql.PreGaWriteRowsEvent bytes) = Unknow
 mysql_concern filter is_for_copy maps (mysql.PreGaUpdateRowsEvent bytes) = Unknown
 mysql_concern filter is_for_copy maps (mysql.PreGaDeleteRowsEvent bytes) = Unknown
 mysql_concern filter is_for_copy maps (mysql.TransactionPayloadEvent bytes) = Unknown
+mysql_concern filter is_for_copy maps (mysql.IncidentEvent event) = any_table_concern is_for_copy
 mysql_concern filter is_for_copy maps _ = frame_concern is_for_copy
 
 -- An event with this data of one of MariaDB's own types.
@@ -134,10 +140,10 @@ abbrev pub data_concern : TableFilter → (is_for_copy : Bool) → TableMaps →
 data_concern filter is_for_copy maps (logs.Mysql x) = mysql_concern filter is_for_copy maps x
 data_concern filter is_for_copy maps (logs.Maria x) = maria_concern filter is_for_copy maps x
 
--- An event of which this was read. One whose data can't be read is taken.
+-- An event of which this was read. One of an unknown type may change any table, and one whose data can't be read is taken.
 abbrev pub read_concern : TableFilter → (is_for_copy : Bool) → TableMaps → Result (Option LogEventData) Error → Concern
 read_concern filter is_for_copy maps (Ok (Some x)) = data_concern filter is_for_copy maps x
-read_concern filter is_for_copy maps (Ok None) = frame_concern is_for_copy
+read_concern filter is_for_copy maps (Ok None) = any_table_concern is_for_copy
 read_concern filter is_for_copy maps (Err error) = Taken
 
 -- What the filter makes of an event, by its data or by the error that its bytes give.

@@ -4,7 +4,7 @@ ghost use Rattle.binlog_wire.specs.declared.error.Error.TheVariants.{Memory};
 ghost use Rattle.binlog_file.specs.EventRefs.{view_of};
 ghost use Rattle.binlog_file.specs.State.{state_of};
 ghost use Rattle.binlog_filters.specs.Reading.{IsReadAs};
-ghost use Rattle.binlog_filters.specs.Tables.{has_any, is_named, is_table_named, asks_for_database, asks_for_map, asks_for_table, frames_transaction, frame_concern, map_concern, rows_concern, statement_concern, query_concern, beside_concern, mysql_concern, maria_concern, data_concern, read_concern, ReadsConcern};
+ghost use Rattle.binlog_filters.specs.Tables.{has_any, is_named, is_table_named, asks_for_database, asks_for_map, asks_for_table, frames_transaction, frame_concern, map_concern, rows_concern, statement_concern, query_concern, beside_concern, mysql_concern, maria_concern, data_concern, read_concern, any_table_concern, ReadsConcern};
 
 use crate::concern::{Concern, RowsConcern};
 use crate::pattern::Pattern;
@@ -66,7 +66,7 @@ impl TableFilter {
     {
         match read {
             Ok(Some(data)) => Ok(self.data_concern(is_for_copy, data, reader)),
-            Ok(None) => Ok(frame_concern(is_for_copy)),
+            Ok(None) => Ok(any_table_concern(is_for_copy)),
             Err(Error::Memory) => Err(Error::Memory),
             Err(_) => Ok(Concern::Taken),
         }
@@ -118,6 +118,7 @@ impl TableFilter {
             | EventData::PreGaUpdateRowsEvent(_)
             | EventData::PreGaDeleteRowsEvent(_)
             | EventData::TransactionPayloadEvent(_) => Concern::Unknown,
+            EventData::IncidentEvent(_) => any_table_concern(is_for_copy),
             _ => frame_concern(is_for_copy),
         }
     }
@@ -262,6 +263,17 @@ fn frame_concern(is_for_copy: bool) -> Concern
         Concern::Taken
     } else {
         Concern::Other
+    }
+}
+
+// What they make of an event that may change any table: one that says that events are lost, or one of an unknown type. A copy has it.
+fn any_table_concern(is_for_copy: bool) -> Concern
+    ensures { result ≡ any_table_concern is_for_copy }
+{
+    if is_for_copy {
+        Concern::Taken
+    } else {
+        Concern::Unknown
     }
 }
 
