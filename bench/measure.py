@@ -1,7 +1,7 @@
 #!/usr/bin/env python3
 """Measures the programs against the baselines, and reading alone; prints a Markdown table of each.
 
-Usage: measure.py LISTING BENCH SLICE_LISTING BASELINE SLICE_BASELINE FOLDER
+Usage: measure.py LISTING PROBE SLICE_LISTING BASELINE SLICE_BASELINE FOLDER
 
 FOLDER holds the files of make_binlogs.py. The exit status is 1 if a program
 and the baseline differ on one of them, or if one of them doesn't write back

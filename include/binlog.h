@@ -10,13 +10,15 @@
  *                    items[i].position, items[i].event_type, items[i].data_size);
  *
  * C11 and C++. No function keeps anything between calls, or reads anything but what it is passed, so calls in different
- * threads are independent of each other. Those that write lines of JSON, read files of columns, decompress payloads or undo logs alone
- * allocate memory, by malloc and realloc, and free it before they return.
+ * threads are independent of each other. Only those functions allocate memory that write lines of JSON, read files of columns,
+ * decompress payloads or undo logs: by malloc and realloc, and they free it before they return.
  *
- * The library is proved to be defined for all contents of the log, the cursor, the items and the buffers. The caller has
- * to ensure: each pointer and its length are memory of that length; it doesn't change during the call; the log, the columns, the
- * cursor, the items, the text, the fault, the refusals, the counts and the error of one call don't overlap; pointers are aligned as
- * their types require; all of these were written before, with zeros for instance. A pointer may be NULL if its length is 0.
+ * The library is proved to be defined for all contents of the log, the cursor, the items and the buffers. The caller has to ensure:
+ *
+ * - each pointer and its length are memory of that length, which doesn't change during the call; a pointer may be NULL if its length is 0;
+ * - the log, the columns, the cursor, the items, the text, the fault, the refusals, the counts and the error of one call don't overlap;
+ * - pointers are aligned as their types require;
+ * - all of this memory was written before, with zeros for instance.
  *
  * docs/C.md has more examples. */
 #ifndef BINLOG_H
@@ -48,7 +50,7 @@ enum {
     /* The next ones are those of binlog_payload_log. */
     BINLOG_NO_PAYLOAD = 104,           /* the item isn't a compressed transaction */
     BINLOG_EVENT_TRUNCATED = 105,      /* its data end within a field */
-    BINLOG_LENENC = 106,               /* a number of its data has no length */
+    BINLOG_LENENC = 106,               /* a length-encoded number of its data begins with 0xfb or 0xff */
     BINLOG_FIELD_TWICE = 107,          /* a field of its data is given twice */
     BINLOG_FIELD_LENGTH = 108,         /* a field of its data has a wrong length */
     BINLOG_KIND = 109,                 /* the compression type isn't known */
@@ -110,12 +112,11 @@ uint32_t binlog_library_version(void);
 uint8_t binlog_open(const uint8_t *log, size_t size, binlog_cursor *cursor);
 
 /* Fills in the next items of a log of this size, as many as there are and there is room for, and moves the cursor
- * after them. Returns how many. The items behind these are unchanged.
+ * after them. Returns how many. The items after these are unchanged.
  *
  * If there are fewer than there is room for, the log has no more whole events. If it ends within an event, the cursor
  * is before that event, so that a later call continues once the log has grown, and binlog_rest has the number of its bytes.
- * An item with
- * BINLOG_EVENT_SIZE_TOO_SMALL is the last one. An event that is too short for its checksum, or a malformed
+ * An item with BINLOG_EVENT_SIZE_TOO_SMALL is the last one. An event that is too short for its checksum, or a malformed
  * description, rotate or table map, is an item with an error number, and the next item is the event after it.
  *
  * The error is 0, or BINLOG_INVALID_CURSOR: the position isn't in 4 to size, or no accepted format description begins
@@ -151,8 +152,8 @@ size_t binlog_next_verified(const uint8_t *log, size_t size, binlog_cursor *curs
 size_t binlog_rest(const uint8_t *log, size_t size, const binlog_cursor *cursor);
 
 /* Writes the line of JSON of an item of a log, as the program `binlog json` prints it: one object, which begins with this
- * index, and a line feed behind it; no zero. docs/JSON.md has the members. Returns the length of the line, and writes it
- * if the room isn't less; otherwise nothing is written, and a call with as much room writes it.
+ * index, and a line feed; no zero after it. docs/JSON.md has the members. Returns the length of the line. If there is less room,
+ * nothing is written, and a call with as much room as was returned writes it.
  *
  * The item is one that binlog_next or binlog_next_verified gave for this log, or for this log before it grew at its end.
  * An item with an error has the line of that error.
@@ -184,7 +185,7 @@ size_t binlog_json(const uint8_t *log, size_t size, const binlog_item *item, con
  * a call for each item, since memory is taken once.
  *
  * The table maps are the same for all items, and a table map among the items isn't one of them. So where row events have to be
- * written with their rows, a call's items end behind a table map, and the next call has it among its table maps.
+ * written with their rows, a call's items end with a table map, and the next call has it among its table maps.
  *
  * `lines` becomes how many lines are written. The error is 0, or that of the first item whose line isn't written, as binlog_json has
  * it. If it is 0 and not all lines are written, there is no room for the next line, whose length binlog_json returns.
@@ -201,8 +202,8 @@ size_t binlog_json_lines(const uint8_t *log, size_t size, const binlog_item *ite
  * With binlog_transaction_compression=ON a server writes a transaction as one event of type 40, whose payload has the transaction's
  * events, compressed. They are seen as a log of their own. */
 
-/* Writes the events inside a compressed transaction as a log, if there is room for all of it, and returns its length; otherwise nothing
- * is written, and a call with as much room writes it. The log is the file header, the format description in force for the item, with
+/* Writes the events inside a compressed transaction as a log, and returns its length. If there is less room, nothing is written, and a
+ * call with as much room as was returned writes it. The log is the file header, the format description in force for the item, with
  * the checksum algorithm 0 (OFF), and the events as they are in the payload. All calls take it as any other log: binlog_open,
  * binlog_next for its items, the first of which is the description, and binlog_json for their lines. Their table maps, and those
  * outside, don't concern each other. In a log without a description there is none in this one.
@@ -227,7 +228,7 @@ size_t binlog_payload_log(const uint8_t *log, size_t size, const binlog_item *it
  * A log whose events, applied by a server, bring the rows of tables back to what they were before the events of logs. docs/UNDO.md has
  * which transactions can't be undone, what is written, and what a server has to be. */
 
-/* Why a transaction, or a log, can't be undone. The first ones can be skipped, with the bit 2^n of `skip` for the number n. */
+/* Why a transaction, or a log, can't be undone. A reason n of the first ones is skipped by the bit 2^n of `skip`. */
 enum {
     BINLOG_UNDO_UNFINISHED = 1,     /* the transaction isn't finished */
     BINLOG_UNDO_STATEMENT = 2,      /* a statement that changes more than rows */
@@ -235,10 +236,10 @@ enum {
     BINLOG_UNDO_XA = 4,             /* a part of an XA transaction */
     BINLOG_UNDO_ROLLBACK = 5,       /* changes were rolled back */
     BINLOG_UNDO_INCIDENT = 6,       /* an incident */
-    BINLOG_UNDO_PAYLOAD = 7,        /* a compressed transaction of MySQL's: more than 1 GiB, or rows in front of it */
+    BINLOG_UNDO_PAYLOAD = 7,        /* a compressed transaction of MySQL's: more than 1 GiB, or row events before it */
     BINLOG_UNDO_OLD_ROWS = 8,       /* row events of a version before 5.1.16 */
     BINLOG_UNDO_UNKNOWN_EVENT = 9,  /* an event of an unknown type */
-    BINLOG_UNDO_NO_TABLE_MAP = 11,  /* the rows have no table map in their transaction */
+    BINLOG_UNDO_NO_TABLE_MAP = 11,  /* the rows have no table map in their transaction; inside a compressed one it has to be inside, too */
     BINLOG_UNDO_ROWS = 12,          /* the rows can't be read */
     BINLOG_UNDO_OLD_TEMPORAL = 13,  /* a column of a date or time whose form isn't in the log */
     BINLOG_UNDO_IMAGE = 14,         /* the images of the rows lack columns */
@@ -261,7 +262,7 @@ enum {
 
 /* What is undone, and how: four numbers, without padding. {0, UINT64_MAX, 0, 0} undoes all. */
 typedef struct binlog_undo_options {
-    uint64_t start_position; /* transactions that begin at this byte of the first log or behind it; 0 for all */
+    uint64_t start_position; /* transactions that begin at this byte of the first log or after it; 0 for all */
     uint64_t stop_position;  /* transactions that begin before this byte of the last log; UINT64_MAX for all */
     uint64_t skip;           /* reasons for which transactions are left as they are: 1 << BINLOG_UNDO_STATEMENT for instance */
     uint64_t flags;          /* the sum of the flags above */
@@ -272,7 +273,7 @@ typedef struct binlog_refusal {
     uint64_t log;        /* the number of the log, from 0 */
     uint64_t index;      /* the index of the event in its log, from 0 */
     uint64_t position;   /* where the event begins, in bytes from the start of its log */
-    uint64_t end;        /* of BINLOG_UNDO_STRADDLES the position behind the transaction, otherwise 0 */
+    uint64_t end;        /* of BINLOG_UNDO_STRADDLES the position after the transaction, otherwise 0 */
     uint32_t reason;     /* one of the reasons above */
     uint32_t is_skipped; /* 1 if the reason is one of those that are skipped, otherwise 0 */
 } binlog_refusal;
@@ -284,13 +285,13 @@ typedef struct binlog_undone {
     uint64_t refusals;     /* how many refusals there are, the skipped ones too */
 } binlog_undone;
 
-/* Writes the log that undoes logs, if there is room for all of it, and returns its length; otherwise nothing is written, and a call with
- * as much room writes it. It is the log that the program `binlog undo` writes. `size` bytes have the logs in their order, one behind
- * the other, and `sizes` has how long each of the `count` logs is.
+/* Writes the log that undoes logs, and returns its length. If there is less room, nothing is written, and a call with as much room as was
+ * returned writes it. It is the log that the program `binlog undo` writes. The logs are one after another in the `size` bytes, the oldest
+ * first, and `sizes` has how long each of the `count` logs is.
  *
- * `tables` names tables whose rows alone are undone, and `excluded` tables whose rows aren't; all and none if they have no byte. A table is
- * named by its database and its own name, with a zero behind each: "shop\0orders\0" has 12 bytes, the last zero included. A * stands
- * for any bytes, a ? for one.
+ * Only rows of the tables that `tables` names are undone, of all tables if it is empty, and no rows of those that `excluded` names. A table
+ * is named by its database and its own name, with a zero after each: "shop\0orders\0" has 12 bytes, the last zero included. A * stands
+ * for any bytes, a ? for one. Later changes of the same rows aren't looked for.
  *
  * Each transaction that can't be undone, and isn't undone for another reason, is refused. As many refusals are filled in as there is room
  * for, in the order of the logs, and `undone` counts them. Nothing is written unless all are skipped.
@@ -299,7 +300,7 @@ typedef struct binlog_undone {
  * BINLOG_REFUSED and without an error alone:
  *
  * BINLOG_INVALID_OPTIONS: a flag isn't known, a reason can't be skipped, the sizes aren't those of the logs, or the names of tables aren't
- *     pairs with a zero behind each.
+ *     pairs with a zero after each name.
  * BINLOG_END_OF_INPUT, BINLOG_INVALID_FILE_HEADER: a log doesn't begin as one.
  * BINLOG_REFUSED: something can't be undone.
  * BINLOG_OTHER_DESCRIPTION: with BINLOG_UNDO_ONE_TRANSACTION, the logs have different format descriptions.
@@ -332,7 +333,7 @@ typedef struct binlog_columns_fault {
 enum {
     BINLOG_COLUMNS_HEADER = 1,   /* the first line doesn't have the names of the six columns */
     BINLOG_COLUMNS_ENCODING = 2, /* a field has bytes that aren't UTF-8 */
-    BINLOG_COLUMNS_ESCAPE = 3,   /* a field has a NUL, or a backslash without t, n, 0 or a backslash behind it */
+    BINLOG_COLUMNS_ESCAPE = 3,   /* a field has a NUL, or a backslash that isn't followed by t, n, 0 or a backslash */
     BINLOG_COLUMNS_FIELDS = 4,   /* a line hasn't six fields, or the text ends within a line */
     BINLOG_COLUMNS_POSITION = 5, /* the third field isn't a number from 1 on */
     BINLOG_COLUMNS_ORDER = 6     /* the third field isn't the number of the column in its table: one more than the line before */
