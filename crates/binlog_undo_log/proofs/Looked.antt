@@ -1,5 +1,7 @@
 -- What is seen, one condition after the other.
 use Rattle.std.proofs.Common.{◌≡◌, ℕ, Bool, true, false, List, [], ◌∷◌, length, Option, Some, None, Result, Ok, Err, IfOk, IfErr, IfSome, OnOk, refl, sym, subst, inr, ◌<◌, ◌^◌}
+use Rattle.std.proofs.lemmas.Bool.{eqb-true}
+use Rattle.std.proofs.lemmas.List.{nil_from_length}
 use Rattle.std.specs.Prelude.{◌==◌, ◌&&◌}
 use Rattle.std.specs.Ordering.{nat_cmp}
 use Rattle.std.specs.BTreeMap.{get}
@@ -80,8 +82,8 @@ rows_if (Err error) scan maps event rows bytes table_map are any at h = tt
 
 empty_looked : (bytes : List ℕ) (scan : UndoScan) (maps : TableMaps) (event : EventView) (rows : RowsEventData) (look : RowsLook) → (length bytes == 0) ≡ true
     → LooksAtEmpty scan maps event rows look → LooksIfAny bytes scan maps event rows look
-empty_looked [] scan maps event rows look none h = h
-empty_looked (byte ∷ bytes) scan maps event rows look none h = absurd cc
+empty_looked bytes scan maps event rows look none h =
+    subst (λ (s : List ℕ). LooksIfAny s scan maps event rows look) (sym (nil_from_length bytes (eqb-true (length bytes) 0 none))) h
 
 pub empty_if : (answer : Result RowsLook Error) (scan : UndoScan) (maps : TableMaps) (event : EventView) (rows : RowsEventData) (bytes : List ℕ)
     → bytes ≡ (event_in rows).rows → (length bytes == 0) ≡ true → IfOk answer (LooksAtEmpty scan maps event rows) → IfOk answer (LooksAtRows scan maps event rows)
@@ -89,10 +91,10 @@ empty_if (Ok look) scan maps event rows bytes are none h =
     subst (λ (s : List ℕ). LooksIfAny s scan maps event rows look) are (empty_looked bytes scan maps event rows look none h)
 empty_if (Err error) scan maps event rows bytes are none h = tt
 
-pub left_if : {seen look : RowsLook} (scan : UndoScan) (maps : TableMaps) (event : EventView) (rows : RowsEventData) (table_map : ℕ)
+pub left_if : (seen look : RowsLook) (scan : UndoScan) (maps : TableMaps) (event : EventView) (rows : RowsEventData) (table_map : ℕ)
     → get nat_cmp scan.index.maps (id_of rows) ≡ Some table_map → LooksByPlace (Some table_map) scan maps event rows seen → look ≡ left_if_undone seen
     → LooksAtEmpty scan maps event rows look
-left_if {seen} {look} scan maps event rows table_map at placed is =
+left_if seen look scan maps event rows table_map at placed is =
     subst (λ (p : Option ℕ). LooksWithoutBytes p scan maps event rows look) (sym at) (seen, placed, is)
 
 -- ---- a file
