@@ -8,6 +8,6 @@ use Rattle.binlog_undo_log.proofs.scan.UndoScan.look_without_bytes.Goals as goal
 
 pub returns-in_ok-look-in-Some-clause-ok : goal.returns-in_ok-look-in-Some-clause-ok
 returns-in_ok-look-in-Some-clause-ok c =
-    left_if c.in_ok-look.look c.without_bytes.result c.args.self.now (state_of c.args.reader.now).table_maps (view_of c.args.event.now) c.args.rows.now c.in-Some.table_map
+    left_if c.in_ok-look-in-Some.look c.without_bytes.result c.args.self.now (state_of c.args.reader.now).table_maps (view_of c.args.event.now) c.args.rows.now c.in-Some.table_map
     (ap (λ (id : ℕ). get nat_cmp c.args.self.now.index.maps id) (sym c.table_id.ensures.number) ∙ sym c.table_map.ensures ∙ c.in-Some.is)
-    c.in_ok-look.ensures.ok c.without_bytes.ensures
+    c.in_ok-look-in-Some.ensures.ok c.without_bytes.ensures
