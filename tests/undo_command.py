@@ -494,6 +494,8 @@ class Model:
             return (maps[table_id], None) if table_id in maps else (None, "NoTableMap")
         if kind == 2:
             return None, ("Statement" if kind_of_statement(body) == "Other" else None) if is_read(2, body) else "Damaged"
+        if kind == MARIA_GTID and is_maria:
+            return None, None
         return None, CAUSES.get(word_by_type(header))
 
     def described(self):
