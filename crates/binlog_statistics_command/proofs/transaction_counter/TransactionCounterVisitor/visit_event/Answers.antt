@@ -3,7 +3,7 @@ use Rattle.binlog_statistics_command.proofs.CountedTransactions.{counted_by, end
 use Rattle.binlog_statistics_command.proofs.transaction_counter.TransactionCounterVisitor.visit_event.Goals as goal
 
 pub returns-then-is_of_log-clause-ok : goal.returns-then-is_of_log-clause-ok
-returns-then-is_of_log-clause-ok g c = ended_by c.end_transaction.result _ _ _ _ (sym c.is_of_log.ensures ∙ c.if-is_of_log.true) c.end_transaction.ensures.ok
+returns-then-is_of_log-clause-ok c = ended_by c.end_transaction.result _ _ _ _ (sym c.is_of_log.ensures ∙ c.if-is_of_log.true) c.end_transaction.ensures.ok
 
 pub returns-clause-ok : goal.returns-clause-ok
-returns-clause-ok g c = counted_by c.visit_event.result _ _ _ _ (sym c.is_of_log.ensures ∙ c.if-is_of_log.false) c.visit_event.ensures.ok
+returns-clause-ok c = counted_by c.visit_event.result _ _ _ _ (sym c.is_of_log.ensures ∙ c.if-is_of_log.false) c.visit_event.ensures.ok
