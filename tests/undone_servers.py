@@ -18,7 +18,7 @@ from maria_daemon import LeftOut
 
 MARIA_DUMP = "mariadb-dump"
 # A line for each row, with bytes in hexadecimal digits, and no comments.
-DUMP = ["--skip-comments", "--skip-lock-tables", "--skip-extended-insert", "--hex-blob", "--order-by-primary", "--databases", "s"]
+DUMP = ["--skip-comments", "--no-tablespaces", "--skip-lock-tables", "--skip-extended-insert", "--hex-blob", "--order-by-primary", "--databases", "s"]
 TABLE, ROW = re.compile(rb"CREATE TABLE `(\w+)`"), re.compile(rb"INSERT INTO `(\w+)`")
 # Counters aren't in a log, and aren't undone.
 COUNTER = re.compile(rb" AUTO_INCREMENT=\d+")
