@@ -4,10 +4,10 @@
 Usage: declared_columns.py [--count N] FLAG
 
 FLAG is one of `programs.py`: it says which `binlog` is run. Each kind of column is declared for a log that states nothing of it, and
-for one that states its sign and its character set. N random logs (1,500 if not given) have tables whose table maps change, and
-several files that declare them, some of them wrong; their lines, their messages and their statuses are those of the model. Files that
-can't be read have the status 64, a message with the place of the fault, and no line. The last line is `N passed, M failed`; the exit
-status is 1 if something failed.
+for one that states its sign and its character set; old dates and times are declared with a fraction, too. N random logs (1,500 if not
+given) have tables whose table maps change, and several files that declare them, some of them wrong; their lines, their messages and their
+statuses are those of the model. Files that can't be read have the status 64, a message with the place of the fault, and no line. The last
+line is `N passed, M failed`; the exit status is 1 if something failed.
 """
 
 import argparse
@@ -210,6 +210,15 @@ def each_kind(runs, chance):
             yield runs.compared(f"{declared.spelled[:60]} {declared.set_name}, {form}", content, [{("shop", "t"): [("name", declared)]}])
 
 
+def old_fractions(runs, chance):
+    """A table of one old date or time, in a file that says that it has a fraction."""
+    for declared, plain in declared_model.old_fractions():
+        columns = [Column(chance, plain)]
+        events = [table_map(1, ("shop", "t"), columns, b""), *(row_event(chance, 1, columns) for _ in range(3))]
+        for version in VERSIONS:
+            yield runs.compared(declared.spelled, content_of(version, events), [{("shop", "t"): [("name", declared)]}])
+
+
 # ---- random logs
 
 TABLES = [("shop", "orders"), ("shop", "o'rders"), ("a.b", "c"), ("a", "b.c"), ("sh\u00f6p", "\u65e5\u672c"), ("SHOP", "orders"), ("shop", "tab\tle")]
@@ -372,7 +381,7 @@ def main():
     content, _ = random_case(random.Random(5), list(declared_model.kinds()))
     with tempfile.TemporaryDirectory() as folder:
         runs = Runs(arguments.build.command("binlog"), folder)
-        found = [*each_kind(runs, chance), *random_logs(runs, chance, arguments.count), *bad_files(runs, content), *same_without_files(runs, content)]
+        found = [*each_kind(runs, chance), *old_fractions(runs, chance), *random_logs(runs, chance, arguments.count), *bad_files(runs, content), *same_without_files(runs, content)]
     return results.report(found)
 
 

@@ -10,7 +10,7 @@ import row_model
 from row_model import BINARY, Facts
 
 # A column as a file declares it: its type and its character set as texts, and what they mean. `typed` are the types and the metadata
-# that it may have in a table map; None where the text is no type. `values` are the type and the metadata of which contents are made.
+# that it may have in a table map; None where no column is taken for one of this type.
 Declared = namedtuple("Declared", "spelled set_name typed is_unsigned text_set members", defaults=[None, None, None])
 
 WIDTHS = {"latin1": 1, "cp1251": 1, "ascii": 1, "ucs2": 2, "gbk": 2, "utf8mb3": 3, "utf8mb4": 4, "utf16": 4, "utf32": 4}
@@ -68,7 +68,13 @@ def times():
         for digits in (3, 6):
             yield Declared(f"{name}({digits})", "NULL", [(new, bytes([digits]))])
         yield Declared(f"{name} /* mariadb-5.3 */", "NULL", [(old, b"")])
-        yield Declared(f"{name}(2) /* 5.5 binary format */", "NULL", [(old, b"")])
+        yield Declared(f"{name} /* 5.5 binary format */", "NULL", [(old, b"")])
+
+
+def old_fractions():
+    """Old dates and times of MariaDB's with a fraction, which no column is taken for; behind each the one without a fraction."""
+    for name, (_, old) in NEW_TIMES.items():
+        yield Declared(f"{name}(3) /* mariadb-5.3 */", "NULL", None), Declared(f"{name} /* mariadb-5.3 */", "NULL", [(old, b"")])
 
 
 def texts():
@@ -127,11 +133,13 @@ def with_members():
 
 
 def unknown():
-    """Types that are none, and a set that is none."""
+    """Types that no column is taken for, and a set that is none."""
     for spelled in ("", "money", "int (11)", "enum()", "decimal(10)", "INT"):
         yield Declared(spelled, "NULL", None)
     yield Declared("char(3)", "klingon", None)
     yield Declared("text", "klingon", [(252, b"\2")])
+    for fraction, _ in old_fractions():
+        yield fraction
 
 
 def kinds():

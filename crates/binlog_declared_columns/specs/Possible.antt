@@ -181,8 +181,10 @@ abbrev pub has_characters : ℕ → ℕ → Option CharacterSet → Layout → B
 has_characters count more None layout = false
 has_characters count more (Some set) layout = has_max (count * bytes_per_character set + more) layout
 
+-- A column of times with this many digits behind the second. Values of the old types are read as they are without a fraction: with one
+-- MariaDB stores them in another form under the same number, so no column is taken for one of these.
 abbrev pub is_temporal : TemporalKind → ℕ → Bool → ColumnType → Layout → Bool
-is_temporal kind digits true type layout = is_old_temporal kind type
+is_temporal kind digits true type layout = (digits == 0) && is_old_temporal kind type
 is_temporal kind digits false type layout = has_digits kind digits layout || ((digits == 0) && is_old_temporal kind type)
 
 -- A string of variable length, with this many bytes at most; the length of compressed ones counts a byte more.

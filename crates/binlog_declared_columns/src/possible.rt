@@ -140,7 +140,7 @@ fn has_characters(count: u32, more: u8, set: Option<CharacterSet>, layout: Layou
     }
 }
 
-// Whether the column may be of a type of times.
+// Whether the column may be of a type of times. Of the old ones, values without a fraction are read alone.
 fn is_temporal(
     kind: TemporalKind,
     digits: u32,
@@ -151,7 +151,7 @@ fn is_temporal(
     ensures { result ≡ is_temporal kind digits is_old column_type layout }
 {
     if is_old {
-        is_old_temporal(kind, column_type)
+        digits == 0 && is_old_temporal(kind, column_type)
     } else {
         has_digits(kind, digits, layout) || digits == 0 && is_old_temporal(kind, column_type)
     }
