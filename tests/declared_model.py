@@ -120,15 +120,16 @@ def spelled_members(name, members):
 
 
 FEW = ["a", "", "it's", "back\\slash", "tab\tand\nline", "\u65e5\u672c", ",)("]
+UNKNOWN = ["a", "b?", "?"]
 
 
 def with_members():
     many = [f"m{place}" for place in range(300)]
     for set_name in ("utf8mb4", "latin1", "ucs2", "binary"):
-        for members in (FEW, FEW[:1], many):
+        for members in (FEW, FEW[:1], many, UNKNOWN, UNKNOWN + many):
             size = 1 if len(members) <= 255 else 2
             yield Declared(spelled_members("enum", members), set_name, [(254, bytes([247, size]))], text_set=set_name, members=members)
-        for members, size in ((FEW[:1] + FEW[2:4], 1), (many[:9], 2), (many[:17], 3), (many[:25], 4), (many[:33], 8), (many[:64], 8)):
+        for members, size in ((FEW[:1] + FEW[2:4], 1), (UNKNOWN, 1), (many[:9], 2), (many[:17], 3), (many[:25], 4), (many[:33], 8), (many[:64], 8)):
             yield Declared(spelled_members("set", members), set_name, [(254, bytes([248, size]))], text_set=set_name, members=members)
 
 
@@ -175,11 +176,16 @@ def at(items, place):
     return items[place] if place < len(items) else None
 
 
+def are_known(members):
+    """Whether these are members, and in none a `?` may stand for another character."""
+    return members is not None and not any("?" in member for member in members)
+
+
 def completed(stated, name, declared):
     """What is known of a column by both, where a name of the file goes with its type."""
     members = stated.members
     character_set = stated.character_set or declared.text_set
-    if declared.members is not None and members is None:
+    if are_known(declared.members) and members is None:
         members = [member.encode() for member in declared.members]
         character_set = BINARY if declared.text_set == BINARY else "utf8mb4"
     return Facts(

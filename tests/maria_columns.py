@@ -2,7 +2,8 @@
 what the lines of JSON, with a file of columns that the server's own answer is, say of their rows beside what the server selects.
 
 The values of a line are those of `docs/ROW_VALUES.md`: a text of a set that isn't decoded, or with bytes that are no character of its
-set, is its stored bytes; floats are compared as floats, moments in UTC as texts.
+set, is its stored bytes, and a value of an ENUM or a SET with a `?` in a member is a number; floats are compared as floats, moments in UTC
+as texts.
 """
 
 import json
@@ -159,7 +160,7 @@ def selected(column):
     if column.kind in ("bytes", "geometry"):
         return f"hex({name})"
     if column.kind == "member":
-        return f"hex(convert({name} using utf8mb4))"
+        return f"concat(hex(convert({name} using utf8mb4)), ' ', {name} + 0)"
     as_text = f"convert({name} using utf8mb4)"
     return f"concat(hex({name}), ' ', hex({as_text}), ' ', hex(convert({as_text} using {column.kind})))"
 
@@ -173,8 +174,8 @@ def rows_of(server, schema, table):
     return {int(number): [None if value == "-" else value[1:] for value in values] for number, *values in rows}
 
 
-def of_selected(column, text):
-    """The value in a line of JSON, by what was selected."""
+def of_selected(column, text, is_known):
+    """The value in a line of JSON, by what was selected. `is_known` says whether the members of an ENUM or a SET are known."""
     if text is None:
         return None
     if column.kind in ("number", "bit"):
@@ -188,7 +189,8 @@ def of_selected(column, text):
     if column.kind == "uuid":
         return text.replace("-", "")
     if column.kind == "member":
-        return bytes.fromhex(text).decode()
+        member, number = text.split(" ")
+        return bytes.fromhex(member).decode() if is_known else int(number)
     stored, shown, again = text.split(" ")
     characters = bytes.fromhex(shown).decode()
     # In tis620 the server has U+FFFD for bytes that are no characters. In armscii8 all are, and some stand for the same one.
@@ -232,14 +234,21 @@ def line_failures(words, columns, logs):
     return lines
 
 
-def table_failures(name, table, found, wanted):
-    """For each value of a table, None or how the server has it otherwise."""
+def with_question_marks(columns):
+    """The columns of a file with a `?` in their types: the names of each and of its table."""
+    fields = (line.split("\t") for line in columns.read_text(encoding="utf-8").split("\n")[1:-1])
+    return {(f"{schema}.{table}", name) for schema, table, _, name, kind, _ in fields if "?" in kind}
+
+
+def table_failures(name, table, found, wanted, unknown):
+    """For each value of a table, None or how the server has it otherwise. `unknown` are the columns whose members aren't known."""
     for number, other in zip_longest(sorted(found), sorted(wanted)):
         if number != other:
             yield f"{name}: a row {number}, and the server has {other}"
             continue
         for column, text in zip(table.columns, wanted[number], strict=True):
-            value, expected = found[number].get(column.name, "no column"), of_selected(column, text)
+            value = found[number].get(column.name, "no column")
+            expected = of_selected(column, text, (name, column.name) not in unknown)
             is_right = is_same(column, value, expected)
             yield None if is_right else f"{name} {column.name}: {value!r}, and the server has {expected!r}"
 
@@ -251,7 +260,8 @@ def failures(words, server, folder):
     column_files.ask([CLIENT, "--no-defaults", f"--socket={server.socket}"], columns)
     server.run(b"flush binary logs;")
     lines = yield from line_failures(words, columns, server.logs())
+    unknown = with_question_marks(columns)
     for form in FORMS:
         for table in tables:
             name = f"{form.lower()}.{table.name}"
-            yield from table_failures(name, table, lines.tables.get(name, {}), rows_of(server, form.lower(), table))
+            yield from table_failures(name, table, lines.tables.get(name, {}), rows_of(server, form.lower(), table), unknown)

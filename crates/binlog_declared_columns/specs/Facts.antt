@@ -1,6 +1,7 @@
 -- The facts of a column that a log and a file of columns state.
 use Rattle.std.specs.Prelude.{◌≡◌, ℕ, ◌<◌, ◌==◌, ◌&&◌, ◌||◌, Bool, true, false, not, List, [], ◌∷◌, map, slice_get, bytes_eq, Option, None, Some, unwrap_or, is_some, if◌then◌else◌}
 use Rattle.std.specs.Bool.{beq}
+use Rattle.std.specs.List.{list_any}
 use Rattle.std.specs.Option.{option_or}
 use Rattle.character_sets.specs.Names.{name_of}
 use Rattle.character_sets.specs.declared.character_set.CharacterSet.{CharacterSet}
@@ -61,10 +62,29 @@ abbrev pub padding_in : Declared → ℕ
 padding_in (simple type) = padding_in_simple type
 padding_in _ = 0
 
+-- A text has a question mark, which servers write in the type of a column in place of each character above U+FFFF.
+abbrev pub has_question_mark : List ℕ → Bool
+has_question_mark text = list_any (λ (byte : ℕ). byte == 63) text
+
+-- None of the members has a question mark, which may stand for another character: all are known.
+abbrev pub are_known : List (List ℕ) → Bool
+are_known members = not (list_any has_question_mark members)
+
+-- The members, if all are known.
+abbrev pub known_members : List (List ℕ) → Option (List (List ℕ))
+known_members members = if are_known members then Some members else None
+
+-- The type has members, and all are known.
+abbrev pub has_members : Declared → Bool
+has_members (simple type) = false
+has_members (enumeration members) = are_known members
+has_members (several members) = are_known members
+
+-- The members of an ENUM or a SET, if all are known.
 abbrev pub members_in : Declared → Option (List (List ℕ))
 members_in (simple type) = None
-members_in (enumeration members) = Some members
-members_in (several members) = Some members
+members_in (enumeration members) = known_members members
+members_in (several members) = known_members members
 
 -- ---- agreement
 
@@ -124,7 +144,7 @@ set_of_members set = if is_binary set then set else Some Utf8mb4
 -- The character set of strings and members: of members that the file has alone, that of its text; else what the log states, or else
 -- what is declared.
 abbrev pub set_of_both : Facts → Option CharacterSet → Declared → Option CharacterSet
-set_of_both facts set type = if is_some (members_in type) && not (is_some facts.members) then set_of_members set else option_or facts.character_set (set_in type set)
+set_of_both facts set type = if has_members type && not (is_some facts.members) then set_of_members set else option_or facts.character_set (set_in type set)
 
 -- The length to which values are padded: where the log states the character set it states that, too.
 abbrev pub padding_of_both : Facts → Declared → ℕ

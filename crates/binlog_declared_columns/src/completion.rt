@@ -1,13 +1,14 @@
 //! The facts of columns that a log and a file of columns state.
-ghost use Rattle.std.specs.Prelude.{◌≡◌, map, option_map, is_some, Some, IfOk};
+ghost use Rattle.std.specs.Prelude.{◌≡◌, map, option_map, Some, IfOk};
 ghost use Rattle.std.specs.Option.{option_or};
 ghost use Rattle.binlog_columns.specs.Columns.{typed_of};
 ghost use Rattle.binlog_optional_metadata.specs.Facts.{facts_of, is_binary, texts_of};
 ghost use Rattle.column_files.specs.Tables.{described, text_of};
 ghost use Rattle.column_files.specs.Types.{type_of};
-ghost use Rattle.binlog_declared_columns.specs.Facts.{padding_in, padding_in_simple, members_in, set_of_members, set_of_both, padding_of_both, facts_of_both, all_with, fits_at, IsContradiction, AreOfBoth, all_facts};
+ghost use Rattle.binlog_declared_columns.specs.Facts.{padding_in, padding_in_simple, known_members, has_members, members_in, set_of_members, set_of_both, padding_of_both, facts_of_both, all_with, fits_at, IsContradiction, AreOfBoth, all_facts};
 
 use crate::agreement::{fits_at, set_in, unsigned_in};
+use crate::known_members::are_known;
 use binlog_columns::Column;
 use binlog_optional_metadata::ColumnFacts;
 use character_sets::CharacterSet;
@@ -47,7 +48,21 @@ fn texts(alloc: Global, members: &[Vec<u8>]) -> Result<Vec<&[u8]>, AllocError>
     Ok(texts)
 }
 
-// The members of a type, if it has some.
+// The texts of members, in place, if all are known.
+fn known_texts<'a>(
+    alloc: Global,
+    members: &'a [Vec<u8>],
+) -> Result<Option<Vec<&'a [u8]>>, AllocError>
+    ensures { IfOk result (λ known. option_map (λ texts. texts_of texts.items) known ≡ known_members (map (λ text. text.items) members.now)) }
+{
+    if are_known(members) {
+        Ok(Some(texts(alloc, members)?))
+    } else {
+        Ok(None)
+    }
+}
+
+// The members of a type, if it has some and all are known.
 fn members_in<'a>(
     alloc: Global,
     declared: &'a DeclaredType,
@@ -56,9 +71,7 @@ fn members_in<'a>(
 {
     match declared {
         DeclaredType::Simple(_) => Ok(None),
-        DeclaredType::Enum(members) | DeclaredType::Set(members) => {
-            Ok(Some(texts(alloc, members)?))
-        }
+        DeclaredType::Enum(members) | DeclaredType::Set(members) => known_texts(alloc, members),
     }
 }
 
@@ -72,11 +85,14 @@ fn set_of_members(set: Option<CharacterSet>) -> Option<CharacterSet>
     }
 }
 
-// Whether the type has members.
+// Whether the type has members, and all are known.
 fn has_members(declared: &DeclaredType) -> bool
-    ensures { result ≡ is_some (members_in (type_of declared.now)) }
+    ensures { result ≡ has_members (type_of declared.now) }
 {
-    !matches!(declared, DeclaredType::Simple(_))
+    match declared {
+        DeclaredType::Simple(_) => false,
+        DeclaredType::Enum(members) | DeclaredType::Set(members) => are_known(members),
+    }
 }
 
 // The character set of strings and members, by what both state.
@@ -175,7 +191,7 @@ fn contradiction(
 /// result has the index of the first column that contradicts the file, counted from 0, if there is one: a column that can't be of the
 /// declared type, whose stated sign or character set is another one, or that is missing in the log or in the file. Columns that are
 /// missing in the file may be those that MariaDB adds to a table, the last ones of the log. `states_signs` says whether the log states
-/// which columns are UNSIGNED.
+/// which columns are UNSIGNED. Declared members aren't added where one has a `?`, which may stand for another character.
 ///
 /// # Errors
 ///

@@ -10,6 +10,7 @@ mod agreement;
 mod completion;
 mod contradictions;
 mod known_facts;
+mod known_members;
 mod possible;
 mod signs;
 mod tables;
