@@ -232,12 +232,23 @@ impl Timestamp2 {
     }
 }
 
+/// The date and the time in a number with a fraction of this many decimal digits, without the sign that is always set.
+#[inline]
+fn date_time_in(digits: u8, number: u64) -> u64
+    requires { digits ≤ 6 }
+    ensures { result ≡ date_time_of digits number }
+{
+    before_fraction(digits, number).saturating_sub(1 << 39)
+}
+
 /// The value of a DATETIME column with a fraction.
 #[derive(Clone, Copy, Debug, PartialEq, Eq, Hash)]
 pub struct DateTime2 {
     pub(crate) number: u64,
     pub(crate) digits: u8,
+    date_time: u64,
     ghost digits_small: { digits ≤ 6 },
+    ghost has_parts: { date_time ≡ date_time_of digits number },
 }
 
 impl DateTime2 {
@@ -248,15 +259,11 @@ impl DateTime2 {
         ensures number { result.number ≡ number }
         ensures digits { result.digits ≡ digits }
     {
-        DateTime2 { number, digits }
-    }
-
-    /// The date and the time, without the sign that is always set.
-    #[inline]
-    fn date_time(&self) -> u64
-        ensures { result ≡ date_time_of self.now.digits self.now.number }
-    {
-        before_fraction(self.digits, self.number).saturating_sub(1 << 39)
+        DateTime2 {
+            number,
+            digits,
+            date_time: date_time_in(digits, number),
+        }
     }
 
     /// The year, at most 10,082 in five bytes; servers write 0 to 9,999.
@@ -264,7 +271,7 @@ impl DateTime2 {
     pub fn year(&self) -> u64
         ensures { result ≡ date_time_of self.now.digits self.now.number / 2 ^ 22 / 13 }
     {
-        self.date_time() / (1 << 22) / 13
+        self.date_time / (1 << 22) / 13
     }
 
     /// The month, 0 to 12.
@@ -272,7 +279,7 @@ impl DateTime2 {
     pub fn month(&self) -> u8
         ensures { result ≡ date_time_of self.now.digits self.now.number / 2 ^ 22 % 13 }
     {
-        (self.date_time() / (1 << 22) % 13) as u8
+        (self.date_time / (1 << 22) % 13) as u8
     }
 
     /// The day, 0 to 31.
@@ -280,7 +287,7 @@ impl DateTime2 {
     pub fn day(&self) -> u8
         ensures { result ≡ date_time_of self.now.digits self.now.number / 2 ^ 17 % 32 }
     {
-        (self.date_time() / (1 << 17) % 32) as u8
+        (self.date_time / (1 << 17) % 32) as u8
     }
 
     /// The hour, 0 to 31; servers write at most 23.
@@ -288,7 +295,7 @@ impl DateTime2 {
     pub fn hour(&self) -> u8
         ensures { result ≡ date_time_of self.now.digits self.now.number / 2 ^ 12 % 32 }
     {
-        (self.date_time() / (1 << 12) % 32) as u8
+        (self.date_time / (1 << 12) % 32) as u8
     }
 
     /// The minute, 0 to 63; servers write at most 59.
@@ -296,7 +303,7 @@ impl DateTime2 {
     pub fn minute(&self) -> u8
         ensures { result ≡ date_time_of self.now.digits self.now.number / 2 ^ 6 % 64 }
     {
-        (self.date_time() / (1 << 6) % 64) as u8
+        (self.date_time / (1 << 6) % 64) as u8
     }
 
     /// The second, 0 to 63; servers write at most 59.
@@ -304,7 +311,7 @@ impl DateTime2 {
     pub fn second(&self) -> u8
         ensures { result ≡ date_time_of self.now.digits self.now.number % 64 }
     {
-        (self.date_time() % 64) as u8
+        (self.date_time % 64) as u8
     }
 
     /// The microseconds, below a million.
@@ -324,12 +331,23 @@ impl DateTime2 {
     }
 }
 
+/// The time in a number with a fraction of this many decimal digits, without its sign and fraction.
+#[inline]
+fn time_in(digits: u8, number: u64) -> u64
+    requires { digits ≤ 6 }
+    ensures { result ≡ before_fraction digits (time2_distance digits number) }
+{
+    before_fraction(digits, time2_distance(digits, number))
+}
+
 /// The value of a TIME column with a fraction.
 #[derive(Clone, Copy, Debug, PartialEq, Eq, Hash)]
 pub struct Time2 {
     pub(crate) number: u64,
     pub(crate) digits: u8,
+    time: u64,
     ghost digits_small: { digits ≤ 6 },
+    ghost has_parts: { time ≡ before_fraction digits (time2_distance digits number) },
 }
 
 impl Time2 {
@@ -340,7 +358,11 @@ impl Time2 {
         ensures number { result.number ≡ number }
         ensures digits { result.digits ≡ digits }
     {
-        Time2 { number, digits }
+        Time2 {
+            number,
+            digits,
+            time: time_in(digits, number),
+        }
     }
 
     /// Whether the time is negative.
@@ -351,20 +373,12 @@ impl Time2 {
         self.number < time2_zero(self.digits)
     }
 
-    /// The time without its sign and fraction.
-    #[inline]
-    fn time(&self) -> u64
-        ensures { result ≡ before_fraction self.now.digits (time2_distance self.now.digits self.now.number) }
-    {
-        before_fraction(self.digits, time2_distance(self.digits, self.number))
-    }
-
     /// The hour, 0 to 1,023; servers write at most 838.
     #[inline]
     pub fn hour(&self) -> u64
         ensures { result ≡ before_fraction self.now.digits (time2_distance self.now.digits self.now.number) / 2 ^ 12 }
     {
-        self.time() / (1 << 12)
+        self.time / (1 << 12)
     }
 
     /// The minute, 0 to 63; servers write at most 59.
@@ -372,7 +386,7 @@ impl Time2 {
     pub fn minute(&self) -> u8
         ensures { result ≡ before_fraction self.now.digits (time2_distance self.now.digits self.now.number) / 2 ^ 6 % 64 }
     {
-        (self.time() / (1 << 6) % 64) as u8
+        (self.time / (1 << 6) % 64) as u8
     }
 
     /// The second, 0 to 63; servers write at most 59.
@@ -380,7 +394,7 @@ impl Time2 {
     pub fn second(&self) -> u8
         ensures { result ≡ before_fraction self.now.digits (time2_distance self.now.digits self.now.number) % 64 }
     {
-        (self.time() % 64) as u8
+        (self.time % 64) as u8
     }
 
     /// The microseconds, below a million.
