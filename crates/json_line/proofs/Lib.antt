@@ -8,7 +8,7 @@ pub mod Passed
 pub mod StatedTexts
 mod Marks
 pub mod PlainMoments
-pub mod FixedPoints
+pub mod Decimals
 pub mod PlacedPlain
 mod CopiedMembers
 pub mod PlacedInPart

@@ -4,5 +4,5 @@ pub mod Lines
 pub mod Passed
 pub mod Marks
 pub mod Moments
-pub mod FixedPoints
+pub mod Decimals
 pub mod Keys

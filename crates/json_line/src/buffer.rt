@@ -5,14 +5,15 @@ ghost use Rattle.std.specs.Fmt.{decimal, signed_decimal};
 ghost use Rattle.hex.specs.Hex.{encode_lower};
 ghost use Rattle.json.specs.Print.{escape};
 ghost use Rattle.json_line.specs.Buffers.{Puts, PutsIf, comma};
-ghost use Rattle.json_line.specs.FixedPoints.{fixed_point_text};
+ghost use Rattle.json_line.specs.Decimals.{decimal_text};
 ghost use Rattle.json_line.specs.Moments.{date_text, time_text, date_time_text};
 
+use crate::decimal_parts::DecimalParts;
 use crate::moment::{DateParts, TimeParts};
 use crate::place::{place_byte, place_comma, place_hexadecimal, place_minus};
 use crate::place_moment::{place_date, place_time};
 use crate::place_next::{
-    place_next_between, place_next_bytes, place_next_fixed_point, place_next_name,
+    place_next_between, place_next_bytes, place_next_decimal, place_next_name,
     place_next_named_number, place_next_number, place_next_quoted, place_next_short,
     place_next_signed,
 };
@@ -26,8 +27,9 @@ const LEAST_ROOM: usize = 64;
 // The longest 64-bit number has 20 digits.
 const MAX_DIGITS: usize = 20;
 
-// The longest number with a point has a sign, 20 digits before the point and 18 behind it, quotation marks and a comma.
-const MAX_FIXED_POINT: usize = 43;
+// The longest decimal number has a sign, a number of 20 digits, seven groups of nine, a point, one more group, quotation marks and
+// a comma.
+const MAX_DECIMAL: usize = 97;
 
 // The longest dates and times, each part of which has at most 20 digits, with their quotation marks and a comma.
 const MAX_MOMENT: usize = 140;
@@ -373,37 +375,28 @@ impl Buffer {
     }
 
     #[inline(always)]
-    fn put_fixed_point(&mut self, after_value: bool, is_negative: bool, scale: u8, number: u64)
-        requires { (scale ≤ 18) × (43 ≤ self.old.room) }
-        ensures { self.new.text ≡ self.old.text ++ (comma after_value ++ 34 ∷ (fixed_point_text is_negative scale number ++ 34 ∷ [])) }
+    fn put_decimal(&mut self, after_value: bool, parts: &DecimalParts<'_>)
+        requires { 97 ≤ self.old.room }
+        ensures { self.new.text ≡ self.old.text ++ (comma after_value ++ 34 ∷ (decimal_text parts.now.is_negative parts.now.first parts.now.whole.now parts.now.scale parts.now.part.now parts.now.last ++ 34 ∷ [])) }
     {
         let start = self.len;
-        let end = start + MAX_FIXED_POINT;
+        let end = start + MAX_DECIMAL;
         let memory = self.bytes.as_mut_slice();
-        let count = place_next_fixed_point(
-            &mut memory[start..end],
-            after_value,
-            is_negative,
-            scale,
-            number,
-        );
+        let count = place_next_decimal(&mut memory[start..end], after_value, parts);
         self.len = start + count;
     }
 
-    /// Writes a comma if wanted, and a number with a point in quotation marks.
+    /// Writes a comma if wanted, and a decimal number in quotation marks.
     #[inline(always)]
-    pub(crate) fn add_fixed_point(
+    pub(crate) fn add_decimal(
         &mut self,
         after_value: bool,
-        is_negative: bool,
-        scale: u8,
-        number: u64,
+        parts: &DecimalParts<'_>,
     ) -> Result<(), AllocError>
-        requires { scale ≤ 18 }
-        ensures { Puts result self.old self.new (comma after_value ++ 34 ∷ (fixed_point_text is_negative scale number ++ 34 ∷ [])) }
+        ensures { Puts result self.old self.new (comma after_value ++ 34 ∷ (decimal_text parts.now.is_negative parts.now.first parts.now.whole.now parts.now.scale parts.now.part.now parts.now.last ++ 34 ∷ [])) }
     {
-        self.reserve(MAX_FIXED_POINT)?;
-        self.put_fixed_point(after_value, is_negative, scale, number);
+        self.reserve(MAX_DECIMAL)?;
+        self.put_decimal(after_value, parts);
         Ok(())
     }
 

@@ -6,16 +6,18 @@
 
 mod buffer;
 mod decimal;
+mod decimal_parts;
 mod line;
 mod line_members;
 mod line_texts;
 mod moment;
 mod place;
-mod place_fixed_point;
+mod place_decimal;
 mod place_moment;
 mod place_next;
 mod place_plain;
 mod plain;
 
+pub use decimal_parts::DecimalParts;
 pub use line::{Line, Mark};
 pub use moment::{DateParts, TimeParts};

@@ -1,17 +1,18 @@
 //! A line of JSON: tokens, and values made of them.
-ghost use Rattle.std.specs.Prelude.{◌≡◌, ◌≤◌, List, ◌∷◌, ◌++◌, [], codes, encode_utf8_all, IsUtf8, IfOk, OnErr};
+ghost use Rattle.std.specs.Prelude.{◌≡◌, List, ◌∷◌, ◌++◌, [], codes, encode_utf8_all, IsUtf8, IfOk, OnErr};
 ghost use Rattle.std.specs.Fmt.{signed_decimal};
 ghost use Rattle.json.specs.Lex.{tokens as read_tokens};
 ghost use Rattle.json.specs.Print.{escape, print, token_text, IsNumber};
 ghost use Rattle.json.specs.Token.{Token};
 ghost use Rattle.json.specs.Token as tokens;
-ghost use Rattle.json_line.specs.FixedPoints.{fixed_point_text};
+ghost use Rattle.json_line.specs.Decimals.{decimal_text};
 ghost use Rattle.json_line.specs.Keys.{IsKey};
 ghost use Rattle.json_line.specs.Lines.{IsPlainText};
 ghost use Rattle.json_line.specs.Moments.{date_text, time_text, date_time_text};
 ghost use Rattle.json_line.specs.Tokens.{Adds, AddsIfPlain, number_value, bytes_value, text_value, text_value_in, text_value_in_stated, hex_value, uuid_value, or_null, member, bytes_member_if_any};
 
 use crate::buffer::Buffer;
+use crate::decimal_parts::DecimalParts;
 use crate::moment::{DateParts, TimeParts};
 use crate::plain::is_plain;
 use character_sets::{CharacterSet, Characters};
@@ -358,21 +359,16 @@ impl Line {
         Ok(())
     }
 
-    /// Writes a number with a point as a string, with a minus sign if wanted: 1250 with a scale of 2 is `-12.50`. The scale is the
-    /// number of digits behind the point, at most 18. At least one digit is before the point, and without a scale there is none.
+    /// Writes a decimal number as a string, by groups of its digits: `-12.50`. At least one digit is before the point, and without
+    /// digits behind it there is none.
     #[inline(always)]
-    pub fn fixed_point(
-        &mut self,
-        is_negative: bool,
-        scale: u8,
-        number: u64,
-    ) -> Result<(), AllocError>
-        requires { scale ≤ 18 }
-        ensures added { Adds result self.old self.new (tokens.string (fixed_point_text is_negative scale number) ∷ []) }
+    pub fn decimal(&mut self, parts: &DecimalParts<'_>) -> Result<(), AllocError>
+        ensures added { Adds result self.old self.new (tokens.string (decimal_text parts.now.is_negative parts.now.first parts.now.whole.now parts.now.scale parts.now.part.now parts.now.last) ∷ []) }
         ensures unchanged { OnErr result (self.new ≡ self.old) }
     {
-        self.text
-            .add_fixed_point(self.after_value, is_negative, scale, number)?;
+        // The first number is read, so that its range is known.
+        let _first = parts.first;
+        self.text.add_decimal(self.after_value, parts)?;
         self.after_value = true;
         Ok(())
     }

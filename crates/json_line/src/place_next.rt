@@ -4,10 +4,11 @@ ghost use Rattle.std.specs.Prelude.{◌≡◌, ◌+◌, ◌≤◌, [], ◌∷◌
 ghost use Rattle.std.specs.Fmt.{decimal, signed_decimal};
 ghost use Rattle.json.specs.Filled.{Placed};
 ghost use Rattle.json_line.specs.Buffers.{comma};
-ghost use Rattle.json_line.specs.FixedPoints.{fixed_point_text};
+ghost use Rattle.json_line.specs.Decimals.{decimal_text};
 
+use crate::decimal_parts::DecimalParts;
 use crate::place::{place_byte, place_bytes, place_comma, place_minus, place_number, place_short};
-use crate::place_fixed_point::place_fixed_point;
+use crate::place_decimal::place_decimal;
 
 /// Writes a comma if wanted, and the bytes.
 #[inline(always)]
@@ -114,21 +115,19 @@ pub(crate) fn place_next_signed(memory: &mut [u8], after_value: bool, number: i6
     place_number(memory, at, number.unsigned_abs())
 }
 
-/// Writes a comma if wanted, and a number with a point in quotation marks.
+/// Writes a comma if wanted, and a decimal number in quotation marks.
 #[inline(always)]
-pub(crate) fn place_next_fixed_point(
+pub(crate) fn place_next_decimal(
     memory: &mut [u8],
     after_value: bool,
-    is_negative: bool,
-    scale: u8,
-    number: u64,
+    parts: &DecimalParts<'_>,
 ) -> usize
-    requires { (scale ≤ 18) × (43 ≤ length memory.old) }
-    ensures { Placed memory.old memory.new 0 (comma after_value ++ 34 ∷ (fixed_point_text is_negative scale number ++ 34 ∷ [])) result }
+    requires { 97 ≤ length memory.old }
+    ensures { Placed memory.old memory.new 0 (comma after_value ++ 34 ∷ (decimal_text parts.now.is_negative parts.now.first parts.now.whole.now parts.now.scale parts.now.part.now parts.now.last ++ 34 ∷ [])) result }
 {
     let at = place_comma(memory, 0, after_value);
     let at = place_byte(memory, at, b'"');
-    let at = place_minus(memory, at, is_negative);
-    let at = place_fixed_point(memory, at, scale, number);
+    let at = place_minus(memory, at, parts.is_negative);
+    let at = place_decimal(memory, at, parts);
     place_byte(memory, at, b'"')
 }

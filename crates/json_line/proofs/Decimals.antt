@@ -1,16 +1,16 @@
--- The digits of numbers with a point.
-use Rattle.std.proofs.Common.{◌≡◌, ℕ, zero, suc, ◌+◌, ◌*◌, ◌/◌, ◌%◌, ◌^◌, ◌<◌, ◌≤◌, Bool, true, List, [], ◌∷◌, ◌++◌, length, take, drop, set, IsUtf8, refl, sym, ap, ◌∙◌, arith}
+-- The digits of decimal numbers.
+use Rattle.std.proofs.Common.{◌≡◌, ℕ, zero, suc, ◌+◌, ◌-◌, ◌*◌, ◌/◌, ◌%◌, ◌^◌, ◌<◌, ◌≤◌, Bool, true, List, [], ◌∷◌, ◌++◌, length, get_or, take, drop, set, IsUtf8, refl, sym, ap, ◌∙◌, append_assoc, append-nil, length-append, arith}
 use Rattle.std.specs.Prelude.{◌==◌}
-use Rattle.std.proofs.Math.Nat.{pow-suc, pow-succ', one-le-pow, div-div-eq-div-mul, div-le_self}
+use Rattle.std.proofs.Math.Nat.{pow-suc, pow-succ', one-le-pow, div-div-eq-div-mul}
 use Rattle.std.proofs.lemmas.Nat.{mod-mul-add, div-add-mod'}
 use Rattle.std.proofs.lemmas.Bool.{and_from}
 use Rattle.std.proofs.lemmas.Fmt.{decimal_digit, decimal_step}
-use Rattle.std.proofs.lemmas.List.{drop-drop, drop-set, take-set, length-drop}
+use Rattle.std.proofs.lemmas.List.{drop-drop, drop-set, take-set, length-drop, take_more}
 use Rattle.std.specs.Fmt.{decimal}
 use Rattle.json.specs.Filled.{Placed}
 use Rattle.json.specs.Print.{escape}
 use Rattle.json_line.specs.Buffers.{minus}
-use Rattle.json_line.specs.FixedPoints.{last_codes, scale_text, fixed_point_text}
+use Rattle.json_line.specs.Decimals.{last_codes, nines_text, scale_text, decimal_text}
 use Rattle.json_line.proofs.BufferTexts.{ending_at}
 use Rattle.json_line.proofs.PlainMoments.{are_passed, passed_text, both_passed, digit_passed, decimal_passed, by_test, minus_passed}
 
@@ -57,16 +57,17 @@ unfolding last_codes
 length-last_codes zero n = refl
 length-last_codes (suc count) n = ap suc (length-last_codes count n)
 
--- A number that has a one before the last digits of another, of which there are at most 18.
-pub behind_one : (power count n : ℕ) → power ≡ 10 ^ count → power ≤ 10 ^ 18 → 1 ≤ power
-    → (decimal (power + n % power) ≡ 49 ∷ last_codes count n) × (length (decimal (power + n % power)) ≡ count + 1)
-behind_one power count n is few some =
+-- A number that has a one before the last digits of another, of which there are at most nine.
+pub behind_one : (power count n last : ℕ) → power ≡ 10 ^ count → power ≤ 10 ^ 9 → 1 ≤ power → last ≡ n % power
+    → (decimal (power + last) ≡ 49 ∷ last_codes count n) × (length (decimal (power + last)) ≡ count + 1)
+behind_one power count n last is few some rest =
     let below : n % power < power = omega (arith, some) in
     let small : 10 ^ count + n % 10 ^ count < 2 ^ 64 = rw (← is) (omega (arith, few, below)) in
-    let whole : decimal (power + n % power) ≡ 49 ∷ last_codes count n = ap (λ (m : ℕ). decimal (m + n % m)) is ∙ one_before count n small in
+    let whole : decimal (power + last) ≡ 49 ∷ last_codes count n =
+    ap (λ (m : ℕ). decimal (power + m)) rest ∙ ap (λ (m : ℕ). decimal (m + n % m)) is ∙ one_before count n small in
     (whole, ap (λ (l : List ℕ). length l) whole ∙ omega (arith, length-last_codes count n))
 
--- ---- the point
+-- ---- the byte in front of digits
 
 -- The one is within the memory.
 pub one_within : (old mid : List ℕ) (at count n m end start : ℕ) → decimal m ≡ 49 ∷ last_codes count n → length (decimal m) ≡ count + 1 → start + length (decimal m) ≡ end → end ≡ at + 1 + count
@@ -77,15 +78,45 @@ one_within old mid at count n m end start digits long begins ends written =
     let some : length (drop at mid) ≡ suc (length (last_codes count n ++ drop end old)) = ap (λ (l : List ℕ). length l) is in
     (same, is, omega (arith, some, length-drop at mid))
 
--- The point stands in its place.
-pub point_placed : (old mid : List ℕ) (at count n m end start : ℕ) → decimal m ≡ 49 ∷ last_codes count n → length (decimal m) ≡ count + 1 → start + length (decimal m) ≡ end → end ≡ at + 1 + count
-    → end ≤ length old → drop start mid ≡ decimal m ++ drop end old → take start mid ≡ take start old → Placed old (set mid at 46) at (46 ∷ last_codes count n) end
-point_placed old mid at count n m end start digits long begins ends fits written before =
+-- The byte stands in its place.
+pub byte_placed : (old mid : List ℕ) (at byte count n m end start : ℕ) → decimal m ≡ 49 ∷ last_codes count n → length (decimal m) ≡ count + 1 → start + length (decimal m) ≡ end → end ≡ at + 1 + count
+    → end ≤ length old → drop start mid ≡ decimal m ++ drop end old → take start mid ≡ take start old → Placed old (set mid at byte) at (byte ∷ last_codes count n) end
+byte_placed old mid at byte count n m end start digits long begins ends fits written before =
     let one = one_within old mid at count n m end start digits long begins ends written in
     let behind : drop (at + 1) mid ≡ last_codes count n ++ drop end old = sym (drop-drop 1 at mid) ∙ ap (λ (l : List ℕ). drop 1 l) one.1 in
-    ending_at old (set mid at 46) (46 ∷ last_codes count n) at end (omega (arith, ends, length-last_codes count n)) fits
-    (drop-set mid at 46 one.2 ∙ ap (λ (l : List ℕ). 46 ∷ l) behind)
-    (take-set mid at 46 ∙ ap (λ (i : ℕ). take i mid) (sym one.0) ∙ before ∙ ap (λ (i : ℕ). take i old) one.0)
+    ending_at old (set mid at byte) (byte ∷ last_codes count n) at end (omega (arith, ends, length-last_codes count n)) fits
+    (drop-set mid at byte one.2 ∙ ap (λ (l : List ℕ). byte ∷ l) behind)
+    (take-set mid at byte ∙ ap (λ (i : ℕ). take i mid) (sym one.0) ∙ before ∙ ap (λ (i : ℕ). take i old) one.0)
+
+-- A byte in front that is as before isn't one of those that are written.
+pub behind_kept : {new xs : List ℕ} {end : ℕ} (old : List ℕ) (at : ℕ) → 1 ≤ at → at ≤ length old → Placed old new (at - 1) (get_or old (at - 1) 0 ∷ xs) end → Placed old new at xs end
+behind_kept {new} {xs} {end} old at some within p =
+    let byte : ℕ = get_or old (at - 1) 0 in
+    let next : at - 1 + 1 ≡ at = omega (arith, some) in
+    let front : take at old ≡ take (at - 1) old ++ byte ∷ [] = ap (λ (n : ℕ). take n old) (sym next) ∙ take_more old (at - 1) 0 (omega (arith, some, within)) in
+    record {
+      bytes = p.bytes ∙ sym (append_assoc (take (at - 1) old) (byte ∷ []) xs) ∙ ap (λ (l : List ℕ). l ++ xs) (sym front);
+      moved = omega (arith, p.moved, next);
+      len = p.len;
+    }
+
+-- ---- groups of nine digits
+
+nines_text-append : (a b : List ℕ) → nines_text (a ++ b) ≡ nines_text a ++ nines_text b
+nines_text-append [] b = refl
+nines_text-append (group ∷ a) b = ap (λ (l : List ℕ). last_codes 9 group ++ l) (nines_text-append a b) ∙ sym (append_assoc (last_codes 9 group) (nines_text a) (nines_text b))
+
+-- One more group.
+pub nines_more : (i : ℕ) (groups : List ℕ) → i < length groups → nines_text (take (i + 1) groups) ≡ nines_text (take i groups) ++ last_codes 9 (get_or groups i 0)
+nines_more i groups less =
+    ap nines_text (take_more groups i 0 less) ∙ nines_text-append (take i groups) (get_or groups i 0 ∷ [])
+    ∙ ap (λ (l : List ℕ). nines_text (take i groups) ++ l) (append-nil (last_codes 9 (get_or groups i 0)))
+
+pub length-nines_text : (groups : List ℕ) → length (nines_text groups) ≡ 9 * length groups
+length-nines_text [] = refl
+length-nines_text (group ∷ groups) =
+    let ih = length-nines_text groups in
+    length-append (last_codes 9 group) (nines_text groups) ∙ omega (arith, ih, length-last_codes 9 group)
 
 -- ---- no escape is needed
 
@@ -94,13 +125,19 @@ unfolding last_codes
 last_passed zero n = refl
 last_passed (suc count) n = and_from _ _ (digit_passed (n / 10 ^ count % 10) (omega arith)) (last_passed count n)
 
-scale_passed : (scale n : ℕ) → are_passed (scale_text scale n) ≡ true
-unfolding scale_text
-scale_passed scale n = by_test (scale == 0) [] (46 ∷ last_codes scale n) (λ is. refl) (λ is. last_passed scale n)
+nines_passed : (groups : List ℕ) → are_passed (nines_text groups) ≡ true
+nines_passed [] = refl
+nines_passed (group ∷ groups) = both_passed (last_codes 9 group) (nines_text groups) (last_passed 9 group) (nines_passed groups)
 
-pub plain_fixed_point : (is_negative : Bool) (scale n : ℕ) → n < 2 ^ 64
-    → (escape (fixed_point_text is_negative scale n) ≡ fixed_point_text is_negative scale n) × IsUtf8 (fixed_point_text is_negative scale n)
-unfolding fixed_point_text
-plain_fixed_point is_negative scale n small =
+scale_passed : (scale : ℕ) (groups : List ℕ) (last : ℕ) → are_passed (scale_text scale groups last) ≡ true
+unfolding scale_text
+scale_passed scale groups last =
+    by_test (scale == 0) [] (46 ∷ (nines_text groups ++ last_codes (scale % 9) last)) (λ is. refl)
+    (λ is. both_passed (nines_text groups) (last_codes (scale % 9) last) (nines_passed groups) (last_passed (scale % 9) last))
+
+pub plain_decimal : (is_negative : Bool) (first : ℕ) (whole : List ℕ) (scale : ℕ) (part : List ℕ) (last : ℕ) → first < 2 ^ 64
+    → (escape (decimal_text is_negative first whole scale part last) ≡ decimal_text is_negative first whole scale part last) × IsUtf8 (decimal_text is_negative first whole scale part last)
+unfolding decimal_text
+plain_decimal is_negative first whole scale part last small =
     passed_text _ (both_passed (minus is_negative) _ (minus_passed is_negative)
-    (both_passed (decimal (n / 10 ^ scale)) _ (decimal_passed (n / 10 ^ scale) (omega (arith, div-le_self n (10 ^ scale), small))) (scale_passed scale n)))
+    (both_passed (decimal first) _ (decimal_passed first small) (both_passed (nines_text whole) _ (nines_passed whole) (scale_passed scale part last))))
