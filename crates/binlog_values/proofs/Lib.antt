@@ -4,4 +4,5 @@ pub mod DigitTexts
 pub mod TextFronts
 pub mod DecimalTexts
 pub mod ShownDigits
+mod GroupLists
 mod DecimalDigits

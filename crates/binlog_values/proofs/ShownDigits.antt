@@ -1,21 +1,20 @@
 -- The groups of a decimal number's text are its digits.
-use Rattle.std.proofs.Common.{◌≡◌, ◌≢◌, ℕ, zero, suc, ◌+◌, ◌-◌, ◌*◌, ◌/◌, ◌%◌, ◌^◌, ◌<◌, ◌≤◌, Bool, true, false, cond, List, [], ◌∷◌, ◌++◌, length, take, drop, replicate, refl, sym, ap, subst, ◌∙◌, append_assoc, append-nil, arith}
+use Rattle.std.proofs.Common.{◌≡◌, ◌≢◌, ℕ, zero, suc, ◌+◌, ◌-◌, ◌*◌, ◌/◌, ◌%◌, ◌^◌, ◌<◌, ◌≤◌, Bool, true, false, cond, List, [], ◌∷◌, ◌++◌, length, take, drop, replicate, refl, sym, ap, ◌∙◌, append_assoc, append-nil, arith}
 use Rattle.std.specs.Prelude.{◌==◌, nat_lt, not}
-use Rattle.std.proofs.Math.Nat.{pow-succ', one-le-pow, mod-eq_of_lt, zero-div, pow-le-pow_right, div-div-eq-div-mul, mul_assoc, mul-add-div_right, div-le_self}
+use Rattle.std.proofs.Math.Nat.{pow-succ', one-le-pow, mod-eq_of_lt, zero-div, pow-le-pow_right}
 use Rattle.std.proofs.Math.Seq.{take-append_seam}
 use Rattle.std.proofs.lemmas.Bool.{ltb-true, eqb-true, eqb-false, and_parts, ne_eqb}
-use Rattle.std.proofs.lemmas.Fmt.{decimal_digit}
-use Rattle.std.proofs.lemmas.Nat.{div_below, mod_below, div-add-mod', div-mul-add, pow-add}
+use Rattle.std.proofs.lemmas.Nat.{div_below, mod_below, div-add-mod'}
 use Rattle.std.proofs.lemmas.List.{drop_at, drop-drop, map-append, replicate-append-replicate}
 use Rattle.std.specs.Fmt.{decimal}
 use Rattle.byteorder.specs.Endian.{big_number}
 use Rattle.binlog_values.specs.Contents.{digits_len, groups, groups_len, groups_fit, is_decimal_bytes, magnitude}
 use Rattle.binlog_values.specs.Texts.{last_digits, digits_codes, sign_text}
-use Rattle.binlog_values.specs.Decimals.{groups_digits, decimal_digits, without_zeros, or_zero, shown_whole, shown_scale, is_negative_decimal, digits_count, groups_number, decimal_number, decimal_text}
+use Rattle.binlog_values.specs.Decimals.{groups_digits, decimal_digits, without_zeros, or_zero, shown_whole, shown_scale, is_negative_decimal, digits_count, decimal_text}
 use Rattle.binlog_values.specs.DecimalGroups.{group_at, group_text, is_begun_by, nines_text, whole_text, part_text, scale_text, whole_len, grouped_text}
-use Rattle.binlog_values.specs.DecimalLaws.{rest_count, number_small, whole_count}
+use Rattle.binlog_values.specs.DecimalLaws.{rest_count}
 use Rattle.binlog_values.proofs.DecimalDigits.{digits_of_groups}
-use Rattle.binlog_values.proofs.DigitTexts.{digit_and_last, length-last_digits}
+use Rattle.binlog_values.proofs.DigitTexts.{digit_and_last}
 
 -- ---- the digits of one group
 
@@ -203,90 +202,3 @@ decimal_shown precision scale s within fits =
     ∙ ap (λ (l : List ℕ). sign ++ (digits_codes (shown_whole l) ++ shown_scale part)) (sym taken)
     ∙ ap (λ (l : List ℕ). sign ++ (digits_codes (shown_whole (take before (decimal_digits precision scale s))) ++ shown_scale l)) (sym dropped)
     ∙ sym (append_assoc sign (digits_codes (shown_whole (take before (decimal_digits precision scale s)))) (shown_scale (drop before (decimal_digits precision scale s))))
-
--- ---- the text by the number of all digits
-
--- The last digits of a number are those of what is above them, and those that are left.
-last_split : (a b n : ℕ) → last_digits (a + b) n ≡ last_digits a (n / 10 ^ b) ++ last_digits b n
-unfolding last_digits
-last_split zero b n = let none : 0 + b ≡ b = omega arith in ap (λ (k : ℕ). last_digits k n) none
-last_split (suc a) b n =
-    let more : suc a + b ≡ suc (a + b) = omega arith in
-    let swapped : a + b ≡ b + a = omega arith in
-    let power : 10 ^ (a + b) ≡ 10 ^ b * 10 ^ a = ap (λ (k : ℕ). 10 ^ k) swapped ∙ pow-add 10 b a in
-    let first : n / 10 ^ (a + b) ≡ n / 10 ^ b / 10 ^ a = ap (λ (p : ℕ). n / p) power ∙ sym (div-div-eq-div-mul n (10 ^ b) (10 ^ a)) in
-    ap (λ (k : ℕ). last_digits k n) more ∙ ap (λ (m : ℕ). (m % 10) ∷ last_digits (a + b) n) first ∙ ap (λ (l : List ℕ). (n / 10 ^ b / 10 ^ a % 10) ∷ l) (last_split a b n)
-
-tens_left : (above n : ℕ) → (above * 10 + n) % 10 ≡ n % 10
-tens_left above n = omega arith
-
--- What is above them doesn't matter.
-last_below : (count above n : ℕ) → last_digits count (above * 10 ^ count + n) ≡ last_digits count n
-unfolding last_digits
-last_below zero above n = refl
-last_below (suc count) above n =
-    let power : 1 ≤ 10 ^ count = one-le-pow count 10 (omega arith) in
-    let whole : above * 10 ^ suc count + n ≡ above * 10 * 10 ^ count + n =
-    ap (λ (m : ℕ). m + n) (ap (λ (p : ℕ). above * p) (pow-succ' 10 count) ∙ sym (mul_assoc above 10 (10 ^ count))) in
-    let digit : (above * 10 * 10 ^ count + n) / 10 ^ count % 10 ≡ n / 10 ^ count % 10 =
-    ap (λ (m : ℕ). m % 10) (mul-add-div_right power (above * 10) n) ∙ tens_left above (n / 10 ^ count) in
-    ap (λ (m : ℕ). last_digits (suc count) m) whole
-    ∙ ap (λ (d : ℕ). d ∷ last_digits count (above * 10 * 10 ^ count + n)) digit
-    ∙ ap (λ (l : List ℕ). (n / 10 ^ count % 10) ∷ l) (last_below count (above * 10) n)
-
--- The digits of groups are those of their number.
-digits_by_number : (counts s : List ℕ) → groups_fit counts s ≡ true → groups_digits counts s ≡ last_digits (digits_count counts) (groups_number counts s)
-unfolding last_digits
-digits_by_number [] s fits = refl
-digits_by_number (count ∷ counts) s fits =
-    let group : ℕ = big_number (digits_len count) s in
-    let rest : List ℕ = drop (digits_len count) s in
-    let below : ℕ = digits_count counts in
-    let both = and_parts (nat_lt group (10 ^ count)) (groups_fit counts rest) fits in
-    let above : (group * 10 ^ below + groups_number counts rest) / 10 ^ below ≡ group = div-mul-add group (10 ^ below) (groups_number counts rest) (number_small counts rest both.1) in
-    ap (λ (l : List ℕ). last_digits count group ++ l) (digits_by_number counts rest both.1)
-    ∙ sym (last_split count below (group * 10 ^ below + groups_number counts rest)
-    ∙ ap (λ (m : ℕ). last_digits count m ++ last_digits below (group * 10 ^ below + groups_number counts rest)) above
-    ∙ ap (λ (l : List ℕ). last_digits count group ++ l) (last_below below group (groups_number counts rest)))
-
--- The digits of a number without zeros in front, but at least one.
-whole_by : (count n : ℕ) → n < 10 ^ count → n < 2 ^ 64 → (b : Bool) → (n == 0) ≡ b → digits_codes (shown_whole (last_digits count n)) ≡ decimal n
-whole_by count n few small true none =
-    let zero_is : n ≡ 0 = eqb-true n 0 none in
-    let left : without_zeros (last_digits count 0) ≡ [] = ap without_zeros (sym (append-nil (last_digits count 0))) ∙ zeros_left count [] in
-    ap (λ (m : ℕ). digits_codes (shown_whole (last_digits count m))) zero_is ∙ ap (λ (l : List ℕ). digits_codes (or_zero l)) left ∙ sym (decimal_digit 0 (omega arith)) ∙ ap decimal (sym zero_is)
-whole_by count n few small false first =
-    let is = shown count n (some_digit n (eqb-false n 0 first)) few small in
-    let left : without_zeros (last_digits count n) ≡ is.first ∷ is.others =
-    ap without_zeros (sym (append-nil (last_digits count n))) ∙ is.front [] ∙ ap (λ (l : List ℕ). is.first ∷ l) (append-nil is.others) in
-    ap (λ (l : List ℕ). digits_codes (or_zero l)) left ∙ sym is.text
-
--- The text of a decimal number whose digits without the point are this number: those before the point, the point, and those behind it.
-pub number_shown : (precision scale n : ℕ) (s : List ℕ) → scale ≤ precision → is_decimal_bytes precision scale s ≡ true → n ≡ decimal_number precision scale s → n < 2 ^ 64
-    → decimal_text precision scale s ≡ sign_text (is_negative_decimal s) ++ (decimal (n / 10 ^ scale) ++ cond (scale == 0) [] (46 ∷ digits_codes (last_digits scale n)))
-unfolding decimal_text
-number_shown precision scale n s within fits is small =
-    let sign : List ℕ = sign_text (is_negative_decimal s) in
-    let before : ℕ = precision - scale in
-    let whole : List ℕ = last_digits before (n / 10 ^ scale) in
-    let part : List ℕ = last_digits scale n in
-    let all : before + scale ≡ precision = omega (arith, within) in
-    let below : n < 10 ^ precision =
-    omega (arith, is, number_small (groups precision scale) (magnitude s) fits, ap (λ (k : ℕ). 10 ^ k) (whole_count precision scale within)) in
-    let digits : decimal_digits precision scale s ≡ whole ++ part =
-    digits_by_number (groups precision scale) (magnitude s) fits ∙ ap (λ (k : ℕ). last_digits k (decimal_number precision scale s)) (whole_count precision scale within ∙ sym all)
-    ∙ ap (λ (m : ℕ). last_digits (before + scale) m) (sym is) ∙ last_split before scale n in
-    let whole_digits : length whole ≡ before = length-last_digits before (n / 10 ^ scale) in
-    let part_digits : length part ≡ scale = length-last_digits scale n in
-    let taken : take before (decimal_digits precision scale s) ≡ whole =
-    ap (take before) digits ∙ ap (λ (k : ℕ). take k (whole ++ part)) (sym whole_digits) ∙ take-append_seam whole part in
-    let dropped : drop before (decimal_digits precision scale s) ≡ part = ap (drop before) digits ∙ drop_at whole part before whole_digits in
-    let power : 1 ≤ 10 ^ scale = one-le-pow scale 10 (omega arith) in
-    let room : n < 10 ^ before * 10 ^ scale = subst (λ (m : ℕ). n < m) (ap (λ (k : ℕ). 10 ^ k) (sym all) ∙ pow-add 10 before scale) below in
-    let few : n / 10 ^ scale < 10 ^ before = div_below n (10 ^ scale) (10 ^ before) power room in
-    let least : n / 10 ^ scale < 2 ^ 64 = omega (arith, div-le_self n (10 ^ scale), small) in
-    ap (λ (l : List ℕ). sign ++ digits_codes (shown_whole l) ++ shown_scale (drop before (decimal_digits precision scale s))) taken
-    ∙ ap (λ (l : List ℕ). sign ++ digits_codes (shown_whole whole) ++ shown_scale l) dropped
-    ∙ ap (λ (l : List ℕ). sign ++ l ++ shown_scale part) (whole_by before (n / 10 ^ scale) few least _ refl)
-    ∙ ap (λ (l : List ℕ). sign ++ decimal (n / 10 ^ scale) ++ l) (sym (scale_shown scale part part_digits))
-    ∙ append_assoc sign (decimal (n / 10 ^ scale)) (cond (scale == 0) [] (46 ∷ digits_codes part))

@@ -49,3 +49,23 @@ whole_len digits = digits_len (digits % 9) + 4 * (digits / 9)
 unfoldable pub grouped_text : ℕ → ℕ → List ℕ → List ℕ
 grouped_text precision scale s =
     sign_text (is_negative_decimal s) ++ whole_text (precision - scale) (magnitude s) ++ scale_text scale (whole_len (precision - scale)) (magnitude s)
+
+-- ---- numbers of groups
+
+-- The numbers of so many groups of nine digits from this place.
+abbrev pub nines_at : ℕ → ℕ → List ℕ → List ℕ
+nines_at zero place s = []
+nines_at (suc count) place s = group_at place 9 s ∷ nines_at count (place + 4) s
+
+-- The digits of groups of nine, each by its number.
+abbrev pub groups_text : List ℕ → List ℕ
+groups_text [] = []
+groups_text (group ∷ groups) = digits_text 9 group ++ groups_text groups
+
+-- The point and so many digits behind it: groups of nine, and those of the last number. No digits: nothing.
+unfoldable pub point_text : ℕ → List ℕ → ℕ → List ℕ
+point_text scale groups last = if scale == 0 then [] else 46 ∷ (groups_text groups ++ digits_text (scale % 9) last)
+
+-- A decimal number with its sign: the digits of its first number, groups of nine, and what is behind the point.
+unfoldable pub parts_text : Bool → ℕ → List ℕ → ℕ → List ℕ → ℕ → List ℕ
+parts_text is_negative first whole scale part last = sign_text is_negative ++ (decimal first ++ (groups_text whole ++ point_text scale part last))

@@ -1,14 +1,15 @@
 //! Decimal numbers.
-ghost use Rattle.std.specs.Prelude.{◌≡◌, ◌<◌, ◌≤◌, ◌^◌, ◌++◌, OnOk, OnErr, MatchOption, IsSome, is_ok, true, length, if◌then◌else◌};
+ghost use Rattle.std.specs.Prelude.{◌≡◌, ◌<◌, ◌≤◌, ◌/◌, ◌^◌, ◌++◌, OnOk, OnErr, MatchOption, IsSome, is_ok, true, length, take, drop, if◌then◌else◌};
 ghost use Rattle.std.specs.String.{string_bytes};
 ghost use Rattle.binlog_values.specs.Contents.{decimal_len, is_decimal_bytes};
 ghost use Rattle.binlog_values.specs.Texts.{StartsWith};
-ghost use Rattle.binlog_values.specs.DecimalGroups.{grouped_text};
+ghost use Rattle.binlog_values.specs.DecimalGroups.{grouped_text, parts_text};
 ghost use Rattle.binlog_values.specs.Decimals.{is_negative_decimal, decimal_number, unscaled, decimal_text};
 
+use crate::decimal_groups::{DecimalGroups, front_of, read_nines};
 use crate::decimal_number::decimal_number;
 use crate::decimal_text::{push_scale, push_whole};
-use crate::digits::digits_len;
+use crate::digits::{digits_len, group_number};
 use crate::text::push_sign;
 use std::alloc::AllocError;
 
@@ -72,15 +73,33 @@ impl<'a> Decimal<'a> {
         Some(if self.is_negative() { -number } else { number })
     }
 
-    /// The number that the digits are without the point and the sign: 1250 for `-12.50`. None if it is 2^64 or more.
-    pub fn digits_number(&self) -> Option<u64>
-        ensures { MatchOption result (2 ^ 64 ≤ decimal_number self.now.precision self.now.scale self.now.bytes.now) (λ number. number ≡ decimal_number self.now.precision self.now.scale self.now.bytes.now) }
+    /// The digits by groups of nine, as they are stored, without the groups in front whose digits are all zero.
+    ///
+    /// Written one after another they are the text of the number: its sign, the first number in decimal, nine digits of each group
+    /// before the point, and, if the scale isn't 0, the point, nine digits of each group behind it, and of the last number as many
+    /// as are left.
+    #[tactic(auto, using(crate::specs::DecimalLaws::decimal_count))]
+    #[inline]
+    pub fn groups(&self) -> DecimalGroups
+        ensures part { result.part ≡ self.now.scale / 9 }
+        ensures text { parts_text (is_negative_decimal self.now.bytes.now) result.first (take result.whole result.nines) self.now.scale (take result.part (drop result.whole result.nines)) result.last ≡ decimal_text self.now.precision self.now.scale self.now.bytes.now }
     {
-        let number = decimal_number(self.bytes, self.precision, self.scale)?;
-        if number >= 1 << 64 {
-            return None;
+        let whole = self.precision - self.scale;
+        let number = group_number(self.bytes, 0, whole % 9);
+        let start = digits_len(whole % 9);
+        let many = usize::from(whole / 9);
+        let front = front_of(self.bytes, number, start, many);
+        let part = usize::from(self.scale / 9);
+        let count = front.left + part;
+        let nines = read_nines(self.bytes, front.place, count);
+        let last = group_number(self.bytes, front.place + 4 * count, self.scale % 9);
+        DecimalGroups {
+            first: front.first,
+            nines,
+            whole: front.left,
+            part,
+            last,
         }
-        Some(number as u64)
     }
 
     /// Appends the number in decimal, with all digits after the point: `-12.50`. Of the digits before the point, zeros in

@@ -6,6 +6,7 @@
 
 mod content;
 mod decimal;
+mod decimal_groups;
 mod decimal_number;
 mod decimal_text;
 mod decoding;
@@ -19,6 +20,7 @@ mod times;
 mod value;
 
 pub use decimal::Decimal;
+pub use decimal_groups::DecimalGroups;
 pub use fault::ValueFault;
 pub use floats::{Double, Float};
 pub use numbers::{Bit, Integer};
