@@ -4,7 +4,7 @@ mod FixedValues
 mod RowTexts
 mod Padding
 mod PlainTexts
-mod FixedDecimals
+mod GroupedDecimals
 mod SetTexts
 mod EnumTexts
 mod Commas

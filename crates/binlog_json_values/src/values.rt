@@ -4,7 +4,7 @@
 ghost use Rattle.std.specs.Prelude.{◌≡◌, ◌++◌, ◌∷◌, [], map, option_copied, IfOk};
 ghost use Rattle.json.specs.Token.{string};
 ghost use Rattle.json_line.specs.Tokens.{Adds};
-ghost use Rattle.binlog_values.specs.Decimals.{decimal_number, decimal_text};
+ghost use Rattle.binlog_values.specs.Decimals.{decimal_text};
 ghost use Rattle.binlog_values.specs.Values.{meaning_of, content_of};
 ghost use Rattle.binlog_optional_metadata.specs.Facts.{facts_of};
 ghost use Rattle.binlog_json_values.specs.KeptColumns.{kept_facts};
@@ -25,7 +25,7 @@ use crate::timestamps::write_timestamp;
 use binlog_images::Rows;
 use binlog_optional_metadata::ColumnFacts;
 use binlog_values::{Decimal, Value};
-use json_line::Line;
+use json_line::{DecimalParts, Line};
 use std::alloc::{AllocError, Global};
 use std::mem;
 
@@ -120,7 +120,6 @@ impl ValueWriter {
     ) -> Result<(), AllocError>
         ensures { Adds result line.old line.new (value_tokens (facts_of facts.now) (meaning_of value.now) (content_of value.now)) }
     {
-        let text = &mut self.text;
         let bytes = &mut self.bytes;
         match value {
             Value::Float(_)
@@ -130,7 +129,7 @@ impl ValueWriter {
             | Value::Json(_) => Ok(()),
             Value::Null => line.null(),
             Value::Integer(integer) => write_integer(line, facts.is_unsigned, integer),
-            Value::Decimal(decimal) => write_decimal(line, text, *decimal),
+            Value::Decimal(decimal) => write_decimal(line, *decimal),
             Value::Date(date) => write_date(line, date),
             Value::Year(year) => line.number(u64::from(year.year())),
             Value::Time(time) => write_time(line, time),
@@ -149,46 +148,19 @@ impl ValueWriter {
     }
 }
 
-/// Writes a decimal number of any number of digits, whose text is made first.
-#[inline(never)]
-#[tactic(auto, using(crate::proofs::PlainTexts::plain_decimal_text))]
-fn write_long_decimal(
-    line: &mut Line,
-    text: &mut String,
-    decimal: Decimal<'_>,
-) -> Result<(), AllocError>
-    ensures { Adds result line.old line.new (string (decimal_text decimal.entry.precision decimal.entry.scale decimal.entry.bytes.now) ∷ []) }
-{
-    text.clear();
-    decimal.push_to(text)?;
-    line.plain_string(text.as_str())
-}
-
-/// Writes a decimal number whose digits are this number. Its text is made in the line, if not too many digits are behind the point.
-fn write_short_decimal(
-    line: &mut Line,
-    text: &mut String,
-    decimal: Decimal<'_>,
-    number: u64,
-) -> Result<(), AllocError>
-    requires { number ≡ decimal_number decimal.precision decimal.scale decimal.bytes.now }
-    ensures { Adds result line.old line.new (string (decimal_text decimal.entry.precision decimal.entry.scale decimal.entry.bytes.now) ∷ []) }
-{
-    let scale = decimal.scale();
-    if scale <= 18 {
-        line.fixed_point(decimal.is_negative(), scale, number)
-    } else {
-        write_long_decimal(line, text, decimal)
-    }
-}
-
 /// Writes a decimal number. It is a call, and is passed a copy, so that no address of a value is taken where others are written.
 #[inline(never)]
-fn write_decimal(line: &mut Line, text: &mut String, decimal: Decimal<'_>) -> Result<(), AllocError>
+fn write_decimal(line: &mut Line, decimal: Decimal<'_>) -> Result<(), AllocError>
     ensures { Adds result line.old line.new (string (decimal_text decimal.entry.precision decimal.entry.scale decimal.entry.bytes.now) ∷ []) }
 {
-    match decimal.digits_number() {
-        Some(number) => write_short_decimal(line, text, decimal, number),
-        None => write_long_decimal(line, text, decimal),
-    }
+    let groups = decimal.groups();
+    let parts = DecimalParts {
+        is_negative: decimal.is_negative(),
+        first: groups.first(),
+        whole: groups.whole(),
+        scale: decimal.scale(),
+        part: groups.part(),
+        last: groups.last(),
+    };
+    line.decimal(&parts)
 }
