@@ -230,8 +230,9 @@ pub mod values {
     pub use crate::binlog_optional_metadata::{MemberLists, MetadataBits, Names, Numbers};
     pub use crate::binlog_optional_metadata::{ColumnFacts, TableFacts, TableMapColumns};
     pub use crate::binlog_optional_metadata::{OptionalMetadataError, OptionalMetadataErrorKind};
-    pub use crate::binlog_values::{Bit, Date, DateTime, DateTime2, Decimal, Double, Float, Integer};
-    pub use crate::binlog_values::{Time, Time2, Timestamp2, Value, ValueFault, Year};
+    pub use crate::binlog_values::{Bit, Date, DateTime, DateTime2, Decimal, DecimalGroups, Double};
+    pub use crate::binlog_values::{Float, Integer, Time, Time2, Timestamp2, Value};
+    pub use crate::binlog_values::{ValueFault, Year};
     pub use crate::character_sets::{CHARACTER_SETS, CharacterSet, Characters};
     #[doc(hidden)]
     pub use crate::binlog_values::text;
