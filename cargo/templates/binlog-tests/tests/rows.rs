@@ -5,8 +5,8 @@ use binlog::consts::{BinlogVersion, RowsEventFlags};
 use binlog::events::{BinlogEventHeader, OptionalMetadata, OptionalMetadataField, TableMapEvent};
 use binlog::events::{UpdateRowsEvent, WriteRowsEvent};
 use binlog::raw::{BitView, ParseBuf};
-use binlog::values::{Column, ColumnValue, ColumnVisitor, ImageKind, RowsError, RowsErrorKind};
-use binlog::values::{RowsEventExt, TableColumns, Value};
+use binlog::values::{Column, ColumnValue, ColumnVisitor, Decimal, ImageKind, RowsError};
+use binlog::values::{RowsErrorKind, RowsEventExt, TableColumns, Value};
 use binlog::{BinlogCtx, BinlogEvent, DescriptionRef, read_body};
 
 fn read<'a, T: BinlogEvent<'a>>(body: &'a [u8]) -> T {
@@ -122,13 +122,21 @@ fn both_images_are_shown() {
     assert_eq!(visits(&event), [first, (Err(refusal), before)]);
 }
 
-/// The exact integer of a decimal number, and whether it has a minus sign.
-fn unscaled(precision: u8, scale: u8, bytes: &[u8]) -> (Option<i128>, bool) {
+/// A decimal number of this precision and scale.
+fn decimal(precision: u8, scale: u8, bytes: &[u8]) -> Decimal<'_> {
     let column = Column::read(246, &mut ParseBuf(&[precision, scale])).unwrap();
     match Value::read(&column, &mut ParseBuf(bytes)) {
-        Ok(Value::Decimal(decimal)) => (decimal.unscaled(), decimal.is_negative()),
+        Ok(Value::Decimal(decimal)) => decimal,
         answer => panic!("{answer:?}"),
     }
+}
+
+#[test]
+fn groups_of_zeros_in_front_are_left_out() {
+    let bytes = b"\x80\0\0\0\0\0\0\0\x05\0\0\0\0\0\0\0\x05\x01";
+    let groups = decimal(38, 10, bytes).groups();
+    assert_eq!((groups.first(), groups.whole()), (5, &[0][..]));
+    assert_eq!((groups.part(), groups.last()), (&[5][..], 1));
 }
 
 #[test]
@@ -182,7 +190,9 @@ fn the_exact_integer_has_all_digits_and_the_sign() {
             false,
         ),
     ] {
-        assert_eq!(unscaled(precision, scale, bytes), (wanted, is_negative));
+        let decimal = decimal(precision, scale, bytes);
+        assert_eq!(decimal.unscaled(), wanted);
+        assert_eq!(decimal.is_negative(), is_negative);
     }
 }
 
