@@ -140,7 +140,7 @@ fn has_characters(count: u32, more: u8, set: Option<CharacterSet>, layout: Layou
     }
 }
 
-// Whether the column may be of a type of times. Of the old ones, values without a fraction are read alone.
+// Whether the column may be of a type of times. Of the old ones only values without a fraction are read.
 fn is_temporal(
     kind: TemporalKind,
     digits: u32,
