@@ -38,6 +38,11 @@ def _argument(path: Path) -> str:
     return f"./{text}" if text.startswith("-") else text
 
 
+def _listed(files: Union[Path, Iterable[Path]]) -> list[Path]:
+    """Files, or one."""
+    return [files] if isinstance(files, (str, os.PathLike)) else list(files)
+
+
 @dataclass
 class Answer:
     """What the program printed, and its messages, which are lines, too, and its exit status."""

@@ -10,7 +10,7 @@ from typing import Optional, Union
 
 from ._program import ProgramError, program as program_at
 from ._refusals import Refusal, Undone, UndoneTable, UndoRefused
-from ._statistics import Path, _argument
+from ._statistics import Path, _argument, _listed
 from ._undo_library import made_log
 
 # The exit status with which something is refused.
@@ -108,11 +108,6 @@ def undo(
     words += ["--check-rows"] if check_rows else []
     words += ["--dry-run"] if out is None else ["--output", _argument(out)]
     return _asked(program, words, [_argument(path) for path in paths], [_argument(path) for path in behind])
-
-
-def _listed(files: Union[Path, Iterable[Path]]) -> list[Path]:
-    """Files, or one."""
-    return [files] if isinstance(files, (str, os.PathLike)) else list(files)
 
 
 def _write(log: bytes, out: str) -> None:
