@@ -63,7 +63,8 @@ def undo(
         and checks no rows.
 
     Raises UndoRefused where something can't be undone, FileExistsError if there is a file `out`, and ProgramError where the program isn't
-    found, or fails; BinlogError or OSError in place of it where the library makes the log. Nothing is written then.
+    found, or fails; where the library makes the log, in place of it BinlogError or OSError, or ValueError for what it doesn't take. Nothing
+    is written then.
     """
     paths, behind = _listed(files), _listed(later)
     if out is not None and os.path.exists(out):
@@ -75,6 +76,8 @@ def undo(
             raise ValueError("the library takes no later logs")
         if check_rows:
             raise ValueError("the library checks no rows")
+        if not paths:
+            raise ValueError("no log is named")
         made = made_log(
             [FilePath(path).read_bytes() for path in paths],
             [os.fspath(path) for path in paths],
@@ -137,7 +140,8 @@ def _asked(stated: Optional[Path], words: list[str], paths: list[str], behind: l
         ran = subprocess.run([command, "undo", *words, *paths], stdin=subprocess.DEVNULL, capture_output=True)
     except OSError as error:
         raise ProgramError(f"{command}: {error.strerror}") from error
-    lines = os.fsdecode(ran.stderr).splitlines()
+    # Names may have signs at which other lines than these end.
+    lines = os.fsdecode(ran.stderr).rstrip("\n").split("\n")
     refusals = [refusal for line in lines for refusal in _refusals(line, [*paths, *behind])]
     if ran.returncode == _REFUSED and refusals:
         raise UndoRefused(refusals)

@@ -205,6 +205,13 @@ class Answers(WithProgram):
             (self.folder / "binlog").symlink_to(self.program)
             self.assertEqual(_program.program(), str(self.folder / "binlog"))
 
+    def test_names_with_signs_at_which_other_lines_end(self):
+        names = ("shop", "a\u2028b\u2029c\x85d")
+        found = tables(1, (0, 0), table(names, changes(1, 10, (1, 0, 0)), 1, (7200, 7200)))
+        self.answer({"stats --by table --json a": [json.dumps(line, ensure_ascii=False) for line in found]})
+        (row,) = _statistics.tables(self.program, self.files[:1]).rows
+        self.assertEqual(str(row.name), ".".join(names))
+
     def test_refusals(self):
         said = "binlog: the logs have more than 65536 tables\n"
         self.answer(ANSWERS, **{"stats --by table --json a b": {"said": said, "status": 3}})
