@@ -182,6 +182,12 @@ class Answers(WithProgram):
     def test_tables_that_can_be_asked_for_alone(self):
         self.assertEqual([str(name) for name in self.report().stacked], ["shop.orders", "\ufffd.t"])
 
+    @unittest.skipUnless(HAS_MATPLOTLIB, "no python3-matplotlib: no page about logs is tested")
+    def test_one_log(self):
+        log = self.files[0]
+        for files in (log, Path(log)):
+            self.assertEqual(report.read(files, program=self.program), self.report([log]))
+
     def test_intervals(self):
         for hours, wanted in ((1, 30), (4, 120), (25, 600), (24 * 200, 86400), (24 * 4000, 604800)):
             rows = [_statistics.Interval(time=time, transactions=1) for time in (3600, 3600 * hours)]
@@ -301,6 +307,14 @@ class Page(WithProgram):
         for wrong in (["--interval", "1d"], ["--interval", "0s"], ["--none"]):
             self.assertEqual(self.run_main(*words, *wrong, self.files[0])[0], 64)
         self.assertEqual(self.run_main("-o", str(out))[0], 64)
+        (self.folder / "link").symlink_to(self.files[0])
+        for log in (self.files[0], str(self.folder / "link")):
+            Path(self.files[0]).write_bytes(b"a log")
+            status, said = self.run_main(*words[:2], "-o", log, *self.files)
+            self.assertEqual((status, said), (3, f"binlog.report: {log}: the output is one of the files that are read\n"))
+            with self.assertRaises(FileExistsError):
+                report.write(self.report(), log)
+            self.assertEqual(Path(self.files[0]).read_bytes(), b"a log")
         self.assertEqual(self.run_main("--program", str(self.folder / "none"), "-o", str(out), self.files[0])[0], 3)
         self.assertEqual(self.run_main("--program", str(self.program), "-o", str(self.folder / "none/page"), self.files[0])[0], 3)
 
