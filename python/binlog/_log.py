@@ -13,7 +13,7 @@ from ._bodies import value_of
 from ._columns import Columns, DeclaredTables, TableName, declared
 from ._content import Content
 from ._errors import ColumnsWarning, InvalidLog, LogError
-from ._library import ITEM, LIBRARY, CursorStruct
+from ._library import INVALID_CURSOR, ITEM, LIBRARY, CursorStruct, address_of
 from ._payloads import PayloadEvent, payload_events
 from ._types import EventType
 
@@ -48,6 +48,13 @@ class Cursor(NamedTuple):
     position: int
     description: int
     ended: int = 0
+
+
+def _place(cursor: Cursor) -> CursorStruct:
+    """A cursor as the library takes it, which has 64 bits for each number."""
+    if any(not 0 <= number < 1 << 64 for number in cursor):
+        raise LogError(INVALID_CURSOR, cursor[0])
+    return CursorStruct(*cursor)
 
 
 class _TableMaps:
@@ -300,7 +307,7 @@ class Damage(_Item):
 
 
 class Log:
-    """A binary log in memory, which is copied only where it is neither bytes nor writable.
+    """A binary log in memory, which isn't copied: bytes, or what else gives its bytes, as a memoryview or an mmap.
 
     Iterating over it gives its events, and raises LogError in the place of a damaged one. `items` goes on behind such.
     The bytes have to stay as they are while the log is in use.
@@ -316,15 +323,10 @@ class Log:
     """
 
     def __init__(self, content: Buffer, *, verify: bool = False, columns: Optional[Columns] = None) -> None:
-        if isinstance(content, memoryview) and content.readonly:
-            content = bytes(content)
-        self._bytes = memoryview(content)
+        # As single bytes, whatever the items of the content are. The view keeps the content where it is.
+        self._bytes = memoryview(content).cast("B")
         self._size = self._bytes.nbytes
-        if isinstance(content, bytes):
-            self._held: object = ctypes.c_char_p(content)
-        else:
-            self._held = (ctypes.c_char * self._size).from_buffer(content)
-        self._at = ctypes.cast(self._held, ctypes.c_void_p)  # type: ignore[arg-type]
+        self._at = address_of(self._bytes)
         first = CursorStruct()
         error = LIBRARY.binlog_open(self._at, self._size, first)
         if error:
@@ -334,8 +336,9 @@ class Log:
         self._rest: Optional[int] = None
         self._columns = None if columns is None else _TableColumns(self, declared(columns))
 
-    def __len__(self) -> int:
-        """How many bytes the log has."""
+    @property
+    def size(self) -> int:
+        """How many bytes the log has. It has no length, of which `list` and `tuple` would make room for as many events."""
         return self._size
 
     @property
@@ -424,7 +427,7 @@ class Log:
 
         Raises LogError, InvalidCursor, where the place isn't one of this log.
         """
-        place = CursorStruct(*(self._first if start is None else start))
+        place = _place(self._first if start is None else start)
         items = ctypes.create_string_buffer(_BATCH * ITEM.size)
         error = ctypes.c_uint8()
         count = _BATCH
@@ -470,7 +473,7 @@ class Log:
 
 
 def open(path: Union[str, "os.PathLike[str]"], *, verify: bool = False, columns: Optional[Columns] = None) -> Log:
-    """The binary log in a file, which is mapped into memory and has to stay as long as it is.
+    """The binary log in a file, which is mapped into memory and has to stay as long as it is. What isn't a file, as a pipe, is read to its end.
 
     verify: whether checksums are verified, as Log says.
     columns: files of columns, as Log says: a path, a binary file, or several of these.
@@ -480,7 +483,5 @@ def open(path: Union[str, "os.PathLike[str]"], *, verify: bool = False, columns:
     """
     with builtins.open(path, "rb") as file:
         if os.fstat(file.fileno()).st_size == 0:
-            return Log(b"", verify=verify, columns=columns)
-        # A private mapping: ctypes takes the place of writable memory alone. Nothing is written.
-        mapping = mmap.mmap(file.fileno(), 0, access=mmap.ACCESS_COPY)
-        return Log(mapping, verify=verify, columns=columns)
+            return Log(file.read(), verify=verify, columns=columns)
+        return Log(mmap.mmap(file.fileno(), 0, access=mmap.ACCESS_READ), verify=verify, columns=columns)
