@@ -110,6 +110,12 @@ class _TableColumns:
         self._texts: dict[tuple[TableName, ...], bytes] = {}
         self._warned: set[TableName] = set()
 
+    def inside(self, log: "Log") -> "_TableColumns":
+        """The same of the events inside a compressed transaction of this log. A table has no second warning there."""
+        found = _TableColumns(log, self._declared)
+        found._warned = self._warned
+        return found
+
     @property
     def whole_text(self) -> bytes:
         """The text of a file of all declared tables."""
@@ -140,14 +146,15 @@ class _TableColumns:
         if not text or name in self._warned:
             return
         error = ctypes.c_uint8()
-        log, size, item = self._log._at, self._log._size, ITEM.pack(*table_map)
+        log, size, item, log_path = self._log._at, self._log._size, ITEM.pack(*table_map), self._log._path
         column = LIBRARY.binlog_columns_contradiction(log, size, item, text, len(text), error)
         if error.value:
             raise LogError(error.value, table_map[0])
         if column != _NO_COLUMN:
             self._warned.add(name)
             table = b".".join(name).decode(errors="replace")
-            said = f"table {table}: column {column + 1} contradicts the file of columns, which isn't used for this table"
+            path = "" if log_path is None else f"{log_path}: "
+            said = f"{path}table {table}: column {column + 1} contradicts the file of columns, which isn't used for this table"
             warnings.warn(said, ColumnsWarning, stacklevel=2)
 
 
@@ -334,6 +341,8 @@ class Log:
         self._first = Cursor(first.position, first.description, first.ended)
         self._fill = LIBRARY.binlog_next_verified if verify else LIBRARY.binlog_next
         self._rest: Optional[int] = None
+        # That of the file, where the log is opened by it.
+        self._path: Optional[str] = None
         self._columns = None if columns is None else _TableColumns(self, declared(columns))
 
     @property
@@ -380,8 +389,9 @@ class Log:
             if error.value:
                 raise LogError(error.value, fields[0])
         inside = Log(ctypes.string_at(content, size))
+        inside._path = self._path
         if self._columns is not None:
-            inside._columns = _TableColumns(inside, self._columns._declared)
+            inside._columns = self._columns.inside(inside)
         return inside
 
     def _alone(self, event: Event) -> bytes:
@@ -483,5 +493,9 @@ def open(path: Union[str, "os.PathLike[str]"], *, verify: bool = False, columns:
     """
     with builtins.open(path, "rb") as file:
         if os.fstat(file.fileno()).st_size == 0:
-            return Log(file.read(), verify=verify, columns=columns)
-        return Log(mmap.mmap(file.fileno(), 0, access=mmap.ACCESS_READ), verify=verify, columns=columns)
+            content: Buffer = file.read()
+        else:
+            content = mmap.mmap(file.fileno(), 0, access=mmap.ACCESS_READ)
+    log = Log(content, verify=verify, columns=columns)
+    log._path = os.fsdecode(path)
+    return log
