@@ -15,7 +15,7 @@ from ._content import Content
 from ._errors import ColumnsWarning, InvalidLog, LogError
 from ._library import INVALID_CURSOR, ITEM, LIBRARY, CursorStruct, address_of
 from ._payloads import PayloadEvent, payload_events
-from ._types import EventType
+from ._types import EventType, MariaEventType, name_of
 
 # How many items a call has room for.
 _BATCH = 512
@@ -30,6 +30,9 @@ _LINES = 1 << 18
 
 # The types whose events name a table map by its id.
 _ROWS = frozenset((23, 24, 25, 30, 31, 32, 39))
+
+# MariaDB's own types.
+_MARIAS = frozenset(MariaEventType)
 
 # What the library has for no column of a table.
 _NO_COLUMN = ctypes.c_size_t(-1).value
@@ -238,6 +241,15 @@ class Event(_Item, Content):
 
     __slots__ = ("_maps", "_members")
 
+    @property
+    def name(self) -> Optional[str]:
+        """The name of the event's type, as the lines of JSON have it: also of one of MariaDB's own in a log that MariaDB wrote. None for an
+        unknown type."""
+        kind = self._fields[9]
+        if kind in _MARIAS:
+            return name_of(kind) if self._log._is_marias(self._fields) else None
+        return None if self.type is None else name_of(kind)
+
     def __init__(self, log: "Log", fields: tuple, table_maps: tuple[tuple, ...] = ()) -> None:
         super().__init__(log, fields)
         self._maps = table_maps
@@ -343,6 +355,8 @@ class Log:
         self._rest: Optional[int] = None
         # That of the file, where the log is opened by it.
         self._path: Optional[str] = None
+        # Whether a description is MariaDB's, by its place.
+        self._marias: dict[int, bool] = {}
         self._columns = None if columns is None else _TableColumns(self, declared(columns))
 
     @property
@@ -403,6 +417,13 @@ class Log:
     def _plain_line(self, fields: tuple) -> bytes:
         """The line of JSON of an item that isn't a row event."""
         return self._line(fields, (), 0)
+
+    def _is_marias(self, fields: tuple) -> bool:
+        """Whether MariaDB wrote an event of one of its own types: these have names in a log whose description in force is one of MariaDB's."""
+        found = self._marias.get(fields[1])
+        if found is None:
+            found = self._marias[fields[1]] = json.loads(self._plain_line(fields))["name"] is not None
+        return found
 
     def _columns_of(self, table_maps: tuple[tuple, ...]) -> Union[tuple[()], tuple[bytes, int]]:
         """The text of a file of the columns of these tables, and its length; nothing if there is none."""

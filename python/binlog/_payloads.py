@@ -52,6 +52,11 @@ class PayloadEvent(Content):
             return None
 
     @property
+    def name(self) -> Optional[str]:
+        """The name of the event's type, as the lines of JSON have it; None for an unknown type."""
+        return self._members["name"]
+
+    @property
     def timestamp(self) -> int:
         """When the event was created, in seconds since 1970."""
         return self._members["timestamp"]

@@ -40,7 +40,7 @@ def payload(events):
 
 
 def seen(event):
-    return event.event_type, event.type, event.event_size, event.timestamp, event.server_id, event.flags, event.body, event.table, event.rows
+    return event.event_type, event.type, event.name, event.event_size, event.timestamp, event.server_id, event.flags, event.body, event.table, event.rows
 
 
 class Payloads(unittest.TestCase):

@@ -12,6 +12,7 @@ sys.path.insert(0, str(Path(__file__).resolve().parents[2] / "tests"))
 import binlog
 import compact_model
 import encoded_events as encode
+import maria_events
 import payload_lines
 import raced_files
 import recipes
@@ -133,9 +134,22 @@ class Rows(unittest.TestCase):
         self.assertEqual((error.name, error.details), ("NoTableMap", {"part": 1}))
 
     def test_rows_that_are_not_read(self):
-        for kind in (20, 26, 166, 200):
-            _, error = self.raised(binlog.RowsError, payload_lines.log_of([*INSIDE, (kind, bytes(40))]))
-            self.assertEqual((error.name, error.details), ("Unread", {"type": kind}))
+        for kind in (20, 26, *range(160, 172), 200):
+            for events, details in (([(kind, bytes(40))], {}), ([payload([XID, (kind, bytes(40))])], {"part": 1})):
+                found, error = self.raised(binlog.RowsError, payload_lines.log_of([*INSIDE, *events]))
+                self.assertEqual((len(found), error.name, error.details), (2, "Unread", {**details, "type": kind}))
+
+    def test_marias_own_events(self):
+        """Those that have no rows have none in its own logs, until it encrypts them."""
+        own = [maria_events.annotate_rows("a"), maria_events.binlog_checkpoint("b"), maria_events.gtid_list(0, [])]
+        own += [maria_events.query_compressed("c", None), maria_events.gtid(1, 0, 7)]
+        events = [(event.type, event.body) for event in own]
+        found = self.compare(row_lines.content_of(row_lines.VERSIONS[1], [*events, *INSIDE]))
+        self.assertEqual(len(found), 2)
+        encryption = maria_events.start_encryption(1, 1, bytes(12))
+        content = row_lines.content_of(row_lines.VERSIONS[1], [*INSIDE, (encryption.type, encryption.body), *INSIDE])
+        found, error = self.raised(binlog.RowsError, content)
+        self.assertEqual((len(found), error.name, error.details), (2, "Unread", {"type": encryption.type}))
 
     def test_rows_without_columns(self):
         none = row_lines.row_event(row_lines.WRITE, 1, [False, False], [False, False], b"")

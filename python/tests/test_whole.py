@@ -88,6 +88,7 @@ class Counts(Files):
         found = binlog.stats(self.file(log.content))
         names = collections.Counter(event["name"] for event in every)
         self.assertEqual({name: counts.events for name, counts in found.types.items()}, names)
+        self.assertEqual([event.name for event in binlog.Log(log.content)], [event["name"] for event in every])
         own = {event["type"]: event["name"] for event in every if event["type"] >= 160}
         self.assertEqual(own, {kind.value: kind.name for kind in binlog.MariaEventType})
 
