@@ -376,6 +376,10 @@ class Log:
                 pass
         return self._rest or 0
 
+    def _rest_at(self, cursor: Cursor) -> int:
+        """How many bytes there are from a place on, if they are the beginning of an event; otherwise 0."""
+        return LIBRARY.binlog_rest(self._at, self._size, _place(cursor))
+
     def _line(self, fields: tuple, table_maps: tuple[tuple, ...], index: int) -> bytes:
         """The line of JSON of an item, with these table maps."""
         columns = self._columns_of(table_maps)

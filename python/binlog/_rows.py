@@ -65,16 +65,22 @@ def rows(log: Union[Path, Log], start: Optional[Cursor] = None) -> Iterator[Row]
     None is passed over. It raises LogError in the place of a damaged event, of one with rows or a GTID that can't be read, and of a
     compressed transaction that can't be, or has such an event; and RowsError where a row can't be read: its name is NoTableMap where no
     table map is in force, and Unread of events that may have rows, or say that some are lost, and aren't read, or have no bytes of rows.
-    Their type is in `details`. Unread is also an event of an unknown type, and the one behind which a log of MariaDB's is encrypted.
+    Their type is in `details`. Unread is also an event of an unknown type, and the one behind which a log of MariaDB's is encrypted. Tail
+    comes last, where the log ends within an event, as one that was cut, or is being written.
     """
+    found = log if isinstance(log, Log) else open(log)
     gtid: Optional[str] = None
-    for event in (log if isinstance(log, Log) else open(log)).events(start):
+    place = found._first if start is None else Cursor(*start)
+    for event in found.events(start):
+        place = Cursor(event.position + event.event_size, 0)
         if event.event_type in _BEGINNINGS:
             gtid = _gtid(event)
         elif event.event_type == EventType.TRANSACTION_PAYLOAD_EVENT:
             yield from _rows_inside(event, gtid)
         else:
             yield from _rows_of(event, event.position, None, gtid)
+    if found._rest_at(place):
+        raise RowsError({"error": "Tail"}, place.position)
 
 
 def _gtid(event: Event) -> Optional[str]:

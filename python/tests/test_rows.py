@@ -111,6 +111,24 @@ class Rows(unittest.TestCase):
         found, error = self.raised(binlog.LogError, content)
         self.assertEqual((len(found), error.name, error.position), (2, "EventSizeTooSmall", len(content) - len(UNDERSIZED)))
 
+    def test_a_log_that_ends_within_an_event(self):
+        """The rows of the whole events, and then an error in the place of those that are cut."""
+        content = recipes.logs()["mysql-bin.000007"]
+        starts = [item.position for item in binlog.Log(content).items()]
+        for end in range(starts[-3], len(content)):
+            log = binlog.Log(content[:end])
+            rows = list(wanted(content[:end]))
+            with self.subTest(end):
+                if end in starts:
+                    self.assertEqual(list(binlog.rows(log)), rows)
+                    continue
+                found, error = self.raised(binlog.RowsError, content[:end])
+                self.assertEqual((found, error.name, error.position), (rows, "Tail", max(start for start in starts if start < end)))
+                # The same from the last place on, where nothing is whole.
+                with self.assertRaises(binlog.RowsError):
+                    next(binlog.rows(log, binlog.Cursor(error.position, 4)))
+        self.assertEqual(list(binlog.rows(log, binlog.Cursor(starts[-1], 4, 1))), [])
+
     def test_rows_that_are_refused(self):
         for name, events, members in row_lines.refused():
             content = row_lines.content_of(row_lines.VERSIONS[0], events)
