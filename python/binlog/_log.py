@@ -112,12 +112,20 @@ class _TableColumns:
         self._names: dict[tuple[int, bytes], TableName] = {}
         self._texts: dict[tuple[TableName, ...], bytes] = {}
         self._warned: set[TableName] = set()
+        self._said: set[str] = set()
 
     def inside(self, log: "Log") -> "_TableColumns":
         """The same of the events inside a compressed transaction of this log. A table has no second warning there."""
         found = _TableColumns(log, self._declared)
-        found._warned = self._warned
+        found._warned, found._said = self._warned, self._said
         return found
+
+    def say(self, message: str) -> None:
+        """Warns of a table, once a log."""
+        if message not in self._said:
+            self._said.add(message)
+            path = "" if self._log._path is None else f"{self._log._path}: "
+            warnings.warn(f"{path}{message}", ColumnsWarning, stacklevel=2)
 
     @property
     def whole_text(self) -> bytes:
@@ -149,16 +157,14 @@ class _TableColumns:
         if not text or name in self._warned:
             return
         error = ctypes.c_uint8()
-        log, size, item, log_path = self._log._at, self._log._size, ITEM.pack(*table_map), self._log._path
+        log, size, item = self._log._at, self._log._size, ITEM.pack(*table_map)
         column = LIBRARY.binlog_columns_contradiction(log, size, item, text, len(text), error)
         if error.value:
             raise LogError(error.value, table_map[0])
         if column != _NO_COLUMN:
             self._warned.add(name)
             table = b".".join(name).decode(errors="replace")
-            path = "" if log_path is None else f"{log_path}: "
-            said = f"{path}table {table}: column {column + 1} contradicts the file of columns, which isn't used for this table"
-            warnings.warn(said, ColumnsWarning, stacklevel=2)
+            self.say(f"table {table}: column {column + 1} contradicts the file of columns, which isn't used for this table")
 
 
 def _as_bytes(name: Union[str, bytes]) -> bytes:
@@ -299,8 +305,10 @@ class Event(_Item, Content):
         """
         if self.event_type != EventType.TRANSACTION_PAYLOAD_EVENT:
             return iter(())
-        columns = self._log._columns
-        return payload_events(program, self._log._alone(self), self.position, columns.whole_text if columns else b"")
+        columns, alone = self._log._columns, self._log._alone(self)
+        if columns is None:
+            return payload_events(program, alone, self.position)
+        return payload_events(program, alone, self.position, columns.whole_text, columns.say)
 
     def __repr__(self) -> str:
         return f"<Event type {self.event_type} at {self.position}, {self.event_size} bytes>"

@@ -204,7 +204,9 @@ def page(report: Report) -> str:
     ]
     head = f'<meta charset="utf-8">\n<meta name="viewport" content="width=device-width">\n<title>Binary logs</title>\n<style>{_CSS}</style>'
     body = "\n".join(["<h1>Binary logs</h1>", _summary(report), *sections])
-    return f'<!DOCTYPE html>\n<html lang="en">\n<head>\n{head}\n</head>\n<body>\n{body}\n</body>\n</html>\n'
+    text = f'<!DOCTYPE html>\n<html lang="en">\n<head>\n{head}\n</head>\n<body>\n{body}\n</body>\n</html>\n'
+    # Names of files need not be UTF-8.
+    return text.encode(errors="surrogateescape").decode(errors="replace")
 
 
 def _refuse_log(path: _statistics.Path, files: Iterable[_statistics.Path]) -> None:

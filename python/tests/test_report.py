@@ -257,6 +257,16 @@ class Page(WithProgram):
         self.assertLess(cells.names.index("damage"), cells.names.index("bytes"))
         self.assertNotIn("Damage", Cells(report.page(_statistics.report([self.files[:1]], self.program))).texts)
 
+    def test_names_of_files_that_are_not_utf_8(self):
+        named = self.report()
+        named.files = ["log\udcff.1", "b"]
+        named.transactions.rows[0].file = named.files[0]
+        out = self.folder / "page"
+        report.write(named, out)
+        cells = Cells(out.read_text(encoding="utf-8"))
+        self.assertIn("log\ufffd.1, b", cells.texts)
+        self.assertEqual(cells.rows["largest"][1][1], "log\ufffd.1")
+
     def test_pictures(self):
         page = report.page(self.report())
         cells = Cells(page)
