@@ -159,7 +159,7 @@ class Rows(unittest.TestCase):
 
     def test_marias_own_events(self):
         """Those that have no rows have none in its own logs, until it encrypts them."""
-        own = [maria_events.annotate_rows("a"), maria_events.binlog_checkpoint("b"), maria_events.gtid_list(0, [])]
+        own = [maria_events.annotate_rows("a"), maria_events.binlog_checkpoint("b"), maria_events.gtid_list(0, [(0, 1, 2)])]
         own += [maria_events.query_compressed("c", None), maria_events.gtid(1, 0, 7)]
         events = [(event.type, event.body) for event in own]
         found = self.compare(row_lines.content_of(row_lines.VERSIONS[1], [*events, *INSIDE]))
