@@ -56,7 +56,7 @@ class Followed:
     while an object is waited for.
 
     Each is an object of docs/JSON.md. It raises ProgramError where the program ends, as at damage. An object that comes after its waiter
-    was cancelled is the next one. The program ends with this process, and once nothing names the Followed any more.
+    was cancelled is the next one. The program ends where this process exits, and once nothing names the Followed any more.
     """
 
     def __init__(self, command: list[str]) -> None:
