@@ -15,7 +15,10 @@ FILE = "libbinlog.so"
 ITEM = struct.Struct("=4Q4IHBB4s2I")
 
 
-# The number of the error of a text that isn't that of a file of columns, and of logs that can't be undone.
+# The number of the error of want of memory, of a cursor that is no place, of a text that isn't that of a file of columns, and of logs
+# that can't be undone.
+MEMORY = 12
+INVALID_CURSOR = 100
 INVALID_COLUMNS = 103
 REFUSED = 119
 
@@ -72,6 +75,33 @@ class ColumnsFaultStruct(ctypes.Structure):
         ("column", ctypes.c_uint64),
         ("kind", ctypes.c_uint64),
     ]
+
+
+class _BufferStruct(ctypes.Structure):
+    """Py_buffer of Python's interface for C."""
+
+    _fields_ = [
+        ("buf", ctypes.c_void_p),
+        ("obj", ctypes.c_void_p),
+        ("len", ctypes.c_ssize_t),
+        ("itemsize", ctypes.c_ssize_t),
+        ("readonly", ctypes.c_int),
+        ("ndim", ctypes.c_int),
+        ("format", ctypes.c_void_p),
+        ("shape", ctypes.c_void_p),
+        ("strides", ctypes.c_void_p),
+        ("suboffsets", ctypes.c_void_p),
+        ("internal", ctypes.c_void_p),
+    ]
+
+
+def address_of(view: memoryview) -> ctypes.c_void_p:
+    """Where the bytes of a view lie as long as it is there. ctypes itself says it of memory alone that may be written."""
+    buffer = _BufferStruct()
+    ctypes.pythonapi.PyObject_GetBuffer(ctypes.py_object(view), ctypes.byref(buffer), 0)
+    address = ctypes.c_void_p(buffer.buf)
+    ctypes.pythonapi.PyBuffer_Release(ctypes.byref(buffer))
+    return address
 
 
 def _path() -> str:

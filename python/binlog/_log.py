@@ -13,9 +13,9 @@ from ._bodies import value_of
 from ._columns import Columns, DeclaredTables, TableName, declared
 from ._content import Content
 from ._errors import ColumnsWarning, InvalidLog, LogError
-from ._library import ITEM, LIBRARY, CursorStruct
+from ._library import INVALID_CURSOR, ITEM, LIBRARY, CursorStruct, address_of
 from ._payloads import PayloadEvent, payload_events
-from ._types import EventType
+from ._types import EventType, MariaEventType, name_of
 
 # How many items a call has room for.
 _BATCH = 512
@@ -30,6 +30,9 @@ _LINES = 1 << 18
 
 # The types whose events name a table map by its id.
 _ROWS = frozenset((23, 24, 25, 30, 31, 32, 39))
+
+# MariaDB's own types.
+_MARIAS = frozenset(MariaEventType)
 
 # What the library has for no column of a table.
 _NO_COLUMN = ctypes.c_size_t(-1).value
@@ -48,6 +51,13 @@ class Cursor(NamedTuple):
     position: int
     description: int
     ended: int = 0
+
+
+def _place(cursor: Cursor) -> CursorStruct:
+    """A cursor as the library takes it, which has 64 bits for each number."""
+    if any(not 0 <= number < 1 << 64 for number in cursor):
+        raise LogError(INVALID_CURSOR, cursor[0])
+    return CursorStruct(*cursor)
 
 
 class _TableMaps:
@@ -102,6 +112,20 @@ class _TableColumns:
         self._names: dict[tuple[int, bytes], TableName] = {}
         self._texts: dict[tuple[TableName, ...], bytes] = {}
         self._warned: set[TableName] = set()
+        self._said: set[str] = set()
+
+    def inside(self, log: "Log") -> "_TableColumns":
+        """The same of the events inside a compressed transaction of this log. A table has no second warning there."""
+        found = _TableColumns(log, self._declared)
+        found._warned, found._said = self._warned, self._said
+        return found
+
+    def say(self, message: str) -> None:
+        """Warns of a table, once a log."""
+        if message not in self._said:
+            self._said.add(message)
+            path = "" if self._log._path is None else f"{self._log._path}: "
+            warnings.warn(f"{path}{message}", ColumnsWarning, stacklevel=2)
 
     @property
     def whole_text(self) -> bytes:
@@ -140,8 +164,7 @@ class _TableColumns:
         if column != _NO_COLUMN:
             self._warned.add(name)
             table = b".".join(name).decode(errors="replace")
-            said = f"table {table}: column {column + 1} contradicts the file of columns, which isn't used for this table"
-            warnings.warn(said, ColumnsWarning, stacklevel=2)
+            self.say(f"table {table}: column {column + 1} contradicts the file of columns, which isn't used for this table")
 
 
 def _as_bytes(name: Union[str, bytes]) -> bytes:
@@ -224,6 +247,15 @@ class Event(_Item, Content):
 
     __slots__ = ("_maps", "_members")
 
+    @property
+    def name(self) -> Optional[str]:
+        """The name of the event's type, as the lines of JSON have it: also of one of MariaDB's own in a log that MariaDB wrote. None for an
+        unknown type."""
+        kind = self._fields[9]
+        if kind in _MARIAS:
+            return name_of(kind) if self._log._is_marias(self._fields) else None
+        return None if self.type is None else name_of(kind)
+
     def __init__(self, log: "Log", fields: tuple, table_maps: tuple[tuple, ...] = ()) -> None:
         super().__init__(log, fields)
         self._maps = table_maps
@@ -273,8 +305,10 @@ class Event(_Item, Content):
         """
         if self.event_type != EventType.TRANSACTION_PAYLOAD_EVENT:
             return iter(())
-        columns = self._log._columns
-        return payload_events(program, self._log._alone(self), self.position, columns.whole_text if columns else b"")
+        columns, alone = self._log._columns, self._log._alone(self)
+        if columns is None:
+            return payload_events(program, alone, self.position)
+        return payload_events(program, alone, self.position, columns.whole_text, columns.say)
 
     def __repr__(self) -> str:
         return f"<Event type {self.event_type} at {self.position}, {self.event_size} bytes>"
@@ -300,7 +334,7 @@ class Damage(_Item):
 
 
 class Log:
-    """A binary log in memory, which is copied only where it is neither bytes nor writable.
+    """A binary log in memory, which isn't copied: bytes, or what else gives its bytes, as a memoryview or an mmap.
 
     Iterating over it gives its events, and raises LogError in the place of a damaged one. `items` goes on behind such.
     The bytes have to stay as they are while the log is in use.
@@ -316,15 +350,10 @@ class Log:
     """
 
     def __init__(self, content: Buffer, *, verify: bool = False, columns: Optional[Columns] = None) -> None:
-        if isinstance(content, memoryview) and content.readonly:
-            content = bytes(content)
-        self._bytes = memoryview(content)
+        # As single bytes, whatever the items of the content are. The view keeps the content where it is.
+        self._bytes = memoryview(content).cast("B")
         self._size = self._bytes.nbytes
-        if isinstance(content, bytes):
-            self._held: object = ctypes.c_char_p(content)
-        else:
-            self._held = (ctypes.c_char * self._size).from_buffer(content)
-        self._at = ctypes.cast(self._held, ctypes.c_void_p)  # type: ignore[arg-type]
+        self._at = address_of(self._bytes)
         first = CursorStruct()
         error = LIBRARY.binlog_open(self._at, self._size, first)
         if error:
@@ -332,10 +361,15 @@ class Log:
         self._first = Cursor(first.position, first.description, first.ended)
         self._fill = LIBRARY.binlog_next_verified if verify else LIBRARY.binlog_next
         self._rest: Optional[int] = None
+        # That of the file, where the log is opened by it.
+        self._path: Optional[str] = None
+        # Whether a description is MariaDB's, by its place.
+        self._marias: dict[int, bool] = {}
         self._columns = None if columns is None else _TableColumns(self, declared(columns))
 
-    def __len__(self) -> int:
-        """How many bytes the log has."""
+    @property
+    def size(self) -> int:
+        """How many bytes the log has. It has no length, of which `list` and `tuple` would make room for as many events."""
         return self._size
 
     @property
@@ -349,6 +383,10 @@ class Log:
             for _ in self.batches():
                 pass
         return self._rest or 0
+
+    def _rest_at(self, cursor: Cursor) -> int:
+        """How many bytes there are from a place on, if they are the beginning of an event; otherwise 0."""
+        return LIBRARY.binlog_rest(self._at, self._size, _place(cursor))
 
     def _line(self, fields: tuple, table_maps: tuple[tuple, ...], index: int) -> bytes:
         """The line of JSON of an item, with these table maps."""
@@ -377,8 +415,9 @@ class Log:
             if error.value:
                 raise LogError(error.value, fields[0])
         inside = Log(ctypes.string_at(content, size))
+        inside._path = self._path
         if self._columns is not None:
-            inside._columns = _TableColumns(inside, self._columns._declared)
+            inside._columns = self._columns.inside(inside)
         return inside
 
     def _alone(self, event: Event) -> bytes:
@@ -390,6 +429,13 @@ class Log:
     def _plain_line(self, fields: tuple) -> bytes:
         """The line of JSON of an item that isn't a row event."""
         return self._line(fields, (), 0)
+
+    def _is_marias(self, fields: tuple) -> bool:
+        """Whether MariaDB wrote an event of one of its own types: these have names in a log whose description in force is one of MariaDB's."""
+        found = self._marias.get(fields[1])
+        if found is None:
+            found = self._marias[fields[1]] = json.loads(self._plain_line(fields))["name"] is not None
+        return found
 
     def _columns_of(self, table_maps: tuple[tuple, ...]) -> Union[tuple[()], tuple[bytes, int]]:
         """The text of a file of the columns of these tables, and its length; nothing if there is none."""
@@ -424,7 +470,7 @@ class Log:
 
         Raises LogError, InvalidCursor, where the place isn't one of this log.
         """
-        place = CursorStruct(*(self._first if start is None else start))
+        place = _place(self._first if start is None else start)
         items = ctypes.create_string_buffer(_BATCH * ITEM.size)
         error = ctypes.c_uint8()
         count = _BATCH
@@ -470,7 +516,7 @@ class Log:
 
 
 def open(path: Union[str, "os.PathLike[str]"], *, verify: bool = False, columns: Optional[Columns] = None) -> Log:
-    """The binary log in a file, which is mapped into memory and has to stay as long as it is.
+    """The binary log in a file, which is mapped into memory and has to stay as long as it is. What isn't a file, as a pipe, is read to its end.
 
     verify: whether checksums are verified, as Log says.
     columns: files of columns, as Log says: a path, a binary file, or several of these.
@@ -480,7 +526,9 @@ def open(path: Union[str, "os.PathLike[str]"], *, verify: bool = False, columns:
     """
     with builtins.open(path, "rb") as file:
         if os.fstat(file.fileno()).st_size == 0:
-            return Log(b"", verify=verify, columns=columns)
-        # A private mapping: ctypes takes the place of writable memory alone. Nothing is written.
-        mapping = mmap.mmap(file.fileno(), 0, access=mmap.ACCESS_COPY)
-        return Log(mapping, verify=verify, columns=columns)
+            content: Buffer = file.read()
+        else:
+            content = mmap.mmap(file.fileno(), 0, access=mmap.ACCESS_READ)
+    log = Log(content, verify=verify, columns=columns)
+    log._path = os.fsdecode(path)
+    return log

@@ -4,7 +4,7 @@ import json
 import os
 import subprocess
 import tempfile
-from collections.abc import Iterator
+from collections.abc import Callable, Iterator
 from typing import Any, Optional, Union
 
 from ._content import Content
@@ -14,6 +14,9 @@ from ._types import EventType
 
 # The exit statuses with which what is printed is whole: all is well, and damage.
 _WHOLE = (0, 2)
+
+# How the message ends of a table that contradicts the file of columns.
+_CONTRADICTS = b"contradicts the file of columns, which isn't used for this table"
 
 
 class PayloadEvent(Content):
@@ -52,6 +55,11 @@ class PayloadEvent(Content):
             return None
 
     @property
+    def name(self) -> Optional[str]:
+        """The name of the event's type, as the lines of JSON have it; None for an unknown type."""
+        return self._members["name"]
+
+    @property
     def timestamp(self) -> int:
         """When the event was created, in seconds since 1970."""
         return self._members["timestamp"]
@@ -76,13 +84,22 @@ class PayloadEvent(Content):
 
 
 def payload_events(
-    stated: Optional[Union[str, "os.PathLike[str]"]], log: bytes, position: int, columns: bytes
+    stated: Optional[Union[str, "os.PathLike[str]"]],
+    log: bytes,
+    position: int,
+    columns: bytes = b"",
+    warn: Optional[Callable[[str], None]] = None,
 ) -> Iterator[PayloadEvent]:
-    """The events inside the last event of a small log, which begins at this place of its own log, with the text of a file of columns.
+    """The events inside the last event of a small log, which begins at this place of its own log, with the text of a file of columns. `warn`
+    is told of each table that contradicts it.
 
     Raises what Event.payload_events says.
     """
-    for line in _lines(program(stated), log, columns):
+    lines, messages = _lines(program(stated), log, columns)
+    for message in messages:
+        if warn and message.endswith(_CONTRADICTS):
+            warn(message.removeprefix(b"binlog: ").decode(errors="replace"))
+    for line in lines:
         members = json.loads(line)
         if "part" not in members:
             continue
@@ -91,7 +108,8 @@ def payload_events(
         yield PayloadEvent(members, position)
 
 
-def _lines(command: str, log: bytes, columns: bytes) -> list[bytes]:
+def _lines(command: str, log: bytes, columns: bytes) -> tuple[list[bytes], list[bytes]]:
+    """What the program prints, and its messages."""
     if not columns:
         return _asked([command, "json", "-"], log)
     with tempfile.NamedTemporaryFile(prefix="binlog-", suffix=".tsv") as file:
@@ -100,11 +118,11 @@ def _lines(command: str, log: bytes, columns: bytes) -> list[bytes]:
         return _asked([command, "json", "--columns", file.name, "-"], log)
 
 
-def _asked(words: list[str], log: bytes) -> list[bytes]:
+def _asked(words: list[str], log: bytes) -> tuple[list[bytes], list[bytes]]:
     try:
         ran = subprocess.run(words, input=log, capture_output=True)
     except OSError as error:
         raise ProgramError(f"{words[0]}: {error.strerror}") from error
     if ran.returncode not in _WHOLE:
         raise ProgramError(ran.stderr.decode(errors="replace").strip() or f"{words[0]}: status {ran.returncode}")
-    return ran.stdout.splitlines()
+    return ran.stdout.splitlines(), ran.stderr.split(b"\n")

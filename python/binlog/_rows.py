@@ -21,17 +21,17 @@ _OPERATIONS = {
 # The types of the events with which transactions begin.
 _BEGINNINGS = (EventType.GTID_EVENT, EventType.GTID_TAGGED_LOG_EVENT, EventType.ANONYMOUS_GTID_EVENT, MariaEventType.GTID_EVENT)
 
-# Those whose rows aren't read, and that of an event which says that events are lost.
+# Those whose rows aren't read, and those of events which say that events are lost, or that all behind them are encrypted.
 _UNREAD = frozenset(
     (
         EventType.PRE_GA_WRITE_ROWS_EVENT,
         EventType.PRE_GA_UPDATE_ROWS_EVENT,
         EventType.PRE_GA_DELETE_ROWS_EVENT,
         EventType.INCIDENT_EVENT,
+        MariaEventType.START_ENCRYPTION_EVENT,
         *(kind for kind in MariaEventType if "ROWS_COMPRESSED" in kind.name),
     )
 )
-_KNOWN = frozenset((*EventType, *MariaEventType)) - _UNREAD
 
 
 class Row(NamedTuple):
@@ -65,16 +65,22 @@ def rows(log: Union[Path, Log], start: Optional[Cursor] = None) -> Iterator[Row]
     None is passed over. It raises LogError in the place of a damaged event, of one with rows or a GTID that can't be read, and of a
     compressed transaction that can't be, or has such an event; and RowsError where a row can't be read: its name is NoTableMap where no
     table map is in force, and Unread of events that may have rows, or say that some are lost, and aren't read, or have no bytes of rows.
-    Their type is in `details`.
+    Their type is in `details`. Unread is also an event of an unknown type, and the one behind which a log of MariaDB's is encrypted. Tail
+    comes last, where the log ends within an event, as one that was cut, or is being written.
     """
+    found = log if isinstance(log, Log) else open(log)
     gtid: Optional[str] = None
-    for event in (log if isinstance(log, Log) else open(log)).events(start):
+    place = found._first if start is None else Cursor(*start)
+    for event in found.events(start):
+        place = Cursor(event.position + event.event_size, 0)
         if event.event_type in _BEGINNINGS:
             gtid = _gtid(event)
         elif event.event_type == EventType.TRANSACTION_PAYLOAD_EVENT:
             yield from _rows_inside(event, gtid)
         else:
             yield from _rows_of(event, event.position, None, gtid)
+    if found._rest_at(place):
+        raise RowsError({"error": "Tail"}, place.position)
 
 
 def _gtid(event: Event) -> Optional[str]:
@@ -93,7 +99,7 @@ def _rows_of(event: Event, position: int, part: Optional[int], gtid: Optional[st
     """The rows of an event; none if it isn't a row event."""
     op = _OPERATIONS.get(event.event_type)  # type: ignore[call-overload]
     if op is None:
-        if event.event_type not in _KNOWN:
+        if event.event_type in _UNREAD or event.name is None:
             raise _unread(event)
         return []
     found, table = event.rows, event.table

@@ -38,6 +38,11 @@ def _argument(path: Path) -> str:
     return f"./{text}" if text.startswith("-") else text
 
 
+def _listed(files: Union[Path, Iterable[Path]]) -> list[Path]:
+    """Files, or one."""
+    return [files] if isinstance(files, (str, os.PathLike)) else list(files)
+
+
 @dataclass
 class Answer:
     """What the program printed, and its messages, which are lines, too, and its exit status."""
@@ -54,7 +59,8 @@ def ask(stated: Optional[Path], words: Sequence[Union[str, bytes]], files: Itera
         ran = subprocess.run([command, *words, *map(_argument, files)], stdin=subprocess.DEVNULL, capture_output=True)
     except OSError as error:
         raise ProgramError(f"{command}: {error.strerror}") from error
-    lines, messages = (text.decode(errors="replace").splitlines() for text in (ran.stdout, ran.stderr))
+    # Names may have signs at which other lines than these end.
+    lines, messages = ([line.decode(errors="replace") for line in text.splitlines()] for text in (ran.stdout, ran.stderr))
     if ran.returncode not in _WHOLE:
         raise ProgramError("\n".join(messages) or f"{command}: status {ran.returncode}")
     return Answer(lines, messages, ran.returncode)

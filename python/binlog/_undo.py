@@ -10,7 +10,7 @@ from typing import Optional, Union
 
 from ._program import ProgramError, program as program_at
 from ._refusals import Refusal, Undone, UndoneTable, UndoRefused
-from ._statistics import Path, _argument
+from ._statistics import Path, _argument, _listed
 from ._undo_library import made_log
 
 # The exit status with which something is refused.
@@ -63,7 +63,8 @@ def undo(
         and checks no rows.
 
     Raises UndoRefused where something can't be undone, FileExistsError if there is a file `out`, and ProgramError where the program isn't
-    found, or fails; BinlogError or OSError in place of it where the library makes the log. Nothing is written then.
+    found, or fails; where the library makes the log, in place of it BinlogError or OSError, or ValueError for what it doesn't take. Nothing
+    is written then.
     """
     paths, behind = _listed(files), _listed(later)
     if out is not None and os.path.exists(out):
@@ -75,6 +76,8 @@ def undo(
             raise ValueError("the library takes no later logs")
         if check_rows:
             raise ValueError("the library checks no rows")
+        if not paths:
+            raise ValueError("no log is named")
         made = made_log(
             [FilePath(path).read_bytes() for path in paths],
             [os.fspath(path) for path in paths],
@@ -110,11 +113,6 @@ def undo(
     return _asked(program, words, [_argument(path) for path in paths], [_argument(path) for path in behind])
 
 
-def _listed(files: Union[Path, Iterable[Path]]) -> list[Path]:
-    """Files, or one."""
-    return [files] if isinstance(files, (str, os.PathLike)) else list(files)
-
-
 def _write(log: bytes, out: str) -> None:
     """Writes a log, which is there whole or not at all."""
     part = f"{out}.part"
@@ -142,7 +140,8 @@ def _asked(stated: Optional[Path], words: list[str], paths: list[str], behind: l
         ran = subprocess.run([command, "undo", *words, *paths], stdin=subprocess.DEVNULL, capture_output=True)
     except OSError as error:
         raise ProgramError(f"{command}: {error.strerror}") from error
-    lines = os.fsdecode(ran.stderr).splitlines()
+    # Names may have signs at which other lines than these end.
+    lines = os.fsdecode(ran.stderr).rstrip("\n").split("\n")
     refusals = [refusal for line in lines for refusal in _refusals(line, [*paths, *behind])]
     if ran.returncode == _REFUSED and refusals:
         raise UndoRefused(refusals)

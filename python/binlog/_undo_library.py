@@ -67,6 +67,13 @@ def _skip(reasons: Iterable[str]) -> int:
     return bits
 
 
+def _position(name: str, position: int) -> int:
+    """A position, which the library takes in 64 bits."""
+    if not 0 <= position <= _TO_END:
+        raise ValueError(f"{name} isn't in 0 to 2**64 - 1")
+    return position
+
+
 def _tables(names: Iterable[str]) -> bytes:
     """The names of tables as the library takes them."""
     text = b""
@@ -106,10 +113,12 @@ class _Call:
         return length
 
     def refusals(self, names: Sequence[str]) -> tuple[Refusal, ...]:
-        """What can't be undone, by the last call; another one is made if there was no room for all."""
+        """What can't be undone, by the last call; another one is made if there was no room for all, which may lack memory."""
         if self.undone.refusals > len(self._refusals):
             self._refusals = (RefusalStruct * self.undone.refusals)()
             self.length()
+            if self.error not in (0, REFUSED):
+                raise BinlogError(self.error)
         return tuple(_refusal(one, names) for one in self._refusals[: self.undone.refusals])
 
 
@@ -129,8 +138,8 @@ def made_log(
     """The log that undoes logs, of which refusals have these names."""
     flags = [(_NO_FOREIGN_KEY_CHECKS, not foreign_key_checks), (_ONE_TRANSACTION, one_transaction), (_PLAIN_OLD_TEMPORAL, plain_old_temporal)]
     options = UndoOptionsStruct(
-        start_position,
-        _TO_END if stop_position is None else stop_position,
+        _position("start_position", start_position),
+        _TO_END if stop_position is None else _position("stop_position", stop_position),
         _skip(skip),
         sum(flag for flag, is_given in flags if is_given),
     )

@@ -3,11 +3,12 @@
 import os
 from collections.abc import Iterable, Iterator
 from dataclasses import dataclass, field
+from itertools import chain
 from typing import NamedTuple, Optional, Union
 
 from ._errors import LogError
-from ._library import error_name, error_text
-from ._log import Event, open
+from ._library import MEMORY, error_name, error_text
+from ._log import Event, Log, open
 from ._types import EventType, MariaEventType, name_of
 
 Path = Union[str, "os.PathLike[str]"]
@@ -34,7 +35,8 @@ class Verification(NamedTuple):
     events: how many events could be read.
     bytes: how many bytes these have.
     checksums: how many of them have a checksum, which is right.
-    damaged: the other events, in the order of the log.
+    damaged: the other events, and those whose compressed transaction can't be read, which are among the events, too, in the order of the
+        log.
     rest: how many bytes lie behind them: where the log ends within an event, those of its beginning, otherwise 0.
     """
 
@@ -57,22 +59,36 @@ def _damaged_event(index: int, fields: tuple) -> DamagedEvent:
     return DamagedEvent(index, fields[0], error_name(fields[10]), text)
 
 
-def verify(path: Path) -> Verification:
-    """Verifies all checksums of a log.
+def _payload_error(log: Log, fields: tuple) -> int:
+    """The number of what is wrong first with a compressed transaction, or 0."""
+    try:
+        inside = log._inside(fields)
+    except LogError as error:
+        if error.number == MEMORY:
+            raise
+        return error.number
+    return next((item[10] for batch in inside.batches() for item in batch if item[10]), 0)
 
-    Raises InvalidLog where the file doesn't begin with the file header, and OSError where it can't be read.
+
+def verify(path: Path) -> Verification:
+    """Verifies all checksums of a log, and reads its compressed transactions.
+
+    Raises InvalidLog where the file doesn't begin with the file header, OSError where it can't be read, and LogError, Memory, where memory
+    runs out.
     """
     count = size = checksums = 0
     damaged: list[DamagedEvent] = []
     log = open(path, verify=True)
-    for batch in log.batches():
-        for fields in batch:
-            if fields[10]:
-                damaged.append(_damaged_event(count + len(damaged), fields))
-                continue
-            count += 1
-            size += fields[6]
-            checksums += fields[12]
+    for index, fields in enumerate(chain.from_iterable(log.batches())):
+        if fields[10]:
+            damaged.append(_damaged_event(index, fields))
+            continue
+        count += 1
+        size += fields[6]
+        checksums += fields[12]
+        error = _payload_error(log, fields) if fields[9] == EventType.TRANSACTION_PAYLOAD_EVENT else 0
+        if error:
+            damaged.append(DamagedEvent(index, fields[0], error_name(error), error_text(error)))
     return Verification(count, size, checksums, tuple(damaged), log.rest)
 
 

@@ -23,7 +23,6 @@ from dask.delayed import Delayed
 from . import _log, _statistics, _whole
 from ._columns import DeclaredTables, Sources
 from ._log import Damage, Event
-from ._types import name_of
 from ._whole import Stats
 
 Files = Union[str, "os.PathLike[str]", Iterable[Union[str, "os.PathLike[str]"]]]
@@ -88,7 +87,7 @@ def _object(path: str, index: int, item: Union[Event, Damage]) -> dict[str, Any]
     return {
         **found,
         "type": item.event_type,
-        "name": None if item.type is None else name_of(item.event_type),
+        "name": item.name,
         "timestamp": item.timestamp,
         "server_id": item.server_id,
         "event_size": item.event_size,

@@ -21,7 +21,7 @@ from ._statistics import Changes, Report, Transaction
 
 __all__ = ["ProgramError", "Report", "page", "read", "write", "write_pictures"]
 
-Files = Iterable[Union[str, "os.PathLike[str]"]]
+Files = Union[_statistics.Path, Iterable[_statistics.Path]]
 
 # What a cell of a table has.
 _Value = Union[str, int]
@@ -48,14 +48,14 @@ td:first-child, #gtids td { overflow-wrap: anywhere; white-space: normal }
 
 
 def read(files: Files, *, program: Optional[_statistics.Path] = None, seconds: Optional[int] = None) -> Report:
-    """What the program says of logs.
+    """What the program says of logs, or of one.
 
     program: the program `binlog`; if not given, the one that the variable BINLOG_PROGRAM names, or the one that the system finds.
     seconds: the length of an interval of time; if not given, one of which at most 200 cover the logs.
 
     Raises ProgramError where the program isn't found, or fails.
     """
-    return _statistics.report([list(map(os.fspath, files))], program, seconds)
+    return _statistics.report([list(map(os.fspath, _statistics._listed(files)))], program, seconds)
 
 
 # ---- parts of the page
@@ -204,11 +204,21 @@ def page(report: Report) -> str:
     ]
     head = f'<meta charset="utf-8">\n<meta name="viewport" content="width=device-width">\n<title>Binary logs</title>\n<style>{_CSS}</style>'
     body = "\n".join(["<h1>Binary logs</h1>", _summary(report), *sections])
-    return f'<!DOCTYPE html>\n<html lang="en">\n<head>\n{head}\n</head>\n<body>\n{body}\n</body>\n</html>\n'
+    text = f'<!DOCTYPE html>\n<html lang="en">\n<head>\n{head}\n</head>\n<body>\n{body}\n</body>\n</html>\n'
+    # Names of files need not be UTF-8.
+    return text.encode(errors="surrogateescape").decode(errors="replace")
+
+
+def _refuse_log(path: _statistics.Path, files: Iterable[_statistics.Path]) -> None:
+    """Raises FileExistsError where the file to write is one of these logs."""
+    for file in files:
+        if os.path.exists(path) and os.path.exists(file) and os.path.samefile(path, file):
+            raise FileExistsError(f"{os.fspath(path)}: the output is one of the files that are read")
 
 
 def write(report: Report, path: Union[str, "os.PathLike[str]"]) -> None:
-    """Writes the page to a file."""
+    """Writes the page to a file. Raises FileExistsError where that is one of the logs."""
+    _refuse_log(path, report.files)
     Path(path).write_text(page(report), encoding="utf-8")
 
 
@@ -255,6 +265,7 @@ def main(words: Optional[Sequence[str]] = None) -> int:
     """Writes the page. The exit status is that of `binlog verify`, or 3 where the page can't be made."""
     given = _arguments(words)
     try:
+        _refuse_log(given.output, given.files)
         report = read(given.files, program=given.program, seconds=given.interval)
         write(report, given.output)
         if given.png:

@@ -1,7 +1,11 @@
 """Tests of the package, over the logs of the repository's tests."""
 
+import mmap
+import operator
+import os
 import sys
 import tempfile
+import threading
 import unittest
 from pathlib import Path
 
@@ -58,6 +62,51 @@ class Logs(unittest.TestCase):
         for content in (CHECKSUMMED, changeable, memoryview(CHECKSUMMED), memoryview(changeable)):
             self.check_listing(content)
 
+    def test_items_of_other_sizes(self):
+        for content in (CHECKSUMMED, SAMPLE):
+            whole = content[: len(content) // 8 * 8]
+            for format_ in "bcIQ":
+                view = memoryview(bytearray(whole)).cast(format_)
+                self.check_listing(view)
+                self.assertEqual([event.raw for event in binlog.Log(view)], [event.raw for event in binlog.Log(whole)])
+        with self.assertRaises(TypeError):
+            binlog.Log(memoryview(bytearray(SAMPLE))[::2])
+
+    def test_a_mapping(self):
+        with tempfile.TemporaryFile() as file:
+            file.write(SAMPLE)
+            file.flush()
+            for access in (mmap.ACCESS_READ, mmap.ACCESS_COPY, mmap.ACCESS_WRITE):
+                mapping = mmap.mmap(file.fileno(), 0, access=access)
+                self.assertEqual(list(listing(binlog.Log(mapping))), wanted(SAMPLE))
+                log = binlog.Log(mapping)
+                # It stays where it is.
+                with self.assertRaises(BufferError):
+                    mapping.close()
+                self.assertEqual(len(list(log)), len(wanted(SAMPLE)))
+
+    def test_a_file_larger_than_memory(self):
+        with tempfile.TemporaryDirectory() as folder:
+            path = Path(folder, "mysql-bin.000001")
+            path.write_bytes(SAMPLE)
+            try:
+                os.truncate(path, 1 << 40)
+            except OSError as error:
+                self.skipTest(f"no file of a tebibyte can be made here: {error.strerror}")
+            *events, damage = binlog.open(path).items()
+        self.assertEqual([event.raw for event in events], [event.raw for event in binlog.Log(SAMPLE)])
+        self.assertEqual((damage.error.name, damage.position), ("EventSizeTooSmall", len(SAMPLE)))
+
+    def test_a_pipe(self):
+        with tempfile.TemporaryDirectory() as folder:
+            path = Path(folder, "pipe")
+            os.mkfifo(path)
+            writing = threading.Thread(target=path.write_bytes, args=(SAMPLE,), daemon=True)
+            writing.start()
+            log = binlog.open(path)
+            writing.join()
+        self.assertEqual([event.raw for event in log], [event.raw for event in binlog.Log(SAMPLE)])
+
     def test_a_file(self):
         with tempfile.TemporaryDirectory() as folder:
             path = Path(folder, "mysql-bin.000001")
@@ -80,7 +129,9 @@ class Events(unittest.TestCase):
     def test_the_whole_log_is_its_events(self):
         log = binlog.Log(SAMPLE)
         self.assertEqual(listing_model.FILE_HEADER + b"".join(event.raw for event in log), SAMPLE)
-        self.assertEqual(len(log), len(SAMPLE))
+        self.assertEqual(log.size, len(SAMPLE))
+        # Nobody makes room for as many events as there are bytes.
+        self.assertEqual(operator.length_hint(log), 0)
 
     def test_fields(self):
         event = next(iter(binlog.Log(SAMPLE)))
@@ -123,7 +174,8 @@ class Damaged(unittest.TestCase):
 
     def test_cursors_that_are_no_place(self):
         log = binlog.Log(SAMPLE)
-        for place in ((0, 0), (3, 0), (len(SAMPLE) + 1, 0), (2**64 - 1, 0), (4, 5), (4, len(SAMPLE)), (4, 2**64 - 1)):
+        beyond = [(2**64 + 4, 0), (4, 2**64), (4, 0, 2**64), (-1, 0), (4, -1)]
+        for place in ((0, 0), (3, 0), (len(SAMPLE) + 1, 0), (2**64 - 1, 0), (4, 5), (4, len(SAMPLE)), (4, 2**64 - 1), *beyond):
             with self.assertRaises(binlog.LogError) as raised:
                 next(log.items(binlog.Cursor(*place)))
             self.assertEqual(raised.exception.name, "InvalidCursor")

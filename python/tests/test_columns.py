@@ -3,6 +3,7 @@
 import io
 import json
 import pickle
+import random
 import sys
 import tempfile
 import unittest
@@ -14,6 +15,7 @@ sys.path.insert(0, str(Path(__file__).resolve().parents[2] / "tests"))
 import binlog
 import column_files
 import declared_columns
+import payload_lines
 import row_lines
 import row_values
 from declared_model import Declared
@@ -71,6 +73,21 @@ class Columns(unittest.TestCase):
                     for (schema, table), column in expected.contradictions.items()
                 ]
                 self.assertEqual(sorted(said), sorted(wanted))
+
+    def test_a_warning_for_each_log(self):
+        """Python shows a warning of the same text once; in each log a table is warned of once, also inside compressed transactions."""
+        other = declared_columns.file_text({("d", "t"): [("id", Declared("text", "latin1", None)), *DECLARED[1:]]})
+        inside = payload_lines.with_payload(random.Random(7), [TABLE, ROW], "raw")
+        content = payload_lines.log_of([inside, inside, TABLE, ROW, inside])
+        with tempfile.TemporaryDirectory() as folder, warnings.catch_warnings(record=True) as caught:
+            warnings.simplefilter("default")
+            paths = [Path(folder) / name for name in ("log.1", "log.2")]
+            for path in paths:
+                path.write_bytes(content)
+                rows = list(binlog.rows(binlog.open(path, columns=io.BytesIO(other))))
+                self.assertEqual([row.after for row in rows], [{"@1": -1, "@2": 2}] * 4)
+        said = "table d.t: column 1 contradicts the file of columns, which isn't used for this table"
+        self.assertEqual([str(warning.message) for warning in caught], [f"{path}: {said}" for path in paths])
 
     def test_a_table_in_whose_file_lines_stand_apart(self):
         lines = FILE.splitlines(keepends=True)

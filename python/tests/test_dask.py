@@ -20,6 +20,7 @@ import binlog
 import declared_columns
 import json_model
 import listing_model
+import maria_events
 import samples
 import test_columns
 
@@ -76,6 +77,16 @@ class ManyLogs(unittest.TestCase):
         self.check_objects(bag.compute(scheduler="sync"), paths, "data")
         rotates = bag.filter(lambda event: event.get("name") == "ROTATE_EVENT").count().compute(scheduler="sync")
         self.assertEqual(rotates, sum(line.get("name") == "ROTATE_EVENT" for log in LOGS for line in members(log, "data")))
+
+    def test_names_of_marias_events(self):
+        """MariaDB's own types have names in its logs alone."""
+        maria = next(maria_events.logs())
+        paths = self.files([maria.content, ALL_TYPES])
+        found = binlog.dask.events(paths).compute(scheduler="sync")
+        wanted = [json.loads(line).get("name") for line in maria.lines.splitlines()]
+        self.assertEqual([event.get("name") for event in found if event["file"] == paths[0]], wanted)
+        self.assertTrue({kind.name for kind in binlog.MariaEventType} <= set(wanted))
+        self.assertEqual({event.get("name") for event in found if event["file"] == paths[1] and event["index"] >= 160}, {None})
 
     def test_contents(self):
         paths = self.files(LOGS)

@@ -1,14 +1,17 @@
 """Tests of logs that are followed, over a program that prints what is written here."""
 
 import asyncio
+import gc
 import sys
 import tempfile
+import threading
 import unittest
 from pathlib import Path
 
 import binlog
 
-# A program that writes its words to a file, prints what is written in another, and then waits for ever, or ends with a message.
+# A program that writes its words to a file, prints what is written in another, and in a third one once that is there. Then it waits for
+# ever, or ends with a message.
 PROGRAM = """\
 #!{python}
 import sys
@@ -18,8 +21,12 @@ folder = Path(__file__).parent
 (folder / "words").write_text("\\0".join(sys.argv[1:]))
 sys.stdout.write((folder / "stdout").read_text())
 sys.stdout.flush()
-if not (folder / "stderr").exists():
-    time.sleep(3600)
+while not (folder / "stderr").exists():
+    if (folder / "later").exists():
+        sys.stdout.write((folder / "later").read_text())
+        sys.stdout.flush()
+        (folder / "later").unlink()
+    time.sleep(0.01)
 sys.stderr.write((folder / "stderr").read_text())
 sys.exit(2)
 """
@@ -40,6 +47,10 @@ class Following(unittest.TestCase):
         self.addCleanup(followed.close)
         return followed
 
+    def print_later(self, text):
+        (self.folder / "written").write_text(text)
+        (self.folder / "written").rename(self.folder / "later")
+
     def words(self, **options):
         with self.follow(**options) as rows:
             next(rows)
@@ -50,6 +61,9 @@ class Following(unittest.TestCase):
         options = {"state": Path("STATE"), "sync": True, "compact": False, "tables": ["s.t"], "columns": ["c.tsv"]}
         wanted = ["json", "--follow", "--sync", "--state", "STATE", "--table", "s.t", "--columns", "c.tsv", "./-log"]
         self.assertEqual(self.words(path="-log", **options), wanted)
+        one_file = ["json", "--follow", "--compact", "--columns", "c.tsv", "log.1"]
+        for columns in ("c.tsv", Path("c.tsv")):
+            self.assertEqual(self.words(columns=columns), one_file)
 
     def test_rows(self):
         with self.follow() as rows:
@@ -91,6 +105,83 @@ class Following(unittest.TestCase):
         found, ticks = asyncio.run(rows_beside_a_clock())
         self.assertEqual(found, [{"pos": 4}, {"pos": 8}])
         self.assertGreater(ticks, 10)
+
+    def test_a_wait_that_is_cancelled(self):
+        """What comes after its waiter was cancelled is the next row of whoever asks next, in order."""
+        rows, found = self.follow(), []
+
+        async def collect(count=None):
+            async for row in rows:
+                found.append(row["pos"])
+                if len(found) == count:
+                    return
+
+        async def rows_behind_a_timeout():
+            with self.assertRaises(asyncio.TimeoutError):
+                await asyncio.wait_for(collect(), 1)
+            self.print_later('{"pos":12}\n{"pos":16}\n')
+            await asyncio.wait_for(collect(4), 60)
+            with self.assertRaises(asyncio.TimeoutError):
+                await asyncio.wait_for(collect(), 0.1)
+
+        asyncio.run(rows_behind_a_timeout())
+        self.print_later('{"pos":20}\n{"pos":24}\n')
+        self.assertEqual([*found, next(rows)["pos"], next(rows)["pos"]], [4, 8, 12, 16, 20, 24])
+
+    def test_two_tasks(self):
+        """Each row goes to one of them."""
+
+        async def collected():
+            rows, found = self.follow(), []
+
+            async def collect():
+                async for row in rows:
+                    found.append(row["pos"])
+
+            tasks = [asyncio.ensure_future(collect()) for _ in range(2)]
+            await asyncio.sleep(0.01)
+            self.print_later("".join(f'{{"pos":{number}}}\n' for number in range(12, 100, 4)))
+            while len(found) < 24:
+                await asyncio.sleep(0.01)
+            for task in tasks:
+                task.cancel()
+            return found
+
+        found = asyncio.run(asyncio.wait_for(collected(), 60))
+        self.assertEqual(sorted(found), list(range(4, 100, 4)))
+
+    def test_it_is_closed_while_a_row_is_waited_for(self):
+        rows, found = self.follow(), []
+
+        def collect():
+            try:
+                found.extend([row["pos"] for row in rows])
+            except Exception as error:
+                found.append(error)
+
+        waiting = threading.Thread(target=collect)
+        waiting.start()
+        waiting.join(0.5)
+        rows.close()
+        waiting.join(60)
+        self.assertFalse(waiting.is_alive())
+        self.assertEqual(found, [4, 8][: len(found)])
+
+        async def closed_by_another_task():
+            followed = self.follow()
+            asyncio.get_running_loop().call_later(0.5, followed.close)
+            return [row["pos"] async for row in followed]
+
+        found = asyncio.run(asyncio.wait_for(closed_by_another_task(), 60))
+        self.assertEqual(found, [4, 8][: len(found)])
+
+    def test_the_program_ends_where_nothing_follows(self):
+        rows = binlog.follow("log.1", program=self.program)
+        running = rows._running
+        next(rows)
+        del rows
+        gc.collect()
+        self.assertIsNotNone(running.wait(60))
 
 
 if __name__ == "__main__":

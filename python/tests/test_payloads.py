@@ -7,6 +7,7 @@ import random
 import sys
 import tempfile
 import unittest
+import warnings
 from pathlib import Path
 from unittest import mock
 
@@ -40,7 +41,7 @@ def payload(events):
 
 
 def seen(event):
-    return event.event_type, event.type, event.event_size, event.timestamp, event.server_id, event.flags, event.body, event.table, event.rows
+    return event.event_type, event.type, event.name, event.event_size, event.timestamp, event.server_id, event.flags, event.body, event.table, event.rows
 
 
 class Payloads(unittest.TestCase):
@@ -128,6 +129,19 @@ class Payloads(unittest.TestCase):
         *_, wanted = binlog.Log(outside, columns=io.BytesIO(test_columns.FILE))
         *_, row = event.payload_log()
         self.assertEqual(row.rows, wanted.rows)
+
+    def test_files_of_columns_that_are_contradicted(self):
+        """What the program says of a table is a warning, once a log."""
+        said = 'table "d"."t": column 1 contradicts the file of columns, which isn\'t used for this table'
+        message = f"binlog: {said}\n"
+        program = self.program.read_text().replace("sys.exit(status)", f"sys.stderr.write({message!r})\nsys.exit(status)")
+        self.program.write_text(program)
+        inside = payload([test_columns.TABLE, test_columns.ROW])
+        with warnings.catch_warnings(record=True) as caught:
+            warnings.simplefilter("always")
+            for event in binlog.Log(payload_lines.log_of([inside, inside]), columns=io.BytesIO(test_columns.FILE)):
+                self.inside(event)
+        self.assertEqual([(warning.category, str(warning.message)) for warning in caught], [(binlog.ColumnsWarning, said)])
 
     def test_the_program(self):
         *_, event = binlog.Log(payload_lines.log_of([payload(INSIDE)]))

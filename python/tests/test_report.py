@@ -182,6 +182,12 @@ class Answers(WithProgram):
     def test_tables_that_can_be_asked_for_alone(self):
         self.assertEqual([str(name) for name in self.report().stacked], ["shop.orders", "\ufffd.t"])
 
+    @unittest.skipUnless(HAS_MATPLOTLIB, "no python3-matplotlib: no page about logs is tested")
+    def test_one_log(self):
+        log = self.files[0]
+        for files in (log, Path(log)):
+            self.assertEqual(report.read(files, program=self.program), self.report([log]))
+
     def test_intervals(self):
         for hours, wanted in ((1, 30), (4, 120), (25, 600), (24 * 200, 86400), (24 * 4000, 604800)):
             rows = [_statistics.Interval(time=time, transactions=1) for time in (3600, 3600 * hours)]
@@ -204,6 +210,13 @@ class Answers(WithProgram):
                 _program.program()
             (self.folder / "binlog").symlink_to(self.program)
             self.assertEqual(_program.program(), str(self.folder / "binlog"))
+
+    def test_names_with_signs_at_which_other_lines_end(self):
+        names = ("shop", "a\u2028b\u2029c\x85d")
+        found = tables(1, (0, 0), table(names, changes(1, 10, (1, 0, 0)), 1, (7200, 7200)))
+        self.answer({"stats --by table --json a": [json.dumps(line, ensure_ascii=False) for line in found]})
+        (row,) = _statistics.tables(self.program, self.files[:1]).rows
+        self.assertEqual(str(row.name), ".".join(names))
 
     def test_refusals(self):
         said = "binlog: the logs have more than 65536 tables\n"
@@ -243,6 +256,16 @@ class Page(WithProgram):
         self.assertEqual(cells.texts.index("Damage") + 1, cells.texts.index(MISMATCH.strip()))
         self.assertLess(cells.names.index("damage"), cells.names.index("bytes"))
         self.assertNotIn("Damage", Cells(report.page(_statistics.report([self.files[:1]], self.program))).texts)
+
+    def test_names_of_files_that_are_not_utf_8(self):
+        named = self.report()
+        named.files = ["log\udcff.1", "b"]
+        named.transactions.rows[0].file = named.files[0]
+        out = self.folder / "page"
+        report.write(named, out)
+        cells = Cells(out.read_text(encoding="utf-8"))
+        self.assertIn("log\ufffd.1, b", cells.texts)
+        self.assertEqual(cells.rows["largest"][1][1], "log\ufffd.1")
 
     def test_pictures(self):
         page = report.page(self.report())
@@ -294,6 +317,14 @@ class Page(WithProgram):
         for wrong in (["--interval", "1d"], ["--interval", "0s"], ["--none"]):
             self.assertEqual(self.run_main(*words, *wrong, self.files[0])[0], 64)
         self.assertEqual(self.run_main("-o", str(out))[0], 64)
+        (self.folder / "link").symlink_to(self.files[0])
+        for log in (self.files[0], str(self.folder / "link")):
+            Path(self.files[0]).write_bytes(b"a log")
+            status, said = self.run_main(*words[:2], "-o", log, *self.files)
+            self.assertEqual((status, said), (3, f"binlog.report: {log}: the output is one of the files that are read\n"))
+            with self.assertRaises(FileExistsError):
+                report.write(self.report(), log)
+            self.assertEqual(Path(self.files[0]).read_bytes(), b"a log")
         self.assertEqual(self.run_main("--program", str(self.folder / "none"), "-o", str(out), self.files[0])[0], 3)
         self.assertEqual(self.run_main("--program", str(self.program), "-o", str(self.folder / "none/page"), self.files[0])[0], 3)
 

@@ -12,6 +12,7 @@ sys.path.insert(0, str(Path(__file__).resolve().parents[2] / "tests"))
 import binlog
 import compact_model
 import encoded_events as encode
+import maria_events
 import payload_lines
 import raced_files
 import recipes
@@ -110,6 +111,24 @@ class Rows(unittest.TestCase):
         found, error = self.raised(binlog.LogError, content)
         self.assertEqual((len(found), error.name, error.position), (2, "EventSizeTooSmall", len(content) - len(UNDERSIZED)))
 
+    def test_a_log_that_ends_within_an_event(self):
+        """The rows of the whole events, and then an error in the place of those that are cut."""
+        content = recipes.logs()["mysql-bin.000007"]
+        starts = [item.position for item in binlog.Log(content).items()]
+        for end in range(starts[-3], len(content)):
+            log = binlog.Log(content[:end])
+            rows = list(wanted(content[:end]))
+            with self.subTest(end):
+                if end in starts:
+                    self.assertEqual(list(binlog.rows(log)), rows)
+                    continue
+                found, error = self.raised(binlog.RowsError, content[:end])
+                self.assertEqual((found, error.name, error.position), (rows, "Tail", max(start for start in starts if start < end)))
+                # The same from the last place on, where nothing is whole.
+                with self.assertRaises(binlog.RowsError):
+                    next(binlog.rows(log, binlog.Cursor(error.position, 4)))
+        self.assertEqual(list(binlog.rows(log, binlog.Cursor(starts[-1], 4, 1))), [])
+
     def test_rows_that_are_refused(self):
         for name, events, members in row_lines.refused():
             content = row_lines.content_of(row_lines.VERSIONS[0], events)
@@ -133,9 +152,22 @@ class Rows(unittest.TestCase):
         self.assertEqual((error.name, error.details), ("NoTableMap", {"part": 1}))
 
     def test_rows_that_are_not_read(self):
-        for kind in (20, 26, 166, 200):
-            _, error = self.raised(binlog.RowsError, payload_lines.log_of([*INSIDE, (kind, bytes(40))]))
-            self.assertEqual((error.name, error.details), ("Unread", {"type": kind}))
+        for kind in (20, 26, *range(160, 172), 200):
+            for events, details in (([(kind, bytes(40))], {}), ([payload([XID, (kind, bytes(40))])], {"part": 1})):
+                found, error = self.raised(binlog.RowsError, payload_lines.log_of([*INSIDE, *events]))
+                self.assertEqual((len(found), error.name, error.details), (2, "Unread", {**details, "type": kind}))
+
+    def test_marias_own_events(self):
+        """Those that have no rows have none in its own logs, until it encrypts them."""
+        own = [maria_events.annotate_rows("a"), maria_events.binlog_checkpoint("b"), maria_events.gtid_list(0, [(0, 1, 2)])]
+        own += [maria_events.query_compressed("c", None), maria_events.gtid(1, 0, 7)]
+        events = [(event.type, event.body) for event in own]
+        found = self.compare(row_lines.content_of(row_lines.VERSIONS[1], [*events, *INSIDE]))
+        self.assertEqual(len(found), 2)
+        encryption = maria_events.start_encryption(1, 1, bytes(12))
+        content = row_lines.content_of(row_lines.VERSIONS[1], [*INSIDE, (encryption.type, encryption.body), *INSIDE])
+        found, error = self.raised(binlog.RowsError, content)
+        self.assertEqual((len(found), error.name, error.details), (2, "Unread", {"type": encryption.type}))
 
     def test_rows_without_columns(self):
         none = row_lines.row_event(row_lines.WRITE, 1, [False, False], [False, False], b"")

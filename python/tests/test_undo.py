@@ -1,5 +1,6 @@
 """Tests of logs that undo others, over a program that answers what is written here."""
 
+import itertools
 import os
 import pickle
 import sys
@@ -7,8 +8,10 @@ import tempfile
 import unittest
 from datetime import datetime, timedelta, timezone
 from pathlib import Path
+from unittest import mock
 
 import binlog
+from binlog import _undo_library
 
 # A program that writes its words to a file, prints what is written in others, and ends with the status there.
 PROGRAM = """\
@@ -18,7 +21,7 @@ from pathlib import Path
 folder = Path(__file__).parent
 (folder / "words").write_text("\\0".join(sys.argv[1:]))
 sys.stdout.write((folder / "stdout").read_text())
-sys.stderr.write((folder / "stderr").read_text())
+sys.stderr.buffer.write((folder / "stderr").read_bytes())
 sys.exit(int((folder / "status").read_text()))
 """
 
@@ -80,6 +83,15 @@ class Undoing(unittest.TestCase):
         self.answer("transactions 2, row events 3\n" + "\n".join(lines) + "\n")
         tables = binlog.UndoneTable("shop.orders", 2, 9, 0, 1), binlog.UndoneTable("s.a table", 1, 0, 3, 0)
         self.assertEqual(self.undo("1.bin"), binlog.Undone(2, 3, (), tables))
+
+    def test_names_with_signs_at_which_other_lines_end(self):
+        for sign in "\u2028\x85\x0b\x0c\x1c\r":
+            text = f"s.a{sign}b: its rows are changed behind those that are undone"
+            (self.folder / "stderr").write_bytes(f"binlog: 1.bin: event 5 at byte 678: LaterChanges: {text}\n".encode())
+            (self.folder / "status").write_text("2")
+            with self.assertRaises(binlog.UndoRefused) as raised:
+                self.undo("1.bin", later="1.bin")
+            self.assertEqual([one.text for one in raised.exception.refusals], [text])
 
     def test_refusals(self):
         lines = [
@@ -153,11 +165,33 @@ class UndoingInMemory(unittest.TestCase):
         for content in (b"abc", b"abcd"):
             with self.assertRaises(binlog.InvalidLog):
                 binlog.undo_logs(content)
-        for options in ({"skip": ["Damaged"]}, {"skip": ["None"]}, {"tables": ["t"]}, {"exclude_tables": ["s."]}):
+        positions = [{name: position} for name in ("start_position", "stop_position") for position in (-1, 2**64)]
+        for options in ({"skip": ["Damaged"]}, {"skip": ["None"]}, {"tables": ["t"]}, {"exclude_tables": ["s."]}, *positions):
             with self.assertRaises(ValueError):
                 binlog.undo_logs(b"", **options)
         with self.assertRaises(ValueError):
             binlog.undo(self.LOG, library=True, server_id=1)
+        with self.assertRaisesRegex(ValueError, "no log is named"):
+            binlog.undo([], self.out, library=True)
+        self.assertFalse(self.out.exists())
+
+    def test_want_of_memory(self):
+        """Each call of the library in turn has no memory: none of them gives a refusal that isn't one."""
+        undo = _undo_library.LIBRARY.binlog_undo
+        for options in ({}, {"skip": ["Statement", "Unfinished"]}):
+            for lacking in range(2 if not options else 3):
+                numbers = itertools.count()
+
+                def call(*words):
+                    if next(numbers) != lacking:
+                        return undo(*words)
+                    words[-1].value = 12
+                    return 0
+
+                with self.subTest(options, lacking=lacking), mock.patch.object(_undo_library.LIBRARY, "binlog_undo", call):
+                    with self.assertRaises(binlog.BinlogError) as raised:
+                        binlog.undo_logs(self.LOG.read_bytes(), **options)
+                    self.assertEqual(raised.exception.name, "Memory")
 
     @unittest.skipUnless(os.environ.get("BINLOG_PROGRAM"), "no program is named")
     def test_it_is_what_the_program_says(self):

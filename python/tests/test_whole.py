@@ -18,6 +18,7 @@ import encoded_logs
 import gtid_model
 import listing_model
 import maria_events
+import payload_lines
 import samples
 
 SAMPLE = samples.plain()
@@ -88,6 +89,7 @@ class Counts(Files):
         found = binlog.stats(self.file(log.content))
         names = collections.Counter(event["name"] for event in every)
         self.assertEqual({name: counts.events for name, counts in found.types.items()}, names)
+        self.assertEqual([event.name for event in binlog.Log(log.content)], [event["name"] for event in every])
         own = {event["type"]: event["name"] for event in every if event["type"] >= 160}
         self.assertEqual(own, {kind.value: kind.name for kind in binlog.MariaEventType})
 
@@ -145,6 +147,22 @@ class WholeLogs(Files):
             self.assertEqual((binlog.open(path).rest, found.rest, found.damaged), (rest, rest, ()))
             self.assertEqual(found.is_right, rest == 0)
         self.assertEqual(binlog.Log(CHECKSUMMED + UNDERSIZED).rest, 0)
+
+    def test_compressed_transactions(self):
+        """One that can't be read is an event, and a damaged one."""
+        names = {error.name: error for error in map(binlog.BinlogError, range(256))}
+        for has_checksums in (False, True):
+            for body, errors in payload_lines.refused():
+                content = payload_lines.log_of([payload_lines.XID, (payload_lines.PAYLOAD, body), payload_lines.XID], has_checksums)
+                found = binlog.verify(self.file(content))
+                every = [event for event in binlog.Log(content)]
+                self.assertEqual((found.events, found.bytes, found.rest), (len(every), len(content) - len(MAGIC), 0))
+                # The data of a table map, and of a ROTATE, that end within a field.
+                refusals = [{"Event": "EndOfBody"}.get(error, error) for error in errors if error]
+                wanted = [(2, every[2].position, name, str(names[name]).partition(": ")[2]) for name in refusals[:1]]
+                self.assertEqual(list(found.damaged), wanted)
+                self.assertEqual(found.is_right, not refusals)
+        self.assertEqual(found.checksums, len(every))
 
     def test_gtids(self):
         every = frames(GTIDS)
