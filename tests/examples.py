@@ -43,10 +43,12 @@ class Examples:
     def read(self, name):
         return (self.folder / name).read_bytes()
 
+    def program(self, example):
+        return PACKAGES / "target" / PROFILE / "examples" / example
+
     def run(self, example, *words):
         """What an example prints."""
-        program = PACKAGES / "target" / PROFILE / "examples" / example
-        return subprocess.run([program, *words], cwd=self.folder, capture_output=True, text=True, check=True).stdout
+        return subprocess.run([self.program(example), *words], cwd=self.folder, capture_output=True, text=True, check=True).stdout
 
 
 def difference(name, found, wanted):
@@ -69,6 +71,8 @@ def rows(examples):
     examples.write("log", row_lines.content_of(version, [table, row]))
     declared = {("d", "t"): [("id", Declared("int unsigned", "NULL", None)), ("size", Declared("enum('small','large')", "latin1", None))]}
     examples.write("columns.tsv", declared_columns.file_text(declared))
+    examples.write("without a map", row_lines.content_of(version, [row]))
+    yield difference("rows", examples.run("rows", "without a map"), "rows without a table map\n")
     yield difference("rows", examples.run("rows", "log").splitlines(), ["d.t", "+ 0: -1", "+ 1: 2"])
     yield difference("rows", examples.run("rows", "log", "columns.tsv").splitlines(), ["d.t", "+ id: 4294967295", '+ size: "large"'])
 
@@ -79,6 +83,10 @@ def copy_transactions(examples):
     examples.run("copy_transactions", f"{SID}:2", "log", "copy")
     # The rotate at the start belongs to no transaction.
     yield difference("copy_transactions", examples.read("copy"), binlog_command.copy_of(log, [0, 4, 5, 6]))
+    for to in ("log", "copy"):
+        before = examples.read(to)
+        refused = subprocess.run([examples.program("copy_transactions"), f"{SID}:2", "log", to], cwd=examples.folder, stderr=subprocess.DEVNULL)
+        yield difference(f"copy_transactions onto {to}", (refused.returncode, examples.read(to)), (1, before))
 
 
 def missing_gtids(examples):

@@ -15,10 +15,12 @@ fn main() -> Result<(), Box<dyn Error>> {
     filter.include_gtids = Some(GtidSet::Mysql(gtids.parse()?));
     // The other events are read under the format descriptions.
     filter.is_for_copy = true;
-    let mut output = BufWriter::new(File::create(to)?);
+    let input = BufReader::new(File::open(from)?);
+    // A file that is there isn't written over: it may be the log.
+    let mut output = BufWriter::new(File::create_new(to)?);
     BinlogFileHeader.write(BinlogVersion::Version4, &mut output)?;
     let mut copier = Filtered::new(filter, Copier { output });
-    visit(BufReader::new(File::open(from)?), &mut copier)?;
+    visit(input, &mut copier)?;
     copier.visitor.output.flush()?;
     Ok(())
 }
