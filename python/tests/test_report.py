@@ -333,7 +333,7 @@ class Page(WithProgram):
         self.answer(EMPTY)
         cells = Cells(report.page(_statistics.report([self.files[:1]], self.program)))
         self.assertEqual(cells.texts.count("Nothing to show."), 5)
-        self.assertIn("No transaction.", cells.texts)
+        self.assertIn("No transaction begins with the event of a GTID.", cells.texts)
         self.assertIn("1 file, 0 tables, 0 transactions; no event", cells.texts)
 
     def run_main(self, *words):
