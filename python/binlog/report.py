@@ -183,7 +183,9 @@ def _largest(report: Report) -> str:
         [it.gtid or "", it.file, _place(it), it.bytes, it.events, *_rows_of(it), _time(it.first_time), _time(it.last_time), _tables_of(it)]
         for it in report.transactions.rows
     ]
-    return _table(heads, rows) + "\n" + _paragraph(_unread(report.transactions.rows)) if rows else _paragraph("No transaction begins with the event of a GTID.")
+    if not rows:
+        return _paragraph("No transaction begins with the event of a GTID.")
+    return _table(heads, rows) + "\n" + _paragraph(_unread(report.transactions.rows))
 
 
 def _gaps(rows: Sequence[Sequence[str]]) -> str:
