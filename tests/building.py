@@ -1,12 +1,12 @@
 #!/usr/bin/env python3
-"""Tries bin/build with a stand-in of the prover: what is built again, and what is left behind where a build is ended.
+"""Tries bin/build with a stand-in of the prover: what is built again, and what is left where a build is ended.
 
 Usage: building.py
 
 bin/build runs in a folder of its own, over two libraries and a program. `rt` is a script there, which notes the crates that it is asked
 for, waits, and copies sources. A test each: a second build does nothing; a change is built with what stands on it, and nothing else; a
 source that is changed during a build is built by the next one; where a build is ended, what was kept of its crates is in its place, no
-process goes on, and no copy is left. The last line is `N passed, M failed`; the exit status is 1 if something failed.
+process goes on, and no copy is left; bin/binlog runs what is built, also by a link. The last line is `N passed, M failed`; the exit status is 1 if something failed.
 """
 
 import os
@@ -21,8 +21,8 @@ from pathlib import Path
 import results
 
 REPOSITORY = Path(__file__).resolve().parent.parent
-CRATES = "lower:\nupper: lower\ntool: upper lower\n"
-SOURCES = {"lower": "src/lib.rt", "upper": "src/lib.rt", "tool": "src/main.rt"}
+CRATES = "lower:\nupper: lower\nbinlog: upper lower\n"
+SOURCES = {"lower": "src/lib.rt", "upper": "src/lib.rt", "binlog": "src/main.rt"}
 PROVER = """#!/bin/sh
 crate=$(basename "$PWD")
 case $1 in
@@ -34,7 +34,7 @@ case $1 in
         cp src/lib.rt out/rlib/library ;;
     run)
         echo "$crate $$" >> "$RT_ASKED"
-        mkdir -p out && cp src/main.rt "out/$crate" ;;
+        mkdir -p out && cp src/main.rt "out/$crate" && chmod +x "out/$crate" ;;
 esac
 """
 PATIENCE, LONG = 20, 60
@@ -46,14 +46,15 @@ class Folder:
     def __init__(self, folder):
         self.folder, self.asked_file = Path(folder), Path(folder, "asked")
         (self.folder / "bin").mkdir()
-        shutil.copy(REPOSITORY / "bin/build", self.folder / "bin")
+        for script in ("build", "binlog"):
+            shutil.copy(REPOSITORY / "bin" / script, self.folder / "bin")
         (self.folder / "bin/rt").write_text(PROVER)
         (self.folder / "bin/rt").chmod(0o755)
         (self.folder / "crates.txt").write_text(CRATES)
         for crate in SOURCES:
             (self.folder / "crates" / crate / "src").mkdir(parents=True)
-            self.change(crate, "first")
-        (self.folder / "crates/tool/stdin").touch()
+            self.change(crate, "#!/bin/sh\necho $* is run\n")
+        (self.folder / "crates/binlog/stdin").touch()
         self.asked_file.touch()
 
     def change(self, crate, text):
@@ -61,7 +62,7 @@ class Folder:
 
     def begin(self, *words, seconds=0):
         environment = os.environ | {"PATH": f"{self.folder / 'bin'}:{os.environ['PATH']}", "RT_ASKED": str(self.asked_file), "RT_SECONDS": str(seconds)}
-        return subprocess.Popen([self.folder / "bin/build", *words, "tool"], env=environment, stderr=subprocess.DEVNULL)
+        return subprocess.Popen([self.folder / "bin/build", *words, "binlog"], env=environment, stderr=subprocess.DEVNULL)
 
     def build(self, *words, seconds=0):
         return self.begin(*words, seconds=seconds).wait(LONG)
@@ -94,13 +95,20 @@ def is_running(process):
 def built(folder):
     """What is built, and built again."""
     yield None if folder.build("--is-built") == 1 else "nothing is built, and is said to be"
-    yield None if (folder.build(), folder.newly_asked(0)) == (0, ["lower", "upper", "tool"]) else f"asked for {folder.asked()}"
+    yield None if (folder.build(), folder.newly_asked(0)) == (0, ["lower", "upper", "binlog"]) else f"asked for {folder.asked()}"
     known = len(folder.asked())
     statuses = folder.build("--is-built"), folder.build()
     yield None if (statuses, folder.newly_asked(known)) == ((0, 0), []) else f"what is built is built again: {statuses}, {folder.asked()}"
     folder.change("upper", "second")
     statuses = folder.build("--is-built"), folder.build()
-    yield None if (statuses, folder.newly_asked(known)) == ((1, 0), ["upper", "tool"]) else f"a change: {statuses}, {folder.asked()}"
+    yield None if (statuses, folder.newly_asked(known)) == ((1, 0), ["upper", "binlog"]) else f"a change: {statuses}, {folder.asked()}"
+
+
+def run_by_a_link(folder):
+    link = folder.folder / "linked"
+    link.symlink_to(folder.folder / "bin/binlog")
+    ran = subprocess.run([link, "a", "b"], capture_output=True, text=True)
+    yield None if (ran.stdout, ran.returncode) == ("a b is run\n", 0) else f"bin/binlog by a link: {ran}"
 
 
 def changed_meanwhile(folder):
@@ -137,7 +145,7 @@ def ended(folder):
 def main():
     with tempfile.TemporaryDirectory() as name:
         folder = Folder(name)
-        return results.report(failure for part in (built, changed_meanwhile, ended) for failure in part(folder))
+        return results.report(failure for part in (built, run_by_a_link, changed_meanwhile, ended) for failure in part(folder))
 
 
 if __name__ == "__main__":
