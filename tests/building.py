@@ -6,7 +6,8 @@ Usage: building.py
 bin/build runs in a folder of its own, over two libraries and a program. `rt` is a script there, which notes the crates that it is asked
 for, waits, and copies sources. A test each: a second build does nothing; a change is built with what stands on it, and nothing else; a
 source that is changed during a build is built by the next one; where a build is ended, what was kept of its crates is in its place, no
-process goes on, and no copy is left; bin/binlog runs what is built, also by a link. The last line is `N passed, M failed`; the exit status is 1 if something failed.
+process goes on, and no copy is left; bin/binlog runs what is built, also by a link. The last line is `N passed, M failed`; the exit status
+is 1 if something failed.
 """
 
 import os
@@ -61,7 +62,8 @@ class Folder:
         (self.folder / "crates" / crate / SOURCES[crate]).write_text(text)
 
     def begin(self, *words, seconds=0):
-        environment = os.environ | {"PATH": f"{self.folder / 'bin'}:{os.environ['PATH']}", "RT_ASKED": str(self.asked_file), "RT_SECONDS": str(seconds)}
+        stated = {"RT_ASKED": str(self.asked_file), "RT_SECONDS": str(seconds)}
+        environment = os.environ | stated | {"PATH": f"{self.folder / 'bin'}:{os.environ['PATH']}"}
         return subprocess.Popen([self.folder / "bin/build", *words, "binlog"], env=environment, stderr=subprocess.DEVNULL)
 
     def build(self, *words, seconds=0):
