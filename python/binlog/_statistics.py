@@ -224,7 +224,10 @@ class Transactions:
 
 
 def _objects(answer: Answer) -> tuple[dict[str, Any], list[dict[str, Any]]]:
-    head, *rows = map(json.loads, answer.lines)
+    try:
+        head, *rows = map(json.loads, answer.lines)
+    except ValueError as error:
+        raise ProgramError("the program doesn't print statistics as lines of JSON") from error
     return head, rows
 
 

@@ -22,7 +22,8 @@ from ._statistics import Changes, Report, Transaction
 
 __all__ = ["ProgramError", "Report", "page", "read", "write", "write_pictures"]
 
-Files = Iterable[Union[str, "os.PathLike[str]"]]
+_Path = Union[str, "os.PathLike[str]"]
+Files = Union[_Path, Iterable[_Path]]
 
 # What a cell of a table has.
 _Value = Union[str, int]
@@ -51,14 +52,15 @@ td:first-child, #gtids td { overflow-wrap: anywhere; white-space: normal }
 
 
 def read(files: Files, *, program: Optional[_statistics.Path] = None, seconds: Optional[int] = None) -> Report:
-    """What the program says of logs.
+    """What the program says of logs, or of one.
 
     program: the program `binlog`; if not given, the one that the variable BINLOG_PROGRAM names, or the one that the system finds.
     seconds: the length of an interval of time; if not given, one of which some 200 cover the logs at most, and no longer than a week.
 
     Raises ProgramError where the program isn't found, or fails.
     """
-    return _statistics.report([list(map(os.fspath, files))], program, seconds)
+    paths = [files] if isinstance(files, (str, os.PathLike)) else files
+    return _statistics.report([list(map(os.fspath, paths))], program, seconds)
 
 
 # ---- parts of the page
@@ -233,7 +235,7 @@ def page(report: Report) -> str:
     return f'<!DOCTYPE html>\n<html lang="en">\n<head>\n{head}\n</head>\n<body>\n{body}\n</body>\n</html>\n'
 
 
-def _keep_logs(path: Union[str, "os.PathLike[str]"], files: Iterable[str]) -> None:
+def _keep_logs(path: _Path, files: Iterable[str]) -> None:
     """Raises FileExistsError where a page would be written over one of these files, or another log, as by `-o mysql-bin.*`."""
     if not Path(path).is_file():
         return
@@ -243,7 +245,7 @@ def _keep_logs(path: Union[str, "os.PathLike[str]"], files: Iterable[str]) -> No
         raise FileExistsError(f"{os.fspath(path)}: a log isn't written over")
 
 
-def write(report: Report, path: Union[str, "os.PathLike[str]"]) -> None:
+def write(report: Report, path: _Path) -> None:
     """Writes the page to a file.
 
     Raises FileExistsError where the file is a log, or one of those that the page is about.
@@ -252,7 +254,7 @@ def write(report: Report, path: Union[str, "os.PathLike[str]"]) -> None:
     Path(path).write_text(page(report), encoding="utf-8")
 
 
-def write_pictures(report: Report, folder: Union[str, "os.PathLike[str]"]) -> list[Path]:
+def write_pictures(report: Report, folder: _Path) -> list[Path]:
     """Writes each chart as a PNG into a folder, which is made if it isn't there, and gives their paths."""
     from . import _charts
 

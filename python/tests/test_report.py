@@ -246,6 +246,10 @@ class Answers(WithProgram):
             self.report()
         with self.assertRaises(_program.ProgramError):
             _statistics.report([self.files], self.folder / "none")
+        for lines in ([], ["tables 0"]):
+            self.answer(ANSWERS | {"stats --by table --json a b": lines})
+            with self.assertRaisesRegex(_program.ProgramError, "lines of JSON"):
+                self.report()
 
 
 @unittest.skipUnless(HAS_MATPLOTLIB, "no python3-matplotlib: no page about logs is tested")
@@ -276,6 +280,10 @@ class Page(WithProgram):
         self.assertEqual(cells.rows["gtids"][1:][:3], [[SID, "1-2,5-6,9", "3-4,7-8"], [f"{SID}:tag", "7", "1-6"], ["0-1-6", "", ""]])
         self.assertIn("2 sources with gaps. GTIDs of 1 event can't be read.", cells.texts)
         self.assertIn("2 files, 4 tables, 4 transactions; 1970-01-01 02:00:00 to 1970-01-01 02:02:00 UTC", cells.texts)
+
+    def test_one_log(self):
+        for file in (self.files[0], Path(self.files[0])):
+            self.assertEqual(report.read(file, program=self.program), _statistics.report([self.files[:1]], self.program))
 
     def test_damage_is_at_the_top(self):
         cells = Cells(report.page(self.report()))
