@@ -106,6 +106,12 @@ def built(folder):
     yield None if (statuses, folder.newly_asked(known)) == ((1, 0), ["upper", "binlog"]) else f"a change: {statuses}, {folder.asked()}"
 
 
+def not_built(folder):
+    """Without a program, and without what builds one by cargo."""
+    status = subprocess.run([folder.folder / "bin/binlog"], stderr=subprocess.DEVNULL).returncode
+    yield None if status == 69 else f"bin/binlog without a program: status {status}"
+
+
 def run_by_a_link(folder):
     link = folder.folder / "linked"
     link.symlink_to(folder.folder / "bin/binlog")
@@ -147,7 +153,7 @@ def ended(folder):
 def main():
     with tempfile.TemporaryDirectory() as name:
         folder = Folder(name)
-        return results.report(failure for part in (built, run_by_a_link, changed_meanwhile, ended) for failure in part(folder))
+        return results.report(failure for part in (not_built, built, run_by_a_link, changed_meanwhile, ended) for failure in part(folder))
 
 
 if __name__ == "__main__":
