@@ -14,7 +14,7 @@ these: they have to be those of a model of both, and the faults of files that ca
 prints the lines of the events inside compressed transactions, or why they are refused, as the built `binlog json` does, with each
 allocation refused in turn; and one undoes random logs, beside the model of undo_command.py, with each allocation refused in turn. Then the tests of the Python package run over the shared library, which is made of the static one. At last what bin/install and bin/package
 make of the library: a C program is built against each by pkg-config and lists the sample, and Python lists it by the package
-that is installed. The C compiler takes the examples of docs/C.md. Without pkg-config the flags are written out; without dpkg-deb there is no package; a line says so.
+that is installed. The C compiler takes the examples of docs/C.md, and the shared library exports what the header declares. Without pkg-config the flags are written out; without dpkg-deb there is no package; a line says so.
 
 With --build the static library is first proved and built by bin/build if a source is newer. With --over-ci it is built by
 static_library.py over what `rt ci` left, which proves the crate binlog_c alone once more. Where there is no library then, a
@@ -438,6 +438,14 @@ def python_failures(folder):
     yield from [None] * (0 if ran is None else int(ran[1]) - wrong - len(skipped))
 
 
+def export_failures(shared):
+    """None if the shared library exports the functions of the header, and nothing else; else what differs."""
+    text = subprocess.run(["nm", "--dynamic", "--defined-only", shared], stdout=subprocess.PIPE, text=True, check=True).stdout
+    exported = {line.split()[-1] for line in text.splitlines()}
+    declared = set(re.findall(r"\b(binlog_\w+)\(", (REPOSITORY / "include/binlog.h").read_text()))
+    yield None if exported == declared else f"the shared library and the header differ by {exported ^ declared}"
+
+
 def flags_of(prefix):
     """The compiler's flags for the library that is installed below a prefix."""
     if not shutil.which("pkg-config"):
@@ -544,8 +552,8 @@ def main():
     with tempfile.TemporaryDirectory() as name:
         folder = Path(name)
         cases = list(all_cases(samples.plain(), lambda log: None))
-        found = [*example_failures(folder), *program_failures(folder, cases), *python_failures(folder), *install_failures(folder)]
-        return results.report(found)
+        found = [*example_failures(folder), *program_failures(folder, cases), *python_failures(folder)]
+        return results.report([*found, *export_failures(folder / "libbinlog.so"), *install_failures(folder)])
 
 
 if __name__ == "__main__":
