@@ -3,18 +3,19 @@
 
 Usage: libraries.py [--build | --over-ci]
 
-A C program and a C++ one over include/binlog.h list the samples, the encoder's logs and the damaged copies: their
-listing has to be that of the built binlog_list without its last word. The C program also lists with room for one item,
-built with the sanitizers of the C compiler, and with checksums verified, as the built `probe verifying` does; it computes
-the checksums by itself, bit by bit. A third program calls the library with 10,000 cursors that it did not
-make over each of some logs. A C program and a C++ one print the lines of JSON of all these logs: they have to be those of the
-built `binlog json`; another C program asks for those of 10,000 items that it changed over each of some logs, and one refuses
-each of their allocations in turn. A C program prints the lines of random logs with files of columns, and which columns contradict
-these: they have to be those of a model of both, and the faults of files that can't be read those that are worked by hand. Another one
-prints the lines of the events inside compressed transactions, or why they are refused, as the built `binlog json` does, with each
-allocation refused in turn; and one undoes random logs, beside the model of undo_command.py, with each allocation refused in turn. Then the tests of the Python package run over the shared library, which is made of the static one. At last what bin/install and bin/package
-make of the library: a C program is built against each by pkg-config and lists the sample, and Python lists it by the package
-that is installed. The C compiler takes the examples of docs/C.md, and the shared library exports what the header declares. Without pkg-config the flags are written out; without dpkg-deb there is no package; a line says so.
+A C program and a C++ one over include/binlog.h list the samples, the encoder's logs and the damaged copies: their listing has to be that
+of the built binlog_list without its last word. The C program also lists with room for one item, built with the sanitizers of the C
+compiler, and with checksums verified, as the built `probe verifying` does; it computes the checksums by itself, bit by bit. A third
+program calls the library with 10,000 cursors that it did not make over each of some logs. A C program and a C++ one print the lines of
+JSON of all these logs: they have to be those of the built `binlog json`; another C program asks for those of 10,000 items that it changed
+over each of some logs, and one refuses each of their allocations in turn. A C program prints the lines of random logs with files of
+columns, and which columns contradict these: they have to be those of a model of both, and the faults of files that can't be read those
+that are worked by hand. Another one prints the lines of the events inside compressed transactions, or why they are refused, as the built
+`binlog json` does, with each allocation refused in turn; and one undoes random logs, beside the model of undo_command.py, with each
+allocation refused in turn. Then the tests of the Python package run over the shared library, which is made of the static one. At last
+what bin/install and bin/package make of the library: a C program is built against each by pkg-config and lists the sample, and Python
+lists it by the package that is installed. The C compiler takes the examples of docs/C.md, and the shared library exports what the header
+declares. Without pkg-config the flags are written out; without dpkg-deb there is no package; a line says so.
 
 With --build the static library is first proved and built by bin/build if a source is newer. With --over-ci it is built by
 static_library.py over what `rt ci` left, which proves the crate binlog_c alone once more. Where there is no library then, a
