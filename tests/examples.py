@@ -46,6 +46,11 @@ class Examples:
     def program(self, example):
         return PACKAGES / "target" / PROFILE / "examples" / example
 
+    def ended(self, example, *words):
+        """The status of an example, and its messages."""
+        ran = subprocess.run([self.program(example), *words], cwd=self.folder, capture_output=True, text=True)
+        return ran.returncode, ran.stderr
+
     def run(self, example, *words):
         """What an example prints."""
         return subprocess.run([self.program(example), *words], cwd=self.folder, capture_output=True, text=True, check=True).stdout
@@ -85,8 +90,11 @@ def copy_transactions(examples):
     yield difference("copy_transactions", examples.read("copy"), binlog_command.copy_of(log, [0, 4, 5, 6]))
     for to in ("log", "copy"):
         before = examples.read(to)
-        refused = subprocess.run([examples.program("copy_transactions"), f"{SID}:2", "log", to], cwd=examples.folder, stderr=subprocess.DEVNULL)
-        yield difference(f"copy_transactions onto {to}", (refused.returncode, examples.read(to)), (1, before))
+        status, _ = examples.ended("copy_transactions", f"{SID}:2", "log", to)
+        yield difference(f"copy_transactions onto {to}", (status, examples.read(to)), (1, before))
+    examples.write("cut", log[:-1])
+    said = (0, "cut: what is behind the last event isn't copied\n")
+    yield difference("copy_transactions of a cut log", examples.ended("copy_transactions", f"{SID}:2", "cut", "copy of a cut log"), said)
 
 
 def missing_gtids(examples):

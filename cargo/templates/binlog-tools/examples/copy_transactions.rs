@@ -20,7 +20,9 @@ fn main() -> Result<(), Box<dyn Error>> {
     let mut output = BufWriter::new(File::create_new(to)?);
     BinlogFileHeader.write(BinlogVersion::Version4, &mut output)?;
     let mut copier = Filtered::new(filter, Copier { output });
-    visit(input, &mut copier)?;
+    if visit(input, &mut copier)? != Some(0) {
+        eprintln!("{from}: what is behind the last event isn't copied");
+    }
     copier.visitor.output.flush()?;
     Ok(())
 }
