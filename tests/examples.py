@@ -112,6 +112,10 @@ def verify(examples):
     first, last = examples.run("verify", "damaged").splitlines()
     yield None if first.startswith("event 0: checksum mismatch") else f"verify: {first}"
     yield difference("verify", last, "1 events damaged")
+    examples.write("cut", CHECKSUMMED[:-1])
+    last_size = len(CHECKSUMMED) - list(frame_starts(CHECKSUMMED))[-1]
+    wanted = f"0 events damaged\nthe last {last_size - 1} bytes are the beginning of an event\n"
+    yield difference("verify", examples.run("verify", "cut"), wanted)
 
 
 def build_log(examples):

@@ -1,4 +1,5 @@
 //! Copies the transactions that have one of some GTIDs of MySQL's: `copy_transactions GTIDS FROM TO`
+//! Damaged events are left out.
 use binlog::BinlogFileHeader;
 use binlog::consts::BinlogVersion;
 use binlog_tools::{Copier, Filter, Filtered, GtidSet, visit};
