@@ -157,15 +157,21 @@ def set_crates(out, is_debian):
 
 
 def origin():
-    """The public address of git's remote `origin`: of https, or of ssh as the same by https. None where there is none."""
+    """The public address of git's remote `origin`. None where there is none."""
     asked = ["git", "-C", str(REPOSITORY), "remote", "get-url", "origin"]
     try:
         answer = subprocess.run(asked, capture_output=True, text=True)
     except FileNotFoundError:
         return None
-    by_ssh = re.fullmatch(r"(?:ssh://)?git@([\w.-]+)[:/](.+)", answer.stdout.strip())
-    url = f"https://{by_ssh[1]}/{by_ssh[2]}" if by_ssh else answer.stdout.strip()
-    return url.removesuffix(".git") if url.startswith("https://") else None
+    return public_address(answer.stdout.strip())
+
+
+def public_address(remote):
+    """The address of a remote by https, or that by ssh as the same by https, without the name and the password that may stand in it: it
+    goes into manifests that are published. None for any other one."""
+    by_ssh = re.fullmatch(r"(?:ssh://)?git@([\w.-]+)[:/](.+)", remote)
+    url = f"https://{by_ssh[1]}/{by_ssh[2]}" if by_ssh else remote
+    return re.sub(r"\Ahttps://[^/]*@", "https://", url).removesuffix(".git") if url.startswith("https://") else None
 
 
 def name_repository(out, url):

@@ -1,6 +1,6 @@
 /* Reads a MySQL binary log in memory: its events, one after another, and the errors in their places.
  *
- *     binlog_cursor cursor;
+ *     binlog_cursor cursor = {0};
  *     binlog_item items[64] = {{0}};
  *     uint8_t error = binlog_open(log, size, &cursor);
  *     size_t count;
@@ -190,7 +190,7 @@ size_t binlog_json(const uint8_t *log, size_t size, const binlog_item *item, con
  * `lines` becomes how many lines are written. The error is 0, or that of the first item whose line isn't written, as binlog_json has
  * it. If it is 0 and not all lines are written, there is no room for the next line, whose length binlog_json returns.
  *
- *     size_t lines;
+ *     size_t lines = 0;
  *     size_t length = binlog_json_lines(log, size, items, count, NULL, 0, index, text, room, &lines, &error);
  *     fwrite(text, 1, length, stdout); */
 size_t binlog_json_lines(const uint8_t *log, size_t size, const binlog_item *items, size_t count,
@@ -219,7 +219,7 @@ size_t binlog_json_lines(const uint8_t *log, size_t size, const binlog_item *ite
  * BINLOG_MEMORY: an allocation failed. The content is in memory of the call's own, too.
  *
  *     size_t length = binlog_payload_log(log, size, &items[i], NULL, 0, &error);
- *     if (error == BINLOG_OK && (inner = malloc(length)) != NULL)
+ *     if (error == BINLOG_OK && (inner = calloc(length, 1)) != NULL)
  *         binlog_payload_log(log, size, &items[i], inner, length, &error); */
 size_t binlog_payload_log(const uint8_t *log, size_t size, const binlog_item *item, uint8_t *inner, size_t room, uint8_t *error);
 
@@ -310,7 +310,7 @@ typedef struct binlog_undone {
  *
  *     binlog_undo_options options = {0, UINT64_MAX, 0, 0};
  *     size_t length = binlog_undo(log, size, &size64, 1, &options, NULL, 0, NULL, 0, refusals, 64, &undone, NULL, 0, &error);
- *     if (error == BINLOG_OK && (out = malloc(length)) != NULL)
+ *     if (error == BINLOG_OK && (out = calloc(length, 1)) != NULL)
  *         binlog_undo(log, size, &size64, 1, &options, NULL, 0, NULL, 0, refusals, 64, &undone, out, length, &error); */
 size_t binlog_undo(const uint8_t *logs, size_t size, const uint64_t *sizes, size_t count, const binlog_undo_options *options,
                    const char *tables, size_t tables_size, const char *excluded, size_t excluded_size, binlog_refusal *refusals,
@@ -390,7 +390,7 @@ size_t binlog_json_lines_with_columns(const uint8_t *log, size_t size, const bin
  * Nothing is written if the room isn't more than that length. The length is 0 for a number that no error has; a name
  * has at most 24 bytes.
  *
- *     char name[32];
+ *     char name[32] = {0};
  *     binlog_error_name(item.error, name, sizeof name); */
 size_t binlog_error_name(uint8_t error, char *text, size_t room);
 

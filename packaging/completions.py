@@ -6,7 +6,7 @@ import sys
 from help_texts import commands_of
 
 # The values of options that are files. Others are numbers, times and texts, of which the help doesn't say which there are.
-FILES = ("LOG", "OUT")
+FILES = ("COLUMNS", "LOG", "OUT", "STATE")
 
 SCRIPT = """\
 # Completions of binlog for bash, made from its help.

@@ -998,7 +998,8 @@ def laid_out(runner, prefix):
     yield None if completed(runner, completions, "ve") == ["verify"] else "binlog ve isn't completed"
     yield None if completed(runner, completions, "list", "--type", "") == [""] else "a type is completed to a file"
     (runner.folder / "kept here.bin").touch()
-    yield None if completed(runner, completions, "copy", "-o", "kept") == ["kept here.bin"] else "a file isn't completed"
+    for words in (("copy", "-o"), ("json", "--columns"), ("list", "--state"), ("gtids", "--missing-in"), ("undo", "--later")):
+        yield None if completed(runner, completions, *words, "kept") == ["kept here.bin"] else f"a file isn't completed behind {words}"
     for command in COMMANDS:
         options = set(re.findall(r"--[\w-]+", runner.run([command, "--help"]).stdout.decode().split("\n\n")[3]))
         is_whole = len(options) > 1 and options <= set(completed(runner, completions, command, "--"))
@@ -1010,8 +1011,17 @@ def laid_out(runner, prefix):
         yield None if shown.returncode == 0 and not shown.stderr else f"man: {shown.stderr!r}"
 
 
+def wrong_words(runner):
+    """Words that the scripts refuse, before they build anything."""
+    for script, *words in (("install",), ("install", ""), ("install", "--help"), ("package",), ("package", ""), ("package", "--help"), ("list", "a", "b")):
+        finished = subprocess.run([REPOSITORY / "bin" / script, *words], cwd=runner.folder, capture_output=True)
+        is_right = finished.returncode == 64 and finished.stderr.startswith(f"usage: bin/{script} ".encode())
+        yield None if is_right else f"bin/{script} {words}: status {finished.returncode}, {finished.stderr!r}"
+
+
 def installs(runner):
     """What is installed, and what a package holds."""
+    yield from wrong_words(runner)
     prefix = runner.folder / "prefix"
     finished = subprocess.run([REPOSITORY / "bin/install", prefix, f"program={runner.program}"], capture_output=True)
     yield difference("bin/install", finished, Result(b""))

@@ -43,10 +43,17 @@ class Examples:
     def read(self, name):
         return (self.folder / name).read_bytes()
 
+    def program(self, example):
+        return PACKAGES / "target" / PROFILE / "examples" / example
+
+    def ended(self, example, *words):
+        """The status of an example, and its messages."""
+        ran = subprocess.run([self.program(example), *words], cwd=self.folder, capture_output=True, text=True)
+        return ran.returncode, ran.stderr
+
     def run(self, example, *words):
         """What an example prints."""
-        program = PACKAGES / "target" / PROFILE / "examples" / example
-        return subprocess.run([program, *words], cwd=self.folder, capture_output=True, text=True, check=True).stdout
+        return subprocess.run([self.program(example), *words], cwd=self.folder, capture_output=True, text=True, check=True).stdout
 
 
 def difference(name, found, wanted):
@@ -69,6 +76,8 @@ def rows(examples):
     examples.write("log", row_lines.content_of(version, [table, row]))
     declared = {("d", "t"): [("id", Declared("int unsigned", "NULL", None)), ("size", Declared("enum('small','large')", "latin1", None))]}
     examples.write("columns.tsv", declared_columns.file_text(declared))
+    examples.write("without a map", row_lines.content_of(version, [row]))
+    yield difference("rows", examples.run("rows", "without a map"), "rows without a table map\n")
     yield difference("rows", examples.run("rows", "log").splitlines(), ["d.t", "+ 0: -1", "+ 1: 2"])
     yield difference("rows", examples.run("rows", "log", "columns.tsv").splitlines(), ["d.t", "+ id: 4294967295", '+ size: "large"'])
 
@@ -79,6 +88,13 @@ def copy_transactions(examples):
     examples.run("copy_transactions", f"{SID}:2", "log", "copy")
     # The rotate at the start belongs to no transaction.
     yield difference("copy_transactions", examples.read("copy"), binlog_command.copy_of(log, [0, 4, 5, 6]))
+    for to in ("log", "copy"):
+        before = examples.read(to)
+        status, _ = examples.ended("copy_transactions", f"{SID}:2", "log", to)
+        yield difference(f"copy_transactions onto {to}", (status, examples.read(to)), (1, before))
+    examples.write("cut", log[:-1])
+    said = (0, "cut: what is behind the last event isn't copied\n")
+    yield difference("copy_transactions of a cut log", examples.ended("copy_transactions", f"{SID}:2", "cut", "copy of a cut log"), said)
 
 
 def missing_gtids(examples):
@@ -96,6 +112,10 @@ def verify(examples):
     first, last = examples.run("verify", "damaged").splitlines()
     yield None if first.startswith("event 0: checksum mismatch") else f"verify: {first}"
     yield difference("verify", last, "1 events damaged")
+    examples.write("cut", CHECKSUMMED[:-1])
+    last_size = len(CHECKSUMMED) - list(frame_starts(CHECKSUMMED))[-1]
+    wanted = f"0 events damaged\nthe last {last_size - 1} bytes are the beginning of an event\n"
+    yield difference("verify", examples.run("verify", "cut"), wanted)
 
 
 def build_log(examples):

@@ -3,18 +3,19 @@
 
 Usage: libraries.py [--build | --over-ci]
 
-A C program and a C++ one over include/binlog.h list the samples, the encoder's logs and the damaged copies: their
-listing has to be that of the built binlog_list without its last word. The C program also lists with room for one item,
-built with the sanitizers of the C compiler, and with checksums verified, as the built `probe verifying` does; it computes
-the checksums by itself, bit by bit. A third program calls the library with 10,000 cursors that it did not
-make over each of some logs. A C program and a C++ one print the lines of JSON of all these logs: they have to be those of the
-built `binlog json`; another C program asks for those of 10,000 items that it changed over each of some logs, and one refuses
-each of their allocations in turn. A C program prints the lines of random logs with files of columns, and which columns contradict
-these: they have to be those of a model of both, and the faults of files that can't be read those that are worked by hand. Another one
-prints the lines of the events inside compressed transactions, or why they are refused, as the built `binlog json` does, with each
-allocation refused in turn; and one undoes random logs, beside the model of undo_command.py, with each allocation refused in turn. Then the tests of the Python package run over the shared library, which is made of the static one. At last what bin/install and bin/package
-make of the library: a C program is built against each by pkg-config and lists the sample, and Python lists it by the package
-that is installed. Without pkg-config the flags are written out; without dpkg-deb there is no package; a line says so.
+A C program and a C++ one over include/binlog.h list the samples, the encoder's logs and the damaged copies: their listing has to be that
+of the built binlog_list without its last word. The C program also lists with room for one item, built with the sanitizers of the C
+compiler, and with checksums verified, as the built `probe verifying` does; it computes the checksums by itself, bit by bit. A third
+program calls the library with 10,000 cursors that it did not make over each of some logs. A C program and a C++ one print the lines of
+JSON of all these logs: they have to be those of the built `binlog json`; another C program asks for those of 10,000 items that it changed
+over each of some logs, and one refuses each of their allocations in turn. A C program prints the lines of random logs with files of
+columns, and which columns contradict these: they have to be those of a model of both, and the faults of files that can't be read those
+that are worked by hand. Another one prints the lines of the events inside compressed transactions, or why they are refused, as the built
+`binlog json` does, with each allocation refused in turn; and one undoes random logs, beside the model of undo_command.py, with each
+allocation refused in turn. Then the tests of the Python package run over the shared library, which is made of the static one. At last
+what bin/install and bin/package make of the library: a C program is built against each by pkg-config and lists the sample, and Python
+lists it by the package that is installed. The C compiler takes the examples of docs/C.md, and the shared library exports what the header
+declares. Without pkg-config the flags are written out; without dpkg-deb there is no package; a line says so.
 
 With --build the static library is first proved and built by bin/build if a source is newer. With --over-ci it is built by
 static_library.py over what `rt ci` left, which proves the crate binlog_c alone once more. Where there is no library then, a
@@ -69,6 +70,27 @@ NO_FOREIGN_KEY_CHECKS, ONE_TRANSACTION, PLAIN_OLD_TEMPORAL = 1, 2, 4
 # The numbers of errors of payloads, by the names that `binlog json` has for them; `Event` is the number of the event's error.
 PAYLOAD_ERRORS = ["EventTruncated", "Lenenc", "FieldTwice", "FieldLength", "Kind", "NoField", "PayloadSize", "Limit", "UncompressedSize"]
 PAYLOAD_ERRORS = {name: 105 + place for place, name in enumerate([*PAYLOAD_ERRORS, "Zstd", "InnerTruncated", "InnerSize", "Type"])}
+# What the examples of docs/C.md take from what stands around them.
+EXAMPLE = """
+#include "binlog.h"
+#include <fcntl.h>
+#include <inttypes.h>
+#include <stdio.h>
+#include <stdlib.h>
+#include <sys/mman.h>
+#include <sys/stat.h>
+int example(const uint8_t *log, size_t size, const uint8_t *columns, size_t columns_size, uint64_t index) {{
+    binlog_cursor cursor = {{0}};
+    binlog_item items[64] = {{{{0}}}}, maps[64] = {{{{0}}}};
+    uint8_t error = 0;
+    size_t count = 0, length = 0, map_count = 0, i = 0;
+    char text[4096] = {{0}};
+    {{
+{code}
+    }}
+    return 0;
+}}
+"""
 # The kinds of faults of a file of columns, by the messages of the program.
 FAULTS = {
     "no line with the names of the six columns": (1, "no line with the names of the six columns"),
@@ -417,6 +439,14 @@ def python_failures(folder):
     yield from [None] * (0 if ran is None else int(ran[1]) - wrong - len(skipped))
 
 
+def export_failures(shared):
+    """None if the shared library exports the functions of the header, and nothing else; else what differs."""
+    text = subprocess.run(["nm", "--dynamic", "--defined-only", shared], stdout=subprocess.PIPE, text=True, check=True).stdout
+    exported = {line.split()[-1] for line in text.splitlines()}
+    declared = set(re.findall(r"\b(binlog_\w+)\(", (REPOSITORY / "include/binlog.h").read_text()))
+    yield None if exported == declared else f"the shared library and the header differ by {exported ^ declared}"
+
+
 def flags_of(prefix):
     """The compiler's flags for the library that is installed below a prefix."""
     if not shutil.which("pkg-config"):
@@ -471,10 +501,24 @@ def install_failures(folder):
     for name in ("libbinlog-dev", "python3-binlog"):
         (package,) = packages.glob(f"{name}_0.1.0_*.deb")
         subprocess.run(["dpkg-deb", "-x", package, folder / name], check=True)
+    (package,) = packages.glob("libbinlog-dev_0.1.0_*.deb")
+    triggers = subprocess.run(["dpkg-deb", "-I", package, "triggers"], capture_output=True, text=True).stdout
+    yield None if triggers == "activate-noawait ldconfig\n" else f"libbinlog-dev: {triggers!r}"
     below = [folder / name / "usr" for name in ("libbinlog-dev", "python3-binlog")]
     yield from installed_failures(folder / "packaged", "bin/package", *below)
     wrong = subprocess.run([REPOSITORY / "bin/package", folder / "both.deb", *parts], stderr=subprocess.DEVNULL)
     yield None if wrong.returncode == 64 else "bin/package puts two packages into one file"
+
+
+def example_failures(folder):
+    """For each example of docs/C.md, None or what the compiler says of it."""
+    examples = re.findall(r"^```c\n(.*?)^```", (REPOSITORY / "docs/C.md").read_text(), re.MULTILINE | re.DOTALL)
+    for number, code in enumerate(examples, 1):
+        source = folder / "example.c"
+        source.write_text(EXAMPLE.format(code=code))
+        command = ["cc", "-std=c11", "-Wall", "-Werror", "-Wno-unused", "-fsyntax-only", f"-I{REPOSITORY / 'include'}", source]
+        finished = subprocess.run(command, stderr=subprocess.PIPE, text=True)
+        yield None if finished.returncode == 0 else f"docs/C.md, example {number}: {finished.stderr}"
 
 
 def missing():
@@ -509,7 +553,8 @@ def main():
     with tempfile.TemporaryDirectory() as name:
         folder = Path(name)
         cases = list(all_cases(samples.plain(), lambda log: None))
-        return results.report([*program_failures(folder, cases), *python_failures(folder), *install_failures(folder)])
+        found = [*example_failures(folder), *program_failures(folder, cases), *python_failures(folder)]
+        return results.report([*found, *export_failures(folder / "libbinlog.so"), *install_failures(folder)])
 
 
 if __name__ == "__main__":

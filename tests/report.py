@@ -6,9 +6,9 @@ Usage: report.py [--keep FOLDER] FLAG
 FLAG is one of `programs.py`. A page is made of two logs whose events are written here, of the same logs with a damaged event, and,
 where a MariaDB server is there (`maria_daemon.py` says where it comes from), of the log of a load of it. Of each page, a test each:
 that its maker ends with the status that `binlog verify` has; that the rows of each table are those that were written, or that
-`mariadb-binlog` prints; that the largest transaction, the gaps in the GTIDs and the damage are named; that each chart has a picture of
-its own; and that Chromium, where it is installed, shows each chart and has no message. That a message is noticed is tested, too. With
---keep the pages stay in FOLDER, and pictures of them.
+`mariadb-binlog` prints; that the largest transaction, the gaps in the GTIDs, what isn't told apart by table and the damage are named;
+that each chart has a picture of its own; and that Chromium, where it is installed, shows each chart and has no message. That a message is
+noticed is tested, too, and that no page is written over a log. With --keep the pages stay in FOLDER.
 
 Where there is no matplotlib, a line says so, nothing is run, and both numbers are 0. Where there is no server or no Chromium, a line
 says so, and what needs it isn't run. The last line is `N passed, M failed`; the exit status is 1 if something failed.
@@ -27,6 +27,7 @@ from pathlib import Path
 from uuid import UUID
 
 import maria_daemon
+import payload_model
 import programs
 import results
 import samples
@@ -38,10 +39,17 @@ BROWSER = "chromium"
 SECONDS_TO_SHOW = 240
 CHARTS = ("bytes", "transactions", "rows", "tables", "sizes")
 KINDS = ("inserted", "updated", "deleted")
+# What the page says of a compressed transaction and of a statement.
+UNTOLD = (
+    "Of 1 compressed transaction all bytes count for each table inside.",
+    "1 event may change tables without saying which, as statements do.",
+)
 
 TABLE_MAP, ROW_TYPES, IMAGES = 19, (30, 31, 32), (1, 2, 1)
+PAYLOAD, NOT_COMPRESSED = 40, 255
 START, MINUTE = samples.TIMESTAMP // 3600 * 3600, 60
-TABLES = [(b"shop", b"orders"), (b"shop", b"items"), (b"audit", b'<log> & "notes"')]
+# Matplotlib leaves out what is called `_..`, and U+2028 ends a line for some.
+TABLES = [(b"shop", b"orders"), (b"shop", b"items"), (b"_audit", '<log> & "notes"\u2028'.encode())]
 
 
 # ---- logs that are written here
@@ -57,20 +65,34 @@ class Log:
         end = len(self.content) + samples.HEADER.size + len(body) + samples.CHECKSUM_LENGTH
         self.content += samples.checksummed_frame(type_number, body, end, timestamp=time)
 
-    def add_transaction(self, number, time, changes):
-        """`changes` are tables' numbers, each with how many rows are inserted, updated and deleted."""
-        start = len(self.content)
+    def add_gtid(self, number, time):
         self.gtids.append(number)
         self.add(samples.GTID, samples.gtid_body(samples.SOURCE, number), time)
-        self.add(samples.QUERY, samples.query_body(b"shop", b"BEGIN"), time)
+
+    def add_statement(self, number, time):
+        self.add_gtid(number, time)
+        self.add(samples.QUERY, samples.query_body(b"shop", b"TRUNCATE TABLE items"), time)
+
+    def add_transaction(self, number, time, changes, is_compressed=False):
+        """`changes` are tables' numbers, each with how many rows are inserted, updated and deleted."""
+        start = len(self.content)
+        self.add_gtid(number, time)
+        events = [(samples.QUERY, samples.query_body(b"shop", b"BEGIN"))]
         for table, counts in changes:
-            self.add(TABLE_MAP, table_map(table), time)
-            for type_number, images, count in zip(ROW_TYPES, IMAGES, counts):
-                if count:
-                    self.add(type_number, row_body(table, images, count), time)
+            events.append((TABLE_MAP, table_map(table)))
+            kinds = zip(ROW_TYPES, IMAGES, counts)
+            events += [(type_number, row_body(table, images, count)) for type_number, images, count in kinds if count]
             self.rows[TABLES[table]] = [sum(pair) for pair in zip(self.rows.get(TABLES[table], (0, 0, 0)), counts)]
-        self.add(samples.XID, samples.XID_BODY, time)
+        events.append((samples.XID, samples.XID_BODY))
+        for type_number, body in [payload(events, time)] if is_compressed else events:
+            self.add(type_number, body, time)
         self.largest = max(self.largest, (len(self.content) - start, start))
+
+
+def payload(events, time):
+    """The event of a compressed transaction, whose payload isn't compressed."""
+    content = b"".join(samples.frame(type_number, body, timestamp=time) for type_number, body in events)
+    return PAYLOAD, payload_model.written(NOT_COMPRESSED, len(content), content)
 
 
 def table_map(table):
@@ -84,15 +106,18 @@ def row_body(table, images, count):
 
 
 def written_logs():
-    """Two logs of two hours, with a peak, a pause, and missing numbers."""
+    """Two logs of two hours, with a peak, a pause, missing numbers, a statement, and a compressed transaction."""
     first, last = Log(), Log()
     for number in range(1, 241):
         time = START + number // 2 * MINUTE + (20 * MINUTE if number > 150 else 0)
         changes = [(0, (1 + number % 7, number % 3, 0)), (number % 2 + 1, (number % 5, 1, number % 4))]
         if number == 100:
             changes.append((0, (900, 300, 0)))
-        if number not in (17, 18, 200):
-            (first if number <= 120 else last).add_transaction(number, time, changes)
+        log = first if number <= 120 else last
+        if number == 60:
+            log.add_statement(number, time)
+        elif number not in (17, 18, 200):
+            log.add_transaction(number, time, changes, is_compressed=number == 150)
     return [first, last]
 
 
@@ -105,12 +130,15 @@ class Pages:
     def __init__(self, folder, program, python, browser):
         self.folder, self.program, self.python, self.browser = folder, program, python, browser
 
+    def run(self, page, logs):
+        environment = os.environ | {"PYTHONPATH": str(programs.REPOSITORY / "python"), "PYTHONDONTWRITEBYTECODE": "1"}
+        command = [self.python, "-m", "binlog.report", "--program", self.program, "-o", page, *logs]
+        return subprocess.run(command, env=environment, stderr=subprocess.PIPE, text=True)
+
     def made(self, name, logs):
         """The page of logs, and the exit status."""
         page = self.folder / f"{name}.html"
-        environment = os.environ | {"PYTHONPATH": str(programs.REPOSITORY / "python"), "PYTHONDONTWRITEBYTECODE": "1"}
-        command = [self.python, "-m", "binlog.report", "--program", self.program, "-o", page, *logs]
-        finished = subprocess.run(command, env=environment, stderr=subprocess.PIPE, text=True)
+        finished = self.run(page, logs)
         if finished.stderr:
             print(f"{name}: {finished.stderr}")
         return page, finished.returncode
@@ -178,11 +206,20 @@ def written_failures(pages):
     gtids = cells.rows["gtids"][1:]
     yield None if gtids == [[samples.SID, "1-16,19-199,201-240", "17-18,200"]] else f"the GTIDs are {gtids}"
     yield "damage where there is none" if "Damage" in cells.texts else None
+    for said in UNTOLD:
+        yield None if said in cells.texts else f"the page doesn't say: {said}"
+    for read in paths:
+        found, content = pages.run(paths[0], [read]), paths[0].read_bytes()
+        yield None if (found.returncode, content) == (3, logs[0].content) else f"a page is written over a log: status {found.returncode}"
+    logs[1].add(samples.GTID, samples.gtid_body(samples.SOURCE, 0), START)
+    paths[1].write_bytes(logs[1].content)
     # The last byte of the last event of the first log.
     paths[0].write_bytes(logs[0].content[:-1] + bytes([logs[0].content[-1] ^ 1]))
     yield from pages.failures("damaged", paths, names_of(sum_of_rows(logs)), 2)
     texts = Cells((pages.folder / "damaged.html").read_text()).texts
     yield None if any("checksum mismatch" in text and str(paths[0]) in text for text in texts) else f"the damage isn't named: {texts}"
+    said = "1 source with gaps. GTIDs of 1 event can't be read."
+    yield None if said in texts else f"the GTID that can't be read isn't counted: {texts}"
 
 
 # ---- a server's log

@@ -47,8 +47,9 @@ def _length_text(seconds: int) -> str:
 
 
 def _short(name: str) -> str:
-    """A name that isn't longer than there is room for."""
-    return name if len(name) <= _LONGEST_NAME else f"{name[: _LONGEST_NAME - 1]}…"
+    """A name that isn't longer than there is room for. Both of its ends stay: the names of a database's tables often begin alike."""
+    half = _LONGEST_NAME // 2
+    return name if len(name) <= _LONGEST_NAME else f"{name[: half - 1]}…{name[-half:]}"
 
 
 def _figure(height: float, left: float = 0.08, below: float = 0.5) -> tuple[Figure, Axes]:
@@ -73,13 +74,13 @@ def _heights(edges: Sequence[int], rows: Iterable[Interval], value: Callable[[In
 
 
 def _over_time(
-    found: Times, what: str, total: Callable[[Interval], int], label: str = "_", color: str = _OTHERS, unit: str = ""
+    found: Times, what: str, total: Callable[[Interval], int], color: str = _OTHERS, unit: str = ""
 ) -> tuple[Figure, Axes, list[datetime]]:
     """A chart of the total of each interval."""
     figure, axes = _figure(2.7)
     edges = _edges(found)
     places = [datetime.fromtimestamp(edge, timezone.utc) for edge in edges]
-    axes.fill_between(places, _heights(edges, found.rows, total), step="post", color=color, linewidth=0, label=label)
+    axes.fill_between(places, _heights(edges, found.rows, total), step="post", color=color, linewidth=0)
     locator = AutoDateLocator(tz=timezone.utc)
     axes.xaxis.set_major_locator(locator)
     axes.xaxis.set_major_formatter(ConciseDateFormatter(locator, tz=timezone.utc))
@@ -93,24 +94,27 @@ def _over_time(
     return figure, axes, places
 
 
-def _stack(axes: Axes, places: Sequence[datetime], heights: Sequence[Sequence[int]], labels: Sequence[str], colors: Sequence[str]) -> None:
+def _stack(axes: Axes, places: Sequence[datetime], heights: Sequence[Sequence[int]], colors: Sequence[str]) -> None:
     if heights:
-        axes.stackplot(places, *heights, step="post", labels=labels, colors=colors, linewidth=0)
+        axes.stackplot(places, *heights, step="post", colors=colors, linewidth=0)
 
 
-def _legend(axes: Axes) -> None:
-    """A legend beside the chart, the highest part of a stack first."""
-    handles, labels = axes.get_legend_handles_labels()
-    axes.legend(handles[::-1], labels[::-1], loc="upper left", bbox_to_anchor=(1.0, 1.0))
+def _legend(axes: Axes, names: Sequence[str]) -> None:
+    """A legend beside the chart with the names of its last parts, the highest part of a stack first. Matplotlib leaves out what is
+    called `_..`, so the names come last."""
+    parts = list(axes.collections)[: -len(names) - 1 : -1]
+    legend = axes.legend(parts, [str(place) for place in range(len(parts))], loc="upper left", bbox_to_anchor=(1.0, 1.0))
+    for text, name in zip(legend.get_texts(), reversed(names)):
+        text.set_text(name)
 
 
 def bytes_over_time(report: Report) -> Figure:
     """The bytes of all events, and before them those of the tables with most bytes, one on another."""
-    figure, axes, places = _over_time(report.times, "bytes", attrgetter("bytes"), "all others", unit="B")
+    figure, axes, places = _over_time(report.times, "bytes", attrgetter("bytes"), unit="B")
     edges = _edges(report.times)
     heights = [_heights(edges, found.rows, attrgetter("bytes")) for found in report.stacked.values()]
-    _stack(axes, places, heights, [_short(str(name)) for name in report.stacked], _COLORS)
-    _legend(axes)
+    _stack(axes, places, heights, _COLORS)
+    _legend(axes, ["all others", *(_short(str(name)) for name in report.stacked)])
     return figure
 
 
@@ -119,8 +123,8 @@ def rows_over_time(report: Report) -> Figure:
     figure, axes, places = _over_time(report.times, "rows", attrgetter("rows"))
     edges = _edges(report.times)
     heights = [_heights(edges, report.times.rows, attrgetter(kind)) for kind in _KINDS]
-    _stack(axes, places, heights, list(_KINDS), list(_KINDS.values()))
-    _legend(axes)
+    _stack(axes, places, heights, list(_KINDS.values()))
+    _legend(axes, list(_KINDS))
     return figure
 
 
@@ -199,7 +203,8 @@ def svg(figure: Figure, name: str) -> str:
         figure.savefig(text, format="svg", transparent=True, metadata={"Creator": None, "Date": None, "Format": None, "Type": None})
     picture = text.getvalue()
     picture = picture[picture.index("<svg") :]
-    picture = re.sub(r'(\bid="|url\(#|href="#)', rf"\g<1>{name}-", picture)
+    # In tags alone: texts have names of tables.
+    picture = re.sub(r"<[^>]*>", lambda tag: re.sub(r'(\bid="|url\(#|href="#)', rf"\g<1>{name}-", tag[0]), picture)
     return re.sub(r'<svg ([^>]*?)\bwidth="[^"]*"', r"<svg \1", re.sub(r'<svg ([^>]*?)\bheight="[^"]*"', r"<svg \1", picture, 1), 1)
 
 

@@ -5,12 +5,14 @@ The members of the lines are named here and nowhere else.
 
 import json
 import os
+import re
 import subprocess
 from collections.abc import Callable, Iterable, Sequence
 from dataclasses import dataclass, field, fields, replace
 from typing import Any, Optional, TypeVar, Union
 
 from ._program import ProgramError, program
+from ._types import EventType
 from ._whole import _merged
 
 Path = Union[str, "os.PathLike[str]"]
@@ -28,6 +30,12 @@ _HOUR = 3600
 
 # How many tables are shown over time.
 _STACKED = 6
+
+# The names that `--table` takes for what they are: an argument that is no option, and a pattern without signs.
+_DATABASE, _TABLE = re.compile(rb"[^-.*?\0][^.*?\0]*"), re.compile(rb"[^*?\0]+")
+
+# The message of how many events may change tables and don't say which.
+_LEFT_OUT = re.compile(r"binlog: events left out that don't tell which tables they change: (\d+)")
 
 Row = TypeVar("Row")
 
@@ -59,11 +67,15 @@ def ask(stated: Optional[Path], words: Sequence[Union[str, bytes]], files: Itera
         ran = subprocess.run([command, *words, *map(_argument, files)], stdin=subprocess.DEVNULL, capture_output=True)
     except OSError as error:
         raise ProgramError(f"{command}: {error.strerror}") from error
-    # Names may have signs at which other lines than these end.
-    lines, messages = ([line.decode(errors="replace") for line in text.splitlines()] for text in (ran.stdout, ran.stderr))
+    lines, messages = map(_lines, (ran.stdout, ran.stderr))
     if ran.returncode not in _WHOLE:
         raise ProgramError("\n".join(messages) or f"{command}: status {ran.returncode}")
     return Answer(lines, messages, ran.returncode)
+
+
+def _lines(printed: bytes) -> list[str]:
+    """Lines of the program. Names may have characters that end lines elsewhere, as U+2028."""
+    return printed.decode(errors="replace").removesuffix("\n").split("\n") if printed else []
 
 
 # ---- names
@@ -82,8 +94,9 @@ class Name:
     @property
     def pattern(self) -> Optional[bytes]:
         """What `--table` takes for this table and no other; None if there is none."""
-        has_signs = any(sign in name for sign in b"*?" for name in (self.database, self.table))
-        return None if has_signs or b"." in self.database else self.database + b"." + self.table
+        name = self.database + b"." + self.table
+        is_plain = _DATABASE.fullmatch(self.database) and _TABLE.fullmatch(self.table)
+        return name if is_plain and name.decode(errors="ignore").encode() == name else None
 
 
 def _shown(name: bytes) -> str:
@@ -198,6 +211,15 @@ class Times:
 
 
 @dataclass
+class Untold:
+    """What isn't told apart by table: how many events may change tables and don't say which, as statements, and how many compressed
+    transactions there are, each of which counts with all of its bytes where the events of one of its tables are counted over time."""
+
+    unnamed: int = 0
+    compressed: int = 0
+
+
+@dataclass
 class Transactions:
     """How many transactions there are, the largest of them, and how many have a size of so many binary digits, in bytes."""
 
@@ -207,7 +229,10 @@ class Transactions:
 
 
 def _objects(answer: Answer) -> tuple[dict[str, Any], list[dict[str, Any]]]:
-    head, *rows = map(json.loads, answer.lines)
+    try:
+        head, *rows = map(json.loads, answer.lines)
+    except ValueError as error:
+        raise ProgramError("the program doesn't print statistics as lines of JSON") from error
     return head, rows
 
 
@@ -245,9 +270,22 @@ def _transaction(line: dict[str, Any], file: Path) -> Transaction:
     return _row(Transaction, line, file=os.fspath(file), tables=tables)
 
 
+def untold(stated: Optional[Path], files: Iterable[Path]) -> Untold:
+    """What isn't told apart by table."""
+    answer = ask(stated, ["stats", "--json", "--table", "*.*"], files)
+    _, rows = _objects(answer)
+    compressed = sum(row.get("events", 0) for row in rows if row.get("type") == EventType.TRANSACTION_PAYLOAD_EVENT)
+    return Untold(sum(int(found[1]) for found in map(_LEFT_OUT.fullmatch, answer.messages) if found), compressed)
+
+
 def gtids(stated: Optional[Path], files: Iterable[Path]) -> list[str]:
-    """The lines of GTIDs, without those of errors."""
-    return [line for line in ask(stated, ["gtids"], files).lines if line.split()[1:2] != ["error"]]
+    """The lines of GTIDs, behind those of events whose GTIDs can't be read."""
+    return ask(stated, ["gtids"], files).lines
+
+
+def is_error(line: str) -> bool:
+    """Whether a line of GTIDs is that of an event whose GTIDs can't be read."""
+    return line.split()[1:2] == ["error"]
 
 
 def verified(stated: Optional[Path], files: Iterable[Path]) -> Answer:
@@ -261,7 +299,7 @@ def stacked(found: Tables) -> list[Name]:
 
 
 def interval(found: Times) -> int:
-    """The shortest interval of which few cover the logs, whose events by hours these are."""
+    """The shortest interval of which few cover the logs, whose events by hours these are; none is longer than a week."""
     rows = found.busy.rows
     span = rows[-1].time + found.seconds - rows[0].time if rows else 0
     return next((seconds for seconds in _INTERVALS if span <= seconds * _MOST_INTERVALS), _INTERVALS[-1])
@@ -340,15 +378,23 @@ def _line(source: str, intervals: list[tuple[int, int]]) -> str:
 
 def all_gtids(logs: Iterable[list[str]]) -> list[str]:
     """The lines of the GTIDs of several logs, which follow one another."""
+    errors: list[str] = []
     sets: dict[str, list[tuple[int, int]]] = {}
     last: dict[tuple[int, ...], str] = {}
     for line in (line for log in logs for line in log):
         source, *rest = line.split()
-        if rest:
+        if is_error(line):
+            errors.append(line)
+        elif rest:
             sets.setdefault(source, []).extend(_intervals(rest[0]))
         else:
             last[tuple(map(int, source.split("-")[:2]))] = line
-    return [*(_line(*item) for item in sorted(sets.items())), *(line for _, line in sorted(last.items()))]
+    return [*errors, *(_line(*item) for item in sorted(sets.items())), *(line for _, line in sorted(last.items()))]
+
+
+def all_untold(logs: Sequence[Untold]) -> Untold:
+    """What isn't told apart by table in several logs."""
+    return Untold(sum(log.unnamed for log in logs), sum(log.compressed for log in logs))
 
 
 def all_verified(logs: Sequence[Answer]) -> Answer:
@@ -376,6 +422,7 @@ class Report:
     transactions: Transactions
     gtids: list[str]
     verified: Answer
+    untold: Untold = field(default_factory=Untold)
 
 
 def _report(files: list[str], found: dict[str, Any], names: list[Name], by_table: list[Times]) -> Report:
@@ -408,6 +455,7 @@ def report(
         "transactions": every(transactions, all_transactions),
         "gtids": every(gtids, all_gtids),
         "verified": every(verified, all_verified),
+        "untold": every(untold, all_untold),
     }
     over_time = every(times_by_table, all_times_by_table, length, names)
     return later(_report)([file for part in parts for file in part], found, names, over_time)

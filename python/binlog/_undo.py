@@ -140,8 +140,7 @@ def _asked(stated: Optional[Path], words: list[str], paths: list[str], behind: l
         ran = subprocess.run([command, "undo", *words, *paths], stdin=subprocess.DEVNULL, capture_output=True)
     except OSError as error:
         raise ProgramError(f"{command}: {error.strerror}") from error
-    # Names may have signs at which other lines than these end.
-    lines = os.fsdecode(ran.stderr).rstrip("\n").split("\n")
+    lines = os.fsdecode(ran.stderr).removesuffix("\n").split("\n")
     refusals = [refusal for line in lines for refusal in _refusals(line, [*paths, *behind])]
     if ran.returncode == _REFUSED and refusals:
         raise UndoRefused(refusals)

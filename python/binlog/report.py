@@ -7,6 +7,7 @@ It shows what the program `binlog` says of the logs, and counts nothing itself. 
 
 import argparse
 import html
+import importlib
 import os
 import re
 import sys
@@ -15,13 +16,14 @@ from datetime import datetime, timezone
 from pathlib import Path
 from typing import Optional, Union
 
-from . import _charts, _program, _statistics
+from . import _program, _statistics
 from ._program import ProgramError
 from ._statistics import Changes, Report, Transaction
 
 __all__ = ["ProgramError", "Report", "page", "read", "write", "write_pictures"]
 
-Files = Union[_statistics.Path, Iterable[_statistics.Path]]
+_Path = Union[str, "os.PathLike[str]"]
+Files = Union[_Path, Iterable[_Path]]
 
 # What a cell of a table has.
 _Value = Union[str, int]
@@ -29,6 +31,8 @@ _Value = Union[str, int]
 _SHOWN_TABLES = 20
 # How many tables of a transaction.
 _TABLES_OF_ONE = 3
+# The first bytes of a log, and of one that MySQL encrypted.
+_FILE_HEADERS = (b"\xfebin", b"\xfdbin")
 _FAILED, _USAGE = 3, 64
 
 _CSS = """
@@ -51,7 +55,7 @@ def read(files: Files, *, program: Optional[_statistics.Path] = None, seconds: O
     """What the program says of logs, or of one.
 
     program: the program `binlog`; if not given, the one that the variable BINLOG_PROGRAM names, or the one that the system finds.
-    seconds: the length of an interval of time; if not given, one of which at most 200 cover the logs.
+    seconds: the length of an interval of time; if not given, one of which some 200 cover the logs at most, and no longer than a week.
 
     Raises ProgramError where the program isn't found, or fails.
     """
@@ -136,18 +140,29 @@ def _table_rows(report: Report) -> str:
     return _table(heads, rows) if rows else ""
 
 
+def _unread(rows: Iterable[Changes], or_else: str = "") -> str:
+    """How many events have rows that aren't counted."""
+    count = sum(row.unread_events for row in rows)
+    return f"The rows of {_some(count, 'event')} can't be read{or_else}, and aren't counted." if count else ""
+
+
 def _not_counted(report: Report) -> str:
     """What the rows of the tables don't have."""
-    found = report.tables
-    unread = sum(row.unread_events for row in found.rows)
-    said = []
+    found, unnamed = report.tables, report.untold.unnamed
+    said = [_unread(found.rows)]
     if len(found.rows) > _SHOWN_TABLES:
-        said.append(f"These are the tables with most bytes, of {_count(len(found.rows))}.")
-    if unread:
-        said.append(f"The rows of {_some(unread, 'event')} can't be read, and aren't counted.")
+        said.insert(0, f"These are the tables with most bytes, of {_count(len(found.rows))}.")
     if found.unknown_events:
         said.append(f"{_some(found.unknown_events, 'event')} of {_some(found.unknown_bytes, 'byte')} may have rows of tables that aren't known.")
-    return " ".join(said)
+    if unnamed:
+        said.append(f"{_some(unnamed, 'event')} may change tables without saying which, as statements do.")
+    return " ".join(filter(None, said))
+
+
+def _compressed(report: Report) -> str:
+    """What the bytes of tables over time have too much."""
+    count = report.untold.compressed
+    return f"Of {_some(count, 'compressed transaction')} all bytes count for each table inside." if count else ""
 
 
 def _place(transaction: Transaction) -> str:
@@ -169,19 +184,28 @@ def _largest(report: Report) -> str:
         [it.gtid or "", it.file, _place(it), it.bytes, it.events, *_rows_of(it), _time(it.first_time), _time(it.last_time), _tables_of(it)]
         for it in report.transactions.rows
     ]
-    return _table(heads, rows) if rows else _paragraph("No transaction.")
+    if not rows:
+        return _paragraph("No transaction begins with the event of a GTID.")
+    return _table(heads, rows) + "\n" + _paragraph(_unread(report.transactions.rows))
+
+
+def _gaps(rows: Sequence[Sequence[str]]) -> str:
+    """How many sources have gaps."""
+    if not rows:
+        return "No GTID."
+    if not any(row[1] for row in rows):
+        return "Of MariaDB's GTIDs these are the last ones of each domain and server."
+    gaps = sum(row[2] not in ("", "-") for row in rows)
+    return f"{_some(gaps, 'source')} with gaps." if gaps else "No gaps."
 
 
 def _gtids(report: Report) -> str:
     """The GTIDs of each source, and which are missing."""
-    if not report.gtids:
-        return _paragraph("No GTID.")
-    rows = [(parts[0], *(parts[1:4:2] or ("", ""))) for parts in map(str.split, report.gtids)]
-    gaps = sum(row[2] not in ("", "-") for row in rows)
-    said = f"{_some(gaps, 'source')} with gaps." if gaps else "No gaps."
-    if not any(row[1] for row in rows):
-        said = "Of MariaDB's GTIDs these are the last ones of each domain and server."
-    return _paragraph(said) + "\n" + _table(("Source", "Numbers", "Gaps"), rows)
+    found = [line.split() for line in report.gtids if not _statistics.is_error(line)]
+    rows = [(parts[0], *(parts[1:4:2] or ("", ""))) for parts in found]
+    unread = len(report.gtids) - len(rows)
+    said = _gaps(rows) + (f" GTIDs of {_some(unread, 'event')} can't be read." if unread else "")
+    return _paragraph(said) + ("\n" + _table(("Source", "Numbers", "Gaps"), rows) if rows else "")
 
 
 def _chart(pictures: dict[str, str], name: str) -> str:
@@ -191,12 +215,15 @@ def _chart(pictures: dict[str, str], name: str) -> str:
 
 def page(report: Report) -> str:
     """The page, in HTML. It needs no other file."""
+    from . import _charts
+
     pictures = {name: _charts.svg(figure, name) for name, figure in _charts.charts(report).items()}
+    unread = _unread(report.times.rows, ", or are of tables that aren't known")
     sections = [
         _damage(report),
-        _section("bytes", "Bytes over time, by table", _chart(pictures, "bytes"), _paragraph(_other_times(report))),
+        _section("bytes", "Bytes over time, by table", _chart(pictures, "bytes"), _paragraph(_other_times(report)), _paragraph(_compressed(report))),
         _section("transactions", "Transactions over time", _chart(pictures, "transactions")),
-        _section("rows", "Rows over time", _chart(pictures, "rows")),
+        _section("rows", "Rows over time", _chart(pictures, "rows"), _paragraph(unread)),
         _section("tables", "Tables", _chart(pictures, "tables"), _table_rows(report), _paragraph(_not_counted(report))),
         _section("sizes", "Sizes of transactions", _chart(pictures, "sizes")),
         _section("largest", "The largest transactions", _largest(report)),
@@ -209,21 +236,29 @@ def page(report: Report) -> str:
     return text.encode(errors="surrogateescape").decode(errors="replace")
 
 
-def _refuse_log(path: _statistics.Path, files: Iterable[_statistics.Path]) -> None:
-    """Raises FileExistsError where the file to write is one of these logs."""
-    for file in files:
-        if os.path.exists(path) and os.path.exists(file) and os.path.samefile(path, file):
-            raise FileExistsError(f"{os.fspath(path)}: the output is one of the files that are read")
+def _keep_logs(path: _Path, files: Iterable[str]) -> None:
+    """Raises FileExistsError where a page would be written over one of these files, or another log, as by `-o mysql-bin.*`."""
+    if not Path(path).is_file():
+        return
+    with open(path, "rb") as file:
+        is_log = file.read(4) in _FILE_HEADERS
+    if is_log or any(os.path.exists(file) and os.path.samefile(path, file) for file in files):
+        raise FileExistsError(f"{os.fspath(path)}: a log isn't written over")
 
 
-def write(report: Report, path: Union[str, "os.PathLike[str]"]) -> None:
-    """Writes the page to a file. Raises FileExistsError where that is one of the logs."""
-    _refuse_log(path, report.files)
+def write(report: Report, path: _Path) -> None:
+    """Writes the page to a file.
+
+    Raises FileExistsError where the file is a log, or one of those that the page is about.
+    """
+    _keep_logs(path, report.files)
     Path(path).write_text(page(report), encoding="utf-8")
 
 
-def write_pictures(report: Report, folder: Union[str, "os.PathLike[str]"]) -> list[Path]:
+def write_pictures(report: Report, folder: _Path) -> list[Path]:
     """Writes each chart as a PNG into a folder, which is made if it isn't there, and gives their paths."""
+    from . import _charts
+
     Path(folder).mkdir(parents=True, exist_ok=True)
     paths = []
     for name, figure in _charts.charts(report).items():
@@ -265,12 +300,14 @@ def main(words: Optional[Sequence[str]] = None) -> int:
     """Writes the page. The exit status is that of `binlog verify`, or 3 where the page can't be made."""
     given = _arguments(words)
     try:
-        _refuse_log(given.output, given.files)
+        # Before the logs are read.
+        _keep_logs(given.output, given.files)
+        importlib.import_module("matplotlib")
         report = read(given.files, program=given.program, seconds=given.interval)
         write(report, given.output)
         if given.png:
             write_pictures(report, given.png)
-    except (ProgramError, OSError) as error:
+    except (ProgramError, OSError, ImportError) as error:
         print(f"binlog.report: {error}", file=sys.stderr)
         return _FAILED
     return report.verified.status

@@ -106,6 +106,13 @@ class Undoing(unittest.TestCase):
         self.assertEqual(str(raised.exception), "1.bin: event 12 at byte 3456: Image")
         self.assertEqual(pickle.loads(pickle.dumps(raised.exception)).refusals, raised.exception.refusals)
 
+    def test_a_name_that_ends_a_line_elsewhere(self):
+        name = "1\u2028.bin"
+        self.answer("", f"binlog: {name}: event 12 at byte 3456: Image: the images of the rows lack columns\n", 2)
+        with self.assertRaises(binlog.UndoRefused) as raised:
+            self.undo(name, self.folder / "out")
+        self.assertEqual([one.file for one in raised.exception.refusals], [name])
+
     def test_failures(self):
         self.answer("", "binlog: 1.bin: No such file or directory\n", 1)
         with self.assertRaisesRegex(binlog.ProgramError, "No such file"):

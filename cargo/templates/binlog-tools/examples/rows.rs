@@ -1,5 +1,6 @@
 //! Prints the rows of a log, each value behind the name of its column, by files of columns, too: `rows FILE [COLUMNS..]`
-use binlog::{BinlogFile, columns::read_tables, consts::BinlogVersion, events::EventData};
+//! Rows in compressed transactions, and compressed rows of MariaDB's, are left out.
+use binlog::{BinlogFile, columns::read_tables, consts::BinlogVersion, events::EventData, mariadb::is_maria_log};
 use binlog::values::{ColumnFacts, ColumnValue, Image, RowsEventExt};
 use std::error::Error;
 use std::fs::{self, File};
@@ -13,11 +14,10 @@ fn main() -> Result<(), Box<dyn Error>> {
     let mut file = BinlogFile::new(BinlogVersion::Version4, BufReader::new(log))?;
     while let Some(item) = file.next() {
         let event = item?;
-        if let Some(EventData::RowsEvent(rows)) = event.read_data()?
-            && let Some(map) = file.reader().get_tme(rows.table_id())
-        {
+        if let Some(EventData::RowsEvent(rows)) = event.read_data()? {
+            let Some(map) = file.reader().get_tme(rows.table_id()) else { println!("rows without a table map"); continue };
             println!("{}.{}", map.database_name(), map.table_name());
-            let facts = map.facts(&files, false)?.table;
+            let facts = map.facts(&files, is_maria_log(&event.as_ref().fde()))?.table;
             for row in rows.rows(map)? {
                 let row = row?;
                 row.before().into_iter().for_each(|image| print("-", &facts.columns, image));

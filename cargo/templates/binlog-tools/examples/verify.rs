@@ -7,9 +7,9 @@ use std::io::BufReader;
 
 fn main() -> Result<(), Box<dyn Error>> {
     let name = std::env::args().nth(1).ok_or("usage: verify FILE")?;
-    let file = Crc32File::verified(BinlogVersion::Version4, BufReader::new(File::open(name)?))?;
-    let mut damaged = 0;
-    for (index, item) in file.items().enumerate() {
+    let mut file = Crc32File::verified(BinlogVersion::Version4, BufReader::new(File::open(name)?))?;
+    let (mut index, mut damaged) = (0, 0);
+    while let Some(item) = file.next_ref() {
         match item {
             Ok(_) => {}
             // Memory or the reader failed.
@@ -19,7 +19,11 @@ fn main() -> Result<(), Box<dyn Error>> {
                 damaged += 1;
             }
         }
+        index += 1;
     }
     println!("{damaged} events damaged");
+    if let Some(rest @ 1..) = file.tail_len() {
+        println!("the last {rest} bytes are the beginning of an event");
+    }
     Ok(())
 }

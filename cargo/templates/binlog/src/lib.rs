@@ -31,6 +31,15 @@
 //! ```
 #![forbid(unsafe_code)]
 
+// The proofs are of a `usize` of 64 bits. With fewer a length of 64 bits that is stated would be cut, and another text be read.
+#[cfg(not(target_pointer_width = "64"))]
+compile_error!("binlog is for targets of 64 bits");
+
+// The example of the packages' README is compiled.
+#[cfg(doctest)]
+#[doc = include_str!("../../README.md")]
+struct Readme;
+
 mod base64;
 // Of a loop and of a function a proof alone reads a name.
 #[allow(unused_variables)]
