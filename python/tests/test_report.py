@@ -245,13 +245,6 @@ class Answers(WithProgram):
             (self.folder / "binlog").symlink_to(self.program)
             self.assertEqual(_program.program(), str(self.folder / "binlog"))
 
-    def test_names_with_signs_at_which_other_lines_end(self):
-        names = ("shop", "a\u2028b\u2029c\x85d")
-        found = tables(1, (0, 0), table(names, changes(1, 10, (1, 0, 0)), 1, (7200, 7200)))
-        self.answer({"stats --by table --json a": [json.dumps(line, ensure_ascii=False) for line in found]})
-        (row,) = _statistics.tables(self.program, self.files[:1]).rows
-        self.assertEqual(str(row.name), ".".join(names))
-
     def test_refusals(self):
         said = "binlog: the logs have more than 65536 tables\n"
         self.answer(ANSWERS, **{"stats --by table --json a b": {"said": said, "status": 3}})
@@ -387,21 +380,14 @@ class Page(WithProgram):
         for wrong in (["--interval", "1d"], ["--interval", "0s"], ["--none"]):
             self.assertEqual(self.run_main(*words, *wrong, self.files[0])[0], 64)
         self.assertEqual(self.run_main("-o", str(out))[0], 64)
-        (self.folder / "link").symlink_to(self.files[0])
-        for log in (self.files[0], str(self.folder / "link")):
-            Path(self.files[0]).write_bytes(b"a log")
-            status, said = self.run_main(*words[:2], "-o", log, *self.files)
-            self.assertEqual((status, said), (3, f"binlog.report: {log}: the output is one of the files that are read\n"))
-            with self.assertRaises(FileExistsError):
-                report.write(self.report(), log)
-            self.assertEqual(Path(self.files[0]).read_bytes(), b"a log")
         self.assertEqual(self.run_main("--program", str(self.folder / "none"), "-o", str(out), self.files[0])[0], 3)
         self.assertEqual(self.run_main("--program", str(self.program), "-o", str(self.folder / "none/page"), self.files[0])[0], 3)
 
     def test_logs_stay(self):
         """No page is written over a file that it is about, or another log."""
-        other = self.folder / "other"
-        for path, content in ((Path(self.files[0]), b"read"), (other, b"\xfebin"), (other, b"\xfdbin\1")):
+        other, link = self.folder / "other", self.folder / "link"
+        link.symlink_to(self.files[0])
+        for path, content in ((Path(self.files[0]), b"read"), (link, b"read"), (other, b"\xfebin"), (other, b"\xfdbin\1")):
             path.write_bytes(content)
             status, said = self.run_main("--program", str(self.program), "-o", str(path), self.files[0])
             self.assertEqual((status, said), (3, f"binlog.report: {path}: a log isn't written over\n"))
