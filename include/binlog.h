@@ -318,8 +318,8 @@ size_t binlog_undo(const uint8_t *logs, size_t size, const uint64_t *sizes, size
 
 /* ---- files of columns
  *
- * By default servers don't log the names, signs, members and character sets of columns. A file of columns has them: the answer of
- * information_schema.COLUMNS as `mysql -B` prints it (docs/COMMANDS.md has the one line that makes it). `columns` is its text, in the
+ * By default servers don't log the names and members of columns, and MariaDB's not their signs and character sets, either. A file of columns
+ * has them: the answer of information_schema.COLUMNS as `mysql -B` prints it (docs/COMMANDS.md has the one line that makes it). `columns` is its text, in the
  * caller's memory. It is read again by each call that takes it, in a time that grows with its length, so pass no more than the first
  * line and the lines of the tables that are wanted: these are a file of columns, too. */
 
