@@ -3,6 +3,7 @@ pub mod StatusVars
 pub mod WholeTexts
 pub mod BitTokens
 pub mod ClientSets
+pub mod KnownVariables
 pub mod OtherValues
 pub mod MariaValues
 pub mod TypeNames

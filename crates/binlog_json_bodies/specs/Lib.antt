@@ -3,6 +3,7 @@ pub mod Bodies
 pub mod MariaBodies
 pub mod Statements
 pub mod StatusVars
+pub mod KnownVariables
 pub mod ClientSets
 pub mod Gtids
 pub mod MariaGtids

@@ -12,12 +12,14 @@ mod data_value;
 mod gtids;
 mod kept_statements;
 mod kept_status_vars;
+mod known_variables;
 mod maria_bodies;
 mod maria_data;
 mod maria_gtids;
 mod rows;
 mod statements;
 mod status_vars;
+mod unlisted_variables;
 
 pub use compressed::MOST_BYTES;
 pub use data_value::{write_data, write_name, write_next_data};

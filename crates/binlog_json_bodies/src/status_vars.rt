@@ -8,11 +8,12 @@ ghost use Rattle.binlog_file.specs.StatusVarValues.{Has};
 ghost use Rattle.binlog_file.specs.StatusVars.{variable_of};
 ghost use Rattle.json_line.specs.Lines.{IsPlainText};
 ghost use Rattle.json_line.specs.Tokens.{Adds, text_value, number_value, bytes_value, member, object, array};
-ghost use Rattle.binlog_json_bodies.specs.ClientSets.{collation_in, client_collation};
+ghost use Rattle.binlog_json_bodies.specs.ClientSets.{collation_in, last_collation, client_collation};
 ghost use Rattle.binlog_statements.specs.Layouts.{IsWholeLen};
 ghost use Rattle.binlog_statements.specs.declared.layout.Layout.TheVariants.{TextAnd};
 ghost use Rattle.binlog_json_bodies.specs.StatusVars.{entry, first_text, short_text, variable_object, status_vars_value, status_vars_members};
 
+use crate::known_variables::last_collation;
 use binlog_file::{NullBytes, RawBytes, StatusVar, StatusVarKey, StatusVarVal, StatusVarsIterator};
 use byteorder::{ByteOrder, LittleEndian};
 use json_line::Line;
@@ -28,7 +29,7 @@ struct Found {
 }
 
 /// Writes the member with the status variables, and the member with the bytes after them, if any. The result is the
-/// number of the client's collation, if they state one.
+/// number of the client's collation, if the variables state one, or those among the bytes after them whose layouts are known.
 pub(crate) fn write_status_vars(
     line: &mut Line,
     alloc: Global,
@@ -40,7 +41,7 @@ pub(crate) fn write_status_vars(
     line.key("status_vars")?;
     let found = write_variables(line, alloc, text)?;
     line.bytes_member_if_any("status_vars_rest", &text[found.len..])?;
-    Ok(found.collation)
+    Ok(last_collation(&text[found.len..]).or(found.collation))
 }
 
 // Writes an array of the variables, in order.
@@ -49,7 +50,7 @@ fn write_variables(line: &mut Line, alloc: Global, text: &[u8]) -> Result<Found,
     ensures list { Adds result line.old line.new (status_vars_value text.now) }
     ensures len { IfOk result (λ found. found.len ≡ length (flat_map variable_bytes (variables text.now))) }
     ensures fits { IfOk result (λ found. found.len ≤ length text.now) }
-    ensures client { IfOk result (λ found. found.collation ≡ client_collation text.now) }
+    ensures client { IfOk result (λ found. found.collation ≡ last_collation (variables text.now)) }
 {
     let mut len = 0;
     let mut collation = None;

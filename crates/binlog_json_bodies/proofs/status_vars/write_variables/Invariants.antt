@@ -2,7 +2,7 @@ use Rattle.std.proofs.Common.{◌≡◌, ◌+◌, ◌∷◌, ◌++◌, [], flat_
 use Rattle.json.specs.Token.{begin_array}
 use Rattle.binlog_file.specs.StatusVariables.{variable_bytes, variables}
 use Rattle.std.specs.Option.{option_or}
-use Rattle.binlog_json_bodies.specs.ClientSets.{last_collation, client_collation}
+use Rattle.binlog_json_bodies.specs.ClientSets.{last_collation}
 use Rattle.binlog_json_bodies.specs.StatusVars.{variable_object}
 use Rattle.binlog_json_bodies.proofs.status_vars.write_variables.Given as goal
 
@@ -14,4 +14,4 @@ invariant-variables l =
     ≡ l.fn.line ++ begin_array ∷ [] ++ flat_map variable_object (variables l.text))
     × (l.len + length (flat_map variable_bytes (variables l.variable-iterator.unread.now))
     ≡ length (flat_map variable_bytes (variables l.text)))
-    × (option_or (last_collation (variables l.variable-iterator.unread.now)) l.collation ≡ client_collation l.text)
+    × (option_or (last_collation (variables l.variable-iterator.unread.now)) l.collation ≡ last_collation (variables l.text))
