@@ -116,6 +116,11 @@ def each_variable():
 TAILS = ["15 00", "00 01 02 03", "05 02 61", "02 01 61", "0b 03 61", "0b 00 01", "0c 01 61", "ff"]
 
 
+# Variables of MySQL 9.7 and of MariaDB that no key of the table lists.
+UNLISTED = ["15 01", "80 01 02 03", "81 01 02 03 04 05 06 07 08", "82 03 0c", "82 04 00 01 02 03 04 05 06 07 08", "83 00"]
+UNLISTED += ["82 08 00 04 08 00 08 00 08 00 04", "83 02 21 00 00 08 04 08 00 08"]
+
+
 # Collations of clients, and texts by Python's codecs of their character sets.
 CLIENTS = [
     (4, "cp850", "caf\u00e9 \u2551"),
@@ -154,6 +159,17 @@ def queries_of_clients(skipped):
         yield encode.query(status_vars=[encode.charset(number, 8, 8)], text=content, skipped=skipped)
 
 
+def queries_behind_unlisted(skipped):
+    """Statements whose client's collation stands among variables that aren't listed, or behind one that isn't known."""
+    (latin1, member), (greek, _) = (encode.charset(number, 33, 33) for number in (8, 25))
+    text = {"text": b"caf\xe9", "query": "caf\u00e9", "skipped": skipped}
+    for unlisted in [*map(bytes.fromhex, UNLISTED), bytes.fromhex("".join(UNLISTED))]:
+        yield encode.query(tail=unlisted + latin1, **text)
+        yield encode.query(tail=unlisted + greek + unlisted + latin1 + unlisted, **text)
+        yield encode.query(status_vars=[(latin1, member)], tail=unlisted, **text)
+        yield encode.query(tail=b"\x84" + unlisted + latin1, **text | {"query": b"caf\xe9"})
+
+
 def queries(lengths):
     skipped = b"\xaa" * max(0, lengths[2] - 13)
     variables = list(each_variable())
@@ -170,6 +186,7 @@ def queries(lengths):
     for tail in map(bytes.fromhex, TAILS):
         yield encode.query(status_vars=variables[:3], tail=tail, text="q", skipped=skipped)
     yield from queries_of_clients(skipped)
+    yield from queries_behind_unlisted(skipped)
 
 
 def load_queries(_lengths):

@@ -209,6 +209,37 @@ def status_variables(data):
     return variables, data
 
 
+def flags_length(data):
+    """The length of the extra flags of a GTID: two bytes, and a sequence number of eight if they announce it."""
+    return 10 if data and data[0] & (4 | 8) else 2
+
+
+# The lengths of the values of the variables that have no key above.
+UNLISTED = {
+    21: lambda data: 1,
+    128: lambda data: 3,
+    129: lambda data: 8,
+    130: flags_length,
+    131: lambda data: 1 + 4 * number_in(data, 0, 1),
+}
+
+
+def behind_unlisted(data):
+    """The bytes behind the variable without a key at the start, None if there is no whole one."""
+    if not data or data[0] not in UNLISTED:
+        return None
+    end = 1 + UNLISTED[data[0]](data[1:])
+    return data[end:] if end <= len(data) else None
+
+
+def client_collations(data):
+    """The collations of clients that status variables state, in order, also behind variables without a key."""
+    while data is not None:
+        variables, data = status_variables(data)
+        yield from (variable["value"]["charset_client"] for variable in variables if variable["key"] == "Charset")
+        data = behind_unlisted(data)
+
+
 def unless_empty(name, content):
     """A member of bytes, left out if there are none."""
     return {name: Bytes(content)} if content else {}

@@ -97,11 +97,11 @@ def stored(text, width=None, level=6):
     return bytes([0x80 + width]) + size.to_bytes(width, "big") + zlib.compress(bytes_of(text), level)
 
 
-def query_compressed(text, compressed, status_vars=(), schema="test"):
+def query_compressed(text, compressed, status_vars=(), schema="test", tail=b""):
     """`compressed` stands in the place of the text; if it is None, what is stored for the text."""
     head = {"thread_id": 7, "execution_time": 8, "error_code": 9}
     content = stored(text) if compressed is None else compressed
-    body, data = encode.statement(head, b"", status_vars=status_vars, schema=schema, text=content)
+    body, data = encode.statement(head, b"", status_vars=status_vars, tail=tail, schema=schema, text=content)
     return Event(165, "QUERY_COMPRESSED_EVENT", body, data | {"query": shown(text), "compressed": True})
 
 
@@ -169,6 +169,8 @@ def queries():
     text = "caf\u00e9 \u20ac"
     yield query_compressed(text, stored(text.encode("cp1252")), status_vars=[encode.charset(1032, 33, 33)])
     yield query_compressed(b"select 1", None, status_vars=[encode.charset(1025, 33, 33)])
+    # `character_set_collations` in front of a client's latin1.
+    yield query_compressed(text, stored(text.encode("cp1252")), tail=b"\x83\1\x21\0\0\x08" + encode.charset(1032, 33, 33)[0])
     whole = query_compressed("select 1", None)
     text = stored("select 1")
     damaged = text[:-1] + bytes([text[-1] ^ 1])
