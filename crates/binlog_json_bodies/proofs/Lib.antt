@@ -4,6 +4,7 @@ pub mod WholeTexts
 pub mod BitTokens
 pub mod ClientSets
 pub mod KnownVariables
+pub mod KnownLists
 pub mod OtherValues
 pub mod MariaValues
 pub mod TypeNames

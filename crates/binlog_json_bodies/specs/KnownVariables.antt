@@ -1,9 +1,9 @@
 -- The status variables whose layouts are known: those that the table of keys lists, and unlisted ones, which only MariaDB writes, or
 -- MySQL from 9.7 on.
 -- Sources of the unlisted ones: MariaDB's documentation, "QUERY_EVENT", and what both servers write.
-use Rattle.std.specs.Prelude.{ℕ, zero, suc, ◌*◌, ◌==◌, cond, List, [], ◌∷◌, length, take, drop, Option, Some, None, if◌then◌else◌}
-use Rattle.binlog_file.specs.Layouts.{fixed_len, plus}
-use Rattle.binlog_file.specs.StatusVariables.{Variable, first_variable}
+use Rattle.std.specs.Prelude.{◌≡◌, ◌⊎◌, ℕ, zero, suc, ◌≤◌, ◌*◌, ◌==◌, cond, List, [], ◌∷◌, ◌++◌, length, take, drop, flat_map, All, Option, Some, None, if◌then◌else◌}
+use Rattle.binlog_file.specs.Layouts.{HasLength, fixed_len, plus}
+use Rattle.binlog_file.specs.StatusVariables.{Variable, variable_bytes, IsWhole, first_variable}
 use Rattle.binlog_mariadb.specs.Gtids.{has_alter}
 
 -- ---- the values of unlisted variables
@@ -69,6 +69,43 @@ abbrev pub known_within : ℕ → List ℕ → List Known
 known_within zero text = []
 known_within (suc n) text = with_others (first_known text) (known_within n)
 
--- The variables of a text: one after the other, as long as it goes on with a whole one.
+-- The variables of a text: one after the other, as long as it goes on with a whole one. A law proves that they are its longest prefix of
+-- whole variables.
 unfoldable pub known_variables : List ℕ → List Known
 known_variables text = known_within (length text) text
+
+-- ---- which list that is
+
+-- A variable's encoding: the number (1 byte) and the value.
+abbrev pub known_bytes : Known → List ℕ
+known_bytes (listed v) = variable_bytes v
+known_bytes (unlisted number value) = number ∷ value
+
+-- The value is one byte, and as many as it announces.
+abbrev pub IsAnnounced : (ℕ → ℕ) → List ℕ → Type 0
+IsAnnounced count value = (first : ℕ) × (others : List ℕ) × (value ≡ first ∷ others) × (length others ≡ count first)
+
+-- The number is that of an unlisted variable, and the value is a whole one of it.
+abbrev pub IsUnlisted : (number : ℕ) → (value : List ℕ) → Type 0
+IsUnlisted number value =
+    ((number ≡ 21) × HasLength 1 value)
+    ⊎ (((number ≡ 128) × HasLength 3 value)
+    ⊎ (((number ≡ 129) × HasLength 8 value)
+    ⊎ (((number ≡ 130) × IsAnnounced behind_flags value)
+    ⊎ ((number ≡ 131) × IsAnnounced behind_count value))))
+
+-- The variable is one, and its value is whole.
+abbrev pub IsWholeKnown : Known → Type 0
+IsWholeKnown (listed v) = IsWhole v
+IsWholeKnown (unlisted number value) = IsUnlisted number value
+
+-- The text is these whole variables, followed by the rest.
+pub record BeginsWithKnown (text : List ℕ) (vars : List Known) (rest : List ℕ) : Type 0 where
+  pub is : text ≡ flat_map known_bytes vars ++ rest
+  pub whole : All IsWholeKnown vars
+
+-- The longest prefix of the text that is a list of whole variables, listed or not.
+pub record AreKnownOf (text : List ℕ) (vars : List Known) : Type 0 where
+  pub rest : List ℕ
+  pub front : BeginsWithKnown text vars rest
+  pub longest : (others : List Known) (left : List ℕ) → BeginsWithKnown text others left → length (flat_map known_bytes others) ≤ length (flat_map known_bytes vars)

@@ -13,6 +13,7 @@ mod gtids;
 mod kept_statements;
 mod kept_status_vars;
 mod known_variables;
+pub mod laws;
 mod maria_bodies;
 mod maria_data;
 mod maria_gtids;
