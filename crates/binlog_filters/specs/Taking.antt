@@ -2,7 +2,7 @@
 use Rattle.std.specs.Prelude.{◌≡◌, ◌⊎◌, ℕ, ◌+◌, ◌-◌, ◌^◌, min, if◌then◌else◌, ◌==◌, Bool, true, false, ◌&&◌, ◌||◌, not, List, [], ◌∷◌, Option, Some, None, is_none, Result, Ok, Err, nat_le, nat_lt}
 use Rattle.std.specs.List.{list_any}
 use Rattle.binlog_wire.specs.declared.error.Error.{Error}
-use Rattle.binlog_wire.specs.declared.error.Error.TheVariants.{Memory}
+use Rattle.binlog_wire.specs.declared.error.Error.TheVariants.{Memory, TooShortForChecksum, ChecksumMismatch}
 use Rattle.binlog_event_format.specs.Headers.{header_of}
 use Rattle.binlog_file.specs.Events.{EventView}
 use Rattle.binlog_file.specs.Parts.{is_description}
@@ -123,6 +123,18 @@ FollowsEvent filter was event (Ok now) =
     ⊎ ((begins_transaction (header_of event.frame).event_type ≡ true) × WantsEvent filter event now)
 FollowsEvent filter was event (Err error) = error ≡ Memory
 
+-- An event of any type can be damaged so, also that of a GTID. The other errors in the places of events are those of format descriptions, ROTATE
+-- events and table maps whose bodies are refused.
+abbrev pub may_hide_gtid : Error → Bool
+may_hide_gtid TooShortForChecksum = true
+may_hide_gtid (ChecksumMismatch stored computed) = true
+may_hide_gtid _ = false
+
+-- Whether the events behind an error are wanted, if `was` says so of those before it. If it may be in the place of a GTID, a transaction may
+-- begin there whose GTID isn't known: it is wanted if no GTIDs are asked for.
+abbrev pub wants_behind : Filter → Bool → Error → Bool
+wants_behind filter was error = was || (may_hide_gtid error && is_none filter.include_gtids)
+
 -- ---- tables
 
 -- What the conditions of tables make of an event, where `maps` are the table maps in force behind it. Without conditions each event
@@ -152,7 +164,7 @@ pub record TakesEvent (filter : Filter) (maps : TableMaps) (start : Option ℕ) 
 -- hidden.
 abbrev pub Takes : Filter → TableMaps → Option ℕ → FilterState → Result EventView Error → FilterState → Bool → Type 0
 Takes filter maps position was (Ok event) now taken = TakesEvent filter maps (start_of position event) was event now taken
-Takes filter maps position was (Err error) now taken = (now ≡ was) × (taken ≡ true)
+Takes filter maps position was (Err error) now taken = (now ≡ record was { is_wanted = wants_behind filter was.is_wanted error }) × (taken ≡ true)
 
 -- These events, and before them the item if it is a taken event.
 abbrev pub with_taken : (taken : Bool) (item : Result EventView Error) (others : List EventView) → List EventView

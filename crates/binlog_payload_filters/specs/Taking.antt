@@ -5,7 +5,7 @@ use Rattle.binlog_events.specs.Events.{EventView}
 use Rattle.binlog_file.specs.TableMapsInForce.{TableMaps}
 use Rattle.binlog_visits.specs.TableMaps.{maps_behind}
 use Rattle.binlog_filters.specs.Places.{start_of, behind}
-use Rattle.binlog_filters.specs.Taking.{FollowsEvent, TakesEvent, meets_conditions, with_taken}
+use Rattle.binlog_filters.specs.Taking.{FollowsEvent, TakesEvent, meets_conditions, wants_behind, with_taken}
 use Rattle.binlog_filters.specs.declared.filter.Filter.{Filter}
 use Rattle.binlog_filters.specs.declared.state.FilterState.{FilterState}
 use Rattle.binlog_filters.specs.declared.tables.TableFilter.{TableFilter}
@@ -33,7 +33,7 @@ TakesBy (Some tables) true filter limit maps start was event now taken = TakesPa
 -- What a filter does with an item that begins at `position`: whether it is taken. An error always is.
 abbrev pub Takes : Filter → (limit : ℕ) → TableMaps → Option ℕ → FilterState → Result EventView Error → FilterState → Bool → Type 0
 Takes filter limit maps position was (Ok event) now taken = TakesBy filter.tables (is_payload event) filter limit maps (start_of position event) was event now taken
-Takes filter limit maps position was (Err error) now taken = (now ≡ was) × (taken ≡ true)
+Takes filter limit maps position was (Err error) now taken = (now ≡ record was { is_wanted = wants_behind filter was.is_wanted error }) × (taken ≡ true)
 
 -- The events that are taken of items one after another. The first item begins at `position`, `maps` are the table maps in force before
 -- it, and `was` is what is known there.
