@@ -340,8 +340,9 @@ def damaged_copies(runner):
 
 
 def names(runner):
-    """Names that are no UTF-8, empty, long, or need an escape."""
+    """Names that are no UTF-8, empty, long, or need an escape, and names with control characters, which would forge a line or reach a terminal."""
     pairs = [(b"\xff", b"t"), (b"", b""), (b"d" * 255, b"t" * 255), (b'a"b', b"c\\\n"), ("sch\u00f6n".encode(), b"t.u"), (b"sch\xc3", b"t")]
+    pairs += [(b"shop", b"t 0 events\ntable shop.orders"), (b"\x1b[2J", b"t"), (b"a\x1fb", b"a b"), (b"\x7f", b"~"), (b"\0", b"t\r")]
     events = [gtid(1, False)]
     for number, pair in enumerate(pairs):
         events += [one_row_map(number + 1, *pair), inserted(number + 1, *range(number))]

@@ -87,8 +87,9 @@ def line(value):
 
 
 def text_of(name):
+    """A name as the text has it. One that could end a line, or that a terminal obeys, isn't shown."""
     try:
-        return name.decode()
+        return "?" if any(byte < 32 or byte == 127 for byte in name) else name.decode()
     except UnicodeDecodeError:
         return "?"
 

@@ -19,10 +19,10 @@ use binlog_later_changes::{
 };
 use binlog_undo_index::TransactionPlace;
 use binlog_undo_log::{Frames, UndoLogError};
+use change_statistics::name_text;
 use clap::ArgMatches;
 use std::alloc::Global;
 use std::io::Read;
-use std::str;
 
 /// The place of the type in the header of an event.
 const TYPE_PLACE: usize = 4;
@@ -319,9 +319,4 @@ fn report_one<R: Eprint>(rt: &R, skipped: &str, log: &str, change: &LaterChange)
             );
         }
     }
-}
-
-// A name as a text.
-fn name_text(name: &[u8]) -> &str {
-    str::from_utf8(name).unwrap_or("?")
 }

@@ -9,7 +9,7 @@ returns-clause-ok g c =
     let old = c.args.self.now in
     let state : FilterState = old.state in
     let wanted : record state { is_wanted = c.wants_behind-self.result } ≡ record state { is_wanted = wants_behind old.filter state.is_wanted c.args.error.now } =
-        ap (λ (w : Bool). record state { is_wanted = w }) c.wants_behind-self.ensures
+    ap (λ (w : Bool). record state { is_wanted = w }) c.wants_behind-self.ensures
     in
     passed_on c.visit_error.result g.T.Visitor.visits old _ c.args.index (Err c.args.error.now) _ (wanted, refl) refl c.behind_error-self.ensures c.visit_error.ensures.ok
 
@@ -18,6 +18,6 @@ returns-clause-err g c =
     let old = c.args.self.now in
     let state : FilterState = old.state in
     let wanted : record state { is_wanted = c.wants_behind-self.result } ≡ record state { is_wanted = wants_behind old.filter state.is_wanted c.args.error.now } =
-        ap (λ (w : Bool). record state { is_wanted = w }) c.wants_behind-self.ensures
+    ap (λ (w : Bool). record state { is_wanted = w }) c.wants_behind-self.ensures
     in
     refused_on c.visit_error.result g.T.Visitor.refuses old _ c.args.index (Err c.args.error.now) _ (wanted, refl) refl c.behind_error-self.ensures c.visit_error.ensures.err
