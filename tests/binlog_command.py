@@ -374,6 +374,31 @@ def gtid_filters(runner):
             yield runner.check(["copy", *words, "-o", "-", "0.bin"], Result(copy_of(log, indexes)), [log])
 
 
+def damaged_gtids(runner):
+    """Behind a damaged event that may be that of a GTID, events are taken if no GTIDs are asked for, and otherwise as those before it. So they
+    are behind a table map that is refused, which is no GTID."""
+    statement = (samples.QUERY, samples.query_body(b"test", b"insert into t values (1)"))
+    begin = lambda number: (samples.GTID, samples.gtid_body(samples.SOURCE, number))
+    log = payload_lines.log_of([begin(1), statement, begin(2), statement, begin(3), statement], has_checksums=True)
+    starts = list(frame_starts(log))
+    wrong = with_byte(log, starts[4] - 1, log[starts[4] - 1] ^ 1)
+    events = frames(wrong)
+    messages = message("0.bin", 3, starts[3], mismatch(events[3]))
+    cases = [
+        (["--exclude-gtids", f"{SID}:1"], [0, 4, 5, 6]),
+        (["--exclude-gtids", f"{SID}:3"], [0, 1, 2, 4]),
+        (["--include-gtids", f"{SID}:1"], [0, 1, 2, 4]),
+        (["--include-gtids", f"{SID}:3"], [0, 5, 6]),
+    ]
+    for words, indexes in cases:
+        counts = f"{len(indexes)} events, {sum(len(events[index]) for index in indexes)} bytes, {len(indexes)} checksums right, 1 events damaged"
+        yield runner.check(["verify", *words, "0.bin"], Result(f"0.bin: {counts}\n".encode(), DAMAGED, messages), [wrong])
+    refused = payload_lines.log_of([begin(1), (19, b"abc"), statement, begin(2), statement])
+    messages = message("0.bin", 2, list(frame_starts(refused))[2], "an event's body ends within a field")
+    copied = Result(copy_of(refused, [0, 4, 5]), DAMAGED, messages)
+    yield runner.check(["copy", "--exclude-gtids", f"{SID}:1", "-o", "-", "0.bin"], copied, [refused])
+
+
 def left_out(count):
     """The message of events that are left out, though they may change a table that is asked for."""
     return f"binlog: events left out that don't tell which tables they change: {count}\n" if count else ""
@@ -700,13 +725,16 @@ def compact_rows(runner):
 
 
 def places_log():
-    """A log of rows in four transactions, behind a damaged event, and inside a compressed transaction; and where each row stands."""
+    """A log of rows in seven transactions, behind a damaged event, and inside a compressed transaction; and where each row stands. Two of the
+    transactions have numbers that no GTID has."""
     table, row = (row_values.framed(*event) for event in (row_lines.FIRST, row_lines.written(1, 7, b"a")))
     broken = row_values.framed(row_lines.TABLE_MAP, row_lines.FIRST[1][:12])
     inside = table + row + samples.gtid(9) + row
     payload = row_values.framed(json_model.PAYLOAD, payload_model.written(255, len(inside), inside))
     anonymous = samples.frame(compact_model.ANONYMOUS, samples.gtid_body(bytes(16), 0))
     events = [samples.gtid(1), table, row, row, samples.gtid(2), payload, row, anonymous, row, samples.tagged_gtid(b"t", 3), row, broken, row, samples.gtid(4), row]
+    numbers = 0, 2**63 - 1, 2**63
+    events += [event for number in numbers for event in (samples.gtid(number), row)]
     starts, log = [], row_values.start(row_lines.VERSIONS[0])
     for event in events:
         starts.append(len(log))
@@ -715,7 +743,7 @@ def places_log():
     rows = [(2, None, of(1)), (3, None, of(1)), (5, 1, of(2)), (5, 3, of(2)), (6, None, of(2)), (8, None, None), (10, None, f"{TAGGED_SID}:t:3")]
     wanted = [(starts[index], part, gtid) for index, part, gtid in rows]
     # Behind the damaged event neither the position nor the GTID is known: the headers state the log position 0.
-    return log, [*wanted, (None, None, None), (None, None, of(4))]
+    return log, [*wanted, (None, None, None), (None, None, of(4)), (None, None, None), (None, None, of(2**63 - 1)), (None, None, None)]
 
 
 def compact_places(runner):
@@ -1038,7 +1066,7 @@ def installs(runner):
     yield from laid_out(runner, runner.folder / "unpacked/usr")
 
 
-PARTS = (models, damaged, cut_logs, cut_ends, reported, several, filters, gtid_filters, names, gtids, maria_gtids, stored, compressed, stats)
+PARTS = (models, damaged, cut_logs, cut_ends, reported, several, filters, gtid_filters, damaged_gtids, names, gtids, maria_gtids, stored, compressed, stats)
 PARTS += (tables, compressed_tables, no_tables, copies, maria, maria_transactions, maria_gtid_filters, no_sets, stored_rows, compact_rows, compact_places, words, ends, progress, followed, installs)
 
 

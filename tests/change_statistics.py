@@ -222,6 +222,8 @@ def by_transaction(runner):
     equal = log_of(False, [gtid(number, False) for number in range(1, 51)])
     for top in (None, 1, 49, 50, 51):
         yield from runner.check_transactions("50 of one size", [equal], top)
+    numbers = 0, 1, 2**63 - 1, 2**63, 2**64 - 1
+    yield from runner.check_transactions("numbers that no GTID has", [log_of(False, [gtid(number, False) for number in numbers])])
     yield from runner.check_transactions("tags, and no GTIDs", [log_of(False, [other_gtid(number) for number in range(1, 51)])])
     yield from runner.check_transactions("back in time", [transactions(5, False, 80, step=-7)])
     chance, log = random.Random(9), logs[0]

@@ -21,7 +21,8 @@ UNREAD, COMPRESSED_ROWS = (20, 21, 22, 26), range(166, 172)
 
 
 def gtid_text(frame, data, in_force):
-    """The text of the GTID of the transaction that begins with an event; empty if it has none, or one that can't be read."""
+    """The text of the GTID of the transaction that begins with an event; empty if it has none, one that can't be read, or one of MySQL's with a
+    number that no GTID has."""
     type_number = listing_model.type_number(frame)
     try:
         if json_model.is_maria_event(frame, in_force):
@@ -30,6 +31,8 @@ def gtid_text(frame, data, in_force):
             return ""
         found = json_model.as_json(event_data_model.fields(type_number, data, in_force.lengths))
     except Fault:
+        return ""
+    if not 1 <= found["gno"] < 2**63:
         return ""
     return ":".join(map(str, filter(None, (found["sid"], found["tag"], found["gno"]))))
 

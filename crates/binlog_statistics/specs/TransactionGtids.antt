@@ -1,5 +1,5 @@
 -- The GTIDs of transactions as texts.
-use Rattle.std.specs.Prelude.{◌≡◌, ◌⊎◌, ℕ, true, false, List, [], ◌++◌, codes, decimal, Option, Some, None, Result, Ok, Err}
+use Rattle.std.specs.Prelude.{◌≡◌, ◌⊎◌, ℕ, ◌^◌, nat_le, nat_lt, Bool, true, false, ◌&&◌, List, [], ◌++◌, codes, decimal, Option, Some, None, Result, Ok, Err, if◌then◌else◌}
 use Rattle.uuid.specs.Text.{hyphenated_text, lower}
 use Rattle.binlog_wire.specs.declared.error.Error.{Error}
 use Rattle.binlog_event_format.specs.Headers.{header_of}
@@ -25,12 +25,20 @@ tag_part (Some tag) = codes ":" ++ tag
 abbrev pub mysql_text : GtidEvent → List ℕ
 mysql_text e = hyphenated_text lower e.sid ++ tag_part e.tag ++ codes ":" ++ decimal e.gno
 
+-- The number of a GTID of MySQL's is from 1 to 2^63 - 1.
+abbrev pub is_gno : ℕ → Bool
+is_gno number = nat_le 1 number && nat_lt number (2 ^ 63)
+
+-- The text of such a GTID; empty if its number is none.
+abbrev pub known_text : GtidEvent → List ℕ
+known_text e = if is_gno e.gno then mysql_text e else []
+
 -- That of a GTID of MariaDB's: its domain, the server, and the sequence number, with hyphens between.
 abbrev pub maria_text : (server_id : ℕ) → MariaGtidEvent → List ℕ
 maria_text server_id e = decimal e.head.domain ++ codes "-" ++ decimal server_id ++ codes "-" ++ decimal e.head.sequence
 
 abbrev pub mysql_text_in : EventData → List ℕ
-mysql_text_in (mysql.GtidEvent e) = mysql_text e
+mysql_text_in (mysql.GtidEvent e) = known_text e
 mysql_text_in body = []
 
 abbrev pub maria_text_in : (server_id : ℕ) → MariaEventData → List ℕ

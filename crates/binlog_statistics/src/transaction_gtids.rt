@@ -4,7 +4,7 @@ ghost use Rattle.std.specs.String.{string_bytes};
 ghost use Rattle.binlog_wire.specs.declared.error.Error.TheVariants.{Memory};
 ghost use Rattle.binlog_events.specs.EventRefs.{view_of};
 ghost use Rattle.binlog_filters.specs.Reading.{IsReadAs};
-ghost use Rattle.binlog_statistics.specs.TransactionGtids.{mysql_text, maria_text, text_in, text_read, tag_part, FollowsGtid};
+ghost use Rattle.binlog_statistics.specs.TransactionGtids.{is_gno, known_text, mysql_text, maria_text, text_in, text_read, tag_part, FollowsGtid};
 
 use binlog_file::{Error, EventData, EventRef, GtidEvent, LogEventData, Tag, read_log_data};
 use binlog_filters::begins_transaction;
@@ -12,6 +12,16 @@ use binlog_mariadb::{MariaEventData, MariaGtidEvent};
 use binlog_values::text::push_number;
 use std::alloc::{AllocError, Global};
 use uuid::Uuid;
+
+// The number after the greatest one of a transaction of MySQL's.
+const GNO_END: u64 = 1 << 63;
+
+// Whether a GTID of MySQL's can have this number.
+fn is_gno(number: u64) -> bool
+    ensures { result ≡ is_gno number }
+{
+    1 <= number && number < GNO_END
+}
 
 // Appends a tag behind a colon, if there is one.
 fn push_tag(text: &mut String, tag: Option<&Tag<'_>>) -> Result<(), AllocError>
@@ -40,6 +50,17 @@ fn push_mysql(text: &mut String, event: &GtidEvent) -> Result<(), AllocError>
     push_number(text, event.gno())
 }
 
+// The same if a GTID can have its number; nothing otherwise.
+fn push_known(text: &mut String, event: &GtidEvent) -> Result<(), AllocError>
+    ensures { OnOk result (string_bytes text.new ≡ string_bytes text.old ++ known_text event.now) }
+{
+    if is_gno(event.gno()) {
+        push_mysql(text, event)
+    } else {
+        Ok(())
+    }
+}
+
 // Appends the text of a GTID of MariaDB's, of an event of this server.
 fn push_maria(
     text: &mut String,
@@ -60,7 +81,7 @@ fn push_gtid(text: &mut String, server_id: u32, data: &LogEventData<'_>) -> Resu
     ensures { OnOk result (string_bytes text.new ≡ string_bytes text.old ++ text_in server_id data.now) }
 {
     match data {
-        LogEventData::Mysql(EventData::GtidEvent(event)) => push_mysql(text, event),
+        LogEventData::Mysql(EventData::GtidEvent(event)) => push_known(text, event),
         LogEventData::Maria(MariaEventData::GtidEvent(event)) => push_maria(text, server_id, event),
         _ => Ok(()),
     }
@@ -87,7 +108,7 @@ fn write_read(
 }
 
 /// Makes a text that of the GTID of the transaction of this event: a new one if the event begins a transaction, and empty if that has
-/// no GTID, or one that can't be read. If the event begins none, the text stays as it is.
+/// no GTID, one that can't be read, or one of MySQL's with the number 0 or one from 2^63 on, which no set of GTIDs has. If the event begins none, the text stays as it is.
 ///
 /// # Errors
 ///
