@@ -520,7 +520,10 @@ def gtids(runner):
     digits = SID.replace("-", "")
     yield runner.check(["gtids", "0.bin", "1.bin"], Result(f"{digits} 1-3,5 gaps 4\n".encode()), logs)
     missing = ["gtids", "--missing-in"]
-    yield runner.check([*missing, "2.bin", "0.bin"], Result(f"{digits} 1,3 gaps 2\n".encode()), logs)
+    yield runner.check([*missing, "2.bin", "0.bin"], Result(f"{digits} 1,3\n".encode()), logs)
+    tagged = [transactions(1, (b"tag", 3), (b"tag", 4), (b"tag", 9)), transactions((b"tag", 4))]
+    ad = TAGGED_SID.replace("-", "")
+    yield runner.check([*missing, "1.bin", "0.bin"], Result(f"{ad}:tag 3,9\n{digits} 1\n".encode()), tagged)
     yield runner.check([*missing, "0.bin", "2.bin"], Result(b""), logs)
     yield runner.check([*missing, MISSING, "0.bin"], Result(b"", NOT_OPENED, NOT_FOUND), logs)
 

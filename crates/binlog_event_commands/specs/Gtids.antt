@@ -21,21 +21,21 @@ use Rattle.binlog_cli.specs.declared.exit_status.Status.TheVariants.{NotOpened, 
 use Rattle.binlog_inputs.specs.Outputs.{outcome_of_lines}
 use Rattle.binlog_inputs.specs.Reading.{ShowsTaken}
 
--- The line of each group of the set is written, and behind them those of the last of MariaDB's GTIDs that others lack, up to the
--- first that can't be.
-pub record WritesSet (groups : List GtidGroup) (last others : List MariaGtid) (old : Option (List ℕ)) (outcome : Outcome) (new : Option (List ℕ)) : Type 0 where
+-- The line of each group of the set is written, with its gaps or without them, and behind them those of the last of MariaDB's GTIDs that
+-- others lack, up to the first that can't be.
+pub record WritesSet (has_gaps : Bool) (groups : List GtidGroup) (last others : List MariaGtid) (old : Option (List ℕ)) (outcome : Outcome) (new : Option (List ℕ)) : Type 0 where
   pub answer : Result (Unit {0}) Error
-  pub does : WritesLogGtids groups last others old answer new
+  pub does : WritesLogGtids has_gaps groups last others old answer new
   pub is : outcome ≡ outcome_of_lines answer
 
 -- The groups are those of the GTIDs of one set that another one doesn't have.
 abbrev pub AreMissing : (groups others difference : List GtidGroup) → Type 0
 AreMissing groups others difference = (pair : Pair) (gno : ℕ) → is_tracked difference pair gno ≡ (is_tracked groups pair gno && not (is_tracked others pair gno))
 
--- Their lines are written, and those of the last of MariaDB's GTIDs that the other log lacks; or memory ran out for them.
+-- Their lines are written, without gaps, and those of the last of MariaDB's GTIDs that the other log lacks; or memory ran out for them.
 abbrev pub WritesDifference : (gtids others : LogGtids) (old : Option (List ℕ)) (outcome : Outcome) (new : Option (List ℕ)) → Type 0
 WritesDifference gtids others old outcome new =
-    ((difference : List GtidGroup) × AreMissing gtids.mysql others.mysql difference × WritesSet difference gtids.maria others.maria old outcome new) ⊎ ((outcome ≡ written Failed) × (new ≡ old))
+    ((difference : List GtidGroup) × AreMissing gtids.mysql others.mysql difference × WritesSet false difference gtids.maria others.maria old outcome new) ⊎ ((outcome ≡ written Failed) × (new ≡ old))
 
 -- ---- another log
 
@@ -73,7 +73,7 @@ pub record WritesMissing {N : Type 0} (bytes : N → Option (List ℕ)) (other :
       (λ collector. collector.refused) filter false false bytes (other ∷ []) start read found
   pub writes : WritesUnless (is_unread (status_read read)) (status_read read) gtids found.gtids old outcome new
 
--- The lines of all GTIDs are written, or of those that the log `missing_in` lacks.
+-- The lines of all GTIDs are written, with their gaps, or of those that the log `missing_in` lacks.
 abbrev pub WritesWanted : {N : Type 0} (bytes : N → Option (List ℕ)) (missing_in : Option N) (gtids : LogGtids) (old : Option (List ℕ)) (outcome : Outcome) (new : Option (List ℕ)) → Type 0
-WritesWanted bytes None gtids old outcome new = WritesSet gtids.mysql gtids.maria [] old outcome new
+WritesWanted bytes None gtids old outcome new = WritesSet true gtids.mysql gtids.maria [] old outcome new
 WritesWanted bytes (Some other) gtids old outcome new = WritesMissing bytes other gtids old outcome new

@@ -59,7 +59,7 @@ fn write_wanted<'a, S: Inputs, R: Clock + Eprint + AllocGlobal, W: Write>(
     match missing_in {
         None => {
             let none = MariaGtidTracker::new(rt.alloc());
-            write_set(rt, &gtids.mysql, &gtids.maria, &none, output)
+            write_set(rt, &gtids.mysql, true, &gtids.maria, &none, output)
         }
         Some(other) => write_missing(rt, inputs, gtids, other, output),
     }
@@ -135,22 +135,26 @@ fn write_difference<E: Eprint, W: Write>(
     ensures { WritesDifference gtids.now others.now (W.contents output.old) result (W.contents output.new) }
 {
     match gtids.mysql.subtract(&others.mysql) {
-        Ok(difference) => write_set(rt, &difference, &gtids.maria, &others.maria, output),
+        Ok(difference) => write_set(rt, &difference, false, &gtids.maria, &others.maria, output),
         Err(_) => Outcome::written(out_of_memory(rt)),
     }
 }
 
-// Writes the lines of a set of MySQL's GTIDs, and of the last of MariaDB's that others lack. Why the output fails is kept by the
-// output.
+// Writes the lines of a set of MySQL's GTIDs, with their gaps or without them, and of the last of MariaDB's that others lack. Why the output
+// fails is kept by the output.
 fn write_set<E: Eprint, W: Write>(
     rt: &E,
     mysql: &GtidTracker,
+    has_gaps: bool,
     maria: &MariaGtidTracker,
     others: &MariaGtidTracker,
     output: &mut W,
 ) -> Outcome
-    ensures { WritesSet mysql.now maria.now others.now (W.contents output.old) result (W.contents output.new) }
+    ensures { WritesSet has_gaps mysql.now maria.now others.now (W.contents output.old) result (W.contents output.new) }
 {
     let mut output = CountedRef::new(&mut *output);
-    outcome_of_lines(rt, write_log_gtids(mysql, maria, others, &mut output))
+    outcome_of_lines(
+        rt,
+        write_log_gtids(mysql, has_gaps, maria, others, &mut output),
+    )
 }

@@ -1,5 +1,5 @@
 -- The lines of the groups of a set of GTIDs.
-use Rattle.std.specs.Prelude.{◌≡◌, ◌⊎◌, ℕ, ◌-◌, ◌==◌, true, List, [], ◌∷◌, ◌++◌, take, Option, Some, None, Result, Ok, Err, decimal, codes, if◌then◌else◌}
+use Rattle.std.specs.Prelude.{◌≡◌, ◌⊎◌, ℕ, ◌-◌, ◌==◌, Bool, true, false, List, [], ◌∷◌, ◌++◌, take, Option, Some, None, Result, Ok, Err, decimal, codes, if◌then◌else◌}
 use Rattle.std.specs.Io.KnownBytes.{Appends}
 use Rattle.hex.specs.Hex.{encode_lower}
 use Rattle.binlog_wire.specs.declared.error.Error.{Error}
@@ -36,6 +36,10 @@ abbrev pub group_line : List ℕ → Option (List ℕ) → List GnoInterval → 
 group_line sid tag intervals gaps =
     encode_lower sid ++ (tag_suffix tag ++ (codes " " ++ (intervals_text intervals ++ (codes " gaps " ++ (intervals_text gaps ++ codes "\n")))))
 
+-- `sid:tag intervals`
+abbrev pub numbers_line : List ℕ → Option (List ℕ) → List GnoInterval → List ℕ
+numbers_line sid tag intervals = encode_lower sid ++ (tag_suffix tag ++ (codes " " ++ (intervals_text intervals ++ codes "\n")))
+
 -- ---- lines
 
 -- No tag, or one: a letter or an underscore, and letters, digits and underscores, at most 32 in all.
@@ -52,11 +56,16 @@ pub record IsGroupLine (sid : List ℕ) (tag : Option (List ℕ)) (intervals : L
   pub missing : (n : ℕ) → is_held gaps n ≡ is_missing intervals n
   pub text : line ≡ group_line sid tag intervals gaps
 
--- These are the lines of these groups, in their order.
-abbrev pub AreGroupLines : List GtidGroup → List ℕ → Type 0
-AreGroupLines [] lines = lines ≡ []
-AreGroupLines (group ∷ groups) lines =
-    (line : List ℕ) × (rest : List ℕ) × IsGroupLine group.sid group.tag group.gnos line × AreGroupLines groups rest × (lines ≡ line ++ rest)
+-- The line of a source and a tag without the numbers that are missing.
+pub record IsNumbersLine (sid : List ℕ) (tag : Option (List ℕ)) (intervals : List GnoInterval) (line : List ℕ) : Type 0 where
+  pub tagged : HasTag tag
+  pub apart : AreApart 0 intervals
+  pub text : line ≡ numbers_line sid tag intervals
+
+-- Either line, by whether it has the numbers that are missing.
+abbrev pub IsLineWith : (has_gaps : Bool) → (sid : List ℕ) (tag : Option (List ℕ)) (intervals : List GnoInterval) (line : List ℕ) → Type 0
+IsLineWith true = IsGroupLine
+IsLineWith false = IsNumbersLine
 
 -- ---- writing
 
@@ -65,20 +74,39 @@ abbrev pub Writes : {T : Type 0} → List ℕ → Option (List ℕ) → Result T
 Writes bytes old (Ok x) new = Appends old new bytes
 Writes bytes old (Err error) new = (error ≡ Writer) × AppendsFront old new bytes
 
--- A group's line is written; or nothing, where memory ran out.
-abbrev pub WritesGroup : List ℕ → Option (List ℕ) → List GnoInterval → Option (List ℕ) → Result (Unit {0}) Error → Option (List ℕ) → Type 0
-WritesGroup sid tag intervals old answer new =
-    ((answer ≡ Err Memory) × (new ≡ old)) ⊎ ((line : List ℕ) × IsGroupLine sid tag intervals line × Writes line old answer new)
+-- `IsLine` says what the line of a source, a tag and their numbers is.
+module _ (IsLine : (sid : List ℕ) (tag : Option (List ℕ)) (intervals : List GnoInterval) (line : List ℕ) → Type 0) where
+  -- These are the lines of these groups, in their order.
+  abbrev pub AreLines : List GtidGroup → List ℕ → Type 0
+  AreLines [] lines = lines ≡ []
+  AreLines (group ∷ groups) lines =
+      (line : List ℕ) × (rest : List ℕ) × IsLine group.sid group.tag group.gnos line × AreLines groups rest × (lines ≡ line ++ rest)
 
--- The lines of the first groups are written, and of the next one nothing where memory ran out, or a front where the
--- writer failed.
-pub record WritesSomeGroups (groups : List GtidGroup) (old : Option (List ℕ)) (error : Error) (new : Option (List ℕ)) : Type 0 where
-  pub count : ℕ
-  pub lines : List ℕ
-  pub listed : AreGroupLines (take count groups) lines
-  pub written : ((error ≡ Memory) × Appends old new lines) ⊎ ((error ≡ Writer) × AppendsFront old new lines)
+  -- A group's line is written; or nothing, where memory ran out.
+  abbrev pub WritesLine : List ℕ → Option (List ℕ) → List GnoInterval → Option (List ℕ) → Result (Unit {0}) Error → Option (List ℕ) → Type 0
+  WritesLine sid tag intervals old answer new =
+      ((answer ≡ Err Memory) × (new ≡ old)) ⊎ ((line : List ℕ) × IsLine sid tag intervals line × Writes line old answer new)
 
--- All lines of the groups are written, or some.
+  -- The lines of the first groups are written, and of the next one nothing where memory ran out, or a front where the
+  -- writer failed.
+  pub record WritesSomeLines (groups : List GtidGroup) (old : Option (List ℕ)) (error : Error) (new : Option (List ℕ)) : Type 0 where
+    pub count : ℕ
+    pub lines : List ℕ
+    pub listed : AreLines (take count groups) lines
+    pub written : ((error ≡ Memory) × Appends old new lines) ⊎ ((error ≡ Writer) × AppendsFront old new lines)
+
+  -- All lines of the groups are written, or some.
+  abbrev pub WritesLines : List GtidGroup → Option (List ℕ) → Result (Unit {0}) Error → Option (List ℕ) → Type 0
+  WritesLines groups old (Ok x) new = (lines : List ℕ) × AreLines groups lines × Appends old new lines
+  WritesLines groups old (Err error) new = WritesSomeLines groups old error new
+
+-- ---- with the numbers that are missing
+
+abbrev pub AreGroupLines : List GtidGroup → List ℕ → Type 0
+AreGroupLines groups lines = AreLines IsGroupLine groups lines
+
+abbrev pub WritesSomeGroups : List GtidGroup → Option (List ℕ) → Error → Option (List ℕ) → Type 0
+WritesSomeGroups groups old error new = WritesSomeLines IsGroupLine groups old error new
+
 abbrev pub WritesGroups : List GtidGroup → Option (List ℕ) → Result (Unit {0}) Error → Option (List ℕ) → Type 0
-WritesGroups groups old (Ok x) new = (lines : List ℕ) × AreGroupLines groups lines × Appends old new lines
-WritesGroups groups old (Err error) new = WritesSomeGroups groups old error new
+WritesGroups groups old answer new = WritesLines IsGroupLine groups old answer new

@@ -3,26 +3,30 @@ ghost use Rattle.std.specs.Prelude.{◌≡◌, option_copied};
 ghost use Rattle.binlog_events.specs.Writing.{CountsWriter};
 ghost use Rattle.binlog_gtids.specs.GnoSets.{AreApart};
 ghost use Rattle.binlog_gtid_sets.specs.GtidGroups.{AreGroups, pair_of, intervals_of};
-ghost use Rattle.binlog_gtid_listing.specs.GroupLines.{Writes, WritesGroup, WritesGroups, group_line};
+ghost use Rattle.binlog_gtid_listing.specs.GroupLines.{IsGroupLine, IsLineWith, IsNumbersLine, Writes, WritesLine, WritesLines, group_line, numbers_line};
 
 use crate::parts::{tag_text, write_intervals, write_part, write_sid, write_tag};
 use binlog_file::{Error, GnoInterval, GtidTracker, Tag, WriteCounted};
 
-/// Writes the line of each group of a set, in their order.
+/// Writes the line of each group of a set, in their order, with its gaps or without them.
 ///
 /// # Errors
 ///
 /// - [`Error::Memory`] where memory ran out for the gaps of a group, after the lines of all groups before.
 /// - [`Error::Writer`] where the writer failed; it has a front of the lines.
-pub fn write_groups<W: WriteCounted>(gtids: &GtidTracker, output: &mut W) -> Result<(), Error>
+pub fn write_groups<W: WriteCounted>(
+    gtids: &GtidTracker,
+    has_gaps: bool,
+    output: &mut W,
+) -> Result<(), Error>
     ensures groups { AreGroups gtids.now }
-    ensures written { WritesGroups gtids.now (W.contents output.old) result (W.contents output.new) }
+    ensures written { WritesLines (IsLineWith has_gaps) gtids.now (W.contents output.old) result (W.contents output.new) }
     ensures writer { CountsWriter result (W.count output.old) (W.count output.new) }
 {
     for index in 0..gtids.len() {
         if let Some(group) = gtids.group(index) {
             let sid = group.0;
-            write_group(gtids, sid, group.1, output)?;
+            write_group(gtids, has_gaps, sid, group.1, output)?;
         }
     }
     Ok(())
@@ -31,17 +35,50 @@ pub fn write_groups<W: WriteCounted>(gtids: &GtidTracker, output: &mut W) -> Res
 // Writes the line of the numbers of a source and a tag.
 fn write_group<W: WriteCounted>(
     gtids: &GtidTracker,
+    has_gaps: bool,
     sid: [u8; 16],
     tag: Option<&Tag<'_>>,
     output: &mut W,
 ) -> Result<(), Error>
-    ensures written { WritesGroup sid (option_copied tag.entry) (intervals_of gtids.now (pair_of sid (option_copied tag.entry)))
+    ensures written { WritesLine (IsLineWith has_gaps) sid (option_copied tag.entry) (intervals_of gtids.now (pair_of sid (option_copied tag.entry)))
+        (W.contents output.old) result (W.contents output.new) }
+    ensures writer { CountsWriter result (W.count output.old) (W.count output.new) }
+{
+    if !has_gaps {
+        return write_numbers(gtids, sid, tag, output);
+    }
+    write_with_gaps(gtids, sid, tag, output)
+}
+
+// Writes that line with the gaps.
+fn write_with_gaps<W: WriteCounted>(
+    gtids: &GtidTracker,
+    sid: [u8; 16],
+    tag: Option<&Tag<'_>>,
+    output: &mut W,
+) -> Result<(), Error>
+    ensures written { WritesLine IsGroupLine sid (option_copied tag.entry) (intervals_of gtids.now (pair_of sid (option_copied tag.entry)))
         (W.contents output.old) result (W.contents output.new) }
     ensures writer { CountsWriter result (W.count output.old) (W.count output.new) }
 {
     let text = tag_text(tag);
     let gaps = gtids.gaps(sid, tag)?;
     write_parts(sid, text, gtids.intervals(sid, tag), &gaps, output)
+}
+
+// Writes that line without the gaps.
+fn write_numbers<W: WriteCounted>(
+    gtids: &GtidTracker,
+    sid: [u8; 16],
+    tag: Option<&Tag<'_>>,
+    output: &mut W,
+) -> Result<(), Error>
+    ensures written { WritesLine IsNumbersLine sid (option_copied tag.entry) (intervals_of gtids.now (pair_of sid (option_copied tag.entry)))
+        (W.contents output.old) result (W.contents output.new) }
+    ensures writer { CountsWriter result (W.count output.old) (W.count output.new) }
+{
+    let text = tag_text(tag);
+    write_number_parts(sid, text, gtids.intervals(sid, tag), output)
 }
 
 // Writes a line of these parts.
@@ -64,5 +101,23 @@ fn write_parts<W: WriteCounted>(
     write_intervals(intervals, output)?;
     write_part(b" gaps ", output)?;
     write_intervals(gaps, output)?;
+    write_part(b"\n", output)
+}
+
+// Writes a line of these parts, without gaps.
+fn write_number_parts<W: WriteCounted>(
+    sid: [u8; 16],
+    tag: Option<&[u8]>,
+    intervals: &[GnoInterval],
+    output: &mut W,
+) -> Result<(), Error>
+    requires { AreApart 0 intervals.now }
+    ensures writes { Writes (numbers_line sid (option_copied tag.entry) intervals.now) (W.contents output.old) result (W.contents output.new) }
+    ensures writer { CountsWriter result (W.count output.old) (W.count output.new) }
+{
+    write_sid(&sid, output)?;
+    write_tag(tag, output)?;
+    write_part(b" ", output)?;
+    write_intervals(intervals, output)?;
     write_part(b"\n", output)
 }

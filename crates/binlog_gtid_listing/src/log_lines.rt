@@ -8,7 +8,8 @@ use binlog_file::{Error, GtidTracker, WriteCounted};
 use binlog_maria_gtids::MariaGtidTracker;
 
 /// Writes a line `sid:tag intervals gaps gaps` for each source and tag of a set of MySQL's GTIDs, as
-/// [`list_gtids`](crate::list_gtids) does, and then a line `domain-server_id-sequence` for each domain and server of the last of
+/// [`list_gtids`](crate::list_gtids) does, or only `sid:tag intervals` without `has_gaps`: the gaps of a difference of two sets have
+/// the numbers that are in both. Then it writes a line `domain-server_id-sequence` for each domain and server of the last of
 /// MariaDB's GTIDs, in ascending order of the domains, and then of the servers' ids. Of these it writes those that `others` lack:
 /// those of whose domain and server they have none, or only one with a lesser sequence number.
 ///
@@ -18,13 +19,14 @@ use binlog_maria_gtids::MariaGtidTracker;
 /// - [`Error::Writer`] where the writer failed; it has a front of the lines.
 pub fn write_log_gtids<W: WriteCounted>(
     gtids: &GtidTracker,
+    has_gaps: bool,
     maria_gtids: &MariaGtidTracker,
     others: &MariaGtidTracker,
     output: &mut W,
 ) -> Result<(), Error>
-    ensures written { WritesLogGtids gtids.now maria_gtids.now others.now (W.contents output.old) result (W.contents output.new) }
+    ensures written { WritesLogGtids has_gaps gtids.now maria_gtids.now others.now (W.contents output.old) result (W.contents output.new) }
     ensures writer { CountsWriter result (W.count output.old) (W.count output.new) }
 {
-    write_groups(gtids, output)?;
+    write_groups(gtids, has_gaps, output)?;
     write_maria_gtids(maria_gtids, others, output)
 }

@@ -9,4 +9,4 @@ returns-in_err-write_groups-clause-written g c =
     rw (p.1, p.2) (inl c.in_err-write_groups.ensures.written)
 
 pub returns-clause-written : goal.returns-clause-written
-returns-clause-written g c = lines_behind c.args.gtids.now c.args.maria_gtids.now c.args.others.now (g.W.WriteCounted.contents c.args.output.now) (g.W.WriteCounted.contents c.write_groups.new.output) (g.W.WriteCounted.contents c.write_maria_gtids.new.output) c.write_maria_gtids.result c.in_ok-write_groups.ensures.written c.write_maria_gtids.ensures.writes
+returns-clause-written g c = lines_behind c.args.has_gaps c.args.gtids.now c.args.maria_gtids.now c.args.others.now (g.W.WriteCounted.contents c.args.output.now) (g.W.WriteCounted.contents c.write_groups.new.output) (g.W.WriteCounted.contents c.write_maria_gtids.new.output) c.write_maria_gtids.result c.in_ok-write_groups.ensures.written c.write_maria_gtids.ensures.writes

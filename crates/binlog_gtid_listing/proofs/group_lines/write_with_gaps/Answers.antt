@@ -2,7 +2,7 @@ use Rattle.std.proofs.Common.{inl, refl, subst}
 use Rattle.std.proofs.lemmas.Result.{err_from_is_err_and}
 use Rattle.binlog_gtids.specs.GnoSets.{AreApart}
 use Rattle.binlog_gtid_listing.proofs.Groups.{line_written}
-use Rattle.binlog_gtid_listing.proofs.group_lines.write_group.Goals as goal
+use Rattle.binlog_gtid_listing.proofs.group_lines.write_with_gaps.Goals as goal
 
 pub returns-in_err-gaps-clause-written : goal.returns-in_err-gaps-clause-written
 returns-in_err-gaps-clause-written g c =
