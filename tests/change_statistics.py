@@ -32,7 +32,7 @@ import row_values
 import table_filters
 from row_values import framed, start
 from samples import POST_HEADER_LENGTHS
-from statistics_model import Counts
+from statistics_model import BEGINS, Counts
 
 FINE, DAMAGED, FAILED, USAGE = 0, 2, 3, 64
 MOST_TABLES = 65_536
@@ -324,11 +324,30 @@ def compressed_transactions(runner, count):
         for asked in (table_filters.Asked(*names) for names in table_filters.ASKED):
             indexes, _ = table_filters.taken(made, asked, False)
             takes = lambda index, part: index in indexes and (part is None or asked.takes_inside(made[index].inside[part]))
+            # By table the transactions are counted, too, whatever the tables are.
+            of_tables = Counts(takes=lambda index, part: takes(index, part) or (part is None and made[index].type in BEGINS)).add_log(log)
+            yield from runner.compare(f"tables, log {seed}", [log], [*asked.words, "--by", "table"], of_tables.text(), of_tables.json())
             counts = Counts(takes=takes).add_log(log)
-            yield from runner.compare(f"tables, log {seed}", [log], [*asked.words, "--by", "table"], counts.text(), counts.json())
             finished = runner.run([log], [*asked.words, "--json"])
             is_right = finished.stdout == grouped_events.types_json(counts.events, counts.damaged, counts.damaged_inside)
             yield None if is_right else f"tables by type, log {seed} {asked.words}: {finished.stdout[:300]}"
+    yield from tables_of_transactions(runner)
+
+
+def tables_of_transactions(runner):
+    """Transactions of which a table has rows, by hand: two of three have rows of the first table, the last one has two of its row events. Sizes of transactions
+    are those of all of their events, so tables don't go with them."""
+    first, second = one_row_map(1, b"shop", b"orders"), one_row_map(2, b"shop", b"items")
+    events = [gtid(1, False), first, inserted(1, 7), gtid(2, False), second, inserted(2, 7), gtid(3, False), first, inserted(1, 8), second, inserted(2, 9), inserted(1, 10)]
+    for words in (["--table", "shop.orders"], ["--table", "*.orders"]):
+        finished = runner.run([log_of(False, events)], [*words, "--by", "table"])
+        lines = finished.stdout.splitlines()
+        is_right = lines[1] == b"transactions 3" and len(lines) == 4 and b"3 inserted 0 updated 0 deleted 0 unread 2 transactions" in lines[3]
+        yield None if is_right and finished.returncode == FINE else f"{words}: {finished}"
+    for words in (["--table", "shop.orders"], ["--database", "shop"]):
+        finished = runner.run([log_of(False, events)], [*words, "--by", "transaction"])
+        is_right = (finished.returncode, finished.stdout) == (USAGE, b"") and b"don't go with --by transaction" in finished.stderr
+        yield None if is_right else f"{words} --by transaction: {finished}"
 
 
 def damaged_copies(runner):

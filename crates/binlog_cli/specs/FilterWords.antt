@@ -1,5 +1,5 @@
 -- The filter that the options of a command state.
-use Rattle.std.specs.Prelude.{◌≡◌, ◌⊎◌, ℕ, ◌<◌, ◌≤◌, ◌^◌, false, List, [], Option, Some, None, option_map, unwrap_or, codes}
+use Rattle.std.specs.Prelude.{◌≡◌, ◌⊎◌, ℕ, ◌<◌, ◌≤◌, ◌^◌, ◌↔◌, true, false, List, [], Option, Some, None, option_map, unwrap_or, codes}
 use Rattle.std.specs.Str.Parse.{IsNumeral, without_leading_plus, digits_value}
 use Rattle.clap.specs.Matches.{first_value, matched_of, one_text, raw_values}
 use Rattle.clap.specs.declared.parser.matches.Found.{Found}
@@ -27,7 +27,8 @@ StatesNumber (Some text) None = (n : ℕ) → IsNumber text n → ⊥
 abbrev pub type_names : Found → List (List ℕ)
 type_names found = unwrap_or (option_map raw_values (matched_of found (codes "type"))) []
 
--- The filter has the condition of each option that is given, and no other.
+-- The filter has the condition of each option that is given, and no other. With counts by table it takes the events with which transactions
+-- begin.
 pub record StatesFilter (found : Found) (filter : Filter) : Type 0 where
   pub start : (number : Option ℕ) × StatesNumber (one_text found (codes "start-position")) number × (filter.start_position ≡ unwrap_or number 0)
   pub stop : StatesNumber (one_text found (codes "stop-position")) filter.stop_position
@@ -39,6 +40,7 @@ pub record StatesFilter (found : Found) (filter : Filter) : Type 0 where
   pub excluded : StatesGtids (first_value found (codes "exclude-gtids")) filter.exclude_gtids
   pub tables : StatesTables (texts_given found (codes "table")) (texts_given found (codes "database")) filter.tables
   pub copies : filter.is_for_copy ≡ false
+  pub begins : filter.takes_begins ≡ true ↔ first_value found (codes "by") ≡ Some (codes "table")
 
 -- The number of the server id is too large for one.
 abbrev pub StatesNoServer : Option (List ℕ) → Type 0

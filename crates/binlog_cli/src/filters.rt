@@ -1,6 +1,6 @@
 //! The filter that the words of `binlog`'s command line state.
-ghost use Rattle.std.specs.Prelude.{◌≡◌, ◌⊎◌, codes, IfErr, IfOk};
-ghost use Rattle.clap.specs.Matches.{found_of, one_text};
+ghost use Rattle.std.specs.Prelude.{◌≡◌, ◌⊎◌, ◌↔◌, true, codes, IfErr, IfOk};
+ghost use Rattle.clap.specs.Matches.{first_value, found_of, one_text};
 ghost use Rattle.binlog_cli.specs.declared.exit_status.Status.TheVariants.{Failed, Usage};
 ghost use Rattle.binlog_cli.specs.FilterWords.{NeverBegins, StatesFilter, StatesNoServer, StatesNumber};
 
@@ -40,7 +40,18 @@ pub fn filter<R: Eprint + AllocGlobal>(rt: &R, matches: &ArgMatches<'_>) -> Resu
         exclude_gtids,
         tables,
         is_for_copy: false,
+        takes_begins: counts_tables(matches),
     })
+}
+
+// Whether counts by table are asked for. These count the transactions of each table, too.
+fn counts_tables(matches: &ArgMatches<'_>) -> bool
+    ensures { result ≡ true ↔ first_value (found_of matches.now) (codes "by") ≡ Some (codes "table") }
+{
+    match matches.get_str("by") {
+        Some(name) => name == "table",
+        None => false,
+    }
 }
 
 // The number of an option, if it is given.

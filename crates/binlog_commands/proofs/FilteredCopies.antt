@@ -1,5 +1,5 @@
 -- The copy of the events that a filter takes is a log of these events.
-use Rattle.std.proofs.Common.{◌≡◌, ℕ, ◌+◌, Bool, true, false, List, ◌++◌, Option, Result, Ok, Err, refl, ap, subst, ◌∙◌}
+use Rattle.std.proofs.Common.{◌≡◌, ℕ, ◌+◌, Bool, true, false, ◌||◌, List, ◌++◌, Option, Result, Ok, Err, refl, ap, subst, ◌∙◌}
 use Rattle.binlog_wire.specs.declared.error.Error.{Error}
 use Rattle.binlog_consts.specs.declared.version.BinlogVersion.TheVariants.{Version4}
 use Rattle.binlog_event_format.specs.FormatDescription.{default_description}
@@ -11,7 +11,7 @@ use Rattle.binlog_visits.specs.TableMaps.{maps_behind}
 use Rattle.binlog_visits.specs.Visits.{VisitRelation, Visits}
 use Rattle.binlog_filters.specs.Concerns.{is_concerned}
 use Rattle.binlog_filters.specs.Places.{start_of, behind}
-use Rattle.binlog_filters.specs.Taking.{Takes, TakesEvents}
+use Rattle.binlog_filters.specs.Taking.{Takes, TakesEvents, takes_begin}
 use Rattle.binlog_filters.specs.Filtering.{Filters, VisitsIf}
 use Rattle.binlog_filters.specs.declared.filter.Filter.{Filter}
 use Rattle.binlog_filters.specs.declared.filtered.Filtered.{Filtered}
@@ -45,7 +45,7 @@ module _ {T : Type 0} (contents : T → Option (List ℕ)) where
   is_copied true maps index (Ok event) old mid all takes does = does
   is_copied false maps index (Ok event) old mid all takes does = (
     ap contents does,
-    λ d frame item. left_out d frame event old.filter (start_of old.place.position event) mid.state.is_wanted (is_concerned old.filter.is_for_copy old.state.is_in_statement takes.concern) item all takes.is,
+    λ d frame item. left_out d frame event old.filter (start_of old.place.position event) mid.state.is_wanted (is_concerned old.filter.is_for_copy old.state.is_in_statement takes.concern || takes_begin old.filter event) item all takes.is,
   )
   is_copied true maps index (Err error) old mid all takes does = does
   is_copied false maps index (Err error) old mid all takes does = absurd (let is = takes.1 in cc)

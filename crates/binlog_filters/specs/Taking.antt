@@ -82,6 +82,7 @@ pub record HasNoCondition (filter : Filter) : Type 0 where
   pub excludes_none : filter.exclude_gtids ≡ None
   pub any_table : filter.tables ≡ None
   pub no_exception : filter.is_for_copy ≡ false
+  pub no_begin : filter.takes_begins ≡ false
 
 -- ---- transactions
 
@@ -143,6 +144,10 @@ abbrev pub ConcernsTables : Option TableFilter → (is_for_copy : Bool) → Tabl
 ConcernsTables None is_for_copy maps event concern = concern ≡ Taken
 ConcernsTables (Some tables) is_for_copy maps event concern = ReadsConcern tables is_for_copy maps event concern
 
+-- A transaction begins with the event, and the filter takes such events whatever its tables are.
+abbrev pub takes_begin : Filter → EventView → Bool
+takes_begin filter event = filter.takes_begins && begins_transaction (header_of event.frame).event_type
+
 -- The number of events that are left out though they may change a table that is asked for, behind one more event. It stays at
 -- the largest number of 64 bits.
 abbrev pub counted_if : Bool → ℕ → ℕ
@@ -156,7 +161,7 @@ pub record TakesEvent (filter : Filter) (maps : TableMaps) (start : Option ℕ) 
   pub follows : FollowsEvent filter was.is_wanted event (Ok now.is_wanted)
   pub concern : Concern
   pub concerns : ConcernsTables filter.tables filter.is_for_copy maps event concern
-  pub is : taken ≡ is_taken filter start event now.is_wanted (is_concerned filter.is_for_copy was.is_in_statement concern)
+  pub is : taken ≡ is_taken filter start event now.is_wanted (is_concerned filter.is_for_copy was.is_in_statement concern || takes_begin filter event)
   pub statement : now.is_in_statement ≡ is_in_statement was.is_in_statement taken concern
   pub left_out : now.left_out ≡ counted_if (not taken && (is_unknown concern && meets_conditions filter start event now.is_wanted)) was.left_out
 

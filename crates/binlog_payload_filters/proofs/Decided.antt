@@ -9,7 +9,7 @@ use Rattle.binlog_events.specs.Parts.{is_description}
 use Rattle.binlog_file.specs.TableMapsInForce.{TableMaps}
 use Rattle.binlog_file.specs.declared.log_data.LogEventData.{LogEventData}
 use Rattle.binlog_filters.specs.Concerns.{is_concerned, is_in_statement, is_unknown}
-use Rattle.binlog_filters.specs.Taking.{ConcernsTables, FollowsEvent, TakesEvent, counted_if, is_taken, meets_conditions, wants_read}
+use Rattle.binlog_filters.specs.Taking.{ConcernsTables, FollowsEvent, TakesEvent, counted_if, is_taken, meets_conditions, takes_begin, wants_read}
 use Rattle.binlog_filters.specs.declared.concern.Concern.{Concern}
 use Rattle.binlog_filters.specs.declared.concern.Concern.TheVariants.{Taken}
 use Rattle.binlog_filters.specs.declared.filter.Filter.{Filter}
@@ -49,7 +49,7 @@ decided filter maps start was event now meets none payload takes =
     let met = meets_conditions filter start event now.is_wanted in
     record {
       follows = takes.follows;
-      met = takes.is ∙ ap (λ (c : Concern). is_taken filter start event now.is_wanted (is_concerned filter.is_for_copy was.is_in_statement c)) concern
+      met = takes.is ∙ ap (λ (c : Concern). is_taken filter start event now.is_wanted (is_concerned filter.is_for_copy was.is_in_statement c || takes_begin filter event)) concern
           ∙ met_by filter.is_for_copy (is_description event.frame) met (no_description event payload);
       statement = takes.statement ∙ ap (λ (c : Concern). is_in_statement was.is_in_statement meets c) concern;
       left_out = takes.left_out ∙ ap (λ (c : Concern). counted_if (not meets && (is_unknown c && met)) was.left_out) concern ∙ none_counted meets was.left_out;

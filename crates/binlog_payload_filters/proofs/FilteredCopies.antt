@@ -1,5 +1,5 @@
 -- The copy of the events that a filter takes, by what is inside compressed transactions, is a log of these events.
-use Rattle.std.proofs.Common.{◌≡◌, ℕ, Bool, true, false, List, ◌++◌, Option, Some, None, Result, Ok, Err, refl, sym, ap, subst, ◌∙◌, unwrap_or}
+use Rattle.std.proofs.Common.{◌≡◌, ℕ, Bool, true, false, ◌||◌, List, ◌++◌, Option, Some, None, Result, Ok, Err, refl, sym, ap, subst, ◌∙◌, unwrap_or}
 use Rattle.binlog_wire.specs.declared.error.Error.{Error}
 use Rattle.binlog_consts.specs.declared.version.BinlogVersion.TheVariants.{Version4}
 use Rattle.binlog_event_format.specs.declared.format_description.FormatDescriptionEvent.{FormatDescriptionEvent}
@@ -17,6 +17,7 @@ use Rattle.binlog_visits.specs.Visits.{VisitRelation, Visits}
 use Rattle.binlog_filters.specs.Concerns.{is_concerned}
 use Rattle.binlog_filters.specs.Places.{behind}
 use Rattle.binlog_filters.specs.Filtering.{VisitsIf}
+use Rattle.binlog_filters.specs.Taking.{takes_begin}
 use Rattle.binlog_filters.specs.declared.filter.Filter.{Filter}
 use Rattle.binlog_filters.specs.declared.state.FilterState.{FilterState}
 use Rattle.binlog_filters.specs.declared.tables.TableFilter.{TableFilter}
@@ -38,9 +39,9 @@ payload_left_out d frame event item payload =
 untaken_by : (t : Option TableFilter) (b : Bool) (d : FormatDescriptionEvent) (frame : List ℕ) (event : EventView) (filter : Filter) (limit : ℕ) (maps : TableMaps) (start : Option ℕ) (was now : FilterState)
     → is_payload event ≡ b → item_of d frame ≡ Ok event → filter.is_for_copy ≡ true → TakesBy t b filter limit maps start was event now false → unwrap_or (accepted frame) d ≡ d
 untaken_by None b d frame event filter limit maps start was now is item all takes =
-    left_out d frame event filter start now.is_wanted (is_concerned filter.is_for_copy was.is_in_statement takes.concern) item all takes.is
+    left_out d frame event filter start now.is_wanted (is_concerned filter.is_for_copy was.is_in_statement takes.concern || takes_begin filter event) item all takes.is
 untaken_by (Some tables) false d frame event filter limit maps start was now is item all takes =
-    left_out d frame event filter start now.is_wanted (is_concerned filter.is_for_copy was.is_in_statement takes.concern) item all takes.is
+    left_out d frame event filter start now.is_wanted (is_concerned filter.is_for_copy was.is_in_statement takes.concern || takes_begin filter event) item all takes.is
 untaken_by (Some tables) true d frame event filter limit maps start was now is item all takes = payload_left_out d frame event item is
 
 untaken : (d : FormatDescriptionEvent) (frame : List ℕ) (event : EventView) (filter : Filter) (limit : ℕ) (maps : TableMaps) (start : Option ℕ) (was now : FilterState) → item_of d frame ≡ Ok event

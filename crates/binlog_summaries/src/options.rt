@@ -3,7 +3,7 @@ ghost use Rattle.std.specs.Prelude.{◌≡◌, codes, true, IfErr, IfOk, MatchOp
 ghost use Rattle.clap.specs.Matches.{found_of, first_value};
 ghost use Rattle.binlog_cli.specs.declared.exit_status.Status.TheVariants.{Usage};
 ghost use Rattle.binlog_summaries.specs.declared.options.Grouping.{Grouping};
-ghost use Rattle.binlog_summaries.specs.Options.{fits, IsNameOf, StatesGrouping, NamesNoGrouping, StatesOptions, RefusesOptions};
+ghost use Rattle.binlog_summaries.specs.Options.{asks_tables, fits, IsNameOf, StatesGrouping, NamesNoGrouping, StatesOptions, RefusesOptions};
 
 use crate::intervals::interval_named;
 use binlog_cli::Status;
@@ -31,14 +31,16 @@ pub struct StatsOptions {
     pub top: Option<u64>,
     /// Whether the rows are lines of JSON.
     pub is_json: bool,
+    /// Whether only events of some tables or databases are counted.
+    pub has_tables: bool,
 }
 
 /// The options.
 ///
 /// # Errors
 ///
-/// [`Status::Usage`], after its message, if the value of `--by` names nothing that is counted together, or if `--top` is given and events
-/// by type or by time are counted.
+/// [`Status::Usage`], after its message, if the value of `--by` names nothing that is counted together, if `--top` is given and events
+/// by type or by time are counted, or if tables are asked for and transactions are counted, which have all of their events.
 pub fn stats_options<R: Eprint>(rt: &R, matches: &ArgMatches<'_>) -> Result<StatsOptions, Status>
     ensures ok { IfOk result (λ options. StatesOptions (found_of matches.now) options × (fits options ≡ true)) }
     ensures err { IfErr result (λ status. (status ≡ Usage) × RefusesOptions (found_of matches.now)) }
@@ -56,9 +58,8 @@ pub fn stats_options<R: Eprint>(rt: &R, matches: &ArgMatches<'_>) -> Result<Stat
 fn refusal(grouping: Grouping) -> &'static str {
     match grouping {
         Grouping::Types => "--top doesn't go with --by type",
-        Grouping::Tables | Grouping::Intervals(_) | Grouping::Transactions => {
-            "--top doesn't go with --by time"
-        }
+        Grouping::Tables | Grouping::Intervals(_) => "--top doesn't go with --by time",
+        Grouping::Transactions => "--table and --database don't go with --by transaction",
     }
 }
 
@@ -71,7 +72,15 @@ fn stated_options(grouping: Grouping, matches: &ArgMatches<'_>) -> StatsOptions
         grouping,
         top: matches.get_one::<u64>("top"),
         is_json: matches.get_flag("json"),
+        has_tables: asks_tables(matches),
     }
+}
+
+// Whether tables or databases are asked for.
+fn asks_tables(matches: &ArgMatches<'_>) -> bool
+    ensures { result ≡ asks_tables (found_of matches.now) }
+{
+    matches.contains_id("table") || matches.contains_id("database")
 }
 
 // Whether this can be written of what is counted together.
@@ -81,7 +90,8 @@ fn fits(options: StatsOptions) -> bool
     match options.grouping {
         Grouping::Types => options.top.is_none(),
         Grouping::Intervals(seconds) => seconds > 0 && options.top.is_none(),
-        Grouping::Tables | Grouping::Transactions => true,
+        Grouping::Tables => true,
+        Grouping::Transactions => !options.has_tables,
     }
 }
 
