@@ -95,7 +95,7 @@ def beside(chance):
 
 def other(chance, is_maria):
     unknown = [encode.kept(number, b"content") for number in (6, 8, 10, 12, 20, 21, 22)]
-    lost = [encode.incident(incident_type=1, message="lost"), encode.unknown(200, b"what")]
+    lost = [encode.incident(incident_type=1, message="lost"), encode.unknown(200, b"what"), encode.ignored(0, b""), encode.ignored(43, b"")]
     comment = maria_events.annotate_rows("update orders") if is_maria else encode.rows_query(text="update orders")
     cut = chance.choice([encode.ROWS_KINDS[3], encode.ROWS_KINDS[5]])
     unread = encode.Event(cut[0], cut[1], b"\1\0\0", None)

@@ -127,6 +127,7 @@ mysql_concern filter is_for_copy maps (mysql.PreGaUpdateRowsEvent bytes) = Unkno
 mysql_concern filter is_for_copy maps (mysql.PreGaDeleteRowsEvent bytes) = Unknown
 mysql_concern filter is_for_copy maps (mysql.TransactionPayloadEvent bytes) = Unknown
 mysql_concern filter is_for_copy maps (mysql.IncidentEvent event) = any_table_concern is_for_copy
+mysql_concern filter is_for_copy maps mysql.UnknownEvent = any_table_concern is_for_copy
 mysql_concern filter is_for_copy maps _ = frame_concern is_for_copy
 
 -- An event with this data of one of MariaDB's own types.

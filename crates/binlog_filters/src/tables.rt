@@ -118,7 +118,9 @@ impl TableFilter {
             | EventData::PreGaUpdateRowsEvent(_)
             | EventData::PreGaDeleteRowsEvent(_)
             | EventData::TransactionPayloadEvent(_) => Concern::Unknown,
-            EventData::IncidentEvent(_) => any_table_concern(is_for_copy),
+            EventData::IncidentEvent(_) | EventData::UnknownEvent => {
+                any_table_concern(is_for_copy)
+            }
             _ => frame_concern(is_for_copy),
         }
     }
