@@ -353,7 +353,8 @@ def several(program, folder):
 
 
 def filters(program, folder):
-    """Filters go on, also a transaction that began in the file before; positions are those of each file."""
+    """Filters go on, also a transaction that began in the file before. Positions are those of the file that is named: the files behind it are
+    behind both."""
     first, second = log(PLAIN, XID, rotate(b"log.000002")), log(PLAIN, XID)
     (folder / "log.000001").write_bytes(first)
     (folder / "log.000002").write_bytes(second)
@@ -361,18 +362,37 @@ def filters(program, folder):
     wanted = [line for line in chain(*(lines_of(content).splitlines(True) for content in (first, second))) if b" 16 " in line]
     yield run.wrong_lines(*wanted)
     run.end()
+    place = len(log(PLAIN, XID))
+    front, back = lines_of(log(PLAIN, XID)), lines_of(first)[len(lines_of(log(PLAIN, XID))) :]
+    # The position is behind all bytes of the second file, too, if that is as short as this.
+    (folder / "log.000002").write_bytes(log(PLAIN))
+    for words, wanted in (("--start-position", [back, lines_of(log(PLAIN))]), ("--stop-position", [front])):
+        run = followed(program, folder, words, str(place), "log.000001")
+        yield run.wrong_lines(*wanted)
+        run.end()
+    run = followed(program, folder, "--start-position", str(place), "log.000001", "log.000001")
+    yield run.wrong_lines(back, lines_of(first), lines_of(log(PLAIN)))
+    run.end()
+    run = followed(program, folder, "--stop-position", str(place), "log.000001", "log.000001")
+    yield run.wrong_lines(lines_of(first), front)
+    run.end()
 
 
 def compact_rows(program, folder):
-    """A line of a row has the name of its file."""
+    """A line of a row has the name of its file. The start position is one of the file that is named."""
     rows = placed(row_lines.sample()[0])
     contents = {"log.000001": rows + rotate(b"log.000002"), "log.000002": rows + STOP, "log.000003": rows}
     for name, content in contents.items():
         (folder / name).write_bytes(content)
     run = followed(program, folder, "--compact", "log.000001", command="json")
-    yield run.wrong_lines(*(compact_model.expected(content, name)[0] for name, content in contents.items()))
+    lines = [compact_model.expected(content, name)[0] for name, content in contents.items()]
+    yield run.wrong_lines(*lines)
     run.end()
     yield None if not run.messages else f"messages {run.messages!r}"
+    for words, wanted in (("--start-position", lines[1:]), ("--stop-position", lines[:1])):
+        run = followed(program, folder, "--compact", words, str(len(rows)), "log.000001", command="json")
+        yield run.wrong_lines(*wanted)
+        run.end()
 
 
 def transactions(program, folder):
