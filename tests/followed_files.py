@@ -582,7 +582,7 @@ def listless(content):
 
 
 def tables(program, folder):
-    """`stats --every` prints the counts so far at once and again and again, an empty line behind each; those of the next files, too."""
+    """`stats --every` prints the counts so far again and again, an empty line behind each; those of the next files, too."""
     rows = placed(row_lines.sample()[0])
     files = {"log.000001": rows + rotate(b"log.000002"), "log.000002": rows + STOP, "log.000003": rows}
     counts = lambda names: functools.reduce(Counts.add_log, (files[name] for name in names), Counts())
@@ -602,6 +602,16 @@ def tables(program, folder):
             yield run.wrong_table(wanted(counts(list(files)[: place + 1])), name)
         run.end()
         yield None if not run.messages else f"messages {run.messages!r}"
+
+
+def large_tables(program, folder):
+    """The tables of a log that is longer than what is read of it at a time come to have all of it."""
+    content = log(PLAIN, *[XID] * 5_000)
+    (folder / "log.000001").write_bytes(content)
+    counts = Counts().add_log(content)
+    run = Followed(program, folder, "stats", "--follow", "--every", "1s", "--json", "log.000001")
+    yield run.wrong_table(grouped_events.types_json(counts.events, counts.damaged, counts.damaged_inside), "log.000001")
+    run.end()
 
 
 def last_table(program, folder):
@@ -818,7 +828,7 @@ def mirrored(program, folder):
 
 
 SCENES = [mirrored, late, byte_by_byte, rotations, checksums, prefixes, stops, stays, refused, damages, several, filters, compact_rows]
-SCENES += [crashes, other_lists, late_lists, old_files, new_lists, tables, last_table, wrong_periods, transactions, begun_again, other_log, zeros, killed_runs("list"), killed_runs("json"), killed_at_once, repeated, states, early_starts, unwritten_states, short_outputs]
+SCENES += [crashes, other_lists, late_lists, old_files, new_lists, tables, large_tables, last_table, wrong_periods, transactions, begun_again, other_log, zeros, killed_runs("list"), killed_runs("json"), killed_at_once, repeated, states, early_starts, unwritten_states, short_outputs]
 SCENES += [cut_at(cut) for cut in range(len(sealed(rotate(b"log.000002"))))]
 
 
