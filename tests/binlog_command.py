@@ -349,6 +349,36 @@ def filters(runner):
         yield runner.check(["list", "--stop-datetime", time, "0.bin"], refused, [SAMPLE])
 
 
+def positions(runner):
+    """Of several files the start position is one of the first file, and the stop position one of the last file, for each command."""
+    starts = list(frame_starts(SAMPLE))
+    every = range(len(starts))
+    whole, later, sooner = (lines(SAMPLE, indexes) for indexes in (every, every[5:], every[:3]))
+    words = ["--start-position", str(starts[5]), "--stop-position", str(starts[3])]
+    for count, wanted in enumerate((b"", later + sooner, later + whole + sooner), 1):
+        yield runner.check(["list", *words, *count * ["0.bin"]], Result(wanted), [SAMPLE])
+    yield runner.check(["list", *words, MISSING, "0.bin", "0.bin"], Result(whole + sooner, NOT_OPENED, NOT_FOUND), [SAMPLE])
+    yield runner.check(["list", *words, "0.bin", "0.bin", MISSING], Result(later + whole, NOT_OPENED, NOT_FOUND), [SAMPLE])
+
+    # No event of the first file and of the last one, and all of the one between them.
+    rows, groups = row_lines.sample()[0], transactions(1, 2)
+    compact, _ = compact_model.expected(rows, "0.bin")
+    descriptions = frames(SAMPLE)[0]
+    none = b"0.bin: 0 events, 0 bytes, 0 checksums right, 0 events damaged\n"
+    cases = [
+        (["list"], SAMPLE, whole),
+        (["json"], SAMPLE, json_model.expected(SAMPLE)[0]),
+        (["gtids"], groups, gtid_model.expected(groups)[0]),
+        (["stats"], SAMPLE, counts_of(SAMPLE)),
+        (["verify"], SAMPLE, none + tally(SAMPLE, 0) + none),
+        (["copy", "-o", "-"], SAMPLE, MAGIC + descriptions + SAMPLE[len(MAGIC) :] + descriptions),
+        (["json", "--compact"], rows, compact),
+    ]
+    for command, log, wanted in cases:
+        words = ["--start-position", str(len(log)), "--stop-position", "4"]
+        yield runner.check([*command, *words, *3 * ["0.bin"]], Result(wanted), [log])
+
+
 def gtid_filters(runner):
     """Whole transactions are taken, and the events of the log itself."""
     first, second, third = [1, 2, 3], [4, 5, 6], [7, 8, 9]
@@ -1069,7 +1099,7 @@ def installs(runner):
     yield from laid_out(runner, runner.folder / "unpacked/usr")
 
 
-PARTS = (models, damaged, cut_logs, cut_ends, reported, several, filters, gtid_filters, damaged_gtids, names, gtids, maria_gtids, stored, compressed, stats)
+PARTS = (models, damaged, cut_logs, cut_ends, reported, several, filters, positions, gtid_filters, damaged_gtids, names, gtids, maria_gtids, stored, compressed, stats)
 PARTS += (tables, compressed_tables, no_tables, copies, maria, maria_transactions, maria_gtid_filters, no_sets, stored_rows, compact_rows, compact_places, words, ends, progress, followed, installs)
 
 

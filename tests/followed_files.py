@@ -353,7 +353,8 @@ def several(program, folder):
 
 
 def filters(program, folder):
-    """Filters go on, also a transaction that began in the file before; positions are those of each file."""
+    """Filters go on, also a transaction that began in the file before. Positions are those of the file that is named: the files behind it are
+    behind both."""
     first, second = log(PLAIN, XID, rotate(b"log.000002")), log(PLAIN, XID)
     (folder / "log.000001").write_bytes(first)
     (folder / "log.000002").write_bytes(second)
@@ -361,18 +362,37 @@ def filters(program, folder):
     wanted = [line for line in chain(*(lines_of(content).splitlines(True) for content in (first, second))) if b" 16 " in line]
     yield run.wrong_lines(*wanted)
     run.end()
+    place = len(log(PLAIN, XID))
+    front, back = lines_of(log(PLAIN, XID)), lines_of(first)[len(lines_of(log(PLAIN, XID))) :]
+    # The position is behind all bytes of the second file, too, if that is as short as this.
+    (folder / "log.000002").write_bytes(log(PLAIN))
+    for words, wanted in (("--start-position", [back, lines_of(log(PLAIN))]), ("--stop-position", [front])):
+        run = followed(program, folder, words, str(place), "log.000001")
+        yield run.wrong_lines(*wanted)
+        run.end()
+    run = followed(program, folder, "--start-position", str(place), "log.000001", "log.000001")
+    yield run.wrong_lines(back, lines_of(first), lines_of(log(PLAIN)))
+    run.end()
+    run = followed(program, folder, "--stop-position", str(place), "log.000001", "log.000001")
+    yield run.wrong_lines(lines_of(first), front)
+    run.end()
 
 
 def compact_rows(program, folder):
-    """A line of a row has the name of its file."""
+    """A line of a row has the name of its file. The start position is one of the file that is named."""
     rows = placed(row_lines.sample()[0])
     contents = {"log.000001": rows + rotate(b"log.000002"), "log.000002": rows + STOP, "log.000003": rows}
     for name, content in contents.items():
         (folder / name).write_bytes(content)
     run = followed(program, folder, "--compact", "log.000001", command="json")
-    yield run.wrong_lines(*(compact_model.expected(content, name)[0] for name, content in contents.items()))
+    lines = [compact_model.expected(content, name)[0] for name, content in contents.items()]
+    yield run.wrong_lines(*lines)
     run.end()
     yield None if not run.messages else f"messages {run.messages!r}"
+    for words, wanted in (("--start-position", lines[1:]), ("--stop-position", lines[:1])):
+        run = followed(program, folder, "--compact", words, str(len(rows)), "log.000001", command="json")
+        yield run.wrong_lines(*wanted)
+        run.end()
 
 
 def transactions(program, folder):
@@ -582,7 +602,7 @@ def listless(content):
 
 
 def tables(program, folder):
-    """`stats --every` prints the counts so far at once and again and again, an empty line behind each; those of the next files, too."""
+    """`stats --every` prints the counts so far again and again, an empty line behind each; those of the next files, too."""
     rows = placed(row_lines.sample()[0])
     files = {"log.000001": rows + rotate(b"log.000002"), "log.000002": rows + STOP, "log.000003": rows}
     counts = lambda names: functools.reduce(Counts.add_log, (files[name] for name in names), Counts())
@@ -602,6 +622,16 @@ def tables(program, folder):
             yield run.wrong_table(wanted(counts(list(files)[: place + 1])), name)
         run.end()
         yield None if not run.messages else f"messages {run.messages!r}"
+
+
+def large_tables(program, folder):
+    """The tables of a log that is longer than what is read of it at a time come to have all of it."""
+    content = log(PLAIN, *[XID] * 5_000)
+    (folder / "log.000001").write_bytes(content)
+    counts = Counts().add_log(content)
+    run = Followed(program, folder, "stats", "--follow", "--every", "1s", "--json", "log.000001")
+    yield run.wrong_table(grouped_events.types_json(counts.events, counts.damaged, counts.damaged_inside), "log.000001")
+    run.end()
 
 
 def last_table(program, folder):
@@ -742,6 +772,47 @@ def states(program, folder):
     yield Followed(program, folder, "list", "--state", "state", "log.000001").ended(64, rb"binlog: --state is [^\n]*\n")
 
 
+def early_starts(program, folder):
+    """With a state a log that isn't there is waited for, with one message after ten seconds; without one it is refused."""
+    yield followed(program, folder, "log.000001").ended(1, rb"binlog: log\.000001: [^\n]*\n")
+    run = followed(program, folder, "--state", "state", "log.000001")
+    yield run.wrong_after_wait()
+    yield run.message(rb"binlog: log\.000001: [^\n]*isn't there yet\n", PATIENCE)
+    content = log(PLAIN, XID)
+    (folder / "log.000001").write_bytes(content)
+    yield run.wrong_lines(lines_of(content))
+    run.end()
+
+
+def unwritten_states(program, folder):
+    """Where the state can't be written no line is, and the status is 3."""
+    (folder / "log.000001").write_bytes(log(PLAIN, XID))
+    (folder / "state.new").mkdir()
+    run = followed(program, folder, "--state", "state", "log.000001")
+    yield run.ended(3, rb"(binlog: [^\n]*\n)+")
+    yield None if run.lines.empty() else "a line without a state"
+    yield None if not (folder / "state").exists() else "there is a state"
+
+
+def short_outputs(program, folder):
+    """Output that is shorter than the state says has the lines behind the state alone."""
+    content = log(PLAIN, XID)
+    (folder / "log.000001").write_bytes(content)
+    state = folder / "state"
+    with_lines = lambda wanted: is_within(PATIENCE, lambda: (folder / "lines").read_bytes() == wanted)
+    run = with_state(program, folder, "lines", "log.000001", command="list")
+    is_saved = lambda: state.exists() and b"position %d\n" % len(content) in state.read_bytes()
+    yield None if with_lines(lines_of(content)) and is_within(PATIENCE, is_saved) else "no lines, or no state behind them"
+    run.kill()
+    run.wait()
+    (folder / "lines").write_bytes(b"")
+    (folder / "log.000001").write_bytes(content + XID)
+    run = with_state(program, folder, "lines", "log.000001", command="list")
+    yield None if with_lines(lines_of(content + XID)[len(lines_of(content)) :]) else f"the lines are {(folder / 'lines').read_bytes()!r}"
+    run.kill()
+    run.wait()
+
+
 # ---- a mirror of a server's log
 
 ROTATIONS = 6
@@ -777,7 +848,7 @@ def mirrored(program, folder):
 
 
 SCENES = [mirrored, late, byte_by_byte, rotations, checksums, prefixes, stops, stays, refused, damages, several, filters, compact_rows]
-SCENES += [crashes, other_lists, late_lists, old_files, new_lists, tables, last_table, wrong_periods, transactions, begun_again, other_log, zeros, killed_runs("list"), killed_runs("json"), killed_at_once, repeated, states]
+SCENES += [crashes, other_lists, late_lists, old_files, new_lists, tables, large_tables, last_table, wrong_periods, transactions, begun_again, other_log, zeros, killed_runs("list"), killed_runs("json"), killed_at_once, repeated, states, early_starts, unwritten_states, short_outputs]
 SCENES += [cut_at(cut) for cut in range(len(sealed(rotate(b"log.000002"))))]
 
 

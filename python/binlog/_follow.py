@@ -92,6 +92,11 @@ class Followed:
             assert end is not None
             end.close()
 
+    @property
+    def messages(self) -> list[str]:
+        """What the program said so far, a text for each line: why it waits, for one."""
+        return [line.decode(errors="replace").rstrip("\n") for line in list(self._messages)]
+
     def _read(self) -> Optional[dict[str, Any]]:
         """The object of the next line; none where this is closed."""
         assert self._running.stdout is not None

@@ -5,13 +5,14 @@ import gc
 import sys
 import tempfile
 import threading
+import time
 import unittest
 from pathlib import Path
 
 import binlog
 
-# A program that writes its words to a file, prints what is written in another, and in a third one once that is there. Then it waits for
-# ever, or ends with a message.
+# A program that writes its words to a file, prints what is written in another, and in a third one once that is there; what is in a fourth
+# one it says. Then it waits for ever, or ends with a message.
 PROGRAM = """\
 #!{python}
 import sys
@@ -26,6 +27,10 @@ while not (folder / "stderr").exists():
         sys.stdout.write((folder / "later").read_text())
         sys.stdout.flush()
         (folder / "later").unlink()
+    if (folder / "warning").exists():
+        sys.stderr.write((folder / "warning").read_text())
+        sys.stderr.flush()
+        (folder / "warning").unlink()
     time.sleep(0.01)
 sys.stderr.write((folder / "stderr").read_text())
 sys.exit(2)
@@ -81,6 +86,16 @@ class Following(unittest.TestCase):
             next(rows)
         with self.assertRaisesRegex(binlog.ProgramError, "missing: No such file"):
             binlog.follow("log.1", program=self.folder / "missing")
+
+    def test_messages(self):
+        """What the program says is there while it goes on."""
+        (self.folder / "warning").write_text("binlog: log.2: the next file isn't there yet\n")
+        with self.follow() as rows:
+            end = time.monotonic() + 60
+            while not rows.messages and time.monotonic() < end:
+                time.sleep(0.01)
+            self.assertEqual(rows.messages, ["binlog: log.2: the next file isn't there yet"])
+            self.assertEqual([next(rows), next(rows)], [{"pos": 4}, {"pos": 8}])
 
     def test_async(self):
         """Other tasks go on while a row is waited for."""

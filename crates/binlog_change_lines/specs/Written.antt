@@ -90,6 +90,12 @@ writer_of lines = (parts_of lines).visitor
 abbrev pub damaged_of : {W : Type 0} → ChangeFilter W → ℕ
 damaged_of lines = lines.filtered.filtered.visitor.visitor.damaged
 
+-- The filter takes these positions. All else is as it was.
+abbrev pub with_positions : {W : Type 0} → ChangeFilter W → (start : ℕ) (stop : Option ℕ) → ChangeFilter W
+with_positions lines start stop =
+    let filter = record lines.filtered.filtered.filter { start_position = start; stop_position = stop } in
+    record lines { filtered = record lines.filtered { filtered = record lines.filtered.filtered { filter = filter } } }
+
 -- The filter is at the start of a file. All but its writer is as it was.
 abbrev pub IsAtStart : {W : Type 0} → (old new : ChangeFilter W) → Type 0
 IsAtStart old new =

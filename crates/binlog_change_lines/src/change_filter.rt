@@ -1,6 +1,6 @@
 //! A visitor that writes what is written for the items that a filter takes.
 ghost use Rattle.std.specs.Prelude.{◌≡◌, [], OnOk, Some};
-ghost use Rattle.binlog_change_lines.specs.Written.{Begins, KeepsMost, damaged_of, parts_of, writer_of};
+ghost use Rattle.binlog_change_lines.specs.Written.{Begins, KeepsMost, damaged_of, parts_of, with_positions, writer_of};
 
 use crate::change_writer::ChangeWriter;
 use binlog_declared_columns::Contradictions;
@@ -64,6 +64,22 @@ impl<W> ChangeFilter<W> {
         self.filtered.begin();
         let writer = &mut self.filtered.filtered.visitor.visitor.visitor.visitor;
         writer.begin(file)
+    }
+
+    /// The filter.
+    pub fn filter(&self) -> &Filter
+        ensures { result.now ≡ self.now.filtered.filtered.filter }
+    {
+        &self.filtered.filtered.filter
+    }
+
+    /// Goes on with a filter that takes the positions from `start` on, before `stop` if there is one.
+    pub fn take_positions(&mut self, start: u64, stop: Option<u64>)
+        ensures { self.new ≡ with_positions self.old start stop }
+    {
+        let filter = &mut self.filtered.filtered.filter;
+        filter.start_position = start;
+        filter.stop_position = stop;
     }
 
     /// Goes on at this byte of the file: the items in front of it aren't shown.

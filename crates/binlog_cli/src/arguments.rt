@@ -220,13 +220,13 @@ const FILTERS: &[OptionText] = &[
         name: "start-position",
         short: None,
         takes: Takes::Number,
-        help: "Events that begin at this byte of their file or behind it",
+        help: "Events that begin at this byte of the first FILE or behind it",
     },
     OptionText {
         name: "stop-position",
         short: None,
         takes: Takes::Number,
-        help: "Events that begin before this byte",
+        help: "Events that begin before this byte of the last FILE",
     },
     OptionText {
         name: "start-datetime",

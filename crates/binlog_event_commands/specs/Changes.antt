@@ -1,8 +1,8 @@
 -- The lines of the rows of the files that a command reads.
-use Rattle.std.specs.Prelude.{◌≡◌, ◌⊎◌, ℕ, Bool, List, Option, Result, Ok}
+use Rattle.std.specs.Prelude.{◌≡◌, ◌⊎◌, ℕ, ◌==◌, Bool, List, Option, Result, Ok}
 use Rattle.binlog_wire.specs.declared.error.Error.{Error}
 use Rattle.binlog_filters.specs.declared.filter.Filter.{Filter}
-use Rattle.binlog_change_lines.specs.Written.{Begins, KeepsMost, WritesTaken, RefusesTold, damaged_of, writer_of}
+use Rattle.binlog_change_lines.specs.Written.{Begins, KeepsMost, WritesTaken, RefusesTold, damaged_of, with_positions, writer_of}
 use Rattle.binlog_change_lines.specs.declared.change_filter.ChangeFilter.{ChangeFilter}
 use Rattle.clap.specs.declared.parser.matches.Found.{Found}
 use Rattle.binlog_cli.specs.FilterWords.{StatesFilter}
@@ -11,7 +11,13 @@ use Rattle.binlog_cli.specs.declared.exit_status.Outcome.{Outcome}
 use Rattle.binlog_cli.specs.declared.exit_status.Status.{Status}
 use Rattle.binlog_cli.specs.declared.exit_status.Status.TheVariants.{Fine, Failed}
 use Rattle.binlog_inputs.specs.Outputs as outputs
-use Rattle.binlog_inputs.specs.Reading.{unless_followed, is_last_followed, InOrder, ShowsFile}
+use Rattle.binlog_inputs.specs.Positions.{in_file, positions_of}
+use Rattle.binlog_inputs.specs.Reading.{unless_followed, is_last, is_last_followed, InOrder, ShowsFile}
+use Rattle.binlog_inputs.specs.declared.positions.Positions.{Positions}
+
+-- The same with a filter that takes these positions.
+abbrev pub taking : {W : Type 0} → Positions → ChangeFilter W → ChangeFilter W
+taking positions old = with_positions old positions.start positions.stop
 
 -- `contents` are the bytes of an output.
 module _ {W : Type 0} (contents : W → Option (List ℕ)) where
@@ -25,10 +31,16 @@ module _ {W : Type 0} (contents : W → Option (List ℕ)) where
   ChangesFile is_verified known name old answer new =
       ((answer ≡ Ok Failed) × KeepsMost old new) ⊎ ((begun : ChangeFilter W) × Begins name old begun × WritesFile is_verified known begun answer new)
 
-  -- Files are taken in order, and only the last one is followed. `name_of` and `bytes` are the name and the bytes of each.
+  -- Files are taken in order, from this index on, and only the last one is followed. `name_of` and `bytes` are the name and the bytes of
+  -- each. The start position that is asked for is one of the first file, with the index 0, and the stop position one of the last file.
+  abbrev pub ChangesFrom : {N : Type 0} (is_verified is_followed : Bool) (name_of : N → List ℕ) (bytes : N → Option (List ℕ)) (asked : Positions) (index : ℕ) (names : List N) (status : Status) (old : ChangeFilter W) (result : Outcome) (new : ChangeFilter W) → Type 0
+  ChangesFrom is_verified is_followed name_of bytes asked =
+      InOrder (λ index behind name old answer new. ChangesFile is_verified (unless_followed (is_last_followed is_followed behind) (bytes name)) (name_of name)
+      (taking (in_file asked (index == 0) (is_last behind)) old) answer new)
+
+  -- All files are taken in order, where the positions that the filter takes before them are asked for.
   abbrev pub ChangesFiles : {N : Type 0} (is_verified is_followed : Bool) (name_of : N → List ℕ) (bytes : N → Option (List ℕ)) (names : List N) (status : Status) (old : ChangeFilter W) (result : Outcome) (new : ChangeFilter W) → Type 0
-  ChangesFiles is_verified is_followed name_of bytes =
-      InOrder (λ behind name old answer new. ChangesFile is_verified (unless_followed (is_last_followed is_followed behind) (bytes name)) (name_of name) old answer new)
+  ChangesFiles is_verified is_followed name_of bytes names status old = ChangesFrom is_verified is_followed name_of bytes (positions_of old.filtered.filtered.filter) 0 names status old
 
 -- The lines of the rows that the filter takes of files are written to an output, which is finished. The options state the filter;
 -- `old` and `new` are the bytes of the output's writer, and `IsMade` says what else holds of the lines as they are made.

@@ -16,8 +16,8 @@ use binlog_cli::{Outcome, Output, Status, filter, out_of_memory};
 use binlog_file::{BinlogFileHeader, Error, Retrying};
 use binlog_filters::Filter;
 use binlog_inputs::{
-    CONTENT_LIMIT, Follower, Inputs, Reading, Reported, Request, follow, goes_on, read_file,
-    report_left_out,
+    CONTENT_LIMIT, Follower, Inputs, Positions, Reading, Reported, Request, follow, goes_on,
+    read_file, report_left_out,
 };
 use binlog_json_lines::LineOptions;
 use binlog_payload_filters::PayloadFiltered;
@@ -65,8 +65,8 @@ pub fn changes<'a, S: Inputs, R: Clock + Eprint + AllocGlobal, W: Write + Drop>(
     Ok(lines.into_output().finish(rt, outcome))
 }
 
-// Writes the lines of files in order. Only the last one is followed. If the output fails, no further file is read, and the outcome says
-// so.
+// Writes the lines of files in order. Only the last one is followed. The positions of the filter are one of the first file and one of the
+// last file. If the output fails, no further file is read, and the outcome says so.
 fn write_files<'a, S: Inputs, R: Clock + Eprint + AllocGlobal, W: Write + Drop>(
     rt: &'a R,
     inputs: &S,
@@ -77,9 +77,12 @@ fn write_files<'a, S: Inputs, R: Clock + Eprint + AllocGlobal, W: Write + Drop>(
     ensures { ChangesFiles W.contents reading.is_verified reading.is_followed (λ name. name.now) (λ name. S.bytes inputs.now name.now) names.now Fine lines result.0 result.1 }
 {
     let mut lines = lines;
+    let asked = Positions::of(lines.filter());
     let mut status = Status::Fine;
     for (place, name) in names.iter().enumerate() {
         let is_last = place + 1 == names.len();
+        let positions = asked.in_file(place == 0, is_last);
+        lines.take_positions(positions.start, positions.stop);
         let (read, behind) = write_file(rt, inputs, name, reading.of_file(is_last), lines);
         lines = behind;
         match read {
@@ -101,17 +104,23 @@ fn write_file<'a, S: Inputs, R: Clock + Eprint + AllocGlobal, W: Write + Drop>(
     ensures { ChangesFile W.contents reading.is_verified (unless_followed reading.is_followed (S.bytes inputs.now name.now)) name.now lines result.0 result.1 }
 {
     let mut lines = lines;
+    let positions = Positions::of(lines.filter());
+    let mut files = NamedFile { name, positions };
     match lines.begin(name) {
-        Ok(()) => { show_file(rt, inputs, name, reading, lines, &mut FileNames) }
+        Ok(()) => { show_file(rt, inputs, name, reading, lines, &mut files) }
         Err(_) => (Ok(out_of_memory(rt)), lines),
     }
 }
 
-// Lines of rows have the names of the files that are followed, and the places in them.
+// The file that is named of a log that is followed, and the positions that are taken of it. Lines of rows have the names of all files
+// that are followed, and the places in them.
 #[derive(Clone, Copy)]
-struct FileNames;
+struct NamedFile<'a> {
+    name: &'a str,
+    positions: Positions,
+}
 
-impl<W> Follower<ChangeFilter<W>> for FileNames {
+impl<'a, W> Follower<ChangeFilter<W>> for NamedFile<'a> {
     ghost rests = { λ old shown new after. (new ≡ old) × (after ≡ shown) };
 
     fn begin_file(
@@ -121,6 +130,8 @@ impl<W> Follower<ChangeFilter<W>> for FileNames {
         start: u64,
     ) -> Result<(), AllocError> {
         lines.begin(path)?;
+        let positions = self.positions.in_followed(path == self.name);
+        lines.take_positions(positions.start, positions.stop);
         lines.go_on_at(start.max(BinlogFileHeader::LEN as u64));
         Ok(())
     }

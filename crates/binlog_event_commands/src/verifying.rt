@@ -56,7 +56,8 @@ pub fn verify<'a, S: Inputs, R: Clock + Eprint + AllocGlobal, W: Write + Drop>(
     Ok(output.finish(rt, outcome))
 }
 
-// Verifies files in order. If the output fails, no further file is read, and the outcome says so.
+// Verifies files in order. The positions of the filter are one of the first file and one of the last file. If the output fails, no further
+// file is read, and the outcome says so.
 fn verify_files<'a, S: Inputs, R: Clock + Eprint + AllocGlobal, W: Write>(
     rt: &R,
     inputs: &S,
@@ -69,8 +70,11 @@ fn verify_files<'a, S: Inputs, R: Clock + Eprint + AllocGlobal, W: Write>(
     ensures { VerifiesFiles reading.is_verified reading.is_followed is_quiet (λ name. name.now) (λ name. S.bytes inputs.now name.now) files.now Fine
         (verifying reported.old (W.contents output.old)) result (verifying reported.new (W.contents output.new)) }
 {
+    let asked = reported.positions();
     let mut status = Status::Fine;
-    for file in files {
+    for (place, file) in files.iter().enumerate() {
+        let is_last = place + 1 == files.len();
+        reported.take_positions(asked.in_file(place == 0, is_last));
         match verify_file(rt, inputs, file, reading, is_quiet, reported, output) {
             Ok(found) => status = status.worse(found),
             Err(_) => return Outcome::unwritten(status),

@@ -12,7 +12,7 @@ use Rattle.binlog_cli.specs.Outputs.{written}
 use Rattle.binlog_cli.specs.declared.exit_status.Outcome.{Outcome}
 use Rattle.binlog_cli.specs.declared.exit_status.Status.{Status}
 use Rattle.binlog_inputs.specs.Reports.{ReportedView, ended_file, Reports}
-use Rattle.binlog_inputs.specs.Reading.{VisitsInput, tail_behind, status_behind, is_last_followed, GoesOn, InOrder, ReadsInput}
+use Rattle.binlog_inputs.specs.Reading.{VisitsInput, tail_behind, status_behind, is_last_followed, is_last, GoesOn, InOrder, ReadsInput}
 
 and_true : (b : Bool) → (b && true) ≡ b
 and_true true = refl
@@ -42,27 +42,31 @@ last_is_followed is_followed names count within =
           ap (λ (b : Bool). is_followed && b) test ∙ and_true is_followed ∙ sym (none_behind is_followed names count all)
     ]
 
-module _ {V N : Type 0} (step : (behind : List N) (name : N) (old : V) (answer : Result Status Error) (new : V) → Type 0) where
+-- It is the last one.
+pub last_is_last : {N : Type 0} (names : List N) (count : ℕ) → count ≤ length names → (count == length names) ≡ is_last (drop count names)
+last_is_last names count within = last_is_followed true names count within
+
+module _ {V N : Type 0} (step : (index : ℕ) (behind : List N) (name : N) (old : V) (answer : Result Status Error) (new : V) → Type 0) where
   -- The file at a place is taken, and then those behind it.
-  taken_next : (names : List N) (place : ℕ) (d : N) → place < length names → (status : Status) (old : V) (answer : Result Status Error) (mid : V) (result : Outcome) (new : V)
-      → step (drop (suc place) names) (get_or names place d) old answer mid
-      → GoesOn (λ worst next. InOrder step (drop (suc place) names) worst next result new) status answer result mid new → InOrder step (drop place names) status old result new
-  taken_next [] place d within status old answer mid result new one goes = absurd (omega arith)
-  taken_next (name ∷ names) zero d within status old answer mid result new one goes = (answer, mid, one, goes)
-  taken_next (name ∷ names) (suc place) d within status old answer mid result new one goes = taken_next names place d (omega arith) status old answer mid result new one goes
+  taken_next : (index : ℕ) (names : List N) (place : ℕ) (d : N) → place < length names → (status : Status) (old : V) (answer : Result Status Error) (mid : V) (result : Outcome) (new : V)
+      → step index (drop (suc place) names) (get_or names place d) old answer mid
+      → GoesOn (λ worst next. InOrder step (index + 1) (drop (suc place) names) worst next result new) status answer result mid new → InOrder step index (drop place names) status old result new
+  taken_next index [] place d within status old answer mid result new one goes = absurd (omega arith)
+  taken_next index (name ∷ names) zero d within status old answer mid result new one goes = (answer, mid, one, goes)
+  taken_next index (name ∷ names) (suc place) d within status old answer mid result new one goes = taken_next index names place d (omega arith) status old answer mid result new one goes
 
   pub taken_at : (names : List N) (place : ℕ) (d : N) → place < length names → (status : Status) (old : V) (answer : Result Status Error) (mid : V) (result : Outcome) (new : V)
-      → step (drop (place + 1) names) (get_or names place d) old answer mid
-      → GoesOn (λ worst next. InOrder step (drop (place + 1) names) worst next result new) status answer result mid new → InOrder step (drop place names) status old result new
+      → step place (drop (place + 1) names) (get_or names place d) old answer mid
+      → GoesOn (λ worst next. InOrder step (place + 1) (drop (place + 1) names) worst next result new) status answer result mid new → InOrder step place (drop place names) status old result new
   taken_at names place d within status old answer mid result new one goes =
       let next : place + 1 ≡ suc place = omega arith in
-      taken_next names place d within status old answer mid result new
-      (subst (λ (count : ℕ). step (drop count names) (get_or names place d) old answer mid) next one)
-      (subst (λ (count : ℕ). GoesOn (λ worst others. InOrder step (drop count names) worst others result new) status answer result mid new) next goes)
+      taken_next place names place d within status old answer mid result new
+      (subst (λ (count : ℕ). step place (drop count names) (get_or names place d) old answer mid) next one)
+      (subst (λ (count : ℕ). GoesOn (λ worst others. InOrder step (place + 1) (drop count names) worst others result new) status answer result mid new) next goes)
 
   -- No file is left.
-  pub none_left : (names : List N) (place : ℕ) → length names ≤ place → (status : Status) (new : V) → InOrder step (drop place names) status new (written status) new
-  none_left names place all status new = subst (λ (left : List N). InOrder step left status new (written status) new) (sym (drop_all place names all)) (refl, refl)
+  pub none_left : (names : List N) (place : ℕ) → length names ≤ place → (status : Status) (new : V) → InOrder step place (drop place names) status new (written status) new
+  none_left names place all status new = subst (λ (left : List N). InOrder step place left status new (written status) new) (sym (drop_all place names all)) (refl, refl)
 
 -- What is shown of an input whose bytes may be known.
 pub reads_input : {T : Type 0} (visits : VisitRelation T) (refuses : RefusalRelation T) (refused : T → ℕ)

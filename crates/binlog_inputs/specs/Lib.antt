@@ -1,4 +1,5 @@
 pub mod Requests
+pub mod Positions
 pub mod Reports
 pub mod Outputs
 pub mod Reading

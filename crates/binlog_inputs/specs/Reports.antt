@@ -6,6 +6,8 @@ use Rattle.binlog_file.specs.TableMapsInForce.{TableMaps}
 use Rattle.binlog_visits.specs.Visits.{VisitRelation}
 use Rattle.binlog_filters.specs.Filtering.{begun}
 use Rattle.binlog_payload_filters.specs.declared.filtered.PayloadFiltered.{PayloadFiltered}
+use Rattle.binlog_inputs.specs.Positions.{with_positions}
+use Rattle.binlog_inputs.specs.declared.positions.Positions.{Positions}
 
 -- What contracts see of it: the visitor, whether the file has an error, and whether it ends within an event.
 pub record ReportedView (T : Type 0) : Type 0 where
@@ -16,6 +18,11 @@ pub record ReportedView (T : Type 0) : Type 0 where
 -- The same at the start of a file.
 abbrev pub begun_file : {T : Type 0} → ReportedView (PayloadFiltered T) → ReportedView (PayloadFiltered T)
 begun_file old = record { visitor = record old.visitor { filtered = begun old.visitor.filtered }; has_errors = false; is_cut = false }
+
+-- The same with a filter that takes these positions.
+abbrev pub taking : {T : Type 0} → Positions → ReportedView (PayloadFiltered T) → ReportedView (PayloadFiltered T)
+taking positions old =
+    record old { visitor = record old.visitor { filtered = record old.visitor.filtered { filter = with_positions old.visitor.filtered.filter positions } } }
 
 -- The same filter with another visitor.
 abbrev pub with_visitor : {T : Type 0} → PayloadFiltered T → T → PayloadFiltered T

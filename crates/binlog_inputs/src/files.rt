@@ -5,10 +5,11 @@ ghost use Rattle.binlog_wire.specs.declared.error.Error.TheVariants.{Writer};
 ghost use Rattle.crc32_ieee.specs.Checksums.{IsCrc32, GivesCrc32};
 ghost use Rattle.binlog_visits.specs.Visits.{VisitsVerifiedLog};
 ghost use Rattle.binlog_cli.specs.declared.exit_status.Status.TheVariants.{Fine};
-ghost use Rattle.binlog_inputs.specs.Reading.{VisitsInput, tail_behind, status_behind, unless_followed, ReadsInput, ReadsFile, ReadsFiles};
+ghost use Rattle.binlog_inputs.specs.Reading.{VisitsInput, tail_behind, status_behind, unless_followed, ReadsInput, ReadsFile, ReadsFrom};
 
 use crate::following::Following;
 use crate::inputs::Inputs;
+use crate::positions::Positions;
 use crate::progress::Progress;
 use crate::reported::{Reported, shown_name};
 use crate::request::Reading;
@@ -21,20 +22,23 @@ use std::alloc::Global;
 use std::io::Read;
 use std::time::Clock;
 
-/// Reads files in order. Only the last one is followed. The worst status counts. If the output fails, no further file is
-/// read, and the outcome says so.
+/// Reads files in order. Only the last one is followed. The filter takes the positions that are asked for: the start position is one of
+/// the first file, and the stop position one of the last file. The worst status counts. If the output fails, no further file is read, and
+/// the outcome says so.
 pub(crate) fn read_files<'a, S: Inputs, R: Clock + Eprint + AllocGlobal, T: Visitor + Refusing>(
     rt: &R,
     inputs: &S,
     names: &[&'a str],
     reading: Reading,
+    asked: Positions,
     visitor: &mut Reported<'a, R, PayloadFiltered<T>>,
 ) -> Outcome
-    ensures { ReadsFiles T.visits T.refuses T.refusals reading.is_verified reading.is_followed (λ name. S.bytes inputs.now name.now) names.now Fine visitor.old result visitor.new }
+    ensures { ReadsFrom T.visits T.refuses T.refusals reading.is_verified reading.is_followed (λ name. S.bytes inputs.now name.now) asked 0 names.now Fine visitor.old result visitor.new }
 {
     let mut status = Status::Fine;
     for (place, name) in names.iter().enumerate() {
         let is_last = place + 1 == names.len();
+        visitor.take_positions(asked.in_file(place == 0, is_last));
         match read_file(rt, inputs, name, reading.of_file(is_last), visitor) {
             Ok(found) => status = status.worse(found),
             Err(_) => return Outcome::unwritten(status),

@@ -1,9 +1,11 @@
 //! A visitor that writes messages.
 ghost use Rattle.std.specs.Prelude.{◌≡◌, ◌≢◌, codes, false, IfErr};
 ghost use Rattle.binlog_wire.specs.declared.error.Error.TheVariants.{Writer};
-ghost use Rattle.binlog_inputs.specs.Reports.{begun_file, ended_file, with_visitor};
+ghost use Rattle.binlog_inputs.specs.Positions.{positions_of};
+ghost use Rattle.binlog_inputs.specs.Reports.{begun_file, ended_file, taking, with_visitor};
 
 use crate::follower::Follower;
+use crate::positions::Positions;
 use crate::progress::Progress;
 use binlog_file::{
     Error, EventData, EventRef, EventStreamReader, GtidTracker, LogEventData, read_log_data,
@@ -107,6 +109,20 @@ impl<'a, E: Eprint, T> Reported<'a, E, PayloadFiltered<T>> {
         ensures { self.new ≡ record self.old { visitor = with_visitor self.old.visitor visitor } }
     {
         self.visitor.filtered.visitor = visitor;
+    }
+
+    /// The positions that the filter takes.
+    pub fn positions(&self) -> Positions
+        ensures { result ≡ positions_of self.now.visitor.filtered.filter }
+    {
+        Positions::of(&self.visitor.filtered.filter)
+    }
+
+    /// Goes on with a filter that takes these positions.
+    pub fn take_positions(&mut self, positions: Positions)
+        ensures { self.new ≡ taking positions self.old }
+    {
+        positions.put_into(&mut self.visitor.filtered.filter);
     }
 
     /// Goes on behind a pause between two items, in which a follower does with the other visitor what it does then.

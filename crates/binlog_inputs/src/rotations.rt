@@ -12,6 +12,7 @@ use crate::files::read_files;
 use crate::follower::Follower;
 use crate::growing::follow_from;
 use crate::inputs::Inputs;
+use crate::positions::Positions;
 use crate::reported::Reported;
 use crate::request::Reading;
 use binlog_cli::{Outcome, Status, out_of_memory};
@@ -24,7 +25,7 @@ use binlog_visits::{Refusing, Visitor};
 use std::time::Clock;
 
 /// Reads files in order. If they are followed, the last one is read as far as it grows, and then the files behind it; the follower is
-/// told of each.
+/// told of each. The positions of the filter are one of the first file and one of the last file.
 #[tactic(auto, using(crate::proofs::Rests::goes_not))]
 pub(crate) fn read_all_files<
     'a,
@@ -50,7 +51,8 @@ pub(crate) fn read_all_files<
         }
         _ => {
             let mut visitor = visitor;
-            let outcome = read_files(rt, inputs, names, reading, &mut visitor);
+            let asked = visitor.positions();
+            let outcome = read_files(rt, inputs, names, reading, asked, &mut visitor);
             (outcome, visitor.into_visitor())
         }
     }
@@ -84,10 +86,14 @@ fn follow_last<
         × (result.1 ≡ behind.visitor) }
     ensures rested { HasRested F.rests follower.old follower.new }
 {
-    let read = read_files(rt, inputs, before, reading.of_file(false), &mut visitor);
+    let asked = visitor.positions();
+    let unstopped = asked.in_file(true, false);
+    let unfollowed = reading.of_file(false);
+    let read = read_files(rt, inputs, before, unfollowed, unstopped, &mut visitor);
     if !read.is_written {
         return (read, visitor.into_visitor());
     }
+    visitor.take_positions(asked.in_file(before.is_empty(), true));
     match follow(rt, inputs, last, visitor.into_visitor(), follower) {
         (Ok(found), visitor) => (Outcome::written(read.status.worse(found)), visitor),
         (Err(_), visitor) => (Outcome::unwritten(read.status), visitor),
@@ -95,7 +101,8 @@ fn follow_last<
 }
 
 /// Reads a file as far as it grows, and then each file behind it. With a state the file that it names comes first, from where it says on.
-/// The follower is told the path of each file, and from which byte on its items are shown. The only error is that the output failed.
+/// The follower is told the path of each file, and from which byte on its items are shown. The positions of the filter are those of the
+/// file that is named. The only error is that the output failed.
 #[tactic(auto, using(crate::proofs::Rests::goes_not))]
 pub fn follow<
     'a,
@@ -124,7 +131,7 @@ pub fn follow<
         Ok(false) => return (Ok(Status::Failed), visitor),
         Err(error) => return (Err(error), visitor),
     }
-    follow_files(rt, inputs, path, start, visitor, follower)
+    follow_files(rt, inputs, name, path, start, visitor, follower)
 }
 
 // Waits for a file that a state names, of which so much was read before. The answer is false only if it isn't there after 2^64 - 1 looks. The
@@ -148,7 +155,8 @@ fn wait_for_start<S: Inputs, R: Clock + Eprint + AllocGlobal, T, F: Follower<T>>
     }
 }
 
-// Reads the file of this path from this place on as far as it grows, and then each file behind it.
+// Reads the file of this path from this place on as far as it grows, and then each file behind it. The positions of the filter are those of
+// the file of this name.
 #[tactic(auto, using(crate::proofs::Rests::goes_not))]
 fn follow_files<
     'a,
@@ -159,6 +167,7 @@ fn follow_files<
 >(
     rt: &'a R,
     inputs: &S,
+    name: &str,
     path: String,
     start: Checkpoint,
     visitor: PayloadFiltered<T>,
@@ -171,7 +180,10 @@ fn follow_files<
     let mut path = path;
     let mut place = start;
     let mut visitor = visitor;
+    let named = Positions::of(&visitor.filtered.filter);
     'files: for _ in 0..u64::MAX {
+        let positions = named.in_followed(path.as_str() == name);
+        positions.put_into(&mut visitor.filtered.filter);
         let mut gtids = FileGtids::of_file(rt.alloc());
         let (read, next, behind) = follow_from(
             rt,
