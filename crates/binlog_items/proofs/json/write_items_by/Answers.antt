@@ -1,7 +1,7 @@
 use Rattle.std.proofs.Common.{◌∙◌, arith}
 use Rattle.binlog_items.proofs.Lines.{same_item, one_written, all_written, no_room, next_refused}
-use Rattle.binlog_items.proofs.json.write_items.Goals as goal
-use Rattle.binlog_items.proofs.json.write_items.Goals.{else-loop-item-test, then-loop-item-test+in-Ok+then-line-text}
+use Rattle.binlog_items.proofs.json.write_items_by.Goals as goal
+use Rattle.binlog_items.proofs.json.write_items_by.Goals.{else-loop-item-test, then-loop-item-test+in-Ok+then-line-text}
 
 pub returns-in-Err : goal.returns-in-Err
 returns-in-Err c =
