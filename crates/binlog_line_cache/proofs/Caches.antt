@@ -7,7 +7,7 @@ use base.Logic.{never, fst∗}
 use base.Fml.{ftrue, fex}
 use types.Logic.{Logic, sem}
 use types.Kit.{Item, Goal, Seq, Step, step, ‵, ◌$◌, drop, fsplit, fjoin, fpick, fpack, feq_i, feq_l}
-use denote.RattleType.{RattleType, Valss}
+use denote.RattleType.{Valss}
 use denote.Builtin.{RawPtr, bool}
 use denote.Memory.{lone}
 use denote.RawPtr.{Ptr, block_ptr, null_ptr, ptr_val, in_a_block}

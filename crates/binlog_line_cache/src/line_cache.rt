@@ -29,6 +29,8 @@ impl Model for BinlogCache {
     ghost also_owns = { λ cache. boxed_if the_row cache.is_kept cache.at };
 }
 
+unsafe impl Send for BinlogCache {}
+
 impl BinlogCache {
     // Nothing is kept.
     fn empty() -> Self

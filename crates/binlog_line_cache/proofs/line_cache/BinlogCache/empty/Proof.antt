@@ -1,8 +1,8 @@
 -- `empty` makes an object that owns nothing.
-use Rattle.std.proofs.Common.{◌≡◌, List, [], ◌∷◌, false, refl, lit<}
+use Rattle.std.proofs.Common.{◌≡◌, [], ◌∷◌, false, refl, lit<}
 use mir.Val.{Val, vbool}
 use base.Logic.{SProp, emp}
-use types.Kit.{‵, raw, ◌$◌, ◌∵◌, !, qed, by, keep, use0}
+use types.Kit.{raw, ◌$◌, ◌∵◌, !, qed, by, keep, use0}
 use types.Run.{lit, false_lit, no_more, and_then, returns, enter}
 use types.ByLocal.{alloc_all, pass_all, free_all, look_at, sets}
 use types.Part.{agg}
