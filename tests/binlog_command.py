@@ -14,8 +14,10 @@ import json
 import os
 import pty
 import re
+import resource
 import shlex
 import shutil
+import socket
 import subprocess
 import sys
 import tempfile
@@ -25,6 +27,7 @@ from datetime import datetime, timezone
 from functools import partial
 from itertools import chain, product
 from pathlib import Path
+from time import sleep
 
 import compact_model
 import encoded_events
@@ -515,6 +518,7 @@ def compressed_tables(runner):
 def read_back(runner, log, events, asked):
     """A copy of the events of tables has their rows, and the frame of each transaction."""
     copied, count = table_filters.taken(events, asked, True)
+    (runner.folder / "1.bin").unlink(missing_ok=True)
     yield runner.check(["copy", *asked.words, "-o", "1.bin", "0.bin"], Result(b"", messages=left_out(count)), [log])
     of_copy = [events[index] for index in copied]
     in_force = [event if event.kind != "rows" or asked.takes(event, True) else event._replace(names=()) for event in of_copy]
@@ -696,33 +700,93 @@ def copies(runner):
     copied = (runner.folder / "out.bin").read_bytes()
     yield None if copied == copy_of(SAMPLE, [0, *later]) else f"copy: {copied[:80]!r}"
     yield runner.check(["verify", "-q", "out.bin"], Result(b""))
-    yield runner.check(["copy", "-o", "/missing/out.bin", "0.bin"], Result(b"", FAILED, "binlog: /missing/out.bin: .+\n"))
-    wrong = ["copy", "--start-datetime", "today", "-o", "out.bin", "0.bin"]
-    yield runner.check(wrong, Result(b"", USAGE, "binlog: .+\n"))
-    is_kept = (runner.folder / "out.bin").read_bytes() == copied
-    yield None if is_kept else "copy: wrong usage changes the output"
-    yield from copies_over_logs(runner)
 
 
-def copies_over_logs(runner):
-    """A file that is read isn't written over, under whichever name."""
-    linked, named = runner.folder / "linked.bin", runner.folder / "named.bin"
-    runner.run(["list"], [SAMPLE, GTIDS])
-    linked.hardlink_to(runner.folder / "1.bin")
-    named.symlink_to("1.bin")
-    for name in "1.bin", "./1.bin", linked.name, named.name:
-        refused = Result(b"", FAILED, re.escape(f"binlog: {name}: the output is one of the files that are read\n"))
-        yield runner.check(["copy", "-o", name, "0.bin", "1.bin"], refused)
-        with open(runner.folder / "1.bin", "rb") as log:
-            finished = subprocess.run([runner.program, "copy", "-o", name], cwd=runner.folder, stdin=log, capture_output=True)
-        yield difference(f"copy -o {name}", finished, refused)
-    is_kept = (runner.folder / "1.bin").read_bytes() == GTIDS
-    yield None if is_kept else "copy: a log that is read was written over"
-    linked.unlink()
-    named.unlink()
-    yield runner.check(["copy", "-o", "1.bin", "0.bin"], Result(b""))
-    is_copied = (runner.folder / "1.bin").read_bytes() == SAMPLE
-    yield None if is_copied else "copy: a file that isn't read isn't written over"
+THERE = "there is a file of this name\n"
+
+
+def files_of(runner):
+    return {path.name: path.read_bytes() for path in runner.folder.iterdir()}
+
+
+def unchanged(runner, words, status, messages, **ends):
+    """What is wrong with a run that has to leave all files as they are."""
+    before = files_of(runner)
+    finished = runner.run(words, **ends)
+    yield difference(" ".join(words), finished, Result(finished.stdout, status, messages))
+    yield None if files_of(runner) == before else f"{words}: the files are {sorted(files_of(runner))}, or one is changed"
+
+
+def new_copies(runner):
+    """A file is there with a whole copy, and else not at all. No file is written over, under whichever name."""
+    cut = SAMPLE[:-5]
+    runner.run(["list"], [SAMPLE, GTIDS, cut])
+    yield runner.check(["copy", "-o", "cut.bin", "2.bin"], Result(b"", DAMAGED, cut_message("2.bin", cut)))
+    is_copied = (runner.folder / "cut.bin").read_bytes() == cut[: len(cut) - len(tail_of(cut))]
+    yield None if is_copied else "copy: the copy of a log that is cut isn't its whole events"
+    (runner.folder / "linked.bin").hardlink_to(runner.folder / "1.bin")
+    (runner.folder / "named.bin").symlink_to("1.bin")
+    (runner.folder / "begun.bin.part").write_bytes(b"begun")
+    for name in "1.bin", "./1.bin", "linked.bin", "named.bin", "2.bin", ".":
+        for logs in ["0.bin", "1.bin"], ["0.bin"], [MISSING]:
+            yield from unchanged(runner, ["copy", "-o", name, *logs], FAILED, re.escape(f"binlog: {name}: ") + THERE)
+    yield from unchanged(runner, ["copy", "-o", "begun.bin", "0.bin"], FAILED, r"binlog: begun\.bin\.part: File exists.*\n")
+    yield from unchanged(runner, ["copy", "-o", "/missing/out.bin", "0.bin"], FAILED, "binlog: /missing/out.bin.part: .+\n")
+    yield from unchanged(runner, ["copy", "--start-datetime", "today", "-o", "new.bin", "0.bin"], USAGE, "binlog: .+\n")
+    yield from unchanged(runner, ["copy", "-o", "new.bin", "0.bin", MISSING], NOT_OPENED, NOT_FOUND)
+    few = {"preexec_fn": partial(resource.setrlimit, resource.RLIMIT_FSIZE, (50, 50)), "restore_signals": False}
+    yield from unchanged(runner, ["copy", "-o", "new.bin", "0.bin"], FAILED, r"binlog: new\.bin\.part: File too large.*\n", **few)
+    yield from unfinished_copies(runner)
+
+
+def unfinished_copies(runner):
+    """A file that is made meanwhile stays, and a copy that is killed has no name."""
+    taken, begun = runner.folder / "taken.bin", runner.folder / "taken.bin.part"
+    for is_killed in (False, True):
+        copying = subprocess.Popen([runner.program, "copy", "-o", taken.name], cwd=runner.folder, stdin=subprocess.PIPE, stderr=subprocess.PIPE)
+        while not begun.exists():
+            sleep(0.01)
+        if is_killed:
+            copying.kill()
+        else:
+            taken.write_bytes(b"taken")
+        _, messages = copying.communicate(None if is_killed else SAMPLE)
+        if is_killed:
+            yield None if begun.exists() and not taken.exists() else "copy: one that is killed has a name"
+        else:
+            is_right = copying.returncode == FAILED and re.fullmatch(rb"binlog: taken\.bin: .*exists.*\n", messages)
+            yield None if is_right else f"copy: status {copying.returncode}, {messages!r}"
+            yield None if taken.read_bytes() == b"taken" and not begun.exists() else "copy: a file that was made meanwhile is written over"
+            taken.unlink()
+
+
+def copies_to_output(runner):
+    """Standard output isn't added to while it is read, under whichever name."""
+    runner.run(["list"], [SAMPLE, GTIDS, b""])
+    (runner.folder / "linked.bin").hardlink_to(runner.folder / "1.bin")
+    (runner.folder / "named.bin").symlink_to("1.bin")
+    refused = "binlog: standard output is one of the files that are read\n"
+    for name in "1.bin", "./1.bin", "linked.bin", "named.bin":
+        with open(runner.folder / "1.bin", "ab") as output:
+            yield from unchanged(runner, ["copy", "-o", "-", "0.bin", name], FAILED, refused, stdout=output)
+    with open(runner.folder / "1.bin", "ab") as output, open(runner.folder / "1.bin", "rb") as log:
+        words = [runner.program, "copy", "-o", "-", "0.bin", "-"]
+        finished = subprocess.run(words, cwd=runner.folder, stdin=log, stdout=output, stderr=subprocess.PIPE)
+    is_right = finished.returncode == FAILED and re.fullmatch(refused, finished.stderr.decode())
+    yield None if is_right else f"copy - >> 1.bin: status {finished.returncode}, {finished.stderr!r}"
+    yield None if (runner.folder / "1.bin").read_bytes() == GTIDS else "copy: a log that is read was added to"
+    # Another file, and what has no bytes of its own.
+    with open(runner.folder / "1.bin", "ab") as output:
+        finished = runner.run(["copy", "-o", "-", "0.bin"], stdout=output)
+    is_right = finished.returncode == FINE and (runner.folder / "1.bin").read_bytes() == GTIDS + SAMPLE
+    yield None if is_right else f"copy 0.bin >> 1.bin: {finished}"
+    ours, theirs = socket.socketpair()
+    with ours, subprocess.Popen([runner.program, "copy", "-o", "-"], stdin=theirs, stdout=theirs) as copying:
+        theirs.close()
+        ours.sendall(SAMPLE)
+        ours.shutdown(socket.SHUT_WR)
+        copied = b"".join(iter(partial(ours.recv, 65536), b""))
+    yield None if copying.returncode == FINE and copied == SAMPLE else f"copy of a socket to itself: status {copying.returncode}"
 
 
 def maria(runner):
@@ -1100,7 +1164,7 @@ def installs(runner):
 
 
 PARTS = (models, damaged, cut_logs, cut_ends, reported, several, filters, positions, gtid_filters, damaged_gtids, names, gtids, maria_gtids, stored, compressed, stats)
-PARTS += (tables, compressed_tables, no_tables, copies, maria, maria_transactions, maria_gtid_filters, no_sets, stored_rows, compact_rows, compact_places, words, ends, progress, followed, installs)
+PARTS += (tables, compressed_tables, no_tables, copies, new_copies, copies_to_output, maria, maria_transactions, maria_gtid_filters, no_sets, stored_rows, compact_rows, compact_places, words, ends, progress, followed, installs)
 
 
 def results_of(build, part):

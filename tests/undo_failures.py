@@ -1,9 +1,9 @@
 #!/usr/bin/env python3
-"""Runs `binlog undo` with each of its calls failing in turn: the log that it writes is there whole, or not at all.
+"""Runs `binlog undo` and `binlog copy` with each of their calls failing in turn: the log that is written is there whole, or not at all.
 
 Usage: undo_failures.py FLAG
 
-FLAG is one of `programs.py`. Two logs are undone, as their transactions and as one. A library that is preloaded (`fail_files.c`) makes
+FLAG is one of `programs.py`. Two logs are undone, as their transactions and as one, and copied. A library that is preloaded (`fail_files.c`) makes
 the first call fail that opens, reads, seeks, writes, syncs, renames or removes a file, in the next run the second one, and so on; another
 one (`watch_allocations.c`) refuses each allocation. The status is 1 or 3 then, and there is no log; nothing of it is left behind, where
 the program isn't aborted and can remove it. The last line is `N passed, M failed`, where each run counts; the exit status is 1 if one
@@ -105,8 +105,8 @@ def failures(words, folder, is_cargo):
     library, logs, out = library_in(folder), logs_in(folder), folder / "out"
     before = [log.read_bytes() for log in logs]
     with watched.Watch() as watch:
-        for options in ([], ["--one-transaction"]):
-            command = [*words, "undo", *options, "-o", str(out), *map(str, logs)]
+        for command in (["undo"], ["undo", "--one-transaction"], ["copy"]):
+            command = [*words, *command, "-o", str(out), *map(str, logs)]
             subprocess.run(command, check=True, stdout=subprocess.DEVNULL)
             whole = out.read_bytes()
             out.unlink()
@@ -118,7 +118,7 @@ def failures(words, folder, is_cargo):
 
 
 def main():
-    parser = argparse.ArgumentParser(description="Runs undo with calls that fail.")
+    parser = argparse.ArgumentParser(description="Runs undo and copy with calls that fail.")
     programs.add_flags(parser)
     arguments = programs.parsed(parser, "binlog")
     if shutil.which(watched.COMPILER) is None:

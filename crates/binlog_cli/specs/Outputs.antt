@@ -5,6 +5,7 @@ use Rattle.std.specs.declared.io.Error.{Error}
 use Rattle.binlog_cli.specs.Statuses.{EndsBehind, failed_or, worse}
 use Rattle.binlog_cli.specs.declared.exit_status.Outcome.{Outcome}
 use Rattle.binlog_cli.specs.declared.exit_status.Status.{Status}
+use Rattle.binlog_cli.specs.declared.exit_status.Status.TheVariants.{Failed}
 
 -- The outcome with this status if all was written, and if the output failed.
 abbrev pub written : Status → Outcome
@@ -44,4 +45,16 @@ pub record Finishes (noted : Option Error) (bytes : Option (List ℕ)) (outcome 
   pub failure : Option Error
   pub first : IfSome noted (λ reason. failure ≡ Some reason)
   pub status : EndsWith failure outcome after
+  pub has : HasBytes failure bytes writer
+
+-- The status of a run with this outcome that writes a file, whose output may have failed: then the file isn't whole, for whichever reason.
+abbrev pub EndsFile : (failure : Option Error) (outcome : Outcome) (after : Status) → Type 0
+EndsFile None outcome after = after ≡ (if outcome.is_written then outcome.status else Failed)
+EndsFile (Some failure) outcome after = after ≡ Failed
+
+-- The same of an output that is a file's.
+pub record FinishesFile (noted : Option Error) (bytes : Option (List ℕ)) (outcome : Outcome) (after : Status) (writer : Option (List ℕ)) : Type 0 where
+  pub failure : Option Error
+  pub first : IfSome noted (λ reason. failure ≡ Some reason)
+  pub status : EndsFile failure outcome after
   pub has : HasBytes failure bytes writer

@@ -203,7 +203,7 @@ const OUTPUT: &[OptionText] = &[OptionText {
     name: "output",
     short: Some('o'),
     takes: Takes::NeededText("OUT"),
-    help: "The log that is written; - is standard output",
+    help: "The log that is written, a new file; - is standard output",
 }];
 
 // What is shown while files are read.

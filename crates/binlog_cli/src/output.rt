@@ -5,7 +5,7 @@ ghost use Rattle.std.specs.Io.{WritesAtMost};
 ghost use Rattle.std.specs.Io.KnownBytes.{Keeps, WriteAppends};
 ghost use Rattle.binlog_cli.specs.declared.exit_status.Status.TheVariants.{Failed};
 ghost use Rattle.binlog_cli.specs.Statuses.{EndsBehind};
-ghost use Rattle.binlog_cli.specs.Outputs.{EndsWith, Finishes, HasBytes, failure_behind};
+ghost use Rattle.binlog_cli.specs.Outputs.{EndsFile, EndsWith, Finishes, FinishesFile, HasBytes, failure_behind};
 
 use crate::exit_status::{Outcome, Status, out_of_memory};
 use binlog_ends::Retrying;
@@ -48,6 +48,15 @@ impl<W: Write + Drop> Output<BufWriter<Retrying<W>>> {
     {
         let (failure, writer) = self.close();
         (end(rt, failure, outcome), writer)
+    }
+
+    /// The same of the output of a file, which is whole only if nothing failed: the status is [`Status::Failed`] then, also if a pipe is closed.
+    /// `name` is that of the file, for the message.
+    pub fn finish_file<E: Eprint>(self, rt: &E, name: &str, outcome: Outcome) -> (Status, W)
+        ensures { FinishesFile self.failure (⟦<BufWriter<Retrying<W>> as Write>⟧.contents self.inner) outcome result.0 (W.contents result.1) }
+    {
+        let (failure, writer) = self.close();
+        (end_file(rt, name, failure, outcome), writer)
     }
 
     // Flushes the output. Why it failed, if it did, and its writer.
@@ -97,6 +106,20 @@ fn end_behind<E: Eprint>(rt: &E, failure: &io::Error, status: Status) -> Status
     }
     let _ = eprintln!(rt; "binlog: the output: {failure}");
     status.max(Status::Failed)
+}
+
+// The status of a run that writes a file, whose output may have failed.
+fn end_file<E: Eprint>(rt: &E, name: &str, failure: Option<io::Error>, outcome: Outcome) -> Status
+    ensures { EndsFile failure outcome result }
+{
+    match failure {
+        Some(failure) => {
+            let _ = eprintln!(rt; "binlog: {name}: {failure}");
+            Status::Failed
+        }
+        None if outcome.is_written => outcome.status,
+        None => Status::Failed,
+    }
 }
 
 /// Its bytes are those of the writer. Why the first call failed is kept.

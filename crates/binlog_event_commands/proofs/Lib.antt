@@ -1,1 +1,2 @@
 pub mod ColumnFiles
+pub mod FileEnds

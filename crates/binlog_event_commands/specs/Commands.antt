@@ -1,5 +1,6 @@
 -- What each command makes of its output: the bytes of its writer, and the status.
-use Rattle.std.specs.Prelude.{◌≡◌, ◌⊎◌, ℕ, Bool, List, [], Option}
+use Rattle.std.specs.Prelude.{◌≡◌, ◌⊎◌, ℕ, Bool, true, false, List, [], Option}
+use Rattle.std.specs.Io.KnownBytes.{Keeps}
 use Rattle.binlog_visits.specs.Visits.{VisitRelation, RefusalRelation}
 use Rattle.binlog_ends.specs.Views.{CountedView}
 use Rattle.binlog_filters.specs.declared.filter.Filter.{Filter}
@@ -12,16 +13,22 @@ use Rattle.binlog_payload_visits.specs.declared.checked.Checked.{Checked}
 use Rattle.clap.specs.declared.parser.matches.Found.{Found}
 use Rattle.binlog_cli.specs.FilterWords.{StatesFilter}
 use Rattle.binlog_inputs.specs.Reports.{ReportedView}
-use Rattle.binlog_cli.specs.Outputs.{worse_outcome, unwritten}
+use Rattle.binlog_cli.specs.Outputs.{worse_outcome, written, unwritten}
 use Rattle.binlog_cli.specs.declared.output.Output.{Output}
 use Rattle.binlog_cli.specs.declared.exit_status.Outcome.{Outcome}
 use Rattle.binlog_cli.specs.declared.exit_status.Status.{Status}
-use Rattle.binlog_cli.specs.declared.exit_status.Status.TheVariants.{Fine}
+use Rattle.binlog_cli.specs.declared.exit_status.Status.TheVariants.{Fine, Damaged}
 use Rattle.binlog_inputs.specs.Outputs.{bytes_of, Begins, Ends}
 use Rattle.binlog_inputs.specs.Reading.{ShowsTaken}
 use Rattle.binlog_event_commands.specs.Copying.{CopiesFiles}
 use Rattle.binlog_event_commands.specs.Gtids.{WritesWanted}
 use Rattle.binlog_event_commands.specs.Verifying.{verifying, VerifiesFiles}
+
+-- The status of a copy to a file that is kept: the logs were read, if they have no more than damage.
+abbrev pub is_kept : Status → Bool
+is_kept Fine = true
+is_kept Damaged = true
+is_kept status = false
 
 -- The options state the filter. The files have these names and bytes; `old` and `new` are the bytes of the output's writer.
 module _ {B N : Type 0} (contents : B → Option (List ℕ)) (options : Found) (is_verified is_followed : Bool) (bytes : N → Option (List ℕ)) (names : List N) where
@@ -101,3 +108,22 @@ module _ {B N : Type 0} (contents : B → Option (List ℕ)) (options : Found) (
   -- The log is written behind what the writer has, or the file header can't be; the writer is dropped then.
   abbrev pub Copied : (old : Option (List ℕ)) (status : Status) → Type 0
   Copied old status = (new : Option (List ℕ)) × CopiesOr old status new
+
+  -- The log is written, all of it, and the status is that of what was read.
+  pub record WritesDraft (old : Option (List ℕ)) (status : Status) (new : Option (List ℕ)) : Type 0 where
+    pub filter : Filter
+    pub states : StatesFilter options filter
+    pub output : Output B
+    pub begins : Begins contents old output
+    pub behind : Output B
+    pub copies : CopiesFiles (bytes_of contents) is_verified is_followed bytes names filter output (written status) behind
+    pub whole : Keeps (bytes_of contents behind) new
+
+  -- A file is begun, the log is written into it, and it has the bytes of the log if it is kept. `is_fresh` says which bytes it is begun
+  -- with, and `has` which bytes it has.
+  pub record WritesFile (is_fresh has : Option (List ℕ) → Type 0) (status : Status) : Type 0 where
+    pub begun : Option (List ℕ)
+    pub fresh : is_fresh begun
+    pub ended : Option (List ℕ)
+    pub writes : WritesDraft begun status ended
+    pub kept : is_kept status ≡ true → has ended

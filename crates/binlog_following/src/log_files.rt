@@ -1,9 +1,10 @@
 //! What is asked of a machine where a log is followed.
-ghost use Rattle.std.specs.Prelude.{◌≡◌, ◌==◌, ◌&&◌, ℕ, List, [], ◌++◌, take, IfOk, OnErr, OnOk};
+ghost use Rattle.std.specs.Prelude.{◌≡◌, ◌==◌, ◌&&◌, ℕ, List, [], ◌++◌, take, Option, IfOk, OnErr, OnOk};
 ghost use Rattle.std.specs.Io.{ReadsAtMost};
 ghost use Rattle.binlog_rotation.specs.declared.checkpoint.Checkpoint.{Checkpoint};
 ghost use Rattle.binlog_following.specs.Files.{named_file};
 ghost use Rattle.binlog_following.specs.declared.file_behind.FileBehind.{FileBehind};
+ghost use Rattle.binlog_following.specs.declared.log_files.FileId.{FileId};
 
 use crate::file_behind::FileBehind;
 use crate::waits::Missing;
@@ -97,6 +98,9 @@ pub trait LogFiles {
     /// It was asked what the file behind the one of a path is, where the events before a place are all of its whole transactions.
     ghost has_found: { Self → List ℕ → Checkpoint → FileBehind → Type 0 };
 
+    /// It was asked which file has a path.
+    ghost has_named: { Self → List ℕ → Option FileId → Type 0 };
+
     /// The state was written, with the file of a path and a place in it.
     ghost has_saved: { Self → List ℕ → Checkpoint → Type 0 };
 
@@ -109,7 +113,8 @@ pub trait LogFiles {
         ensures { IfOk result (λ opened. Self.Log.has_given opened []) };
 
     /// Which file has this name; None if none has.
-    fn named(&self, path: &str) -> Option<FileId>;
+    fn named(&self, path: &str) -> Option<FileId>
+        ensures { has_named self.now path.now result };
 
     /// What the file behind the one of this path is, which ends with no event that says so. The events before `whole` are all of its
     /// whole transactions.

@@ -5,3 +5,4 @@ pub mod Outputs
 pub mod Reading
 pub mod Rests
 pub mod FollowedEnds
+pub mod StandardOutput

@@ -46,19 +46,6 @@ pub trait Inputs: LogFiles {
         ensures { has_told self.now path.now before.now result };
 }
 
-/// Whether both names are those of one file, also by a link; `-` is standard input. False if one of them has no file.
-pub fn is_same_file<S: Inputs>(inputs: &S, first: &str, second: &str) -> bool {
-    match (inputs.named(path_of(first)), inputs.named(path_of(second))) {
-        (Some(first), Some(second)) => first.is_same(second),
-        _ => false,
-    }
-}
-
-// The path of the file of this name: that of standard input is found by its own.
-fn path_of(name: &str) -> &str {
-    if name == "-" { "/dev/stdin" } else { name }
-}
-
 /// The files of the machine. What they have isn't known.
 #[derive(Drop)]
 pub struct HostInputs<'a, R> {
@@ -118,6 +105,8 @@ impl<'a, R: Files<File = File> + Input + AllocGlobal> LogFiles for HostInputs<'a
     type Log = HostLog<R::File>;
 
     ghost has_found = { λ inputs path whole behind. ⊤ };
+
+    ghost has_named = { λ inputs path file. ⊤ };
 
     ghost has_saved = { λ inputs path place. ⊤ };
 

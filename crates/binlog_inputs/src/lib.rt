@@ -14,15 +14,17 @@ mod progress;
 mod reported;
 mod request;
 mod rotations;
+mod standard_output;
 mod taken;
 
 pub use files::read_file;
 pub use follower::{Follower, NoFollower};
-pub use inputs::{HostInput, HostInputs, HostLog, Inputs, is_same_file};
+pub use inputs::{HostInput, HostInputs, HostLog, Inputs};
 pub use outputs::{outcome_of_lines, outcome_of_text};
 pub use positions::Positions;
 pub use progress::Progress;
 pub use reported::{CONTENT_LIMIT, Reported, report_left_out, shown_name};
 pub use request::{Reading, Request, Terminals};
 pub use rotations::{follow, goes_on};
+pub use standard_output::refuse_output;
 pub use taken::{read_all, read_followed, read_taken};

@@ -1,16 +1,13 @@
 //! The command, on the files of the machine.
 ghost use Rattle.std.specs.Prelude.{◌≡◌, ◌⊎◌, option_map, IfErr, IfOk};
 ghost use Rattle.clap.specs.Matches.{found_of};
-ghost use Rattle.binlog_cli.specs.declared.exit_status.Status.TheVariants.{Failed, Usage};
+ghost use Rattle.binlog_cli.specs.declared.exit_status.Status.TheVariants.{Usage};
 ghost use Rattle.binlog_undo_command.specs.Options.{IsNotDry, NamesNoOutput, RefusesOptions, StatesOutput};
 
 use crate::logs::HostLogs;
-use crate::messages::report_error;
-use crate::new_file::HostFile;
 use crate::undoing::{count_undo, undo};
-use binlog_cli::{Status, out_of_memory};
+use binlog_cli::{HostFile, Status, draft_name};
 use clap::ArgMatches;
-use std::fs;
 use std::io::Write;
 use std::rt::Files;
 
@@ -61,29 +58,11 @@ fn undo_into<'a, R: Files + Eprint + AllocGlobal, W: Write>(
 ) -> Status
     ensures { result ≡ Usage → RefusesOptions (found_of options.now) Usage }
 {
-    if let Err(status) = is_free(rt, name) {
-        return status;
-    }
-    let Ok(draft) = format!(in rt.alloc(); "{name}.part") else {
-        return out_of_memory(rt);
-    };
-    let mut file = HostFile::new(rt, name, draft.as_str());
-    undo(rt, logs, options, &mut file, output)
-}
-
-// A file is never written over.
-fn is_free<R: Files + Eprint>(rt: &R, name: &str) -> Result<(), Status>
-    ensures { IfErr result (λ status. status ≡ Failed) }
-{
-    match fs::exists(rt, name) {
-        Ok(false) => Ok(()),
-        Ok(true) => {
-            let _ = eprintln!(rt; "binlog: {name}: there is a file of this name");
-            Err(Status::Failed)
+    match draft_name(rt, name) {
+        Ok(draft) => {
+            let mut file = HostFile::new(rt, name, draft.as_str());
+            undo(rt, logs, options, &mut file, output)
         }
-        Err(error) => {
-            report_error(rt, name, &error);
-            Err(Status::Failed)
-        }
+        Err(status) => status,
     }
 }

@@ -1,8 +1,10 @@
 //! A file that is there whole or not at all.
-ghost use Rattle.std.specs.Prelude.{◌≡◌, ℕ, Bool, true, false, List, Option, IfOk, OnErr, OnOk, ⊤};
+ghost use Rattle.std.specs.Prelude.{◌≡◌, ◌++◌, ℕ, Bool, true, false, List, Option, codes, string_bytes, IfErr, IfOk, OnErr, OnOk, ⊤};
+ghost use Rattle.binlog_cli.specs.declared.exit_status.Status.TheVariants.{Failed};
 
+use crate::exit_status::{Status, out_of_memory};
 use std::fs::{File, OpenFile};
-use std::io::Write;
+use std::io::{ErrorKind, Write};
 use std::rt::Files;
 use std::{fs, io};
 
@@ -52,7 +54,8 @@ pub trait NewFile {
     ///
     /// # Errors
     ///
-    /// Those of writing a file and of renaming it. The file isn't there then, and what was written may be left.
+    /// Those of writing a file and of renaming it, and `AlreadyExists` if another file got the name meanwhile. The file isn't there then, and
+    /// what was written may be left.
     fn finish(&mut self, draft: Self::Draft) -> io::Result<()>
         ensures there { OnOk result (is_there self.new ≡ true) }
         ensures bytes { OnOk result (has self.new (Self.Draft.contents draft)) }
@@ -125,6 +128,10 @@ impl<'a, R: Files> NewFile for HostFile<'a, R> {
     fn finish(&mut self, draft: R::File) -> io::Result<()> {
         draft.sync_all()?;
         drop(draft);
+        // A rename writes over a file.
+        if fs::exists(self.rt, self.name)? {
+            return Err(io::Error::from(ErrorKind::AlreadyExists));
+        }
         fs::rename(self.rt, self.draft, self.name)?;
         self.is_there = true;
         self.has_draft = false;
@@ -134,5 +141,30 @@ impl<'a, R: Files> NewFile for HostFile<'a, R> {
     fn discard(&mut self) {
         let _ = fs::remove_file(self.rt, self.draft);
         self.has_draft = false;
+    }
+}
+
+/// The name under which the file of a name is written, if there is no file of that name: no file is ever written over.
+///
+/// # Errors
+///
+/// [`Status::Failed`], after its message, if there is a file of that name, if it can't be told, or if there is no memory.
+pub fn draft_name<R: Files + Eprint + AllocGlobal>(rt: &R, name: &str) -> Result<String, Status>
+    ensures ok { IfOk result (λ draft. string_bytes draft ≡ name.now ++ codes ".part") }
+    ensures err { IfErr result (λ status. status ≡ Failed) }
+{
+    match fs::exists(rt, name) {
+        Ok(false) => match format!(in rt.alloc(); "{name}.part") {
+            Ok(draft) => Ok(draft),
+            Err(_) => Err(out_of_memory(rt)),
+        },
+        Ok(true) => {
+            let _ = eprintln!(rt; "binlog: {name}: there is a file of this name");
+            Err(Status::Failed)
+        }
+        Err(error) => {
+            let _ = eprintln!(rt; "binlog: {name}: {error}");
+            Err(Status::Failed)
+        }
     }
 }
