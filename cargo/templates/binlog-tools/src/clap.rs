@@ -156,6 +156,11 @@ impl<'a> ArgMatches<'a> {
         self.command.as_ref().map(|(name, matches)| (*name, &**matches))
     }
 
+    /// Whether an option has texts.
+    pub fn contains_id(&self, name: &str) -> bool {
+        self.get_strs(name).is_some()
+    }
+
     /// Whether an option is given that takes no value.
     pub fn get_flag(&self, name: &str) -> bool {
         self.get_one(name).unwrap_or(false)
