@@ -4,8 +4,8 @@
  *     valgrind --tool=callgrind ./library 10001 lines described
  *
  * The first argument is the number of events. The second says what is done with each batch of 64: `items`, they are passed over,
- * `verified`, with checksums verified, `line`, a call for each line, or `lines`, one call for all; with `none` the log is made and
- * nothing is done. With a third one a description is in front of the events. Prints the numbers of items and of bytes of lines.
+ * `verified`, with checksums verified, `line`, a call for each line, `cached`, the same by a cache, or `lines`, one call for all; with
+ * `none` the log is made and nothing is done. With a third one a description is in front of the events. Prints the numbers of items and of bytes of lines.
  *
  * Instructions for an event are those of 10,001 events less those of 1, and less the same of `none`; those of a line are that, less
  * the same of `items`. */
@@ -63,6 +63,7 @@ int main(int argc, char **argv) {
     binlog_cursor cursor = {0, 0, 0};
     uint8_t error = binlog_open(log, size, &cursor);
     size_t index = 0, bytes = 0, count, lines = 0;
+    binlog_cache cache = {0};
     int is_verified = strcmp(mode, "verified") == 0;
     while (strcmp(mode, "none") != 0 && error == 0 &&
            (count = (is_verified ? binlog_next_verified : binlog_next)(log, size, &cursor, items, BATCH, &error)) > 0) {
@@ -72,9 +73,14 @@ int main(int argc, char **argv) {
             for (size_t i = 0; i < count && error == 0; i++) {
                 bytes += binlog_json(log, size, &items[i], NULL, 0, index + i, text, sizeof text, &error);
             }
+        } else if (strcmp(mode, "cached") == 0) {
+            for (size_t i = 0; i < count && error == 0; i++) {
+                bytes += binlog_json_cached(log, size, &items[i], NULL, 0, index + i, text, sizeof text, &cache, &error);
+            }
         }
         index += count;
     }
+    binlog_cache_free(&cache);
     printf("%zu items, %zu bytes, error %u\n", index, bytes, error);
     free(log);
     return error;

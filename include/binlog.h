@@ -20,7 +20,8 @@
  *   overlap;
  * - pointers are aligned as their types require;
  * - all of this memory was written before, with zeros for instance;
- * - a cache is zeros, or what the last call that was passed it left there; it isn't copied, and stays in one thread.
+ * - a cache is zeros, or what the last call that was passed it left there; it isn't copied, and is passed to one call at a time. A lock, or
+ *   the start or the end of a thread, is between calls of different threads.
  *
  * docs/C.md has more examples. */
 #ifndef BINLOG_H

@@ -4,6 +4,8 @@ import ctypes
 import ctypes.util
 import os
 import struct
+from collections.abc import Iterator
+from contextlib import contextmanager
 from functools import cache
 from pathlib import Path
 
@@ -77,6 +79,15 @@ class ColumnsFaultStruct(ctypes.Structure):
     ]
 
 
+class CacheStruct(ctypes.Structure):
+    """binlog_cache"""
+
+    _fields_ = [
+        ("at", ctypes.c_void_p),
+        ("is_kept", ctypes.c_bool),
+    ]
+
+
 class _BufferStruct(ctypes.Structure):
     """Py_buffer of Python's interface for C."""
 
@@ -130,7 +141,7 @@ def _load() -> ctypes.CDLL:
     cursor, fault = ctypes.POINTER(CursorStruct), ctypes.POINTER(ColumnsFaultStruct)
     sizes = refusals = [ctypes.c_void_p, size]
     options, undone = ctypes.POINTER(UndoOptionsStruct), ctypes.POINTER(UndoneStruct)
-    error, count = ctypes.POINTER(byte), ctypes.POINTER(size)
+    error, count, kept = ctypes.POINTER(byte), ctypes.POINTER(size), ctypes.POINTER(CacheStruct)
     # The result and the parameters of each function.
     functions = {
         "library_version": (ctypes.c_uint32, []),
@@ -140,6 +151,8 @@ def _load() -> ctypes.CDLL:
         "rest": (size, [*log, cursor]),
         "json": (size, [*log, item, *items, index, *text, error]),
         "json_lines": (size, [*log, *items, *items, index, *text, count, error]),
+        "json_lines_cached": (size, [*log, *items, *items, index, *text, kept, count, error]),
+        "cache_free": (None, [kept]),
         "json_with_columns": (size, [*log, item, *items, *columns, index, *text, error]),
         "json_lines_with_columns": (size, [*log, *items, *items, *columns, index, *text, count, error]),
         "payload_log": (size, [*log, item, *text, error]),
@@ -166,6 +179,16 @@ class _Library:
 
 
 LIBRARY = _Library()
+
+
+@contextmanager
+def line_cache() -> Iterator[CacheStruct]:
+    """What lines of JSON have in common, kept from call to call. It is passed to one call at a time."""
+    kept = CacheStruct()
+    try:
+        yield kept
+    finally:
+        LIBRARY.binlog_cache_free(kept)
 
 
 def library_version() -> tuple[int, int, int]:

@@ -13,7 +13,7 @@ from ._bodies import value_of
 from ._columns import Columns, DeclaredTables, TableName, declared
 from ._content import Content
 from ._errors import ColumnsWarning, InvalidLog, LogError
-from ._library import INVALID_CURSOR, ITEM, LIBRARY, CursorStruct, address_of
+from ._library import INVALID_CURSOR, ITEM, LIBRARY, CacheStruct, CursorStruct, address_of, line_cache
 from ._payloads import PayloadEvent, payload_events
 from ._types import EventType, MariaEventType, name_of
 
@@ -442,20 +442,22 @@ class Log:
         text = self._columns.text(table_maps) if self._columns and table_maps else b""
         return (text, len(text)) if text else ()
 
-    def _lines(self, run: list[tuple], table_maps: tuple[tuple, ...], index: int) -> Iterator[bytes]:
-        """The lines of JSON of items, of which the first has this index, with these table maps."""
+    def _lines(
+        self, run: list[tuple], table_maps: tuple[tuple, ...], index: int, kept: CacheStruct
+    ) -> Iterator[bytes]:
+        """The lines of JSON of items, of which the first has this index, with these table maps, by what is kept of lines before."""
         columns = self._columns_of(table_maps)
-        call = LIBRARY.binlog_json_lines_with_columns if columns else LIBRARY.binlog_json_lines
+        call = LIBRARY.binlog_json_lines_with_columns if columns else LIBRARY.binlog_json_lines_cached
+        cache = () if columns else (kept,)
         items = b"".join(ITEM.pack(*fields) for fields in run)
         maps = b"".join(ITEM.pack(*table_map) for table_map in table_maps)
         text = ctypes.create_string_buffer(_LINES)
         count, error = ctypes.c_size_t(), ctypes.c_uint8()
+        room = (text, _LINES, *cache, count, error)
         done = 0
         while done < len(run):
             left, first = items[done * ITEM.size :], index + done
-            size = call(
-                self._at, self._size, left, len(run) - done, maps, len(table_maps), *columns, first, text, _LINES, count, error
-            )
+            size = call(self._at, self._size, left, len(run) - done, maps, len(table_maps), *columns, first, *room)
             yield from ctypes.string_at(text, size).splitlines(keepends=True)
             done += count.value
             if error.value:
@@ -506,10 +508,11 @@ class Log:
         """The lines of JSON of all items, each with its index, as the program `binlog json` prints them."""
         table_maps = _TableMaps(self._bytes)
         index = 0
-        for batch in self.batches():
-            for run, maps in _runs(batch, table_maps):
-                yield from self._lines(run, maps, index)
-                index += len(run)
+        with line_cache() as kept:
+            for batch in self.batches():
+                for run, maps in _runs(batch, table_maps):
+                    yield from self._lines(run, maps, index, kept)
+                    index += len(run)
 
     def __iter__(self) -> Iterator[Event]:
         return self.events()
