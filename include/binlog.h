@@ -352,9 +352,10 @@ uint8_t binlog_columns_check(const uint8_t *columns, size_t size, binlog_columns
 size_t binlog_columns_fault_text(uint64_t kind, char *text, size_t room);
 
 /* The first column of the table of a table map that can't be the one which the file declares, from 0: of another type, sign or
- * character set, or one that the log or the file doesn't have. SIZE_MAX if there is none, if the file doesn't have the table, and if
- * the columns of the table map can't be read. Lines have nothing of the file in the rows of a table with such a column: the log is of
- * another time than the file.
+ * character set, or one that the log or the file doesn't have, but for BIGINT and TIMESTAMP(6) columns of the log behind those of the
+ * file, as MariaDB adds them. SIZE_MAX if there is none, if the file doesn't have the table, and if the columns of the table map can't
+ * be read. Lines have nothing of the file in the rows of a table with such a column: the log is of another time than the file. Some
+ * changes of a table aren't found out (docs/COMMANDS.md, "Files of columns").
  *
  * The table map is an item as for binlog_json. The error is 0, or the first of these; 0 is returned then:
  *

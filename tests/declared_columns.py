@@ -3,8 +3,8 @@
 
 Usage: declared_columns.py [--count N] FLAG
 
-FLAG is one of `programs.py`: it says which `binlog` is run. Each kind of column is declared for a log that states nothing of it, and
-for one that states its sign and its character set; old dates and times are declared with a fraction, too. N random logs (1,500 if not
+FLAG is one of `programs.py`: it says which `binlog` is run. Each kind of column is declared for a log that states nothing of it, for one
+that states its sign and its character set, and for one whose field of signs is refused; old dates and times are declared with a fraction, too. N random logs (1,500 if not
 given) have tables whose table maps change, and several files that declare them, some of them wrong; their lines, their messages and their
 statuses are those of the model. Files that can't be read have the status 64, a message with the place of the fault, and no line. The last
 line is `N passed, M failed`; the exit status is 1 if something failed.
@@ -93,13 +93,13 @@ class Column:
         self.declared, self.typed = declared, chance.choice(declared.typed)
 
 
-def signs(columns):
-    """The bits of the columns that are numbers."""
+def signs(columns, more=b""):
+    """The bits of the columns that are numbers, and more bytes, with which the field is refused."""
     found = [bool(column.declared.is_unsigned) for column in columns if column.typed[0] in SIGNED_TYPES]
     bits = bytearray((len(found) + 7) // 8)
     for place, is_unsigned in enumerate(found):
         bits[place // 8] |= is_unsigned << 7 - place % 8
-    return row_events.field(1, bytes(bits)) if found else b""
+    return row_events.field(1, bytes(bits) + more) if found else b""
 
 
 def collations(columns, is_maria):
@@ -111,9 +111,12 @@ def collations(columns, is_maria):
 
 
 def stated(columns, form, is_maria, names):
-    """The optional metadata by the setting `binlog_row_metadata`: nothing, MINIMAL, or that and the names."""
+    """The optional metadata by the setting `binlog_row_metadata`: nothing, MINIMAL, or that and the names; or a field of signs alone that is
+    refused."""
     if form == "NO_LOG":
         return b""
+    if form == "REFUSED":
+        return signs(columns, b"\0")
     minimal = signs(columns) + collations(columns, is_maria)
     return minimal if form == "MINIMAL" else minimal + row_events.names(names)
 
@@ -199,9 +202,9 @@ class Runs:
 
 
 def each_kind(runs, chance):
-    """A table of one column of each kind, with and without what the log states of it."""
+    """A table of one column of each kind, with and without what the log states of it, and of numbers where their signs are refused."""
     for place, declared in enumerate(declared_model.kinds()):
-        for form in ("NO_LOG", "MINIMAL"):
+        for form in ("NO_LOG", "MINIMAL") + ("REFUSED",) * (declared.is_unsigned is not None):
             version = VERSIONS[(place + len(form)) % 2]
             columns = [Column(chance, declared)]
             optional = stated(columns, form, version == VERSIONS[1], ["c"])

@@ -196,6 +196,12 @@ def completed(stated, name, declared):
     )
 
 
+def are_signs_stated(columns, optional):
+    """Whether a field of signs is there that isn't refused: one with a bit for each number, and with no more bytes."""
+    size = (sum(kind in row_model.NUMERIC for kind, _ in columns) + 7) // 8
+    return any(kind == 1 and content.left() == size for kind, content in row_model.fields_of(optional))
+
+
 def quoted(name):
     """A name as messages have it."""
     return '"' + name.decode().replace("\t", "\\t") + '"'
@@ -215,10 +221,10 @@ class Files:
         if declared is None:
             return stated
         columns = typed_columns(table["columns_type"].bytes, table["columns_metadata"].bytes)
-        states_signs = any(kind == 1 for kind, _ in row_model.fields_of(table["optional_metadata"].bytes))
+        has_signs = are_signs_stated(columns, table["optional_metadata"].bytes)
         for place in range(max(len(columns), len(declared))):
             name_and_type = at(declared, place)
-            if not fits(at(columns, place), at(stated, place), name_and_type and name_and_type[1], states_signs):
+            if not fits(at(columns, place), at(stated, place), name_and_type and name_and_type[1], has_signs):
                 self.contradictions.setdefault(key, place + 1)
                 return stated
         both = [completed(facts, *declared[place]) for place, facts in enumerate(stated[: len(declared)])]

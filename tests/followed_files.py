@@ -303,20 +303,41 @@ def late(program, folder):
 
 
 def refused(program, folder):
-    """A name that is none of a file in the folder is refused."""
-    for name in (b"", b".", b"..", b"../log.000002", b"/tmp/log.000002", b"sub/log", b"log\0", b"log\xff.000002"):
+    """A name that is none of a file in the folder is refused, and that of no later file."""
+    invalid = [b"", b".", b"..", b"../log.000002", b"/tmp/log.000002", b"sub/log", b"log\0", b"log\xff.000002"]
+    invalid += [b"log\x1b[2J.000002", b"log\n.000002", b"log\x7f.000002", b"a" * 256, b"log." + b"2" * 252]
+    earlier = [b"log.000001", b"log.1", b"log.0000001", b"log.000000", b"log.", b"000001", b"1", b"g.000001"]
+    for name in invalid + earlier:
         first = log(PLAIN, rotate(name))
         (folder / "log.000001").write_bytes(first)
         run = followed(program, folder, "log.000001")
         yield run.ended(1, rb"binlog: log\.000001: the name of the next file [^\n]*\n")
         lines = lines_of(first)
         yield None if run.next_lines(lines.count(b"\n")) == lines else f"other lines before {name!r}"
+    # The prefix counts, too.
+    (folder / "m-log.000009").write_bytes(log(PLAIN, rotate(b"log." + b"2" * 250)))
+    yield followed(program, folder, "m-log.000009").ended(1, rb"binlog: m-log\.000009: the name of the next file has more than 255 bytes\n")
     short = log(PLAIN, samples.frame(samples.ROTATE, b"1234"))
     (folder / "log.000001").write_bytes(short)
     messages = rb"binlog: log\.000001: event 1 at byte \d+: [^\n]*\nbinlog: log\.000001: the name of the next file is empty\n"
     yield followed(program, folder, "log.000001").ended(2, messages)
     (folder / "log.bin").write_bytes(log(PLAIN, STOP))
     yield followed(program, folder, "log.bin").ended(1, rb"binlog: log\.bin: the name of this file doesn't end with a number\n")
+
+
+def named_behind(program, folder):
+    """A name of later files: by the number, however many digits it has, or of another name."""
+    for path, name in (
+        ("log.9", "log.10"),
+        ("log.000009", "log.10"),
+        ("log.999999", "log.1000000"),
+        ("log.18446744073709551616", "log.18446744073709551617"),
+        ("log.000199", "log.000200"),
+        ("log", "log1"),
+        ("log.000009", "other.000001"),
+        ("log.000001", "log." + "2" * 251),
+    ):
+        yield from going_on(log(PLAIN, rotate(name.encode())), log(PLAIN, XID), program, folder, path=path, next_path=name)
 
 
 def damages(program, folder):
@@ -625,13 +646,16 @@ def tables(program, folder):
 
 
 def large_tables(program, folder):
-    """The tables of a log that is longer than what is read of it at a time come to have all of it."""
-    content = log(PLAIN, *[XID] * 5_000)
-    (folder / "log.000001").write_bytes(content)
-    counts = Counts().add_log(content)
-    run = Followed(program, folder, "stats", "--follow", "--every", "1s", "--json", "log.000001")
-    yield run.wrong_table(grouped_events.types_json(counts.events, counts.damaged, counts.damaged_inside), "log.000001")
-    run.end()
+    """The first table has all of a log that is longer than what is read of it at a time, also if the file has the beginning of an event behind
+    it, and of the files before it."""
+    before, last = log(PLAIN, *[XID] * 5_000, rotate(b"log.000002")), log(PLAIN, *[XID] * 6_000)
+    (folder / "log.000001").write_bytes(before)
+    (folder / "log.000002").write_bytes(last + XID[:20])
+    for names, contents in ((["log.000002"], [last]), (["log.000001"], [before, last])):
+        counts = functools.reduce(Counts.add_log, contents, Counts())
+        run = Followed(program, folder, "stats", "--follow", "--every", "1h", "--json", *names)
+        yield run.wrong_lines(grouped_events.types_json(counts.events, counts.damaged, counts.damaged_inside), b"\n")
+        run.end()
 
 
 def last_table(program, folder):
@@ -789,7 +813,7 @@ def unwritten_states(program, folder):
     (folder / "log.000001").write_bytes(log(PLAIN, XID))
     (folder / "state.new").mkdir()
     run = followed(program, folder, "--state", "state", "log.000001")
-    yield run.ended(3, rb"(binlog: [^\n]*\n)+")
+    yield run.ended(3, rb"binlog: the state can't be written: [^\n]*\n(binlog: [^\n]*\n)?")
     yield None if run.lines.empty() else "a line without a state"
     yield None if not (folder / "state").exists() else "there is a state"
 
@@ -847,7 +871,7 @@ def mirrored(program, folder):
                 yield None if not run.messages else f"{command}: messages {run.messages!r}"
 
 
-SCENES = [mirrored, late, byte_by_byte, rotations, checksums, prefixes, stops, stays, refused, damages, several, filters, compact_rows]
+SCENES = [mirrored, late, byte_by_byte, rotations, checksums, prefixes, stops, stays, refused, named_behind, damages, several, filters, compact_rows]
 SCENES += [crashes, other_lists, late_lists, old_files, new_lists, tables, large_tables, last_table, wrong_periods, transactions, begun_again, other_log, zeros, killed_runs("list"), killed_runs("json"), killed_at_once, repeated, states, early_starts, unwritten_states, short_outputs]
 SCENES += [cut_at(cut) for cut in range(len(sealed(rotate(b"log.000002"))))]
 

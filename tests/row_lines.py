@@ -251,6 +251,7 @@ def refused():
     twice = row_events.field(1, b"\0\0") + row_events.field(3, b"\xff")
     yield "the first field that is refused", [of_table(twice), event(row)], [[named[0], unread("LeftOver", 1), named[1]]]
     yield "a field without an end", [of_table(b"\3\xfb"), event(row)], [[numbered[0], unread("BadValue", None), numbered[1]]]
+    yield "a field beyond the end", [of_table(b"\1\x40"), event(row)], [[numbered[0], unread("Truncated", None), numbered[1]]]
     partial = next(kind for kind in encode.ROWS_KINDS if kind[0] == PARTIAL_UPDATE)
     values = [("id", 7), ("note", "a")]
     both, bad_options = [("before", values), ("after", values)], error("BadValue", ("row", 0), ("image", "after"))

@@ -6,6 +6,8 @@ use std::cell::Cell;
 #[derive(Drop)]
 pub struct Pauses {
     is_paused: Cell<bool>,
+    // Whether there was a pause.
+    has_begun: Cell<bool>,
 }
 
 impl Pauses {
@@ -13,12 +15,19 @@ impl Pauses {
     pub fn new() -> Self {
         Pauses {
             is_paused: Cell::new(false),
+            has_begun: Cell::new(false),
         }
     }
 
     // A reader pauses.
     pub(crate) fn begin(&self) {
         self.is_paused.set(true);
+        self.has_begun.set(true);
+    }
+
+    // Whether a reader has paused.
+    pub(crate) fn has_begun(&self) -> bool {
+        self.has_begun.get()
     }
 
     /// Whether a reader pauses. The pause is over then.

@@ -12,7 +12,7 @@ use Rattle.binlog_following.specs.declared.file_behind.FileBehind.TheVariants as
 use Rattle.binlog_following.specs.declared.waits.Missing.{Missing}
 use Rattle.binlog_following.specs.declared.waits.Missing.TheVariants as missings
 use Rattle.binlog_rotation.specs.declared.error.NextFileError.{NextFileError}
-use Rattle.binlog_rotation.specs.declared.error.NextFileError.TheVariants.{Empty, Folder, InvalidByte, NotUtf8, NoNumber, Memory}
+use Rattle.binlog_rotation.specs.declared.error.NextFileError.TheVariants.{Empty, Folder, InvalidByte, TooLong, NotLater, NotUtf8, NoNumber, Memory}
 use Rattle.binlog_rotation.specs.declared.fault.LogFault.{LogFault}
 use Rattle.binlog_rotation.specs.declared.fault.LogFault.TheVariants.{OtherLog, Size, Checksum, Position}
 
@@ -28,6 +28,8 @@ abbrev pub status_of_next : NextFileError → Status
 status_of_next Empty = NotOpened
 status_of_next Folder = NotOpened
 status_of_next InvalidByte = NotOpened
+status_of_next TooLong = NotOpened
+status_of_next NotLater = NotOpened
 status_of_next NotUtf8 = NotOpened
 status_of_next NoNumber = NotOpened
 status_of_next Memory = Failed

@@ -18,7 +18,8 @@ pub trait Follower<T> {
     fn begin_file(&mut self, visitor: &mut T, path: &str, start: u64) -> Result<(), AllocError>
         ensures { self.new ≡ self.old };
 
-    /// All that is there was shown, and more is waited for. This comes again and again.
+    /// All whole transactions that were found were shown, at the first time all that were there as a file was opened. This comes again and
+    /// again.
     ///
     /// # Errors
     ///

@@ -1,10 +1,13 @@
 -- Decimal numbers by the numbers of their groups.
-use Rattle.std.proofs.Common.{◌≡◌, ◌≢◌, ℕ, zero, suc, ◌+◌, ◌-◌, ◌*◌, ◌/◌, ◌%◌, ◌<◌, ◌≤◌, Bool, true, false, cond, List, [], ◌∷◌, ◌++◌, length, take, drop, refl, sym, ap, ◌∙◌, append_assoc, append-nil, take-add, take-take, take_at, drop_at, arith}
-use Rattle.std.specs.Prelude.{◌==◌, not}
-use Rattle.std.proofs.lemmas.Bool.{eqb-true, ne_eqb}
+use Rattle.std.proofs.Common.{◌≡◌, ◌≢◌, ◌⊎◌, ℕ, zero, suc, ◌+◌, ◌-◌, ◌*◌, ◌/◌, ◌%◌, ◌^◌, ◌<◌, ◌≤◌, Bool, true, false, cond, List, [], ◌∷◌, ◌++◌, length, take, drop, replicate, inl, inr, refl, sym, ap, subst, ◌∙◌, slice_index_or, append_assoc, append-nil, take-add, take-take, take_at, drop_at, arith}
+use Rattle.std.specs.Prelude.{◌==◌, not, nat_lt, All}
+use Rattle.std.proofs.lemmas.Bool.{and_parts, eqb-true, ltb-true, ne_eqb}
+use Rattle.std.proofs.lemmas.List.{drop-drop}
+use Rattle.std.proofs.Math.Nat.{pow-le-pow_right}
+use Rattle.byteorder.specs.Endian.{big_number}
 use Rattle.std.proofs.lemmas.Fmt.{decimal_digit}
 use Rattle.std.specs.Fmt.{decimal}
-use Rattle.binlog_values.specs.Contents.{digits_len, is_decimal_bytes, magnitude}
+use Rattle.binlog_values.specs.Contents.{digits_len, groups_fit, is_decimal_bytes, magnitude}
 use Rattle.binlog_values.specs.Texts.{digits_text, sign_text}
 use Rattle.binlog_values.specs.Decimals.{is_negative_decimal, decimal_text}
 use Rattle.binlog_values.specs.DecimalGroups.{group_at, group_text, is_begun_by, nines_text, whole_text, part_text, scale_text, whole_len, grouped_text, nines_at, groups_text, point_text, parts_text}
@@ -125,3 +128,100 @@ groups_shown precision scale s number start many first place left count last nin
     ∙ ap (λ (l : List ℕ). sign ++ (l ++ scaled)) text
     ∙ sym (append_assoc sign (whole_text before m) scaled)
     ∙ decimal_shown precision scale s within fits
+
+-- ---- their ranges
+
+next_fits : (n tail place : ℕ) (s : List ℕ) → groups_fit (replicate (suc n) 9 ++ tail ∷ []) (drop place s) ≡ true
+    → groups_fit (replicate n 9 ++ tail ∷ []) (drop (place + 4) s) ≡ true
+next_fits n tail place s fits =
+    let both = and_parts (nat_lt (big_number 4 (drop place s)) (10 ^ 9)) (groups_fit (replicate n 9 ++ tail ∷ []) (drop 4 (drop place s))) fits in
+    rw (← drop-drop 4 place s) both.1
+
+-- Each of so many groups of nine digits is below 10^9.
+nine_fits : (n tail place i : ℕ) (s : List ℕ) → groups_fit (replicate n 9 ++ tail ∷ []) (drop place s) ≡ true → i < n → group_at (place + 4 * i) 9 s < 10 ^ 9
+nine_fits zero tail place i s fits less = absurd (omega arith)
+nine_fits (suc n) tail place zero s fits less =
+    let both = and_parts (nat_lt (big_number 4 (drop place s)) (10 ^ 9)) (groups_fit (replicate n 9 ++ tail ∷ []) (drop 4 (drop place s))) fits in
+    let same : place ≡ place + 4 * 0 = omega arith in
+    subst (λ (p : ℕ). group_at p 9 s < 10 ^ 9) same (ltb-true (group_at place 9 s) (10 ^ 9) both.0)
+nine_fits (suc n) tail place (suc i) s fits less =
+    let same : place + 4 + 4 * i ≡ place + 4 * suc i = omega arith in
+    subst (λ (p : ℕ). group_at p 9 s < 10 ^ 9) same (nine_fits n tail (place + 4) i s (next_fits n tail place s fits) (omega arith))
+
+-- The group behind them is as small as its digits.
+tail_fits : (n tail place : ℕ) (s : List ℕ) → groups_fit (replicate n 9 ++ tail ∷ []) (drop place s) ≡ true → group_at (place + 4 * n) tail s < 10 ^ tail
+tail_fits zero tail place s fits =
+    let both = and_parts (nat_lt (group_at place tail s) (10 ^ tail)) true fits in
+    let same : place ≡ place + 4 * 0 = omega arith in
+    subst (λ (p : ℕ). group_at p tail s < 10 ^ tail) same (ltb-true (group_at place tail s) (10 ^ tail) both.0)
+tail_fits (suc n) tail place s fits =
+    let same : place + 4 + 4 * n ≡ place + 4 * suc n = omega arith in
+    subst (λ (p : ℕ). group_at p tail s < 10 ^ tail) same (tail_fits n tail (place + 4) s (next_fits n tail place s fits))
+
+nine_of : (n place i d : ℕ) (s : List ℕ) → i < n → slice_index_or (nines_at n place s) i d ≡ group_at (place + 4 * i) 9 s
+nine_of zero place i d s less = absurd (omega arith)
+nine_of (suc n) place zero d s less =
+    let same : place ≡ place + 4 * 0 = omega arith in
+    ap (λ (p : ℕ). group_at p 9 s) same
+nine_of (suc n) place (suc i) d s less =
+    let same : place + 4 + 4 * i ≡ place + 4 * suc i = omega arith in
+    nine_of n (place + 4) i d s (omega arith) ∙ ap (λ (p : ℕ). group_at p 9 s) same
+
+all_nines : (n place : ℕ) (s : List ℕ) → ((i : ℕ) → i < n → group_at (place + 4 * i) 9 s < 10 ^ 9) → All (λ group. group < 10 ^ 9) (nines_at n place s)
+all_nines n place s each = λ i d less.
+    let within : i < n = omega (arith, less, length-nines_at n place s) in
+    subst (λ (group : ℕ). group < 10 ^ 9) (sym (nine_of n place i d s within)) (each i within)
+
+-- A group of fewer than nine digits is below 10^9.
+few_below : (digits number : ℕ) → digits ≤ 9 → number < 10 ^ digits → number < 10 ^ 9
+few_below digits number few less =
+    let most : 10 ^ digits ≤ 10 ^ 9 = pow-le-pow_right (omega arith) few in
+    omega (arith, less, most)
+
+-- The groups behind the first bytes of a decimal number fit.
+behind_fit : (precision scale start many count : ℕ) (s : List ℕ) → is_decimal_bytes precision scale s ≡ true
+    → start ≡ digits_len ((precision - scale) % 9) → many ≡ (precision - scale) / 9 → count ≡ scale / 9
+    → groups_fit (replicate (many + count) 9 ++ scale % 9 ∷ []) (drop start (magnitude s)) ≡ true
+behind_fit precision scale start many count s fits start_is many_is count_is =
+    let lead : ℕ = (precision - scale) % 9 in
+    let others : List ℕ = replicate ((precision - scale) / 9 + scale / 9) 9 ++ scale % 9 ∷ [] in
+    let both = and_parts (nat_lt (big_number (digits_len lead) (magnitude s)) (10 ^ lead)) (groups_fit others (drop (digits_len lead) (magnitude s))) fits in
+    rw (start_is, many_is, count_is) both.1
+
+-- The first group of a decimal number is below 10^9.
+pub first_small : (precision scale : ℕ) (s : List ℕ) (number start many first place left : ℕ) → is_decimal_bytes precision scale s ≡ true
+    → number ≡ group_at 0 ((precision - scale) % 9) (magnitude s) → start ≡ digits_len ((precision - scale) % 9) → many ≡ (precision - scale) / 9
+    → place + 4 * left ≡ start + 4 * many → (first ≡ number) ⊎ ((start + 4 ≤ place) × (first ≡ group_at (place - 4) 9 (magnitude s)))
+    → first < 10 ^ 9
+first_small precision scale s number start many first place left fits number_is start_is many_is moved (inl same) =
+    let lead : ℕ = (precision - scale) % 9 in
+    let others : List ℕ = replicate ((precision - scale) / 9 + scale / 9) 9 ++ scale % 9 ∷ [] in
+    let both = and_parts (nat_lt (group_at 0 lead (magnitude s)) (10 ^ lead)) (groups_fit others (drop (digits_len lead) (magnitude s))) fits in
+    let small : group_at 0 lead (magnitude s) < 10 ^ lead = ltb-true (group_at 0 lead (magnitude s)) (10 ^ lead) both.0 in
+    rw (same, number_is) (few_below lead (group_at 0 lead (magnitude s)) (omega arith) small)
+first_small precision scale s number start many first place left fits number_is start_is many_is moved (inr (behind, same)) =
+    let at : start + 4 * (many - left - 1) ≡ place - 4 = omega (arith, moved, behind) in
+    let less : many - left - 1 < many + scale / 9 = omega (arith, moved, behind) in
+    let small = nine_fits (many + scale / 9) (scale % 9) start (many - left - 1) (magnitude s) (behind_fit precision scale start many (scale / 9) s fits start_is many_is refl) less in
+    rw same (subst (λ (p : ℕ). group_at p 9 (magnitude s) < 10 ^ 9) at small)
+
+-- So are those behind it.
+pub nines_small : (precision scale : ℕ) (s : List ℕ) (start many place left count : ℕ) (nines : List ℕ) → is_decimal_bytes precision scale s ≡ true
+    → start ≡ digits_len ((precision - scale) % 9) → many ≡ (precision - scale) / 9 → count ≡ scale / 9
+    → place + 4 * left ≡ start + 4 * many → left ≤ many → take (left + count) nines ≡ nines_at (left + count) place (magnitude s)
+    → All (λ group. group < 10 ^ 9) (take (left + count) nines)
+nines_small precision scale s start many place left count nines fits start_is many_is count_is moved few read =
+    let each : (i : ℕ) → i < left + count → group_at (place + 4 * i) 9 (magnitude s) < 10 ^ 9 = λ i less.
+    let same : start + 4 * (many - left + i) ≡ place + 4 * i = omega (arith, moved, few) in
+    subst (λ (p : ℕ). group_at p 9 (magnitude s) < 10 ^ 9) same
+    (nine_fits (many + count) (scale % 9) start (many - left + i) (magnitude s) (behind_fit precision scale start many count s fits start_is many_is count_is) (omega (arith, few, less))) in
+    rw read (all_nines (left + count) place (magnitude s) each)
+
+-- The last group is as small as its digits.
+pub last_small : (precision scale : ℕ) (s : List ℕ) (start many place left count last : ℕ) → is_decimal_bytes precision scale s ≡ true
+    → start ≡ digits_len ((precision - scale) % 9) → many ≡ (precision - scale) / 9 → count ≡ scale / 9 → place + 4 * left ≡ start + 4 * many
+    → last ≡ group_at (place + 4 * (left + count)) (scale % 9) (magnitude s) → last < 10 ^ (scale % 9)
+last_small precision scale s start many place left count last fits start_is many_is count_is moved last_is =
+    let same : start + 4 * (many + count) ≡ place + 4 * (left + count) = omega (arith, moved) in
+    rw last_is (subst (λ (p : ℕ). group_at p (scale % 9) (magnitude s) < 10 ^ (scale % 9)) same
+    (tail_fits (many + count) (scale % 9) start (magnitude s) (behind_fit precision scale start many count s fits start_is many_is count_is)))

@@ -1,5 +1,5 @@
 //! Decimal numbers.
-ghost use Rattle.std.specs.Prelude.{◌≡◌, ◌<◌, ◌≤◌, ◌/◌, ◌^◌, ◌++◌, OnOk, OnErr, MatchOption, IsSome, is_ok, true, length, take, drop, if◌then◌else◌};
+ghost use Rattle.std.specs.Prelude.{◌≡◌, ◌<◌, ◌≤◌, ◌/◌, ◌+◌, ◌%◌, ◌^◌, ◌++◌, All, OnOk, OnErr, MatchOption, IsSome, is_ok, true, length, take, drop, if◌then◌else◌};
 ghost use Rattle.std.specs.String.{string_bytes};
 ghost use Rattle.binlog_values.specs.Contents.{decimal_len, is_decimal_bytes};
 ghost use Rattle.binlog_values.specs.Texts.{StartsWith};
@@ -77,11 +77,14 @@ impl<'a> Decimal<'a> {
     ///
     /// Written one after another they are the text of the number: its sign, the first number in decimal, nine digits of each group
     /// before the point, and, if the scale isn't 0, the point, nine digits of each group behind it, and of the last number as many
-    /// as are left.
+    /// as are left. Each number has at most nine digits, and the last one as many as are left: it is 0 if none are.
     #[tactic(auto, using(crate::specs::DecimalLaws::decimal_count))]
     #[inline]
     pub fn groups(&self) -> DecimalGroups
         ensures part { result.part ≡ self.now.scale / 9 }
+        ensures first { result.first < 10 ^ 9 }
+        ensures nines { All (λ group. group < 10 ^ 9) (take (result.whole + result.part) result.nines) }
+        ensures last { result.last < 10 ^ (self.now.scale % 9) }
         ensures text { parts_text (is_negative_decimal self.now.bytes.now) result.first (take result.whole result.nines) self.now.scale (take result.part (drop result.whole result.nines)) result.last ≡ decimal_text self.now.precision self.now.scale self.now.bytes.now }
     {
         let whole = self.precision - self.scale;

@@ -1,8 +1,8 @@
 //! Decimal numbers by groups of their digits.
-ghost use Rattle.std.specs.Prelude.{◌≡◌, ◌≤◌, ◌+◌, ◌*◌, ◌++◌, true, false, length, take, drop};
+ghost use Rattle.std.specs.Prelude.{◌≡◌, ◌⊎◌, ◌≤◌, ◌+◌, ◌-◌, ◌*◌, ◌++◌, true, false, length, take, drop};
 ghost use Rattle.std.specs.Fmt.{decimal};
 ghost use Rattle.binlog_values.specs.Contents.{magnitude};
-ghost use Rattle.binlog_values.specs.DecimalGroups.{group_text, is_begun_by, nines_text, nines_at};
+ghost use Rattle.binlog_values.specs.DecimalGroups.{group_at, group_text, is_begun_by, nines_text, nines_at};
 
 use crate::digits::group_number;
 
@@ -70,6 +70,7 @@ pub(crate) fn front_of(bytes: &[u8], number: u64, start: usize, count: usize) ->
     ensures text { decimal result.first ++ nines_text result.left result.place true (magnitude bytes.now) ≡ group_text false 9 number ++ nines_text count start (is_begun_by false number) (magnitude bytes.now) }
     ensures place { result.place + 4 * result.left ≡ start + 4 * count }
     ensures few { result.left ≤ count }
+    ensures stored { (result.first ≡ number) ⊎ ((start + 4 ≤ result.place) × (result.first ≡ group_at (result.place - 4) 9 (magnitude bytes.now))) }
 {
     let mut first = number;
     let mut place = start;
