@@ -9,21 +9,24 @@
  *             printf("%" PRIu64 " type %u, %" PRIu64 " bytes of data\n",
  *                    items[i].position, items[i].event_type, items[i].data_size);
  *
- * C11 and C++. No function keeps anything between calls, or reads anything but what it is passed, so calls in different
- * threads are independent of each other. Only those functions allocate memory that write lines of JSON, read files of columns,
- * decompress payloads or undo logs: by malloc and realloc, and they free it before they return.
+ * C11 and C++. No function keeps anything between calls but in a cache that it is passed, or reads anything but what it is passed, so
+ * calls in different threads are independent of each other. Only those functions allocate memory that write lines of JSON, read files of
+ * columns, decompress payloads or undo logs: by malloc and realloc, and they free it before they return, but for what a cache keeps.
  *
  * The library is proved to be defined for all contents of the log, the cursor, the items and the buffers. The caller has to ensure:
  *
  * - each pointer and its length are memory of that length, which doesn't change during the call; a pointer may be NULL if its length is 0;
- * - the log, the columns, the cursor, the items, the text, the fault, the refusals, the counts and the error of one call don't overlap;
+ * - the log, the columns, the cursor, the items, the text, the fault, the refusals, the counts, the cache and the error of one call don't
+ *   overlap;
  * - pointers are aligned as their types require;
- * - all of this memory was written before, with zeros for instance.
+ * - all of this memory was written before, with zeros for instance;
+ * - a cache is zeros, or what the last call that was passed it left there; it isn't copied, and stays in one thread.
  *
  * docs/C.md has more examples. */
 #ifndef BINLOG_H
 #define BINLOG_H
 
+#include <stdbool.h>
 #include <stddef.h>
 #include <stdint.h>
 
@@ -197,6 +200,32 @@ size_t binlog_json_lines(const uint8_t *log, size_t size, const binlog_item *ite
                          const binlog_item *table_maps, size_t map_count, uint64_t index, char *text, size_t room,
                          size_t *lines, uint8_t *error);
 
+/* What lines of JSON have in common, kept from call to call: the columns of tables with what is stated of them, members that many events
+ * have, and the memory of the line. {0} keeps nothing. The members are the library's: a program doesn't change them. */
+typedef struct binlog_cache {
+    void *at;
+    bool is_kept; /* whether something is kept */
+} binlog_cache;
+
+/* Writes the line of JSON of an item, as binlog_json does, by what earlier calls left in the cache, whichever logs, items and table maps
+ * these were passed; the line is the same. What later lines may need is kept, at most 16 tables and some memory as long as the longest
+ * line. Where there is no memory to keep anything in, nothing is kept, and that is no error. The errors are those of binlog_json.
+ *
+ *     binlog_cache cache = {0};
+ *     size_t length = binlog_json_cached(log, size, &items[i], maps, count, index, text, room, &cache, &error); */
+size_t binlog_json_cached(const uint8_t *log, size_t size, const binlog_item *item, const binlog_item *table_maps,
+                          size_t count, uint64_t index, char *text, size_t room, binlog_cache *cache, uint8_t *error);
+
+/* Writes the lines of items of a log, as binlog_json_lines does, by what earlier calls left in the cache, as binlog_json_cached does. */
+size_t binlog_json_lines_cached(const uint8_t *log, size_t size, const binlog_item *items, size_t count,
+                                const binlog_item *table_maps, size_t map_count, uint64_t index, char *text, size_t room,
+                                binlog_cache *cache, size_t *lines, uint8_t *error);
+
+/* Frees what the cache keeps. It keeps nothing then, and can be used and freed again.
+ *
+ *     binlog_cache_free(&cache); */
+void binlog_cache_free(binlog_cache *cache);
+
 /* ---- compressed transactions
  *
  * With binlog_transaction_compression=ON a server writes a transaction as one event of type 40, whose payload has the transaction's
@@ -352,10 +381,10 @@ uint8_t binlog_columns_check(const uint8_t *columns, size_t size, binlog_columns
 size_t binlog_columns_fault_text(uint64_t kind, char *text, size_t room);
 
 /* The first column of the table of a table map that can't be the one which the file declares, from 0: of another type, sign or
- * character set, or one that the log or the file doesn't have, but for BIGINT and TIMESTAMP(6) columns of the log behind those of the
- * file, as MariaDB adds them. SIZE_MAX if there is none, if the file doesn't have the table, and if the columns of the table map can't
- * be read. Lines have nothing of the file in the rows of a table with such a column: the log is of another time than the file. Some
- * changes of a table aren't found out (docs/COMMANDS.md, "Files of columns").
+ * character set, or one that the log or the file doesn't have, but for BIGINT UNSIGNED and TIMESTAMP(6) columns of MariaDB's logs
+ * behind those of the file, as MariaDB adds them. SIZE_MAX if there is none, if the file doesn't have the table, and if the columns of
+ * the table map can't be read. Lines have nothing of the file in the rows of a table with such a column: the log is of another time
+ * than the file. Some changes of a table aren't found out (docs/COMMANDS.md, "Files of columns").
  *
  * The table map is an item as for binlog_json. The error is 0, or the first of these; 0 is returned then:
  *

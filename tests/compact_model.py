@@ -41,7 +41,8 @@ class Rows(json_model.TableMaps):
     """The table maps in force, and the rows of row events by them."""
 
     def of_event(self, frame, data, in_force):
-        """The table map and the rows of a row event, if all of them are read; else None, also without bytes of rows: rows of no columns have none."""
+        """The table map, what is refused of its optional metadata, and the rows of a row event, if all of them are read; else None, also without
+        bytes of rows: rows of no columns have none."""
         type_number = listing_model.type_number(frame)
         try:
             event = event_data_model.fields(type_number, data, in_force.lengths)
@@ -50,13 +51,15 @@ class Rows(json_model.TableMaps):
         table = self.maps.get(event["table_id"])
         if table is None or not event["rows_data"].bytes:
             return None
-        _, items = json_model.rows_of(type_number, event, table, is_maria(in_force.server_version), self.declared)
-        return None if any(map(json_model.is_refused, items)) else (table, items)
+        refused, items = json_model.rows_of(type_number, event, table, is_maria(in_force.server_version), self.declared)
+        return None if any(map(json_model.is_refused, items)) else (table, refused, items)
 
 
-def row_line(place, frame, table, row):
+def row_line(place, frame, table, refused, row):
     names = {name: json_model.as_json(Text(table[member].bytes)) for name, member in (("database", "database_name"), ("table", "table_name"))}
     head = place | {"time": number(frame, 0, 4)} | names | {"op": OPERATIONS[listing_model.type_number(frame)]}
+    if refused is not None:
+        head["metadata"] = dict(refused)
     images = "".join(f',"{name}":{json_model.json_text(image)}' for name, image in row)
     return (json_model.compact(head)[:-1] + images + "}\n").encode()
 
@@ -87,7 +90,10 @@ def event_lines(place, whole, frame, found, in_force, tables):
     data, _ = listing_model.cut(frame, in_force.algorithm)
     if listing_model.type_number(frame) in OPERATIONS:
         read = tables.of_event(frame, data, in_force)
-        return [row_line(place, frame, read[0], row) for row in read[1]] if read else [whole]
+        if read is None:
+            return [whole]
+        table, refused, rows = read
+        return [row_line(place, frame, table, refused, row) for row in rows]
     return [whole] if is_whole(frame, data, found, in_force) else []
 
 

@@ -4,10 +4,11 @@
 Usage: declared_columns.py [--count N] FLAG
 
 FLAG is one of `programs.py`: it says which `binlog` is run. Each kind of column is declared for a log that states nothing of it, for one
-that states its sign and its character set, and for one whose field of signs is refused; old dates and times are declared with a fraction, too. N random logs (1,500 if not
-given) have tables whose table maps change, and several files that declare them, some of them wrong; their lines, their messages and their
-statuses are those of the model. Files that can't be read have the status 64, a message with the place of the fault, and no line. The last
-line is `N passed, M failed`; the exit status is 1 if something failed.
+that states its sign and its character set, and for one whose field of signs is refused; old dates and times are declared with a fraction,
+too. Tables have more columns than their files, in logs of both servers. N random logs (1,500 if not given) have tables whose table maps
+change, and several files that declare them, some of them wrong; their lines, their messages and their statuses are those of the model.
+Files that can't be read have the status 64, a message with the place of the fault, and no line. The last line is `N passed, M failed`; the
+exit status is 1 if something failed.
 """
 
 import argparse
@@ -222,6 +223,58 @@ def old_fractions(runs, chance):
             yield runs.compared(declared.spelled, content_of(version, events), [{("shop", "t"): [("name", declared)]}])
 
 
+# ---- columns of the log behind those of the file
+
+SIGNED_BIGINT = Declared("bigint(20)", "NULL", [(8, b"")], False)
+UNSIGNED_BIGINT = Declared("bigint(20) unsigned", "NULL", [(8, b"")], True)
+MICROSECONDS = Declared("timestamp(6)", "NULL", [(17, b"\6")])
+NUMBER = Declared("int(11)", "NULL", [(3, b"")], False)
+
+# Columns of a log, those of its file, and the forms of metadata under which those behind may be ones that MariaDB added.
+BEHIND = [
+    ([NUMBER, UNSIGNED_BIGINT], [NUMBER], ("NO_LOG", "MINIMAL")),
+    ([NUMBER, SIGNED_BIGINT], [NUMBER], ("NO_LOG",)),
+    ([NUMBER, MICROSECONDS, MICROSECONDS, UNSIGNED_BIGINT], [NUMBER], ("NO_LOG", "MINIMAL")),
+    ([NUMBER, Declared("timestamp(3)", "NULL", [(17, b"\3")])], [NUMBER], ()),
+    ([NUMBER, NUMBER], [NUMBER], ()),
+]
+
+
+def columns_behind(runs, chance):
+    """Tables with more columns than their files have: a file is used only in MariaDB's logs, and where MariaDB may have added them."""
+    for in_log, in_file, forms in BEHIND:
+        columns = [Column(chance, declared) for declared in in_log]
+        table = {("shop", "t"): [(f"c{place}", declared) for place, declared in enumerate(in_file)]}
+        for version in VERSIONS:
+            for form in ("NO_LOG", "MINIMAL"):
+                optional = stated(columns, form, version == VERSIONS[1], [])
+                content = content_of(version, [table_map(1, ("shop", "t"), columns, optional), row_event(chance, 1, columns)])
+                name = f"{[declared.spelled for declared in in_log]} and {len(in_file)} declared, {version}, {form}"
+                yield runs.compared(name, content, [table])
+                message = f'binlog: table "shop"."t": column {len(in_file) + 1} contradicts the file of columns, which isn\'t used for this table'
+                wanted = [] if version == VERSIONS[1] and form in forms else [message]
+                messages = runs.run(content, [file_text(table)])[2]
+                yield None if messages == wanted else f"{name}: {messages}, not {wanted}"
+
+
+def dropped_column(runs, chance):
+    """A table of INT, BIGINT and BIGINT, of which the second was dropped before the file was made. Where MariaDB may have added the third,
+    that has no name, and the second the name of the third."""
+    columns = [Column(chance, declared) for declared in (NUMBER, SIGNED_BIGINT, SIGNED_BIGINT)]
+    row = b"\0" + b"".join(value.to_bytes(size, "little") for value, size in ((1, 4), (22, 8), (33, 8)))
+    text = file_text({("shop", "t"): [("a", NUMBER), ("c", SIGNED_BIGINT)]})
+    message = 'binlog: table "shop"."t": column 3 contradicts the file of columns, which isn\'t used for this table'
+    for version in VERSIONS:
+        for form in ("NO_LOG", "MINIMAL"):
+            is_taken = version == VERSIONS[1] and form == "NO_LOG"
+            wanted = ({"a": 1, "c": 22, "@3": 33}, []) if is_taken else ({"@1": 1, "@2": 22, "@3": 33}, [message])
+            optional = stated(columns, form, version == VERSIONS[1], [])
+            events = [table_map(1, ("shop", "t"), columns, optional), row_values.row_event(row_values.WHOLE[3], 1, [True] * 3, [True] * 3, row)]
+            status, output, messages = runs.run(content_of(version, events), [text])
+            found = (json.loads(output.splitlines()[-1])["rows"][0]["after"], messages)
+            yield None if status == 0 and found == wanted else f"a dropped column, {version}, {form}: {status}, {found}"
+
+
 # ---- random logs
 
 TABLES = [("shop", "orders"), ("shop", "o'rders"), ("a.b", "c"), ("a", "b.c"), ("sh\u00f6p", "\u65e5\u672c"), ("SHOP", "orders"), ("shop", "tab\tle")]
@@ -232,7 +285,7 @@ def random_names(chance, count):
 
 
 def hidden(chance):
-    return chance.choice((Declared("bigint(20)", "NULL", [(8, b"")], False), Declared("timestamp(6)", "NULL", [(17, b"\6")])))
+    return chance.choice((SIGNED_BIGINT, UNSIGNED_BIGINT, MICROSECONDS))
 
 
 def changed(chance, columns, every_kind):
@@ -384,7 +437,8 @@ def main():
     content, _ = random_case(random.Random(5), list(declared_model.kinds()))
     with tempfile.TemporaryDirectory() as folder:
         runs = Runs(arguments.build.command("binlog"), folder)
-        found = [*each_kind(runs, chance), *old_fractions(runs, chance), *random_logs(runs, chance, arguments.count), *bad_files(runs, content), *same_without_files(runs, content)]
+        found = [*each_kind(runs, chance), *old_fractions(runs, chance), *columns_behind(runs, chance), *dropped_column(runs, chance)]
+        found += [*random_logs(runs, chance, arguments.count), *bad_files(runs, content), *same_without_files(runs, content)]
     return results.report(found)
 
 

@@ -154,8 +154,11 @@ def kinds():
 # ---- both
 
 
-def is_hidden(column):
-    return column[0] == LONGLONG or column == (TIMESTAMP2, b"\6")
+def is_hidden(column, stated, states_signs):
+    """Whether MariaDB may have added the column to a table: a BIGINT without sign, or a TIMESTAMP(6)."""
+    if column[0] == LONGLONG:
+        return stated.is_unsigned or not states_signs
+    return column == (TIMESTAMP2, b"\6")
 
 
 def agrees(column, stated, declared, states_signs):
@@ -166,10 +169,12 @@ def agrees(column, stated, declared, states_signs):
     return stated.character_set is None or declared.text_set is None or stated.character_set == declared.text_set
 
 
-def fits(column, stated, declared, states_signs):
+def fits(column, stated, declared, states_signs, is_of_maria):
     if column is None:
         return declared is None
-    return is_hidden(column) if declared is None else agrees(column, stated, declared, states_signs)
+    if declared is None:
+        return is_of_maria and is_hidden(column, stated, states_signs)
+    return agrees(column, stated, declared, states_signs)
 
 
 def at(items, place):
@@ -214,7 +219,7 @@ class Files:
     def __init__(self, files):
         self.files, self.contradictions = files, {}
 
-    def known(self, table, stated):
+    def known(self, table, stated, is_of_maria):
         """What is known of the columns of a table map."""
         key = (table["database_name"].bytes, table["table_name"].bytes)
         declared = next((file[key] for file in reversed(self.files) if key in file), None)
@@ -224,7 +229,7 @@ class Files:
         has_signs = are_signs_stated(columns, table["optional_metadata"].bytes)
         for place in range(max(len(columns), len(declared))):
             name_and_type = at(declared, place)
-            if not fits(at(columns, place), at(stated, place), name_and_type and name_and_type[1], has_signs):
+            if not fits(at(columns, place), at(stated, place), name_and_type and name_and_type[1], has_signs, is_of_maria):
                 self.contradictions.setdefault(key, place + 1)
                 return stated
         both = [completed(facts, *declared[place]) for place, facts in enumerate(stated[: len(declared)])]

@@ -8,7 +8,7 @@ of the built binlog_list without its last word. The C program also lists with ro
 compiler, and with checksums verified, as the built `probe verifying` does; it computes the checksums by itself, bit by bit. A third
 program calls the library with 10,000 cursors that it did not make over each of some logs. A C program and a C++ one print the lines of
 JSON of all these logs: they have to be those of the built `binlog json`; another C program asks for those of 10,000 items that it changed
-over each of some logs, and one refuses each of their allocations in turn. A C program prints the lines of random logs with files of
+over each of some logs, and one refuses each of their allocations in turn, also with a cache. A C program prints the lines of random logs with files of
 columns, and which columns contradict these: they have to be those of a model of both, and the faults of files that can't be read those
 that are worked by hand. Another one prints the lines of the events inside compressed transactions, or why they are refused, as the built
 `binlog json` does, with each allocation refused in turn; and one undoes random logs, beside the model of undo_command.py, with each
@@ -387,8 +387,8 @@ def split_contradictions(output):
 
 
 def refused_memory_failures(folder):
-    """None or what is wrong with a line of JSON for which each allocation in turn is refused."""
-    refusing = build(folder, "refused_memory", "refused_memory.c", ["-Wl,--wrap=malloc,--wrap=realloc"])
+    """None or what is wrong with a line of JSON for which each allocation in turn is refused, also by a cache."""
+    refusing = build(folder, "refused_memory", "refused_memory.c", ["-Wl,--wrap=malloc,--wrap=realloc,--wrap=free"])
     logs = packed([samples.plain(), samples.checksummed()])
     finished = subprocess.run([refusing], input=logs, stdout=subprocess.PIPE, stderr=subprocess.PIPE)
     wrong = finished.stderr.decode() or f"status {finished.returncode}"

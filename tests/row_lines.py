@@ -250,6 +250,10 @@ def refused():
     yield "collations that are cut", [of_table(row_events.field(3, b"")), event(row)], [[named[0], unread("Truncated", 3), named[1]]]
     twice = row_events.field(1, b"\0\0") + row_events.field(3, b"\xff")
     yield "the first field that is refused", [of_table(twice), event(row)], [[named[0], unread("LeftOver", 1), named[1]]]
+    unsigned = named_map(1, "shop", "orders", [b"id", b"note"], fields=row_events.field(1, b"\x80\0"))
+    signed = [("after", [("id", -294967296), ("note", "a")])]
+    large = event(b"\0" + (4000000000).to_bytes(4, "little") + b"\1a")
+    yield "signs that are refused", [unsigned, large], [[named[0], unread("LeftOver", 1), ("rows", [signed])]]
     yield "a field without an end", [of_table(b"\3\xfb"), event(row)], [[numbered[0], unread("BadValue", None), numbered[1]]]
     yield "a field beyond the end", [of_table(b"\1\x40"), event(row)], [[numbered[0], unread("Truncated", None), numbered[1]]]
     partial = next(kind for kind in encode.ROWS_KINDS if kind[0] == PARTIAL_UPDATE)

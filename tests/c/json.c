@@ -1,7 +1,7 @@
 /* Prints the lines of JSON of the logs on standard input, which logs.h reads, and behind each log `status N`, where N is the
  * exit status of `binlog json`. With an argument, `verified`, checksums are verified. Checks that a line is written if there is
  * room for it, and nothing if there is room for one byte less, and that nothing behind it is written; and that one call for many
- * items writes the same lines, as many as there is room for. */
+ * items writes the same lines, as many as there is room for; and that they are the same by caches, which are kept over all logs. */
 #define _DEFAULT_SOURCE
 #include "binlog.h"
 #include "logs.h"
@@ -14,6 +14,9 @@ enum { ROOM = 64 };
 typedef size_t fill_call(const uint8_t *, size_t, binlog_cursor *, binlog_item *, size_t, uint8_t *);
 
 static fill_call *fill = binlog_next;
+
+/* Kept over all logs: one for calls of one item, and one for calls of many. */
+static binlog_cache cache, cache_of_lines;
 
 /* A page that can't be read is behind the text's room. */
 static char *guarded_text(size_t room, void **mapping, size_t *mapped) {
@@ -62,6 +65,10 @@ static void check_error(const guarded_log *log, const together *all, char *text)
                                     all->size, &lines, &error);
     require(error == BINLOG_INVALID_ITEM && lines == wrong, "an item that isn't one of the log ends the lines");
     require(memcmp(text, all->lines, size) == 0, "the lines before it are written");
+    size_t again = binlog_json_lines_cached(log->bytes, log->size, items, all->count, all->maps, all->map_count, all->index, text,
+                                            all->size, &cache_of_lines, &lines, &error);
+    require(error == BINLOG_INVALID_ITEM && lines == wrong && again == size, "it ends the lines by a cache, too");
+    require(memcmp(text, all->lines, size) == 0, "the lines before it are written by a cache, too");
 }
 
 /* Checks one call for these items, and begins again without items. */
@@ -84,6 +91,11 @@ static void check_together(const guarded_log *log, together *all) {
     require(error == 0 && lines == all->count - 1 && size == all->size - all->last, "the last one has no room");
     require(memcmp(text, all->lines, size) == 0 && text[size] == 'x', "nothing is written of it");
     check_error(log, all, text);
+    memset(text, 'x', all->size + 1);
+    size = binlog_json_lines_cached(log->bytes, log->size, all->items, all->count, all->maps, all->map_count, all->index, text,
+                                    all->size, &cache_of_lines, &lines, &error);
+    require(error == 0 && lines == all->count && size == all->size, "all lines are written by a cache");
+    require(memcmp(text, all->lines, size) == 0 && text[size] == 'x', "they are the lines without a cache");
     free(text);
     all->count = 0;
     all->size = 0;
@@ -121,6 +133,20 @@ static void put_line(together *all, const char *line, size_t size) {
     all->last = size;
 }
 
+/* The line by a cache is the same, in just its room; without room nothing is written. */
+static void check_cached(const guarded_log *log, const binlog_item *item, const table_maps *maps, size_t count, uint64_t index,
+                         const char *line, size_t size) {
+    char *text = (char *)malloc(size + 1);
+    require(text != NULL, "no memory");
+    memset(text, 'x', size + 1);
+    uint8_t error = 77;
+    size_t found = binlog_json_cached(log->bytes, log->size, item, maps->found, count, index, text, size - 1, &cache, &error);
+    require(error == 0 && found == size && text[0] == 'x' && text[size - 2] == 'x', "by a cache nothing is written without room");
+    found = binlog_json_cached(log->bytes, log->size, item, maps->found, count, index, text, size, &cache, &error);
+    require(error == 0 && found == size && memcmp(text, line, size) == 0 && text[size] == 'x', "by a cache the line is the same");
+    free(text);
+}
+
 static void print_line(const guarded_log *log, const binlog_item *item, table_maps *maps, together *all, uint64_t index) {
     static char text[1 << 16];
     size_t count = maps_for(maps, log->bytes, item);
@@ -140,6 +166,7 @@ static void print_line(const guarded_log *log, const binlog_item *item, table_ma
     if (item->error == BINLOG_CHECKSUM_MISMATCH) {
         check_mismatch(item, index, exact, size);
     }
+    check_cached(log, item, maps, count, index, exact, size);
     put_line(all, exact, size);
     require(fwrite(exact, 1, size, stdout) == size, "the output failed");
     if (exact == text) {
@@ -179,5 +206,9 @@ int main(int argc, char **argv) {
     for (guarded_log log; next_log(&log); free_log(&log)) {
         printf("status %d\n", print_lines(&log));
     }
+    binlog_cache_free(&cache);
+    binlog_cache_free(&cache);
+    binlog_cache_free(&cache_of_lines);
+    require(!cache.is_kept && !cache_of_lines.is_kept, "a cache that is freed keeps nothing");
     return 0;
 }

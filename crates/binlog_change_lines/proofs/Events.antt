@@ -57,11 +57,11 @@ split_of body map head facts rows all_read text are written = rw (are.shape, are
 
 pub lines_shown : (files : List DeclaredTables) (is_maria_log : Bool) (place : Place) (time : ℕ) (body : RowsEventData) (map : TableMapEvent) (facts : List ColumnFacts) (refusal : Option OptionalMetadataError)
     (contradiction : Option ℕ) (rows : Rows) (all_read : Bool) (text : List ℕ) → event_error map (event_in body) ≡ None → AreRowsOf (is_partial body) map (event_in body) rows
-    → StatesColumns files is_maria_log map facts refusal contradiction → all_read ≡ true → WritesRows (head_members place time map body) facts rows all_read text
+    → StatesColumns files is_maria_log map facts refusal contradiction → all_read ≡ true → WritesRows (head_members place time map body refusal) facts rows all_read text
     → AreLinesOfEvent files is_maria_log place time body map contradiction text
 lines_shown files is_maria_log place time body map facts refusal contradiction rows all_read text fits are stated is written = record {
   items = written.items;
-  read = record { fits = fits; split = split_of body map (head_members place time map body) facts rows all_read text are written; all = sym written.all ∙ is };
+  read = record { fits = fits; split = split_of body map (head_members place time map body refusal) facts rows all_read text are written; all = sym written.all ∙ is };
   facts = facts;
   refusal = refusal;
   stated = stated;

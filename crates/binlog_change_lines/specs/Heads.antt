@@ -5,6 +5,8 @@ use Rattle.json_line.specs.Tokens.{number_value, text_value, or_null, member}
 use Rattle.binlog_rows.specs.declared.rows_event_data.RowsEventData.{RowsEventData}
 use Rattle.binlog_rows.specs.declared.rows_event_data.RowsEventData.TheVariants.{WriteRowsEventV1, UpdateRowsEventV1, DeleteRowsEventV1, WriteRowsEvent, UpdateRowsEvent, DeleteRowsEvent, PartialUpdateRowsEvent}
 use Rattle.binlog_rows.specs.declared.table_map_event.TableMapEvent.{TableMapEvent}
+use Rattle.binlog_optional_metadata.specs.declared.metadata_error.OptionalMetadataError.{OptionalMetadataError}
+use Rattle.binlog_json_lines.specs.Refusals.{metadata_member}
 use Rattle.binlog_json_lines.specs.RowMembers.{schema_in, table_in}
 use Rattle.binlog_change_lines.specs.declared.heads.EventPlace.{EventPlace}
 
@@ -65,6 +67,10 @@ operation_name insert = codes "insert"
 operation_name update = codes "update"
 operation_name delete = codes "delete"
 
--- What the line of each row of an event begins with.
-abbrev pub head_members : Place → (time : ℕ) → TableMapEvent → RowsEventData → List Token
-head_members place time map body = place_members place ++ table_members time map ++ member (codes "op") (string (operation_name (operation_of body)) ∷ [])
+abbrev pub operation_member : RowsEventData → List Token
+operation_member body = member (codes "op") (string (operation_name (operation_of body)) ∷ [])
+
+-- What the line of each row of an event begins with. `refusal` is why the first field of the optional metadata is refused that is: what it
+-- would state of the columns is missing in the rows.
+abbrev pub head_members : Place → (time : ℕ) → TableMapEvent → RowsEventData → (refusal : Option OptionalMetadataError) → List Token
+head_members place time map body refusal = place_members place ++ table_members time map ++ operation_member body ++ metadata_member refusal

@@ -75,7 +75,8 @@ AllAreReadBy body None items = ⊥
 AllAreReadBy body (Some map) items = AllAreRead body map items
 
 -- The text is the lines of all rows of the event, where the names, signs, members and character sets of columns are those that the
--- table map states, and else those of the files, unless the table contradicts them at this column.
+-- table map states, and else those of the files, unless the table contradicts them at this column. Each line says which field of the
+-- optional metadata is refused.
 pub record AreLinesOfEvent (files : List DeclaredTables) (is_maria_log : Bool) (place : Place) (time : ℕ) (body : RowsEventData) (map : TableMapEvent)
     (contradiction : Option ℕ) (text : List ℕ) : Type 0 where
   pub items : List (Result RowCells RowsError)
@@ -83,4 +84,4 @@ pub record AreLinesOfEvent (files : List DeclaredTables) (is_maria_log : Bool) (
   pub facts : List ColumnFacts
   pub refusal : Option OptionalMetadataError
   pub stated : StatesColumns files is_maria_log map facts refusal contradiction
-  pub lines : AreRowLines (head_members place time map body) facts items text
+  pub lines : AreRowLines (head_members place time map body refusal) facts items text

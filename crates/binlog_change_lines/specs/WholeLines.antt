@@ -45,7 +45,7 @@ pub record HasLines (files : List DeclaredTables) (is_maria_log : Bool) (place :
   pub refusal : Option OptionalMetadataError
   pub contradiction : Option ℕ
   pub stated : StatesColumns files is_maria_log map facts refusal contradiction
-  pub lines : AreRowLines (head_members place time map body) facts items text
+  pub lines : AreRowLines (head_members place time map body refusal) facts items text
 
 -- All rows of the event are in the member `rows` of the line, and the text has a line for each of them.
 pub record AreRowsOfLine (files : List DeclaredTables) (place : Place) (map : Option TableMapEvent) (event : EventView) (line text : List ℕ) : Type 0 where

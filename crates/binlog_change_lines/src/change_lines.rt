@@ -405,7 +405,7 @@ impl ChangeLines {
             head.table_map.optional_metadata_raw(),
             is_maria_log,
         )?;
-        if self.rows.write_rows(head, &facts.columns, rows)? {
+        if self.rows.write_rows(head, &facts, rows)? {
             Ok(Shown::Rows(contradiction))
         } else {
             Ok(Shown::Whole)

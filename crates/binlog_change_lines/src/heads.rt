@@ -4,8 +4,10 @@
 ghost use Rattle.std.specs.Prelude.{◌≡◌};
 ghost use Rattle.json_line.specs.Lines.{IsPlainText};
 ghost use Rattle.json_line.specs.Tokens.{Adds, number_value, or_null};
-ghost use Rattle.binlog_change_lines.specs.Heads.{gtid_value, part_member, place_members, place_of, operation_name, operation_of, name_members, table_members, head_members};
+ghost use Rattle.binlog_change_lines.specs.Heads.{gtid_value, part_member, place_members, place_of, operation_name, operation_of, name_members, table_members, operation_member, head_members};
 
+use binlog_json_lines::write_metadata;
+use binlog_optional_metadata::OptionalMetadataError;
 use binlog_rows::{RowsEventData, TableMapEvent};
 use json_line::Line;
 use std::alloc::AllocError;
@@ -97,18 +99,28 @@ fn operation_name(body: &RowsEventData<'_>) -> &'static str
     }
 }
 
-/// Writes what the line of each row of an event of this time begins with, whose table has this table map.
+// Writes what is done to the rows of an event.
+fn write_operation(line: &mut Line, body: &RowsEventData<'_>) -> Result<(), AllocError>
+    ensures { Adds result line.old line.new (operation_member body.now) }
+{
+    line.key("op")?;
+    line.plain_string(operation_name(body))
+}
+
+/// Writes what the line of each row of an event of this time begins with, whose table has this table map, and why the first field of the
+/// optional metadata is refused that is.
 pub(crate) fn write_head(
     line: &mut Line,
     place: &EventPlace<'_>,
     time: u32,
     table_map: &TableMapEvent<'_>,
     body: &RowsEventData<'_>,
+    refusal: &Option<OptionalMetadataError>,
 ) -> Result<(), AllocError>
-    ensures { Adds result line.old line.new (head_members (place_of place.now) time table_map.now body.now) }
+    ensures { Adds result line.old line.new (head_members (place_of place.now) time table_map.now body.now refusal.now) }
 {
     write_place(line, place)?;
     write_table(line, time, table_map)?;
-    line.key("op")?;
-    line.plain_string(operation_name(body))
+    write_operation(line, body)?;
+    write_metadata(line, refusal)
 }

@@ -14,6 +14,7 @@ use crate::heads::{EventPlace, write_head};
 use binlog_images::laws::rows_are_split;
 use binlog_images::{Image, Row, Rows, RowsError};
 use binlog_json_values::{ColumnFacts, ValueWriter};
+use binlog_optional_metadata::TableFacts;
 use binlog_rows::{RowsEventData, TableMapEvent};
 use json_line::Line;
 use std::alloc::{AllocError, Global};
@@ -87,14 +88,21 @@ fn write_row(
     line: &mut Line,
     values: &mut ValueWriter,
     head: &RowsHead<'_, '_>,
-    columns: &[ColumnFacts<'_>],
+    facts: &TableFacts<'_>,
     row: &Row<'_>,
 ) -> Result<(), AllocError>
-    ensures { Writes result line.old line.new (change_parts (head_in head.now) columns.now (row_cells row.now)) }
+    ensures { Writes result line.old line.new (change_parts (head_in head.now facts.now.refusal) facts.now.columns.items (row_cells row.now)) }
 {
     line.begin_object()?;
-    write_head(line, head.place, head.time, head.table_map, head.body)?;
-    write_images(line, values, columns, row)?;
+    write_head(
+        line,
+        head.place,
+        head.time,
+        head.table_map,
+        head.body,
+        &facts.refusal,
+    )?;
+    write_images(line, values, &facts.columns, row)?;
     line.end_object()
 }
 
@@ -112,13 +120,13 @@ impl RowLines {
     fn write_line(
         &mut self,
         head: &RowsHead<'_, '_>,
-        columns: &[ColumnFacts<'_>],
+        facts: &TableFacts<'_>,
         row: &Row<'_>,
     ) -> Result<(), AllocError>
-        ensures { OnOk result (AddsLine (head_in head.now) columns.now (row_cells row.now) self.old.text.items self.new.text.items) }
+        ensures { OnOk result (AddsLine (head_in head.now facts.now.refusal) facts.now.columns.items (row_cells row.now) self.old.text.items self.new.text.items) }
     {
         self.line.clear();
-        write_row(&mut self.line, &mut self.values, head, columns, row)?;
+        write_row(&mut self.line, &mut self.values, head, facts, row)?;
         let line = self.line.end()?;
         self.text.extend_from_slice(line)
     }
@@ -127,34 +135,35 @@ impl RowLines {
     fn write_item(
         &mut self,
         head: &RowsHead<'_, '_>,
-        columns: &[ColumnFacts<'_>],
+        facts: &TableFacts<'_>,
         item: Result<Row<'_>, RowsError>,
     ) -> Result<bool, AllocError>
-        ensures { IfOk result (λ is_read. AddsItem (head_in head.now) columns.now (answer_row item.entry) is_read self.old.text.items self.new.text.items) }
+        ensures { IfOk result (λ is_read. AddsItem (head_in head.now facts.now.refusal) facts.now.columns.items (answer_row item.entry) is_read self.old.text.items self.new.text.items) }
     {
         match item {
             Ok(row) => {
-                self.write_line(head, columns, &row)?;
+                self.write_line(head, facts, &row)?;
                 Ok(true)
             }
             Err(_) => Ok(false),
         }
     }
 
-    /// Makes the lines of rows. The result is whether none is refused; else the text is of no use.
+    /// Makes the lines of rows, with what is known of the columns, and why the first field of the optional metadata is refused that is. The
+    /// result is whether no row is refused; else the text is of no use.
     pub(crate) fn write_rows(
         &mut self,
         head: &RowsHead<'_, '_>,
-        columns: &[ColumnFacts<'_>],
+        facts: &TableFacts<'_>,
         rows: Rows<'_>,
     ) -> Result<bool, AllocError>
-        ensures { IsBytes rows.entry.rest.now → IfOk result (λ all_read. WritesRows (head_in head.now) columns.now rows.entry all_read self.new.text.items) }
+        ensures { IsBytes rows.entry.rest.now → IfOk result (λ all_read. WritesRows (head_in head.now facts.now.refusal) facts.now.columns.items rows.entry all_read self.new.text.items) }
     {
         rows_are_split();
         self.text.clear();
         let mut all_read = true;
         'rows: for row in rows {
-            let is_read = self.write_item(head, columns, row)?;
+            let is_read = self.write_item(head, facts, row)?;
             all_read = both(all_read, is_read);
         }
         Ok(all_read)

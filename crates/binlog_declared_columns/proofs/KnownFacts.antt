@@ -16,7 +16,7 @@ some_columns [] some none = absurd cc
 some_columns (column ∷ columns) some none = absurd cc
 
 known_columns : (is_maria_log : Bool) (columns : List Typed) (metadata : List ℕ) (declared : List Described) (stated new : List ColumnFacts) (contradiction : Option ℕ) (fields : List FieldContent)
-    → (declared ≡ [] → ⊥) → AreFields (counts_of is_maria_log columns) metadata fields → AreOfBoth (states_signs fields) columns declared stated new contradiction
+    → (declared ≡ [] → ⊥) → AreFields (counts_of is_maria_log columns) metadata fields → AreOfBoth is_maria_log (states_signs fields) columns declared stated new contradiction
     → AreKnown is_maria_log columns metadata declared stated new contradiction
 known_columns is_maria_log columns metadata [] stated new contradiction fields some are both = absurd (some refl)
 known_columns is_maria_log columns metadata (first ∷ declared) stated new contradiction fields some are both = (fields, are, both)
@@ -24,8 +24,8 @@ known_columns is_maria_log columns metadata (first ∷ declared) stated new cont
 -- The facts of both are what is known.
 pub both_known : (is_maria_log : Bool) (columns kept : List Typed) (metadata : List ℕ) (declared found : List Described) (stated new : List ColumnFacts) (contradiction : Option ℕ) (signs : Bool) (fields : List FieldContent)
     → kept ≡ columns → declared ≡ found → (declared ≡ [] → ⊥) → AreFields (counts_of is_maria_log columns) metadata fields → signs ≡ states_signs fields
-    → AreOfBoth signs kept declared stated new contradiction → AreKnown is_maria_log columns metadata found stated new contradiction
+    → AreOfBoth is_maria_log signs kept declared stated new contradiction → AreKnown is_maria_log columns metadata found stated new contradiction
 both_known is_maria_log columns kept metadata declared found stated new contradiction signs fields are_kept are_found some are signs_are both =
     subst (λ (ds : List Described). AreKnown is_maria_log columns metadata ds stated new contradiction) are_found
     (known_columns is_maria_log columns metadata declared stated new contradiction fields some are
-    (subst (λ (b : Bool). AreOfBoth b columns declared stated new contradiction) signs_are (subst (λ (cs : List Typed). AreOfBoth signs cs declared stated new contradiction) are_kept both)))
+    (subst (λ (b : Bool). AreOfBoth is_maria_log b columns declared stated new contradiction) signs_are (subst (λ (cs : List Typed). AreOfBoth is_maria_log signs cs declared stated new contradiction) are_kept both)))

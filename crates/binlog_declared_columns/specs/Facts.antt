@@ -109,31 +109,34 @@ agrees_type states_signs column facts set (Some type) =
 abbrev pub agrees : (states_signs : Bool) → Typed → Facts → Described → Bool
 agrees states_signs column facts declared = agrees_type states_signs column facts declared.character_set declared.type
 
--- The type is one of the columns that MariaDB adds to a table, and that a file doesn't have: BIGINT, or TIMESTAMP(6).
-abbrev pub is_hidden_type : ColumnType → ℕ → Bool
-is_hidden_type MYSQL_TYPE_LONGLONG metadata = true
-is_hidden_type MYSQL_TYPE_TIMESTAMP2 metadata = metadata == 6
-is_hidden_type _ metadata = false
+-- The type is one of the columns that MariaDB adds to a table, and that a file doesn't have: BIGINT UNSIGNED, or TIMESTAMP(6).
+abbrev pub is_hidden_type : (states_signs is_unsigned : Bool) → ColumnType → ℕ → Bool
+is_hidden_type states_signs is_unsigned MYSQL_TYPE_LONGLONG metadata = agrees_sign states_signs is_unsigned (Some true)
+is_hidden_type states_signs is_unsigned MYSQL_TYPE_TIMESTAMP2 metadata = metadata == 6
+is_hidden_type states_signs is_unsigned _ metadata = false
 
-abbrev pub is_hidden : Typed → Bool
-is_hidden column = is_hidden_type column.0 column.1
+abbrev pub is_hidden : (states_signs : Bool) → Typed → Facts → Bool
+is_hidden states_signs column facts = is_hidden_type states_signs facts.is_unsigned column.0 column.1
 
--- What the log has of a column, and what the file has of it.
-abbrev pub fits : (states_signs : Bool) → Option Typed → Option Facts → Option Described → Bool
-fits states_signs None facts None = true
-fits states_signs None facts (Some declared) = false
-fits states_signs (Some column) facts None = is_hidden column
-fits states_signs (Some column) None (Some declared) = false
-fits states_signs (Some column) (Some facts) (Some declared) = agrees states_signs column facts declared
+-- What the log has of a column, and what the file has of it. Only MariaDB's logs have columns that a file doesn't have.
+abbrev pub fits : (is_maria_log states_signs : Bool) → Option Typed → Option Facts → Option Described → Bool
+fits is_maria_log states_signs None facts None = true
+fits is_maria_log states_signs None facts (Some declared) = false
+fits is_maria_log states_signs (Some column) None declared = false
+fits is_maria_log states_signs (Some column) (Some facts) None = is_maria_log && is_hidden states_signs column facts
+fits is_maria_log states_signs (Some column) (Some facts) (Some declared) = agrees states_signs column facts declared
 
-abbrev pub fits_at : (states_signs : Bool) → List Typed → List Facts → List Described → ℕ → Bool
-fits_at states_signs columns facts declared index = fits states_signs (slice_get columns index) (slice_get facts index) (slice_get declared index)
+abbrev pub fits_at : (is_maria_log states_signs : Bool) → List Typed → List Facts → List Described → ℕ → Bool
+fits_at is_maria_log states_signs columns facts declared index =
+    fits is_maria_log states_signs (slice_get columns index) (slice_get facts index) (slice_get declared index)
 
 -- Which column is the first that contradicts the file; None if none does.
-abbrev pub IsContradiction : (states_signs : Bool) → List Typed → List Facts → List Described → Option ℕ → Type 0
-IsContradiction states_signs columns facts declared None = (index : ℕ) → fits_at states_signs columns facts declared index ≡ true
-IsContradiction states_signs columns facts declared (Some first) =
-    (fits_at states_signs columns facts declared first ≡ false) × ((index : ℕ) → index < first → fits_at states_signs columns facts declared index ≡ true)
+abbrev pub IsContradiction : (is_maria_log states_signs : Bool) → List Typed → List Facts → List Described → Option ℕ → Type 0
+IsContradiction is_maria_log states_signs columns facts declared None =
+    (index : ℕ) → fits_at is_maria_log states_signs columns facts declared index ≡ true
+IsContradiction is_maria_log states_signs columns facts declared (Some first) =
+    (fits_at is_maria_log states_signs columns facts declared first ≡ false)
+    × ((index : ℕ) → index < first → fits_at is_maria_log states_signs columns facts declared index ≡ true)
 
 -- ---- facts of both
 
@@ -177,6 +180,6 @@ abbrev pub all_facts : List ColumnFacts → List Facts
 all_facts columns = map facts_of columns
 
 -- What a log and a file state of the columns of a table.
-pub record AreOfBoth (states_signs : Bool) (columns : List Typed) (declared : List Described) (old new : List ColumnFacts) (contradiction : Option ℕ) : Type 0 where
-  pub first : IsContradiction states_signs columns (all_facts old) declared contradiction
+pub record AreOfBoth (is_maria_log states_signs : Bool) (columns : List Typed) (declared : List Described) (old new : List ColumnFacts) (contradiction : Option ℕ) : Type 0 where
+  pub first : IsContradiction is_maria_log states_signs columns (all_facts old) declared contradiction
   pub facts : all_facts new ≡ facts_unless contradiction (all_facts old) declared

@@ -26,7 +26,7 @@ columns_in (file ∷ files) schema table = first_of (columns_in files schema tab
 abbrev pub AreKnown : (is_maria_log : Bool) (columns : List Typed) (metadata : List ℕ) (declared : List Described) (stated facts : List ColumnFacts) (contradiction : Option ℕ) → Type 0
 AreKnown is_maria_log columns metadata [] stated facts contradiction = (facts ≡ stated) × (contradiction ≡ None)
 AreKnown is_maria_log columns metadata (first ∷ declared) stated facts contradiction =
-    (fields : List FieldContent) × AreFields (counts_of is_maria_log columns) metadata fields × AreOfBoth (states_signs fields) columns (first ∷ declared) stated facts contradiction
+    (fields : List FieldContent) × AreFields (counts_of is_maria_log columns) metadata fields × AreOfBoth is_maria_log (states_signs fields) columns (first ∷ declared) stated facts contradiction
 
 -- These are the facts of the columns of the table with these names: what its table map states, which has these columns and this optional
 -- metadata, and what files declare besides; why the first field of the metadata is refused that is; and which column contradicts the file.

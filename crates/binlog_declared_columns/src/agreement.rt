@@ -102,12 +102,12 @@ pub(crate) fn agrees(
     }
 }
 
-// Whether the type is one of the columns that MariaDB adds to a table.
-fn is_hidden(column: &Column) -> bool
-    ensures { result ≡ is_hidden (typed_of column.now) }
+// Whether the column, of which these facts are stated, may be one that MariaDB adds to a table.
+fn is_hidden(states_signs: bool, column: &Column, facts: &ColumnFacts<'_>) -> bool
+    ensures { result ≡ is_hidden states_signs (typed_of column.now) (facts_of facts.now) }
 {
     match column.column_type() {
-        ColumnType::MYSQL_TYPE_LONGLONG => true,
+        ColumnType::MYSQL_TYPE_LONGLONG => agrees_sign(states_signs, facts.is_unsigned, Some(true)),
         ColumnType::MYSQL_TYPE_TIMESTAMP2 => column.metadata() == 6,
         _ => false,
     }
@@ -115,17 +115,20 @@ fn is_hidden(column: &Column) -> bool
 
 /// Whether the column with this index of the log, if it has one, may be that of the file, if it has one.
 pub(crate) fn fits_at(
+    is_maria_log: bool,
     states_signs: bool,
     columns: &[Column],
     facts: &[ColumnFacts<'_>],
     declared: &[DeclaredColumn],
     index: usize,
 ) -> bool
-    ensures { result ≡ fits_at states_signs (map typed_of columns.now) (all_facts facts.now) (map described declared.now) index }
+    ensures { result ≡ fits_at is_maria_log states_signs (map typed_of columns.now) (all_facts facts.now) (map described declared.now) index }
 {
     match (columns.get(index), facts.get(index), declared.get(index)) {
         (None, _, None) => true,
-        (Some(column), _, None) => is_hidden(column),
+        (Some(column), Some(facts), None) => {
+            is_maria_log && is_hidden(states_signs, column, facts)
+        }
         (Some(column), Some(facts), Some(declared)) => {
             agrees(states_signs, column, facts, declared)
         }

@@ -171,16 +171,17 @@ fn with_declared<'a>(
 
 // The first column that contradicts the file.
 fn contradiction(
+    is_maria_log: bool,
     states_signs: bool,
     columns: &[Column],
     facts: &[ColumnFacts<'_>],
     declared: &[DeclaredColumn],
 ) -> Option<usize>
-    ensures { IsContradiction states_signs (map typed_of columns.now) (all_facts facts.now) (map described declared.now) result }
+    ensures { IsContradiction is_maria_log states_signs (map typed_of columns.now) (all_facts facts.now) (map described declared.now) result }
 {
     let count = columns.len().max(declared.len());
     for index in 0..count {
-        if !fits_at(states_signs, columns, facts, declared, index) {
+        if !fits_at(is_maria_log, states_signs, columns, facts, declared, index) {
             return Some(index);
         }
     }
@@ -189,23 +190,25 @@ fn contradiction(
 
 /// Adds to the facts of columns, which a log states of them, what a file declares of them besides, unless the file is contradicted. The
 /// result has the index of the first column that contradicts the file, counted from 0, if there is one: a column that can't be of the
-/// declared type, whose stated sign or character set is another one, or that is missing in the log or in the file. Columns that are
-/// missing in the file may be those that MariaDB adds to a table, the last ones of the log. `states_signs` says whether the log states
-/// which columns are UNSIGNED. Declared members aren't added where one has a `?`, which may stand for another character.
+/// declared type, whose stated sign or character set is another one, or that is missing in the log or in the file. In MariaDB's logs
+/// the last columns may be missing in the file if they can be those that MariaDB adds to a table: BIGINT UNSIGNED, or TIMESTAMP(6).
+/// `states_signs` says whether the log states which columns are UNSIGNED. Declared members aren't added where one has a `?`, which may
+/// stand for another character.
 ///
 /// # Errors
 ///
 /// [`AllocError`] if an allocation fails.
 pub fn complete<'a>(
     alloc: Global,
+    is_maria_log: bool,
     states_signs: bool,
     columns: &[Column],
     facts: Vec<ColumnFacts<'a>>,
     declared: &'a [DeclaredColumn],
 ) -> Result<(Vec<ColumnFacts<'a>>, Option<usize>), AllocError>
-    ensures { IfOk result (λ both. AreOfBoth states_signs (map typed_of columns.now) (map described declared.now) facts.entry.items both.0.items both.1) }
+    ensures { IfOk result (λ both. AreOfBoth is_maria_log states_signs (map typed_of columns.now) (map described declared.now) facts.entry.items both.0.items both.1) }
 {
-    if let Some(first) = contradiction(states_signs, columns, &facts, declared) {
+    if let Some(first) = contradiction(is_maria_log, states_signs, columns, &facts, declared) {
         return Ok((facts, Some(first)));
     }
     Ok((all_of_both(alloc, facts, declared)?, None))

@@ -56,6 +56,7 @@ pub fn table_facts<'a>(
     let refusal = stated.refusal;
     let (columns, contradiction) = complete(
         alloc,
+        is_maria_log,
         states_signs,
         &columns,
         stated.columns,

@@ -1,8 +1,10 @@
 //! A column in a row image.
-ghost use Rattle.std.specs.Prelude.{◌≡◌};
+ghost use Rattle.std.specs.Prelude.{◌≡◌, IfOk};
 ghost use Rattle.binlog_columns.specs.Columns.{typed_of};
+ghost use Rattle.binlog_columns.specs.Layouts.{layout_of};
+ghost use Rattle.binlog_values.specs.Contents.{content_in};
 ghost use Rattle.binlog_values.specs.Faults.{Decodes};
-ghost use Rattle.binlog_values.specs.Values.{json, meaning_of, content_of};
+ghost use Rattle.binlog_values.specs.Values.{decoded_content, json, meaning_in, meaning_of, content_of};
 ghost use Rattle.binlog_images.specs.BitsOf.{bits_of};
 ghost use Rattle.binlog_images.specs.DiffsOf.{diffs_of};
 ghost use Rattle.binlog_images.specs.Cells.{cell_at, diff_list};
@@ -50,13 +52,23 @@ impl<'a> ColumnValue<'a> {
         if bits.is_null() {
             return Ok(ColumnValue::Null);
         }
-        let value = Value::decode(column, buf)?;
         if is_diffs(column, diffs) {
-            Ok(diffs_in(value))
-        } else {
-            Ok(ColumnValue::Value(value))
+            let value = decode_outlined(column, buf)?;
+            return Ok(diffs_in(value));
         }
+        let value = Value::decode(column, buf)?;
+        Ok(ColumnValue::Value(value))
     }
+}
+
+/// Takes a value, as [`Value::decode`] does.
+// Few columns are lists of diffs. A function of its own, so that what reads a value stays small enough to be inlined.
+#[inline(never)]
+fn decode_outlined<'a>(column: &Column, buf: &mut ParseBuf<'a>) -> Result<Value<'a>, ValueFault>
+    ensures content { Decodes buf.new (decoded_content result) ((content_in (layout_of (typed_of column.now))).reads buf.old) }
+    ensures meaning { IfOk result (λ value. meaning_of value ≡ meaning_in (typed_of column.now)) }
+{
+    Value::decode(column, buf)
 }
 
 /// The diffs in a value of a JSON column.

@@ -44,9 +44,9 @@ pub(crate) fn visit_columns<T: ColumnVisitor>(
         let is_present = bits.is_present();
         match ColumnValue::read(&column, &bits, &diffs, buf) {
             Ok(value) => {
+                visitor.visit_column(kind, index, value);
                 bits.advance(is_present);
                 advance_diffs(&mut diffs, &column);
-                visitor.visit_column(kind, index, value);
             }
             Err(fault) => {
                 return Err(ImageError {

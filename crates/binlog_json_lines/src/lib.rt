@@ -26,4 +26,5 @@ pub use binlog_filters::{is_row_event, table_id};
 pub use lines::{EventLine, JsonLines};
 pub use options::LineOptions;
 pub use part_members::PartPlace;
+pub use row_members::write_metadata;
 pub use writer::JsonWriter;

@@ -81,8 +81,12 @@ fn are_bytes(bytes: &[u8])
     ensures { IsBytes bytes.now }
 {}
 
-// Writes the member for the first field of the optional metadata that is refused, if one is.
-fn write_metadata(
+/// Writes the member `metadata` for the first field of a table map's optional metadata that is refused; nothing if none is.
+///
+/// # Errors
+///
+/// [`AllocError`] if an allocation fails.
+pub fn write_metadata(
     line: &mut Line,
     refusal: &Option<OptionalMetadataError>,
 ) -> Result<(), AllocError>

@@ -27,6 +27,18 @@ pub(crate) fn read_number(len: usize, buf: &mut ParseBuf<'_>) -> Result<u64, Val
     Ok(number)
 }
 
+/// Takes a little-endian number, as [`read_number`] does.
+// A function of its own, so that the reading of any value stays small enough to be inlined.
+#[inline(never)]
+pub(crate) fn read_number_outlined(len: usize, buf: &mut ParseBuf<'_>) -> Result<u64, ValueFault>
+    requires low { 1 ≤ len }
+    requires high { len ≤ 8 }
+    ensures number { Decodes buf.new result (number_at len buf.old) }
+    ensures small { IfOk result (λ number. number < 256 ^ len) }
+{
+    read_number(len, buf)
+}
+
 /// The little-endian number of the first `len` bytes, 1 to 8.
 #[tactic(auto, using(crate::proofs::Loads::little_loaded, crate::proofs::Loads::little_small))]
 #[inline(always)]
@@ -207,7 +219,7 @@ fn is_time2(digits: u8, number: u64) -> bool
 }
 
 /// Takes this many bits, 1 to 64, from the start of `buf`.
-#[inline(always)]
+#[inline(never)]
 pub(crate) fn read_bits(count: u8, buf: &mut ParseBuf<'_>) -> Result<u64, ValueFault>
     requires low { 1 ≤ count }
     requires high { count ≤ 64 }
@@ -250,7 +262,7 @@ pub(crate) fn read_datetime2(digits: u8, buf: &mut ParseBuf<'_>) -> Result<u64, 
 }
 
 /// Takes the number of a TIME2 from the start of `buf`.
-#[inline(always)]
+#[inline(never)]
 pub(crate) fn read_time2(digits: u8, buf: &mut ParseBuf<'_>) -> Result<u64, ValueFault>
     requires { digits ≤ 6 }
     ensures { Decodes buf.new result ((time2 digits).reads buf.old) }
@@ -289,8 +301,22 @@ pub(crate) fn read_counted<'a>(
     take(len as usize, buf)
 }
 
+/// Takes bytes after their length, as [`read_counted`] does.
+#[inline(never)]
+pub(crate) fn read_counted_outlined<'a>(
+    prefix: usize,
+    max: u64,
+    buf: &mut ParseBuf<'a>,
+) -> Result<&'a [u8], ValueFault>
+    requires low { 1 ≤ prefix }
+    requires high { prefix ≤ 4 }
+    ensures { Decodes buf.new (bytes_now result) ((counted prefix (λ n. nat_le n max)).reads buf.old) }
+{
+    read_counted(prefix, max, buf)
+}
+
 /// Takes bytes, a multiple of four, after their length in `prefix` bytes, from the start of `buf`.
-#[inline(always)]
+#[inline(never)]
 pub(crate) fn read_vector<'a>(prefix: usize, buf: &mut ParseBuf<'a>) -> Result<&'a [u8], ValueFault>
     requires low { 1 ≤ prefix }
     requires high { prefix ≤ 4 }

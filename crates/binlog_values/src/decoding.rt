@@ -28,7 +28,7 @@ pub(crate) fn read_integer<'a>(size: u8, buf: &mut ParseBuf<'_>) -> Result<Value
 pub(crate) fn read_float<'a>(buf: &mut ParseBuf<'_>) -> Result<Value<'a>, ValueFault>
     ensures { DecodesBy decoders.Float buf.old result buf.new }
 {
-    let bits = content::read_number(4, buf)? as u32;
+    let bits = content::read_number_outlined(4, buf)? as u32;
     Ok(Value::Float(Float { bits }))
 }
 
@@ -55,7 +55,7 @@ pub(crate) fn read_date<'a>(buf: &mut ParseBuf<'_>) -> Result<Value<'a>, ValueFa
 pub(crate) fn read_year<'a>(buf: &mut ParseBuf<'_>) -> Result<Value<'a>, ValueFault>
     ensures { DecodesBy decoders.Year buf.old result buf.new }
 {
-    let byte = content::read_number(1, buf)? as u8;
+    let byte = content::read_number_outlined(1, buf)? as u8;
     Ok(Value::Year(Year { byte }))
 }
 
@@ -64,7 +64,7 @@ pub(crate) fn read_year<'a>(buf: &mut ParseBuf<'_>) -> Result<Value<'a>, ValueFa
 pub(crate) fn read_timestamp<'a>(buf: &mut ParseBuf<'_>) -> Result<Value<'a>, ValueFault>
     ensures { DecodesBy decoders.Timestamp buf.old result buf.new }
 {
-    let seconds = content::read_number(4, buf)?;
+    let seconds = content::read_number_outlined(4, buf)?;
     Ok(Value::Timestamp(seconds))
 }
 
@@ -73,7 +73,7 @@ pub(crate) fn read_timestamp<'a>(buf: &mut ParseBuf<'_>) -> Result<Value<'a>, Va
 pub(crate) fn read_time<'a>(buf: &mut ParseBuf<'_>) -> Result<Value<'a>, ValueFault>
     ensures { DecodesBy decoders.Time buf.old result buf.new }
 {
-    let bits = content::read_number(3, buf)?;
+    let bits = content::read_number_outlined(3, buf)?;
     Ok(Value::Time(Time { bits }))
 }
 
@@ -82,7 +82,7 @@ pub(crate) fn read_time<'a>(buf: &mut ParseBuf<'_>) -> Result<Value<'a>, ValueFa
 pub(crate) fn read_datetime<'a>(buf: &mut ParseBuf<'_>) -> Result<Value<'a>, ValueFault>
     ensures { DecodesBy decoders.DateTime buf.old result buf.new }
 {
-    let digits = content::read_number(8, buf)?;
+    let digits = content::read_number_outlined(8, buf)?;
     Ok(Value::DateTime(DateTime { digits }))
 }
 
@@ -104,7 +104,7 @@ pub(crate) fn read_set<'a>(size: u8, buf: &mut ParseBuf<'_>) -> Result<Value<'a>
     requires most { size ≤ 8 }
     ensures { DecodesBy (decoders.Set size) buf.old result buf.new }
 {
-    let members = content::read_number(usize::from(size), buf)?;
+    let members = content::read_number_outlined(usize::from(size), buf)?;
     Ok(Value::Set(members))
 }
 
@@ -201,7 +201,7 @@ pub(crate) fn read_json<'a>(
     requires most { prefix ≤ 4 }
     ensures { DecodesBy (decoders.Json prefix max) buf.old result buf.new }
 {
-    let bytes = content::read_counted(usize::from(prefix), u64::from(max), buf)?;
+    let bytes = content::read_counted_outlined(usize::from(prefix), u64::from(max), buf)?;
     Ok(Value::Json(bytes))
 }
 
@@ -216,7 +216,7 @@ pub(crate) fn read_geometry<'a>(
     requires most { prefix ≤ 4 }
     ensures { DecodesBy (decoders.Geometry prefix max) buf.old result buf.new }
 {
-    let bytes = content::read_counted(usize::from(prefix), u64::from(max), buf)?;
+    let bytes = content::read_counted_outlined(usize::from(prefix), u64::from(max), buf)?;
     Ok(Value::Geometry(bytes))
 }
 
@@ -231,7 +231,7 @@ pub(crate) fn read_compressed<'a>(
     requires most { prefix ≤ 4 }
     ensures { DecodesBy (decoders.Compressed prefix max) buf.old result buf.new }
 {
-    let bytes = content::read_counted(usize::from(prefix), u64::from(max), buf)?;
+    let bytes = content::read_counted_outlined(usize::from(prefix), u64::from(max), buf)?;
     Ok(Value::Compressed(bytes))
 }
 

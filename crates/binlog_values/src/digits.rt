@@ -143,7 +143,7 @@ fn groups_fit(bytes: &[u8], at: usize, count: u8, tail: u8) -> bool
 #[tactic(auto, using(crate::specs::DecimalLaws::decimal_count))]
 /// Whether these bytes, as many as a decimal number of this precision and scale has, are one: each of its groups has to
 /// be a number with as many digits as the group has.
-#[inline(always)]
+#[inline(never)]
 pub(crate) fn is_decimal(precision: u8, scale: u8, bytes: &[u8]) -> bool
     requires high { precision ≤ 65 }
     requires scale { scale ≤ precision }

@@ -6,4 +6,4 @@ use Rattle.binlog_declared_columns.proofs.completion.contradiction.Given as goal
 
 -- The columns so far don't contradict the file.
 abbrev pub invariant-loop-index : goal.invariant-loop-index
-invariant-loop-index l = (index : ℕ) → index < l.index → fits_at l.states_signs (map typed_of l.columns) (all_facts l.facts) (map described l.declared) index ≡ true
+invariant-loop-index l = (index : ℕ) → index < l.index → fits_at l.is_maria_log l.states_signs (map typed_of l.columns) (all_facts l.facts) (map described l.declared) index ≡ true

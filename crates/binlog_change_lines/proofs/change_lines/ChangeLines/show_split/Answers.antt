@@ -5,5 +5,5 @@ use Rattle.binlog_change_lines.proofs.change_lines.ChangeLines.show_split.Goals 
 pub returns : goal.returns
 returns c =
     let head = c.args.head.now in
-    let written = rw c.deref.ensures.value at (c.in_ok-write_rows.ensures c.requires.bytes) in
-    row_refused head.body.now head.table_map.now (head_in head) c.in_ok-facts.facts.columns.items c.args.rows c.in_ok-write_rows.field-0 _ c.requires.rows c.if-branch.false written
+    row_refused head.body.now head.table_map.now (head_in head c.in_ok-facts.facts.refusal) c.in_ok-facts.facts.columns.items c.args.rows c.in_ok-write_rows.field-0 _ c.requires.rows c.if-branch.false
+    (c.in_ok-write_rows.ensures c.requires.bytes)

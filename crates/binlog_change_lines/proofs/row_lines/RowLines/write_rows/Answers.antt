@@ -12,8 +12,9 @@ use Rattle.binlog_change_lines.proofs.row_lines.RowLines.write_rows.Goals as goa
 
 pub rows-preserved : goal.rows-preserved
 rows-preserved c =
-    let head = head_in c.args.head.now in
-    let columns = c.args.columns.now in
+    let facts = c.args.facts.now in
+    let head = head_in c.args.head.now facts.refusal in
+    let columns = facts.columns.items in
     let so_far = c.rows.yielded in
     let more = one_more head columns (map answer_row so_far) (answer_row c.in-Some.row) c.rows.all_read c.in_ok-is_read.is_read c.rows.self.text.items c.write_item.new.self.text.items c.rows.invariant c.in_ok-is_read.ensures in
     rw c.both-all_read.ensures (subst (λ (items : List (Result RowCells RowsError)). SoFar head columns items (c.rows.all_read && c.in_ok-is_read.is_read) c.write_item.new.self.text.items)

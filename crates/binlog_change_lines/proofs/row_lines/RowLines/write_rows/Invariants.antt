@@ -5,4 +5,4 @@ use Rattle.binlog_change_lines.proofs.Lines.{SoFar}
 use Rattle.binlog_change_lines.proofs.row_lines.RowLines.write_rows.Given as goal
 
 abbrev pub invariant-rows : goal.invariant-rows
-invariant-rows l = SoFar (head_in l.head) l.columns (map answer_row l.yielded) l.all_read l.self.text.items
+invariant-rows l = SoFar (head_in l.head l.facts.refusal) l.facts.columns.items (map answer_row l.yielded) l.all_read l.self.text.items

@@ -1,7 +1,7 @@
 use Rattle.std.proofs.Common.{◌≡◌}
 use Rattle.binlog_json_lines.specs.Options.{options_of}
 use Rattle.binlog_items.proofs.Lines.{AreWritten}
-use Rattle.binlog_items.proofs.json.write_items.Given as goal
+use Rattle.binlog_items.proofs.json.write_items_by.Given as goal
 
 abbrev pub invariant-loop-item : goal.invariant-loop-item
 invariant-loop-item l = record {

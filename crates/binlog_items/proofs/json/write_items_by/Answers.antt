@@ -1,7 +1,6 @@
 use Rattle.std.proofs.Common.{◌∙◌, arith}
 use Rattle.binlog_items.proofs.Lines.{same_item, one_written, all_written, no_room, next_refused}
-use Rattle.binlog_items.proofs.json.write_items.Goals as goal
-use Rattle.binlog_items.proofs.json.write_items.Goals.{else-loop-item-test, then-loop-item-test+in-Ok+then-line-text}
+use Rattle.binlog_items.proofs.json.write_items_by.Goals as goal
 
 pub returns-in-Err : goal.returns-in-Err
 returns-in-Err c =
@@ -22,11 +21,13 @@ loop-item-preserved c =
           c.copy_from_slice.ensures.after;
     }
 
-pub returns : goal.returns
-returns c = elim c.loop-item-test.branch [
-  | else-loop-item-test w ↦
-      all_written _ _ _ _ _ _ _ _ _ c.loop-item.invariant.written (omega (arith, c.loop-item.invariant.counted, w.loop-item-test.false, c.loop-item.auto.item-index-end))
-  | then-loop-item-test+in-Ok+then-line-text w ↦
-      no_room _ _ _ _ _ _ _ _ _ _ _ c.loop-item.invariant.written (omega (arith, c.loop-item.invariant.counted, w.loop-item-test.true))
-      (same_item c.args.items.now c.loop-item.count c.loop-item.item-index _ c.loop-item.invariant.counted w.loop-item-test.true) (rw c.loop-item.invariant.log at w.in-Ok.ensures.line) (omega (arith, w.if-line-text.true))
-]
+pub returns-then-line-text : goal.returns-then-line-text
+returns-then-line-text c =
+    let counted = c.loop-item.invariant.counted in
+    let there = c.loop-item-test.true in
+    no_room _ _ _ _ _ _ _ _ _ _ _ c.loop-item.invariant.written (omega (arith, counted, there)) (same_item c.args.items.now c.loop-item.count c.loop-item.item-index _ counted there)
+    (rw c.loop-item.invariant.log at c.in-Ok.ensures.line) (omega (arith, c.if-line-text.true))
+
+pub returns-after-loop-item : goal.returns-after-loop-item
+returns-after-loop-item c =
+    all_written _ _ _ _ _ _ _ _ _ c.loop-item.invariant.written (omega (arith, c.loop-item.invariant.counted, c.loop-item-test.false, c.loop-item.auto.item-index-end))

@@ -1,0 +1,2 @@
+mod BoxParts
+mod Caches
