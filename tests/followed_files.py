@@ -774,6 +774,22 @@ def repeated(program, folder):
     run.end()
 
 
+def states_and_positions(program, folder):
+    """A run that goes on in the next file takes all of its positions."""
+    front, second = log(PLAIN, XID), log(PLAIN)
+    first = front + rotate(b"log.000002")
+    (folder / "log.000001").write_bytes(first)
+    (folder / "log.000002").write_bytes(second)
+    words = ("--state", "state", "--start-position", str(len(front)), "log.000001")
+    run = followed(program, folder, *words)
+    yield run.wrong_lines(lines_of(first)[len(lines_of(front)) :], lines_of(second))
+    run.end()
+    (folder / "log.000002").write_bytes(second + XID)
+    run = followed(program, folder, *words)
+    yield run.wrong_lines(lines_of(second + XID)[len(lines_of(second)) :])
+    run.end()
+
+
 def states(program, folder):
     """A state that can't be read, that of another log, and a second run with the same one, are refused; nothing is changed then."""
     content = log(PLAIN, XID)
@@ -872,7 +888,7 @@ def mirrored(program, folder):
 
 
 SCENES = [mirrored, late, byte_by_byte, rotations, checksums, prefixes, stops, stays, refused, named_behind, damages, several, filters, compact_rows]
-SCENES += [crashes, other_lists, late_lists, old_files, new_lists, tables, large_tables, last_table, wrong_periods, transactions, begun_again, other_log, zeros, killed_runs("list"), killed_runs("json"), killed_at_once, repeated, states, early_starts, unwritten_states, short_outputs]
+SCENES += [crashes, other_lists, late_lists, old_files, new_lists, tables, large_tables, last_table, wrong_periods, transactions, begun_again, other_log, zeros, killed_runs("list"), killed_runs("json"), killed_at_once, repeated, states_and_positions, states, early_starts, unwritten_states, short_outputs]
 SCENES += [cut_at(cut) for cut in range(len(sealed(rotate(b"log.000002"))))]
 
 
