@@ -745,7 +745,8 @@ def killed_at_once(program, folder):
             yield None if run.wait(PATIENCE) == -signal.SIGXFSZ else "it isn't killed"
             yield None if (folder / output).read_bytes() == wanted[:limit] else f"other lines before a kill at {limit} bytes"
         run = with_state(program, folder, output, "log.000001", command="list")
-        is_written = is_within(PATIENCE, lambda: (folder / output).stat().st_size >= len(wanted))
+        is_saved = lambda: b"position %d\n" % len(content) in (folder / "state").read_bytes()
+        is_written = is_within(PATIENCE, lambda: (folder / output).stat().st_size >= len(wanted) and is_saved())
         time.sleep(WAIT)
         run.kill()
         run.wait()
