@@ -57,7 +57,8 @@ class Columns(unittest.TestCase):
             binlog.Log(LOG, columns=io.StringIO(FILE.decode()))
 
     def test_random_logs(self):
-        """Lines one by one, and all lines, are those of a model; the tables that contradict the file have a warning each, but one for equal texts."""
+        """Lines one by one, and all lines, are those of a model; the tables that contradict the file have a warning each, and one where their
+        names read alike, as those of `b.c` in `a` and of `c` in `a.b`."""
         for name, text, content, expected in declared_columns.single_files(100):
             with self.subTest(name), warnings.catch_warnings(record=True) as caught:
                 warnings.simplefilter("always")
@@ -68,7 +69,6 @@ class Columns(unittest.TestCase):
                 self.assertEqual([event.line(index) for index, event in enumerate(log)], lines)
                 self.assertEqual(len(caught), len(said))
                 self.assertIsNone(expected.compared(b"".join(lines), None))
-                # A name with a dot in it may be told as another table's.
                 wanted = {
                     f"table {schema.decode()}.{table.decode()}: column {column} contradicts the file of columns, which isn't used for this table"
                     for (schema, table), column in expected.contradictions.items()
