@@ -1,6 +1,5 @@
 //! The columns of a table, in order.
-ghost use Rattle.std.specs.Prelude.{◌≡◌, None, Some, MatchResult, [], length, map};
-ghost use Rattle.std.specs.Iterator.{YieldsFirstBy};
+ghost use Rattle.std.specs.Prelude.{◌≡◌, None, Some, MatchResult, MatchOption, [], ◌∷◌, length, map};
 ghost use Rattle.binlog_columns.specs.Refusals.{refusal, columns_in};
 
 use crate::column::Column;
@@ -80,23 +79,24 @@ impl<'a> TableColumns<'a> {
         self.known.len() + self.types.len()
     }
 
-    /// Reads the next column of the types and the metadata.
-    #[inline(always)]
-    fn read_next(&mut self) -> Option<Column>
-        requires { self.old.known.now ≡ [] }
-        ensures { YieldsFirstBy typed_of columns_of self.old result self.new }
+    /// Reads the first column of the types and the metadata, if there is one. Returns it with the columns behind it.
+    // By value and by a call, so that going over columns that were read before is small, and needs no iterator in memory.
+    #[inline(never)]
+    fn read_first(self) -> Option<(Column, Self)>
+        requires { self.known.now ≡ [] }
+        ensures { MatchOption result (columns_of self.entry ≡ []) (λ first. columns_of self.entry ≡ typed_of first.0 ∷ columns_of first.1) }
     {
         let (number, types) = self.types.split_first()?;
         let mut rest = ParseBuf(self.metadata);
         let Ok(column) = Column::read(*number, &mut rest) else {
             unreachable!()
         };
-        *self = TableColumns {
+        let behind = TableColumns {
             known: &[],
             types,
             metadata: rest.0,
         };
-        Some(column)
+        Some((column, behind))
     }
 }
 
@@ -115,7 +115,9 @@ impl<'a> Iterator for TableColumns<'a> {
     #[inline(always)]
     fn next(&mut self) -> Option<Column> {
         let Some((column, known)) = self.known.split_first() else {
-            return self.read_next();
+            let (column, behind) = self.read_first()?;
+            *self = behind;
+            return Some(column);
         };
         self.known = known;
         Some(*column)
