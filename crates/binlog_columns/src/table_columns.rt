@@ -1,10 +1,14 @@
 //! The columns of a table, in order.
-ghost use Rattle.std.specs.Prelude.{◌≡◌, None, Some, MatchResult, MatchOption, [], ◌∷◌, length, map};
+ghost use Rattle.std.specs.Prelude.{◌≡◌, None, Some, Ok, MatchResult, [], length, map};
+ghost use Rattle.std.specs.Iterator.{YieldsFirstBy};
+ghost use Rattle.binlog_wire.specs.Reading.{Refuses};
+ghost use Rattle.binlog_columns.specs.Columns.{typed_of};
+ghost use Rattle.binlog_columns.specs.Metadata.{column};
 ghost use Rattle.binlog_columns.specs.Refusals.{refusal, columns_in};
 
 use crate::column::Column;
 use crate::column_error::{ColumnError, ColumnErrorKind, kind_of};
-use binlog_wire::ParseBuf;
+use binlog_wire::{Error, ParseBuf};
 
 /// The columns of a table, in order: an iterator over them. It borrows the types and the metadata of a table map, which it
 /// reads again each time, or columns that were read before. It allocates nothing.
@@ -79,25 +83,40 @@ impl<'a> TableColumns<'a> {
         self.known.len() + self.types.len()
     }
 
-    /// Reads the first column of the types and the metadata, if there is one. Returns it with the columns behind it.
-    // By value and by a call, so that going over columns that were read before is small, and needs no iterator in memory.
-    #[inline(never)]
-    fn read_first(self) -> Option<(Column, Self)>
-        requires { self.known.now ≡ [] }
-        ensures { MatchOption result (columns_of self.entry ≡ []) (λ first. columns_of self.entry ≡ typed_of first.0 ∷ columns_of first.1) }
+    /// Reads the next column of the types and the metadata.
+    #[inline(always)]
+    fn read_next(&mut self) -> Option<Column>
+        requires { self.old.known.now ≡ [] }
+        ensures { YieldsFirstBy typed_of columns_of self.old result self.new }
     {
         let (number, types) = self.types.split_first()?;
-        let mut rest = ParseBuf(self.metadata);
-        let Ok(column) = Column::read(*number, &mut rest) else {
+        let Ok((column, metadata)) = read_column(*number, self.metadata) else {
             unreachable!()
         };
-        let behind = TableColumns {
+        *self = TableColumns {
             known: &[],
             types,
-            metadata: rest.0,
+            metadata,
         };
-        Some((column, behind))
+        Some(column)
     }
+}
+
+/// Takes the metadata of a column from the start of these bytes, as [`Column::read`] does, and returns the bytes after it.
+///
+/// # Errors
+///
+/// Those of [`Column::read`].
+// A call by value, so that what goes over columns that were read before is small, and has them in registers.
+#[inline(never)]
+fn read_column(number: u8, metadata: &[u8]) -> Result<(Column, &[u8]), Error>
+    ensures { MatchResult result
+        (λ first. (column number).reads metadata.now ≡ Ok (typed_of first.0, first.1.now))
+        (λ error. Refuses ⊥ error ((column number).reads metadata.now)) }
+{
+    let mut rest = ParseBuf(metadata);
+    let column = Column::read(number, &mut rest)?;
+    Ok((column, rest.0))
 }
 
 /// The columns from left to right.
@@ -115,9 +134,7 @@ impl<'a> Iterator for TableColumns<'a> {
     #[inline(always)]
     fn next(&mut self) -> Option<Column> {
         let Some((column, known)) = self.known.split_first() else {
-            let (column, behind) = self.read_first()?;
-            *self = behind;
-            return Some(column);
+            return self.read_next();
         };
         self.known = known;
         Some(*column)
