@@ -730,6 +730,7 @@ def new_copies(runner):
     for name in "1.bin", "./1.bin", "linked.bin", "named.bin", "2.bin", ".":
         for logs in ["0.bin", "1.bin"], ["0.bin"], [MISSING]:
             yield from unchanged(runner, ["copy", "-o", name, *logs], FAILED, re.escape(f"binlog: {name}: ") + THERE)
+    yield from unchanged(runner, ["copy", "--start-datetime", "today", "-o", "1.bin", "0.bin"], FAILED, r"binlog: 1\.bin: " + THERE)
     yield from unchanged(runner, ["copy", "-o", "begun.bin", "0.bin"], FAILED, r"binlog: begun\.bin\.part: File exists.*\n")
     yield from unchanged(runner, ["copy", "-o", "/missing/out.bin", "0.bin"], FAILED, "binlog: /missing/out.bin.part: .+\n")
     yield from unchanged(runner, ["copy", "--start-datetime", "today", "-o", "new.bin", "0.bin"], USAGE, "binlog: .+\n")

@@ -1,11 +1,14 @@
 //! The columns of a table, in order.
-ghost use Rattle.std.specs.Prelude.{◌≡◌, None, Some, MatchResult, [], length, map};
+ghost use Rattle.std.specs.Prelude.{◌≡◌, None, Some, Ok, MatchResult, [], length, map};
 ghost use Rattle.std.specs.Iterator.{YieldsFirstBy};
+ghost use Rattle.binlog_wire.specs.Reading.{Refuses};
+ghost use Rattle.binlog_columns.specs.Columns.{typed_of};
+ghost use Rattle.binlog_columns.specs.Metadata.{column};
 ghost use Rattle.binlog_columns.specs.Refusals.{refusal, columns_in};
 
 use crate::column::Column;
 use crate::column_error::{ColumnError, ColumnErrorKind, kind_of};
-use binlog_wire::ParseBuf;
+use binlog_wire::{Error, ParseBuf};
 
 /// The columns of a table, in order: an iterator over them. It borrows the types and the metadata of a table map, which it
 /// reads again each time, or columns that were read before. It allocates nothing.
@@ -87,17 +90,33 @@ impl<'a> TableColumns<'a> {
         ensures { YieldsFirstBy typed_of columns_of self.old result self.new }
     {
         let (number, types) = self.types.split_first()?;
-        let mut rest = ParseBuf(self.metadata);
-        let Ok(column) = Column::read(*number, &mut rest) else {
+        let Ok((column, metadata)) = read_column(*number, self.metadata) else {
             unreachable!()
         };
         *self = TableColumns {
             known: &[],
             types,
-            metadata: rest.0,
+            metadata,
         };
         Some(column)
     }
+}
+
+/// Takes the metadata of a column from the start of these bytes, as [`Column::read`] does, and returns the bytes after it.
+///
+/// # Errors
+///
+/// Those of [`Column::read`].
+// A call by value, so that what goes over columns that were read before is small, and has them in registers.
+#[inline(never)]
+fn read_column(number: u8, metadata: &[u8]) -> Result<(Column, &[u8]), Error>
+    ensures { MatchResult result
+        (λ first. (column number).reads metadata.now ≡ Ok (typed_of first.0, first.1.now))
+        (λ error. Refuses ⊥ error ((column number).reads metadata.now)) }
+{
+    let mut rest = ParseBuf(metadata);
+    let column = Column::read(number, &mut rest)?;
+    Ok((column, rest.0))
 }
 
 /// The columns from left to right.

@@ -1,5 +1,5 @@
 -- Intervals that are ascending and apart are determined by the numbers in them, and so are lines.
-use Rattle.std.proofs.Common.{◌≡◌, ◌⊎◌, inl, inr, ℕ, ◌<◌, ◌≤◌, Bool, true, false, List, [], ◌∷◌, Option, refl, sym, ap, ◌∙◌, arith}
+use Rattle.std.proofs.Common.{◌≡◌, ◌⊎◌, inl, inr, ℕ, ◌<◌, ◌≤◌, Bool, true, false, List, [], ◌∷◌, Option, Some, refl, sym, ap, ◌∙◌, arith}
 use Rattle.std.proofs.lemmas.Bool.{cases_lt, lt-ltb, le-leb}
 use Rattle.std.proofs.lemmas.Bool.Decides.{nat_tests}
 use Rattle.binlog_variable_fields.specs.declared.gno_interval.GnoInterval.{GnoInterval}
@@ -71,4 +71,4 @@ pub lines_are_one : (sid : List ℕ) (tag : Option (List ℕ)) (is js : List Gno
 lines_are_one sid tag is js line other a b same =
     let numbers : is ≡ js = intervals_are_one is js 0 a.apart b.apart same in
     let gaps : a.gaps ≡ b.gaps = intervals_are_one a.gaps b.gaps 0 a.gaps_apart b.gaps_apart (λ n. a.missing n ∙ ap (λ (ks : List GnoInterval). is_missing ks n) numbers ∙ sym (b.missing n)) in
-    a.text ∙ ap (λ (ks : List GnoInterval). group_line sid tag ks a.gaps) numbers ∙ ap (group_line sid tag js) gaps ∙ sym b.text
+    a.text ∙ ap (λ (ks : List GnoInterval). group_line sid tag ks (Some a.gaps)) numbers ∙ ap (λ (ks : List GnoInterval). group_line sid tag js (Some ks)) gaps ∙ sym b.text

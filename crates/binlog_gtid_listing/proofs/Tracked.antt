@@ -99,9 +99,9 @@ record TracksAll (start : Place) (old new : Option (List ℕ)) (groups : List Gt
 
 -- a part of the lines, or a front, behind those of the items
 groups_by : (items : List (Result EventView Error)) (lines : List ℕ) (old mid new : Option (List ℕ)) (error : Error) → Appends old mid (error_lines items)
-    → ((error ≡ Memory) × Appends mid new lines) ⊎ ((error ≡ Writer) × AppendsFront mid new lines)
+    → ((true ≡ true) × (error ≡ Memory) × Appends mid new lines) ⊎ ((error ≡ Writer) × AppendsFront mid new lines)
     → ((error ≡ Memory) × Appends old new (error_lines items ++ lines)) ⊎ ((error ≡ Writer) × AppendsFront old new (error_lines items ++ lines))
-groups_by items lines old mid new error first (inl memory) = inl (memory.0, Appends-trans old mid new _ _ first memory.1)
+groups_by items lines old mid new error first (inl memory) = inl (memory.1, Appends-trans old mid new _ _ first memory.2)
 groups_by items lines old mid new error first (inr writer) = inr (writer.0, front_later _ lines old mid new first writer.1)
 
 some_listed : (start : Place) (old mid new : Option (List ℕ)) (groups : List GtidGroup) (has_errors : Bool) (error : Error)

@@ -31,14 +31,14 @@ abbrev pub intervals_text : List GnoInterval → List ℕ
 intervals_text [] = codes "-"
 intervals_text (i ∷ is) = interval_text i ++ further_text is
 
--- `sid:tag intervals gaps gaps`, the sid as 32 lower-case hexadecimal digits
-abbrev pub group_line : List ℕ → Option (List ℕ) → List GnoInterval → List GnoInterval → List ℕ
-group_line sid tag intervals gaps =
-    encode_lower sid ++ (tag_suffix tag ++ (codes " " ++ (intervals_text intervals ++ (codes " gaps " ++ (intervals_text gaps ++ codes "\n")))))
+-- ` gaps gaps`, or nothing for a line without gaps
+abbrev pub gaps_suffix : Option (List GnoInterval) → List ℕ
+gaps_suffix None = []
+gaps_suffix (Some gaps) = codes " gaps " ++ intervals_text gaps
 
--- `sid:tag intervals`
-abbrev pub numbers_line : List ℕ → Option (List ℕ) → List GnoInterval → List ℕ
-numbers_line sid tag intervals = encode_lower sid ++ (tag_suffix tag ++ (codes " " ++ (intervals_text intervals ++ codes "\n")))
+-- `sid:tag intervals gaps gaps` or `sid:tag intervals`, the sid as 32 lower-case hexadecimal digits
+abbrev pub group_line : List ℕ → Option (List ℕ) → List GnoInterval → Option (List GnoInterval) → List ℕ
+group_line sid tag intervals gaps = encode_lower sid ++ (tag_suffix tag ++ (codes " " ++ (intervals_text intervals ++ (gaps_suffix gaps ++ codes "\n"))))
 
 -- ---- lines
 
@@ -54,13 +54,13 @@ pub record IsGroupLine (sid : List ℕ) (tag : Option (List ℕ)) (intervals : L
   pub gaps : List GnoInterval
   pub gaps_apart : AreApart 0 gaps
   pub missing : (n : ℕ) → is_held gaps n ≡ is_missing intervals n
-  pub text : line ≡ group_line sid tag intervals gaps
+  pub text : line ≡ group_line sid tag intervals (Some gaps)
 
 -- The line of a source and a tag without the numbers that are missing.
 pub record IsNumbersLine (sid : List ℕ) (tag : Option (List ℕ)) (intervals : List GnoInterval) (line : List ℕ) : Type 0 where
   pub tagged : HasTag tag
   pub apart : AreApart 0 intervals
-  pub text : line ≡ numbers_line sid tag intervals
+  pub text : line ≡ group_line sid tag intervals None
 
 -- Either line, by whether it has the numbers that are missing.
 abbrev pub IsLineWith : (has_gaps : Bool) → (sid : List ℕ) (tag : Option (List ℕ)) (intervals : List GnoInterval) (line : List ℕ) → Type 0
@@ -74,26 +74,26 @@ abbrev pub Writes : {T : Type 0} → List ℕ → Option (List ℕ) → Result T
 Writes bytes old (Ok x) new = Appends old new bytes
 Writes bytes old (Err error) new = (error ≡ Writer) × AppendsFront old new bytes
 
--- `IsLine` says what the line of a source, a tag and their numbers is.
-module _ (IsLine : (sid : List ℕ) (tag : Option (List ℕ)) (intervals : List GnoInterval) (line : List ℕ) → Type 0) where
+-- `has_gaps` says whether the lines have the numbers that are missing. Only those take memory.
+module _ (has_gaps : Bool) where
   -- These are the lines of these groups, in their order.
   abbrev pub AreLines : List GtidGroup → List ℕ → Type 0
   AreLines [] lines = lines ≡ []
   AreLines (group ∷ groups) lines =
-      (line : List ℕ) × (rest : List ℕ) × IsLine group.sid group.tag group.gnos line × AreLines groups rest × (lines ≡ line ++ rest)
+      (line : List ℕ) × (rest : List ℕ) × IsLineWith has_gaps group.sid group.tag group.gnos line × AreLines groups rest × (lines ≡ line ++ rest)
 
-  -- A group's line is written; or nothing, where memory ran out.
+  -- A group's line is written; or nothing, where memory ran out for its gaps.
   abbrev pub WritesLine : List ℕ → Option (List ℕ) → List GnoInterval → Option (List ℕ) → Result (Unit {0}) Error → Option (List ℕ) → Type 0
   WritesLine sid tag intervals old answer new =
-      ((answer ≡ Err Memory) × (new ≡ old)) ⊎ ((line : List ℕ) × IsLine sid tag intervals line × Writes line old answer new)
+      ((has_gaps ≡ true) × (answer ≡ Err Memory) × (new ≡ old)) ⊎ ((line : List ℕ) × IsLineWith has_gaps sid tag intervals line × Writes line old answer new)
 
-  -- The lines of the first groups are written, and of the next one nothing where memory ran out, or a front where the
+  -- The lines of the first groups are written, and of the next one nothing where memory ran out for its gaps, or a front where the
   -- writer failed.
   pub record WritesSomeLines (groups : List GtidGroup) (old : Option (List ℕ)) (error : Error) (new : Option (List ℕ)) : Type 0 where
     pub count : ℕ
     pub lines : List ℕ
     pub listed : AreLines (take count groups) lines
-    pub written : ((error ≡ Memory) × Appends old new lines) ⊎ ((error ≡ Writer) × AppendsFront old new lines)
+    pub written : ((has_gaps ≡ true) × (error ≡ Memory) × Appends old new lines) ⊎ ((error ≡ Writer) × AppendsFront old new lines)
 
   -- All lines of the groups are written, or some.
   abbrev pub WritesLines : List GtidGroup → Option (List ℕ) → Result (Unit {0}) Error → Option (List ℕ) → Type 0
@@ -103,10 +103,10 @@ module _ (IsLine : (sid : List ℕ) (tag : Option (List ℕ)) (intervals : List 
 -- ---- with the numbers that are missing
 
 abbrev pub AreGroupLines : List GtidGroup → List ℕ → Type 0
-AreGroupLines groups lines = AreLines IsGroupLine groups lines
+AreGroupLines groups lines = AreLines true groups lines
 
 abbrev pub WritesSomeGroups : List GtidGroup → Option (List ℕ) → Error → Option (List ℕ) → Type 0
-WritesSomeGroups groups old error new = WritesSomeLines IsGroupLine groups old error new
+WritesSomeGroups groups old error new = WritesSomeLines true groups old error new
 
 abbrev pub WritesGroups : List GtidGroup → Option (List ℕ) → Result (Unit {0}) Error → Option (List ℕ) → Type 0
-WritesGroups groups old answer new = WritesLines IsGroupLine groups old answer new
+WritesGroups groups old answer new = WritesLines true groups old answer new

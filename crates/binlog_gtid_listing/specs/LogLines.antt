@@ -6,14 +6,14 @@ use Rattle.binlog_wire.specs.declared.error.Error.TheVariants.{Writer}
 use Rattle.binlog_ends.specs.Counts.{AppendsFront}
 use Rattle.binlog_mariadb.specs.declared.maria_gtid.MariaGtid.{MariaGtid}
 use Rattle.binlog_gtid_sets.specs.declared.gtid_group.GtidGroup.{GtidGroup}
-use Rattle.binlog_gtid_listing.specs.GroupLines.{AreLines, IsLineWith, WritesSomeLines}
+use Rattle.binlog_gtid_listing.specs.GroupLines.{AreLines, WritesSomeLines}
 use Rattle.binlog_gtid_listing.specs.MariaLines.{maria_lines}
 
 -- All lines are written; or those of some groups, or a front of all lines where the writer failed in those of MariaDB's GTIDs. `has_gaps`
--- says whether the lines of the groups have the numbers that are missing.
+-- says whether the lines of the groups have the numbers that are missing; only then memory runs out.
 abbrev pub WritesLogGtids : (has_gaps : Bool) (groups : List GtidGroup) (last others : List MariaGtid) (old : Option (List ℕ)) → Result (Unit {0}) Error → (new : Option (List ℕ)) → Type 0
 WritesLogGtids has_gaps groups last others old (Ok done) new =
-    (lines : List ℕ) × AreLines (IsLineWith has_gaps) groups lines × Appends old new (lines ++ maria_lines others last)
+    (lines : List ℕ) × AreLines has_gaps groups lines × Appends old new (lines ++ maria_lines others last)
 WritesLogGtids has_gaps groups last others old (Err error) new =
-    WritesSomeLines (IsLineWith has_gaps) groups old error new
-    ⊎ ((lines : List ℕ) × AreLines (IsLineWith has_gaps) groups lines × (error ≡ Writer) × AppendsFront old new (lines ++ maria_lines others last))
+    WritesSomeLines has_gaps groups old error new
+    ⊎ ((lines : List ℕ) × AreLines has_gaps groups lines × (error ≡ Writer) × AppendsFront old new (lines ++ maria_lines others last))

@@ -15,7 +15,7 @@ use binlog_maria_gtids::MariaGtidTracker;
 ///
 /// # Errors
 ///
-/// - [`Error::Memory`] where memory ran out for the gaps of a group, after the lines of all groups before.
+/// - [`Error::Memory`], only with `has_gaps`, where memory ran out for the gaps of a group, after the lines of all groups before.
 /// - [`Error::Writer`] where the writer failed; it has a front of the lines.
 pub fn write_log_gtids<W: WriteCounted>(
     gtids: &GtidTracker,

@@ -1,10 +1,10 @@
 //! The parts of a line, each written as soon as it is made. No memory is taken.
-ghost use Rattle.std.specs.Prelude.{◌≡◌, ◌<◌, length, option_copied, decimal};
+ghost use Rattle.std.specs.Prelude.{◌≡◌, ◌<◌, length, IfSome, option_copied, decimal};
 ghost use Rattle.hex.specs.Hex.{encode_lower};
 ghost use Rattle.binlog_gtids.specs.GnoSets.{AreApart};
 ghost use Rattle.binlog_events.specs.Writing.{CountsWriter};
 ghost use Rattle.binlog_listing.specs.Listing.{error_line};
-ghost use Rattle.binlog_gtid_listing.specs.GroupLines.{HasTag, Writes, tag_suffix, interval_text, intervals_text};
+ghost use Rattle.binlog_gtid_listing.specs.GroupLines.{HasTag, Writes, tag_suffix, interval_text, intervals_text, gaps_suffix};
 
 use binlog_file::{Error, GnoInterval, Tag, WriteCounted};
 use binlog_listing::TextLines;
@@ -125,4 +125,22 @@ pub(crate) fn write_intervals<W: WriteCounted>(
         write_interval(interval, output)?;
     }
     Ok(())
+}
+
+/// Writes ` gaps ` and the gaps of a line; nothing for a line without gaps.
+pub(crate) fn write_gaps<W: WriteCounted>(
+    gaps: Option<&[GnoInterval]>,
+    output: &mut W,
+) -> Result<(), Error>
+    requires { IfSome (option_copied gaps) (AreApart 0) }
+    ensures writes { Writes (gaps_suffix (option_copied gaps.entry)) (W.contents output.old) result (W.contents output.new) }
+    ensures writer { CountsWriter result (W.count output.old) (W.count output.new) }
+{
+    match gaps {
+        None => Ok(()),
+        Some(gaps) => {
+            write_part(b" gaps ", output)?;
+            write_intervals(gaps, output)
+        }
+    }
 }

@@ -1,5 +1,5 @@
 //! The lines of JSON of items, by what lines before them left in an object that the caller holds.
-ghost use Rattle.std.specs.Prelude.{◌≡◌, IfOk, IfErr};
+ghost use Rattle.std.specs.Prelude.{◌≡◌, true, IfOk, IfErr};
 ghost use Rattle.binlog_json_lines.specs.Options.{options_of};
 ghost use Rattle.binlog_items.specs.ItemLines.{WritesItem, WritesItems, IsRefusal};
 
@@ -10,7 +10,7 @@ use binlog_line_cache::BinlogCache;
 use std::alloc::Global;
 
 /// Writes the line of an item, as [`write_item`](crate::write_item) does, by what the cache keeps. It keeps what the next line may need,
-/// if there is memory for it.
+/// if it kept something before or there is memory for it.
 ///
 /// # Errors
 ///
@@ -28,6 +28,7 @@ pub fn write_item_cached(
     ensures written { IfOk result (λ len. WritesItem (options_of options.now) log.now item.now table_maps.now index text.old text.new len) }
     ensures refused { IfErr result (λ number. IsRefusal log.now item.now table_maps.now number) }
     ensures same { IfErr result (λ _. text.new ≡ text.old) }
+    ensures kept { cache.old.is_kept ≡ true → cache.new.is_kept ≡ true }
 {
     match cache.take(alloc) {
         Some(mut lines) => {
@@ -49,7 +50,7 @@ pub fn write_item_cached(
 }
 
 /// Writes the lines of the first items, as [`write_items`](crate::write_items) does, by what the cache keeps. It keeps what the next
-/// lines may need, if there is memory for it.
+/// lines may need, if it kept something before or there is memory for it.
 ///
 /// # Errors
 ///
@@ -64,7 +65,8 @@ pub fn write_items_cached(
     text: &mut [u8],
     cache: &mut BinlogCache,
 ) -> WrittenLines
-    ensures { WritesItems (options_of options.now) log.now items.now table_maps.now index text.old text.new result.count result.len result.error }
+    ensures written { WritesItems (options_of options.now) log.now items.now table_maps.now index text.old text.new result.count result.len result.error }
+    ensures kept { cache.old.is_kept ≡ true → cache.new.is_kept ≡ true }
 {
     match cache.take(alloc) {
         Some(mut lines) => {

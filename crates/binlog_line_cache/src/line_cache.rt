@@ -1,5 +1,5 @@
 //! The object that has what is kept.
-ghost use Rattle.std.specs.Prelude.{◌≡◌, false};
+ghost use Rattle.std.specs.Prelude.{◌≡◌, true, false, is_some};
 ghost use Rattle.binlog_json_lines.specs.contracts.lines.JsonLines.{the_row};
 ghost use Rattle.binlog_line_cache.specs.Caches.{boxed_if};
 
@@ -43,7 +43,9 @@ impl BinlogCache {
     }
 
     // The box of these parts is kept.
-    fn of_parts(parts: BoxParts<JsonLines, Global>) -> Self {
+    fn of_parts(parts: BoxParts<JsonLines, Global>) -> Self
+        ensures { result.is_kept ≡ true }
+    {
         let BoxParts { at, alloc: _ } = parts;
         BinlogCache {
             at: at as *mut Opaque,
@@ -52,7 +54,9 @@ impl BinlogCache {
     }
 
     // The parts of the box, if one is kept.
-    fn into_parts(self, alloc: Global) -> Option<BoxParts<JsonLines, Global>> {
+    fn into_parts(self, alloc: Global) -> Option<BoxParts<JsonLines, Global>>
+        ensures { is_some result ≡ self.is_kept }
+    {
         let BinlogCache { at, is_kept } = self;
         if is_kept {
             Some(BoxParts {
@@ -64,9 +68,10 @@ impl BinlogCache {
         }
     }
 
-    /// Takes what is kept. Nothing is kept then.
+    /// Takes what is kept, if anything is. Nothing is kept then.
     pub fn take(&mut self, alloc: Global) -> Option<Box<JsonLines>>
-        ensures { self.new.is_kept ≡ false }
+        ensures came { is_some result ≡ self.old.is_kept }
+        ensures left { self.new.is_kept ≡ false }
     {
         let kept = replace(self, BinlogCache::empty());
         match kept.into_parts(alloc) {
@@ -76,15 +81,19 @@ impl BinlogCache {
     }
 
     /// Keeps these lines. What was kept before is freed.
-    pub fn put(&mut self, alloc: Global, lines: Box<JsonLines>) {
+    pub fn put(&mut self, alloc: Global, lines: Box<JsonLines>)
+        ensures { self.new.is_kept ≡ true }
+    {
         let before = replace(self, BinlogCache::of_parts(BoxParts::of(lines)));
         if let Some(parts) = before.into_parts(alloc) {
             drop(parts.into_box());
         }
     }
 
-    /// Keeps these lines, if there is memory for it. What was kept before is freed.
-    pub fn keep(&mut self, alloc: Global, lines: JsonLines) {
+    /// Keeps these lines, if there is memory for it. What was kept before is freed then; else it stays kept.
+    pub fn keep(&mut self, alloc: Global, lines: JsonLines)
+        ensures { self.old.is_kept ≡ true → self.new.is_kept ≡ true }
+    {
         if let Ok(kept) = Box::new(alloc, lines) {
             self.put(alloc, kept);
         }

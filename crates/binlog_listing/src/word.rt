@@ -27,12 +27,9 @@ impl Word {
         ensures ok { IfOk result (λ word. word ≡ word_of (view_of event.now)) }
         ensures memory { IfErr result (λ e. (e ≡ Memory) × TakesMemoryFor (view_of event.now)) }
     {
-        match event.read_data_in_place(alloc) {
-            Ok(Some(data)) => {
-                drop(data);
-                Ok(Word::Read)
-            }
-            Ok(None) => Ok(Word::Unknown),
+        match event.check_data(alloc) {
+            Ok(true) => Ok(Word::Read),
+            Ok(false) => Ok(Word::Unknown),
             Err(error) => {
                 if error.is_environment_error() {
                     return Err(error);

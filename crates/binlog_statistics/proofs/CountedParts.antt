@@ -10,7 +10,7 @@ use Rattle.binlog_payload_visits.specs.PartVisits.{PartVisitRelation, VisitsAll,
 use Rattle.binlog_payload_visits.specs.declared.spliced.Spliced.{Spliced}
 use Rattle.change_statistics.specs.Counting.{AddsEach}
 use Rattle.change_statistics.specs.Facts.{Fact}
-use Rattle.binlog_statistics.specs.Counting.{CountsItem, CountsPart, AreOfSplicedItems, end_behind}
+use Rattle.binlog_statistics.specs.Counting.{CountsPart, AreOfSplicedItems, end_behind}
 use Rattle.binlog_statistics.specs.SplicedFacts.{AreOneFacts, ArePartFacts, AreFactsInside, AreSplicedFacts, end_of}
 use Rattle.binlog_statistics.specs.declared.counter.Counter.{Counter}
 use Rattle.binlog_statistics.proofs.CountedItems.{Counts, adds_item}

@@ -1,5 +1,5 @@
 -- The GTIDs of transactions as texts.
-use Rattle.std.specs.Prelude.{◌≡◌, ◌⊎◌, ℕ, ◌^◌, nat_le, nat_lt, Bool, true, false, ◌&&◌, List, [], ◌++◌, codes, decimal, Option, Some, None, Result, Ok, Err, if◌then◌else◌}
+use Rattle.std.specs.Prelude.{◌≡◌, ◌⊎◌, ℕ, true, false, List, [], ◌++◌, codes, decimal, Option, Some, None, is_none, Result, Ok, Err, if◌then◌else◌}
 use Rattle.uuid.specs.Text.{hyphenated_text, lower}
 use Rattle.binlog_wire.specs.declared.error.Error.{Error}
 use Rattle.binlog_event_format.specs.Headers.{header_of}
@@ -7,6 +7,7 @@ use Rattle.binlog_events.specs.Events.{EventView}
 use Rattle.binlog_event_data.specs.declared.event_data.EventData.{EventData}
 use Rattle.binlog_event_data.specs.declared.event_data.EventData.TheVariants as mysql
 use Rattle.binlog_gtids.specs.declared.gtid_event.GtidEvent.{GtidEvent}
+use Rattle.binlog_gtid_sets.specs.AddedGtids.{only, bad_gno_in}
 use Rattle.binlog_mariadb.specs.declared.event_data.MariaEventData.{MariaEventData}
 use Rattle.binlog_mariadb.specs.declared.event_data.MariaEventData.TheVariants as maria
 use Rattle.binlog_mariadb.specs.declared.gtid_event.MariaGtidEvent.{MariaGtidEvent}
@@ -25,13 +26,9 @@ tag_part (Some tag) = codes ":" ++ tag
 abbrev pub mysql_text : GtidEvent → List ℕ
 mysql_text e = hyphenated_text lower e.sid ++ tag_part e.tag ++ codes ":" ++ decimal e.gno
 
--- The number of a GTID of MySQL's is from 1 to 2^63 - 1.
-abbrev pub is_gno : ℕ → Bool
-is_gno number = nat_le 1 number && nat_lt number (2 ^ 63)
-
--- The text of such a GTID; empty if its number is none.
+-- The same if a GTID can have its number; empty otherwise.
 abbrev pub known_text : GtidEvent → List ℕ
-known_text e = if is_gno e.gno then mysql_text e else []
+known_text e = if is_none (bad_gno_in (only e.gno)) then mysql_text e else []
 
 -- That of a GTID of MariaDB's: its domain, the server, and the sequence number, with hyphens between.
 abbrev pub maria_text : (server_id : ℕ) → MariaGtidEvent → List ℕ

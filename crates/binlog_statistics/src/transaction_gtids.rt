@@ -1,10 +1,11 @@
 //! The text of the GTID of a transaction.
-ghost use Rattle.std.specs.Prelude.{◌≡◌, ◌++◌, option_copied, OnOk, IsOkUnless};
+ghost use Rattle.std.specs.Prelude.{◌≡◌, ◌++◌, is_none, option_copied, OnOk, IsOkUnless};
 ghost use Rattle.std.specs.String.{string_bytes};
 ghost use Rattle.binlog_wire.specs.declared.error.Error.TheVariants.{Memory};
 ghost use Rattle.binlog_events.specs.EventRefs.{view_of};
+ghost use Rattle.binlog_gtid_sets.specs.AddedGtids.{only, bad_gno_in};
 ghost use Rattle.binlog_filters.specs.Reading.{IsReadAs};
-ghost use Rattle.binlog_statistics.specs.TransactionGtids.{is_gno, known_text, mysql_text, maria_text, text_in, text_read, tag_part, FollowsGtid};
+ghost use Rattle.binlog_statistics.specs.TransactionGtids.{known_text, mysql_text, maria_text, text_in, text_read, tag_part, FollowsGtid};
 
 use binlog_file::{Error, EventData, EventRef, GtidEvent, LogEventData, Tag, read_log_data};
 use binlog_filters::begins_transaction;
@@ -18,7 +19,7 @@ const GNO_END: u64 = 1 << 63;
 
 // Whether a GTID of MySQL's can have this number.
 fn is_gno(number: u64) -> bool
-    ensures { result ≡ is_gno number }
+    ensures { result ≡ is_none (bad_gno_in (only number)) }
 {
     1 <= number && number < GNO_END
 }

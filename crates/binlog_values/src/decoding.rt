@@ -28,7 +28,7 @@ pub(crate) fn read_integer<'a>(size: u8, buf: &mut ParseBuf<'_>) -> Result<Value
 pub(crate) fn read_float<'a>(buf: &mut ParseBuf<'_>) -> Result<Value<'a>, ValueFault>
     ensures { DecodesBy decoders.Float buf.old result buf.new }
 {
-    let bits = content::read_number_outlined(4, buf)? as u32;
+    let bits = content::read_number_outlined(4, buf)?;
     Ok(Value::Float(Float { bits }))
 }
 
@@ -55,7 +55,7 @@ pub(crate) fn read_date<'a>(buf: &mut ParseBuf<'_>) -> Result<Value<'a>, ValueFa
 pub(crate) fn read_year<'a>(buf: &mut ParseBuf<'_>) -> Result<Value<'a>, ValueFault>
     ensures { DecodesBy decoders.Year buf.old result buf.new }
 {
-    let byte = content::read_number_outlined(1, buf)? as u8;
+    let byte = content::read_number_outlined(1, buf)?;
     Ok(Value::Year(Year { byte }))
 }
 

@@ -1,5 +1,5 @@
 //! Floating-point numbers.
-ghost use Rattle.std.specs.Prelude.{◌≡◌, from_bits};
+ghost use Rattle.std.specs.Prelude.{◌≡◌, ◌<◌, ◌^◌, from_bits};
 ghost use Rattle.std.specs.Float.{binary32, binary64};
 
 use std::num::{f32_from_bits_with_nan, f64_from_bits_with_nan};
@@ -7,7 +7,9 @@ use std::num::{f32_from_bits_with_nan, f64_from_bits_with_nan};
 /// The value of a FLOAT column: a floating-point number of four bytes (IEEE 754, binary32).
 #[derive(Clone, Copy, Debug, PartialEq, Eq, Hash)]
 pub struct Float {
-    pub(crate) bits: u32,
+    // Eight bytes, as the numbers of other values have, so that no byte of it lies beside the kind of a `Value`.
+    pub(crate) bits: u64,
+    ghost fits: { bits < 2 ^ 32 },
 }
 
 impl Float {
@@ -15,14 +17,14 @@ impl Float {
     pub fn to_bits(&self) -> u32
         ensures { result ≡ self.now.bits }
     {
-        self.bits
+        self.bits as u32
     }
 
     /// The number; a NaN for the bits of any NaN.
     pub fn to_f32(&self) -> f32
         ensures { result ≡ from_bits binary32 self.now.bits }
     {
-        f32_from_bits_with_nan(self.bits)
+        f32_from_bits_with_nan(self.to_bits())
     }
 }
 

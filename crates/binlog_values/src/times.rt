@@ -40,7 +40,9 @@ impl Date {
 /// The value of a YEAR column.
 #[derive(Clone, Copy, Debug, PartialEq, Eq, Hash)]
 pub struct Year {
-    pub(crate) byte: u8,
+    // Eight bytes, as the numbers of other values have, so that no byte of it lies beside the kind of a `Value`.
+    pub(crate) byte: u64,
+    ghost fits: { byte < 2 ^ 8 },
 }
 
 impl Year {
@@ -52,7 +54,7 @@ impl Year {
         if self.byte == 0 {
             0
         } else {
-            1_900 + u16::from(self.byte)
+            1_900 + self.byte as u16
         }
     }
 }

@@ -22,15 +22,10 @@ returns-in_err-write_intervals-clause-writes g c =
     let p = err_from_is_err_and c.from_residual-in_err-write_intervals.result c.from_residual-in_err-write_intervals.ensures.1 in
     rw (p.1, p.2) (behind_stop _ _ _ _ _ _ c.in_ok-write_sid.ensures.writes (behind_stop _ _ _ _ _ _ c.in_ok-write_tag.ensures.writes (behind_stop _ _ _ _ _ _ c.in_ok-write_part.ensures.writes (stop _ _ _ _ _ c.in_err-write_intervals.ensures.writes))))
 
-pub returns-in_err-write_part-2-clause-writes : goal.returns-in_err-write_part-2-clause-writes
-returns-in_err-write_part-2-clause-writes g c =
-    let p = err_from_is_err_and c.from_residual-in_err-write_part-2.result c.from_residual-in_err-write_part-2.ensures.1 in
-    rw (p.1, p.2) (behind_stop _ _ _ _ _ _ c.in_ok-write_sid.ensures.writes (behind_stop _ _ _ _ _ _ c.in_ok-write_tag.ensures.writes (behind_stop _ _ _ _ _ _ c.in_ok-write_part.ensures.writes (behind_stop _ _ _ _ _ _ c.in_ok-write_intervals.ensures.writes (stop _ _ _ _ _ c.in_err-write_part-2.ensures.writes)))))
-
-pub returns-in_err-write_intervals-2-clause-writes : goal.returns-in_err-write_intervals-2-clause-writes
-returns-in_err-write_intervals-2-clause-writes g c =
-    let p = err_from_is_err_and c.from_residual-in_err-write_intervals-2.result c.from_residual-in_err-write_intervals-2.ensures.1 in
-    rw (p.1, p.2) (behind_stop _ _ _ _ _ _ c.in_ok-write_sid.ensures.writes (behind_stop _ _ _ _ _ _ c.in_ok-write_tag.ensures.writes (behind_stop _ _ _ _ _ _ c.in_ok-write_part.ensures.writes (behind_stop _ _ _ _ _ _ c.in_ok-write_intervals.ensures.writes (behind_stop _ _ _ _ _ _ c.in_ok-write_part-2.ensures.writes (stop _ _ _ _ _ c.in_err-write_intervals-2.ensures.writes))))))
+pub returns-in_err-write_gaps-clause-writes : goal.returns-in_err-write_gaps-clause-writes
+returns-in_err-write_gaps-clause-writes g c =
+    let p = err_from_is_err_and c.from_residual-in_err-write_gaps.result c.from_residual-in_err-write_gaps.ensures.1 in
+    rw (p.1, p.2) (behind_stop _ _ _ _ _ _ c.in_ok-write_sid.ensures.writes (behind_stop _ _ _ _ _ _ c.in_ok-write_tag.ensures.writes (behind_stop _ _ _ _ _ _ c.in_ok-write_part.ensures.writes (behind_stop _ _ _ _ _ _ c.in_ok-write_intervals.ensures.writes (stop _ _ _ _ _ c.in_err-write_gaps.ensures.writes)))))
 
 pub returns-clause-writes : goal.returns-clause-writes
-returns-clause-writes g c = behind _ _ _ _ _ c.write_part-3.result c.in_ok-write_sid.ensures.writes (behind _ _ _ _ _ c.write_part-3.result c.in_ok-write_tag.ensures.writes (behind _ _ _ _ _ c.write_part-3.result c.in_ok-write_part.ensures.writes (behind _ _ _ _ _ c.write_part-3.result c.in_ok-write_intervals.ensures.writes (behind _ _ _ _ _ c.write_part-3.result c.in_ok-write_part-2.ensures.writes (behind _ _ _ _ _ c.write_part-3.result c.in_ok-write_intervals-2.ensures.writes c.write_part-3.ensures.writes)))))
+returns-clause-writes g c = behind _ _ _ _ _ c.write_part-2.result c.in_ok-write_sid.ensures.writes (behind _ _ _ _ _ c.write_part-2.result c.in_ok-write_tag.ensures.writes (behind _ _ _ _ _ c.write_part-2.result c.in_ok-write_part.ensures.writes (behind _ _ _ _ _ c.write_part-2.result c.in_ok-write_intervals.ensures.writes (behind _ _ _ _ _ c.write_part-2.result c.in_ok-write_gaps.ensures.writes c.write_part-2.ensures.writes))))

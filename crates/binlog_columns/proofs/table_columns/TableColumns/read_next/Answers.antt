@@ -5,5 +5,5 @@ use Rattle.binlog_columns.proofs.table_columns.TableColumns.read_next.Goals as g
 
 pub invariant_of-self : goal.invariant_of-self
 invariant_of-self c = record {
-  is_whole = tail_whole c.args.self.now.types.now c.in_ok-number.types.now c.args.self.now.metadata.now c.rest.inside.0.now c.in_ok-number.number.now (typed_of c.in-Ok.column) c.args.self.now.is_whole (search rules) (search rules);
+  is_whole = tail_whole c.args.self.now.types.now c.in_ok-number.types.now c.args.self.now.metadata.now c.in-Ok.metadata.now c.in_ok-number.number.now (typed_of c.in-Ok.column) c.args.self.now.is_whole (search rules) (search rules);
 }
