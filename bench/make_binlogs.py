@@ -360,6 +360,15 @@ def make_kind(folder, kind):
             write_binlog(path, kind, events, target)
 
 
+def make_small(folder, kind, length=SMALL):
+    """Makes the start file of a kind, and the small file, if it isn't there, of this length."""
+    path = folder / f"{kind}_small.binlog"
+    if not path.exists():
+        write_binlog(path, kind, list(KINDS[kind](random.Random(kind))), length)
+    make_start(folder, kind)
+    return path
+
+
 def main(arguments):
     if len(arguments) != 1:
         sys.exit("usage: make_binlogs.py FOLDER")

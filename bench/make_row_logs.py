@@ -24,7 +24,8 @@ from make_binlogs import GTID, QUERY, TABLE_MAP, XID, event, gtid_times, untagge
 import samples  # found by way of make_binlogs
 from row_events import counted, datetime2, decimal, field, first_bits, names
 
-LARGE, SMALL = 100_000_000, 5_000_000
+# What the name of each file of a kind ends with, and its length.
+LENGTHS = {"": 100_000_000, "_small": 5_000_000}
 
 TABLES = 4
 # The id of the first table.
@@ -170,15 +171,14 @@ def maria_start():
 KINDS = {"mysql": (mysql_start, mysql_events, 7), "maria": (maria_start, maria_events, 6)}
 
 
-def make_kind(folder, kind):
+def make_kind(folder, kind, lengths=LENGTHS):
     begin, make_events, count = KINDS[kind]
     events = list(make_events(random.Random("rows")))
     first = list(islice(events, count * TABLES))
-    targets = {f"rows_{kind}": LARGE, f"rows_{kind}_small": SMALL}
-    for name, target in targets.items():
-        path = folder / f"{name}.binlog"
+    for ending, length in lengths.items():
+        path = folder / f"rows_{kind}{ending}.binlog"
         if not path.exists():
-            write_repeated(path, begin(), events, target)
+            write_repeated(path, begin(), events, length)
     write_repeated(folder / f"start_rows_{kind}.binlog", begin(), first, len(begin()) + sum(map(len, first)))
 
 

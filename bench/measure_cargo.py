@@ -9,7 +9,6 @@ hand-written listing, `bench/baseline/target/release/listing_baseline` if it isn
 (README.md). The listings' outputs are compared before. A Markdown table is printed.
 """
 
-import random
 import sys
 from pathlib import Path
 
@@ -23,18 +22,8 @@ KINDS = ["statements", "statements_crc32", "rows", "rows_crc32", "gtids", "maps_
 COLUMNS = ["", "Listing", "Baseline's", "JSON", "GTIDs", "Counts"]
 
 
-def make_small(folder, kind):
-    """Makes the log of a kind, if it isn't there."""
-    path = folder / f"{kind}_small.binlog"
-    if not path.exists():
-        events = list(make_binlogs.KINDS[kind](random.Random(kind)))
-        make_binlogs.write_binlog(path, kind, events, make_binlogs.SMALL)
-    make_binlogs.make_start(folder, kind)
-    return path
-
-
 def row(program, baseline, folder, kind):
-    path = make_small(folder, kind)
+    path = make_binlogs.make_small(folder, kind)
     listing = [program, "list"]
     measure.compare_outputs(listing, [baseline], path)
     counted = [

@@ -4,7 +4,8 @@ mod rows;
 
 use crate::measured::numbers::write_numbers;
 use binlog_file::{
-    BinlogFile, BinlogVersion, Error, EventRef, EventType, GtidEvent, RowsEventOf, TableMapEvent,
+    BinlogFile, BinlogVersion, Error, EventRef, EventType, GtidEvent, ParseBuf, RowsEventOf,
+    TableMapEvent,
 };
 use binlog_rows::{DeleteRows, RowsKind, UpdateRows, WriteRows};
 use binlog_statements::{QueryEvent, StatusVarVal, StatusVars};
@@ -72,10 +73,10 @@ impl Sums {
             Ok(EventType::GTID_EVENT | EventType::GTID_TAGGED_LOG_EVENT) => {
                 self.count_gtid(alloc, event)
             }
-            Ok(EventType::TABLE_MAP_EVENT) => self.count_map(alloc, event),
-            Ok(EventType::WRITE_ROWS_EVENT) => self.count_rows::<WriteRows>(alloc, event),
-            Ok(EventType::UPDATE_ROWS_EVENT) => self.count_rows::<UpdateRows>(alloc, event),
-            Ok(EventType::DELETE_ROWS_EVENT) => self.count_rows::<DeleteRows>(alloc, event),
+            Ok(EventType::TABLE_MAP_EVENT) => self.count_map(event),
+            Ok(EventType::WRITE_ROWS_EVENT) => self.count_rows::<WriteRows>(event),
+            Ok(EventType::UPDATE_ROWS_EVENT) => self.count_rows::<UpdateRows>(event),
+            Ok(EventType::DELETE_ROWS_EVENT) => self.count_rows::<DeleteRows>(event),
             _ => Ok(()),
         }
     }
@@ -86,15 +87,17 @@ impl Sums {
         Ok(())
     }
 
-    fn count_map(&mut self, alloc: Global, event: EventRef<'_>) -> Result<(), Error> {
-        let map: TableMapEvent<'_> = event.read_event(alloc)?;
+    // A table map and a row event go to the end of the data, so nothing is left behind one. `read` is inlined: only the fields
+    // that are summed up are worked out.
+    fn count_map(&mut self, event: EventRef<'_>) -> Result<(), Error> {
+        let map = TableMapEvent::read(event.fde(), &mut ParseBuf(event.data()))?;
         self.rows.count_map(&map);
         Ok(())
     }
 
     // Counts a row event of this kind.
-    fn count_rows<K: RowsKind>(&mut self, alloc: Global, event: EventRef<'_>) -> Result<(), Error> {
-        let rows: RowsEventOf<'_, K> = event.read_event(alloc)?;
+    fn count_rows<K: RowsKind>(&mut self, event: EventRef<'_>) -> Result<(), Error> {
+        let rows = RowsEventOf::<K>::read(event.fde(), &mut ParseBuf(event.data()))?;
         self.rows.count_rows(rows.event());
         Ok(())
     }

@@ -1,0 +1,135 @@
+#!/usr/bin/env python3
+"""Counts the instructions that the proved programs take for an event or a row, and compares each count with its limit.
+
+Usage: instruction_counts.py --proved
+
+The programs are those that are built in crates/NAME/out. The logs are those of the benchmark, of 400,000 bytes each, and valgrind counts
+as bench/README.md says: less what it counts on the start of the log. The limits, in the table LIMITS, are some tenth above what was
+counted last, since functions of the C library differ by the processor. A test each: that a count is within its limit, and that `binlog
+list` takes no more than MOST_TIMES the instructions of `binlog_list`. Each count is printed. Where valgrind isn't there, a line says so,
+nothing is run, and both numbers are 0. The last line is `N passed, M failed`; the exit status is 1 if something failed.
+"""
+
+import argparse
+import shutil
+import sys
+import tempfile
+from pathlib import Path
+from typing import NamedTuple
+
+import programs
+import results
+
+sys.path.insert(0, str(programs.REPOSITORY / "bench"))
+
+import make_binlogs  # noqa: E402  (found by way of the line above)
+import make_row_logs  # noqa: E402
+import measure  # noqa: E402
+import measure_rows  # noqa: E402
+
+LENGTH = 400_000
+# The logs of which rows are counted, and not events.
+OF_ROWS = {"rows_mysql": "mysql"}
+
+
+class Limit(NamedTuple):
+    """The most instructions that a command takes for an event or a row of a log. Its words are those behind the program."""
+
+    program: str
+    words: str
+    log: str
+    most: int
+
+
+LIMITS = [
+    Limit("binlog_list", "", "statements", 530),
+    Limit("binlog_list", "", "rows", 600),
+    Limit("binlog_list", "", "gtids", 1500),
+    Limit("binlog_list", "", "maps_1", 1500),
+    Limit("binlog", "list", "statements", 1320),
+    Limit("binlog", "json", "statements", 1720),
+    Limit("binlog", "stats", "statements", 540),
+    Limit("binlog", "gtids", "statements", 540),
+    Limit("binlog", "json", "rows_mysql", 5750),
+    Limit("probe", "slice-listing", "statements", 1300),
+    Limit("probe", "typed", "statements", 410),
+    Limit("probe", "typed", "maps_1", 900),
+    Limit("probe", "typed", "gtids", 1320),
+    Limit("probe", "verifying", "statements_crc32", 1650),
+    Limit("probe", "row-sums", "rows_mysql", 2050),
+]
+# How many times the instructions of `binlog_list` `binlog list` may take for a statement.
+MOST_TIMES = 2.7
+
+
+def command(program, words=""):
+    return [str(word) for word in programs.proved(program, *words.split())]
+
+
+def make_log(folder, log):
+    if log in OF_ROWS:
+        make_row_logs.make_kind(folder, OF_ROWS[log], {"_small": LENGTH})
+    else:
+        make_binlogs.make_small(folder, log, LENGTH)
+
+
+def rows_between(folder, log):
+    """How many rows the log has behind its start."""
+    paths = [folder / f"{log}_small.binlog", folder / f"start_{log}.binlog"]
+    whole, start = (measure_rows.rows_in(command("probe", "row-sums"), path) for path in paths)
+    return whole - start
+
+
+def counted(limit, folder):
+    """The instructions for an event or a row; None if they couldn't be counted."""
+    words = command(limit.program, limit.words)
+    if limit.log in OF_ROWS:
+        counts = measure_rows.further(lambda path: words, folder, OF_ROWS[limit.log], rows_between(folder, limit.log))
+    else:
+        counts = measure.counts_per_event(words, command("binlog_list"), folder, limit.log, limit.program)
+    return counts[0] if counts else None
+
+
+def failure(limit, count):
+    """None if the count is within the limit, else what is wrong. Prints the count."""
+    name = " ".join([limit.program, *limit.words.split(), "over", limit.log])
+    if count is None:
+        return f"{name}: the instructions couldn't be counted"
+    print(f"{name}: {count:,.0f}, at most {limit.most:,}", flush=True)
+    return None if count <= limit.most else f"{name}: {count:,.0f} instructions, and at most {limit.most:,}"
+
+
+def times_failure(counts):
+    """None if `binlog list` takes few enough instructions beside `binlog_list`, else what is wrong."""
+    ours, least = counts["binlog", "list", "statements"], counts["binlog_list", "", "statements"]
+    if ours is None or least is None:
+        return "binlog list beside binlog_list: the instructions couldn't be counted"
+    print(f"binlog list beside binlog_list: {ours / least:.2f} times, at most {MOST_TIMES}")
+    return None if ours <= MOST_TIMES * least else f"binlog list takes {ours / least:.2f} times what binlog_list takes"
+
+
+def failures(folder):
+    """For each test, None or what is wrong."""
+    counts = {}
+    for limit in LIMITS:
+        make_log(folder, limit.log)
+        counts[limit[:3]] = counted(limit, folder)
+        yield failure(limit, counts[limit[:3]])
+    yield times_failure(counts)
+
+
+def main():
+    parser = argparse.ArgumentParser(description="Compares the instructions that the proved programs take with limits.")
+    parser.add_argument("--proved", action="store_true", required=True, help="the proved programs")
+    parser.parse_args()
+    for program in {limit.program for limit in LIMITS}:
+        if not programs.is_built(command(program)):
+            parser.error(f"no program at {command(program)[0]}")
+    if shutil.which("valgrind") is None:
+        return results.left_out("valgrind isn't there: no instructions are counted.")
+    with tempfile.TemporaryDirectory() as folder:
+        return results.report(failures(Path(folder)))
+
+
+if __name__ == "__main__":
+    sys.exit(main())
