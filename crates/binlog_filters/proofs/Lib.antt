@@ -1,5 +1,8 @@
 pub mod Concerned
 pub mod Followed
+pub mod Flavours
+pub mod Readable
+pub mod Unconditional
 pub mod PassedOn
 pub mod RowsRead
 pub mod Patterns

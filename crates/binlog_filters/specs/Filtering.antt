@@ -5,8 +5,8 @@ use Rattle.binlog_wire.specs.declared.error.Error.TheVariants.{Memory}
 use Rattle.binlog_file.specs.Events.{EventView}
 use Rattle.binlog_file.specs.TableMapsInForce.{TableMaps}
 use Rattle.binlog_visits.specs.Visits.{VisitRelation, RefusalRelation}
-use Rattle.binlog_filters.specs.Places.{behind}
-use Rattle.binlog_filters.specs.Taking.{Takes}
+use Rattle.binlog_filters.specs.Places.{start_of, behind, behind_event}
+use Rattle.binlog_filters.specs.Taking.{Takes, TakesEvent}
 use Rattle.binlog_filters.specs.declared.filtered.Filtered.{Filtered}
 
 module _ {T : Type 0} where
@@ -16,6 +16,13 @@ module _ {T : Type 0} where
     place = record { position = Some 4 };
     state = record filtered.state { is_wanted = is_none filtered.filter.include_gtids; is_in_statement = false };
   }
+
+  -- The filter has gone on behind an event, which it takes or not. The visitor is as it was.
+  pub record GoesBehind (old : Filtered T) (maps : TableMaps) (event : EventView) (taken : Bool) (new : Filtered T) : Type 0 where
+    pub takes : TakesEvent old.filter maps (start_of old.place.position event) old.state event new.state taken
+    pub same : new.filter ≡ old.filter
+    pub visitor : new.visitor ≡ old.visitor
+    pub place : new.place.position ≡ behind_event old.place.position event
 
   -- A visit of the visitor if the item is taken; else it is as it was.
   abbrev pub VisitsIf : VisitRelation T → Bool → VisitRelation T

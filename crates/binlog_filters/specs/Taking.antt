@@ -1,5 +1,5 @@
 -- Which events a filter takes.
-use Rattle.std.specs.Prelude.{◌≡◌, ◌⊎◌, ℕ, ◌+◌, ◌-◌, ◌^◌, min, if◌then◌else◌, ◌==◌, Bool, true, false, ◌&&◌, ◌||◌, not, List, [], ◌∷◌, Option, Some, None, is_none, Result, Ok, Err, nat_le, nat_lt}
+use Rattle.std.specs.Prelude.{◌≡◌, ◌⊎◌, ℕ, ◌+◌, ◌-◌, ◌^◌, min, if◌then◌else◌, ◌==◌, Bool, true, false, ◌&&◌, ◌||◌, not, List, [], ◌∷◌, length, Option, Some, None, is_none, Result, Ok, Err, nat_le, nat_lt}
 use Rattle.std.specs.List.{list_any}
 use Rattle.binlog_wire.specs.declared.error.Error.{Error}
 use Rattle.binlog_wire.specs.declared.error.Error.TheVariants.{Memory, TooShortForChecksum, ChecksumMismatch}
@@ -83,6 +83,11 @@ pub record HasNoCondition (filter : Filter) : Type 0 where
   pub any_table : filter.tables ≡ None
   pub no_exception : filter.is_for_copy ≡ false
   pub no_begin : filter.takes_begins ≡ false
+
+-- The same as a test: no positions, times, server, types, GTIDs or tables are asked for.
+abbrev pub has_no_condition : Filter → Bool
+has_no_condition filter = is_none filter.tables && (is_none filter.include_gtids && (is_none filter.exclude_gtids && ((length filter.types.items == 0)
+    && (is_none filter.server_id && (is_none filter.stop_position && (is_none filter.stop_time && ((filter.start_position == 0) && (filter.start_time == 0))))))))
 
 -- ---- transactions
 

@@ -36,9 +36,8 @@ pub fn shown_name(name: &str) -> &str
 pub struct Reported<'a, E, T> {
     rt: &'a E,
     file: &'a str,
-    // The index of the next item, and where it begins.
+    // The index of the next item. Where it begins is known to the visitor.
     index: u64,
-    place: Place,
     progress: Progress,
     // Whether the file has an error.
     has_errors: bool,
@@ -94,7 +93,6 @@ impl<'a, E: Eprint, T> Reported<'a, E, PayloadFiltered<T>> {
             rt,
             file: "",
             index: 0,
-            place: Place::first(),
             progress: Progress::hidden(),
             has_errors: false,
             is_cut: false,
@@ -144,7 +142,6 @@ impl<'a, E: Eprint, T> Reported<'a, E, PayloadFiltered<T>> {
     {
         self.file = shown_name(file);
         self.index = 0;
-        self.place = Place::first();
         self.progress = progress;
         self.has_errors = false;
         self.is_cut = false;
@@ -160,7 +157,7 @@ impl<'a, E: Eprint, T> Reported<'a, E, PayloadFiltered<T>> {
         if tail_len == 0 {
             return;
         }
-        report_cut(self.rt, self.file, self.place, tail_len);
+        report_cut(self.rt, self.file, self.place(), tail_len);
         self.has_errors = true;
         self.is_cut = true;
     }
@@ -172,7 +169,13 @@ impl<'a, E: Eprint, T> Reported<'a, E, PayloadFiltered<T>> {
 
     /// Writes the message of an error that ended the file, at the next item.
     pub fn report_end(&self, error: &Error) {
-        report(self.rt, self.file, self.index, self.place, error);
+        report(self.rt, self.file, self.index, self.place(), error);
+    }
+
+    // Where the next item begins, as the filter knows it.
+    #[inline(always)]
+    fn place(&self) -> Place {
+        self.visitor.filtered.place
     }
 }
 
@@ -251,12 +254,14 @@ fn add_data(alloc: Global, data: &EventData<'_>) -> Result<(), Error> {
 }
 
 /// A visit is one of the other visitor, and notes an error.
-impl<'a, E: Eprint + AllocGlobal, T: Visitor + Refusing> Visitor for Reported<'a, E, T> {
+impl<'a, E: Eprint + AllocGlobal, T: Visitor + Refusing> Visitor
+    for Reported<'a, E, PayloadFiltered<T>> {
+    ghost use Rattle.binlog_payload_filters.specs.Filtering.{FiltersPayloads, RefusesTaken};
     ghost use Rattle.binlog_inputs.specs.Reports.{Reports};
 
-    ghost visits = { λ old maps index item new. Reports T.visits T.refusals old maps index item new };
+    ghost visits = { λ old maps index item new. Reports (FiltersPayloads T.visits) (λ filtered. T.refusals filtered.filtered.visitor) old maps index item new };
 
-    ghost refuses = { λ old maps index item error new. T.refuses old.visitor maps index item error new.visitor };
+    ghost refuses = { λ old maps index item error new. RefusesTaken T.refuses old.visitor maps index item error new.visitor };
 
     #[inline(always)]
     fn visit_event(
@@ -265,12 +270,12 @@ impl<'a, E: Eprint + AllocGlobal, T: Visitor + Refusing> Visitor for Reported<'a
         event: &EventRef<'_>,
         reader: &EventStreamReader,
     ) -> Result<(), Error> {
-        let place = self.place;
+        let place = self.place();
         let refused = self.visitor.refused();
         self.index = index.saturating_add(1);
-        self.place = place.behind_event(event);
         let answer = self.visitor.visit_event(index, event, reader);
-        self.progress.note(self.rt, self.place.position, self.index);
+        let behind = self.place();
+        self.progress.note(self.rt, behind.position, self.index);
         if self.visitor.refused() != refused {
             self.progress.wipe(self.rt);
             report_refused(self.rt, self.file, index, place, event, reader);
@@ -286,10 +291,9 @@ impl<'a, E: Eprint + AllocGlobal, T: Visitor + Refusing> Visitor for Reported<'a
         reader: &EventStreamReader,
     ) -> Result<(), Error> {
         self.progress.wipe(self.rt);
-        report(self.rt, self.file, index, self.place, error);
+        report(self.rt, self.file, index, self.place(), error);
         self.has_errors = true;
         self.index = index.saturating_add(1);
-        self.place = Place::behind_error();
         self.visitor.visit_error(index, error, reader)
     }
 }
