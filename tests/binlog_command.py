@@ -51,6 +51,19 @@ from damaged_copies import EVENT, MAGIC, PROCESSES_AT_A_TIME, SIZE_OFFSET, frame
 from programs import REPOSITORY
 
 COMMANDS = ("list", "json", "gtids", "verify", "stats", "copy")
+# Words of each command that writes to standard output, to which the names of its logs are added; of those that follow one; and words to
+# which the name of another file that is read is added before.
+TO_OUTPUT = [["list"], ["json"], ["json", "--compact"], ["gtids"], ["verify"], ["verify", "--quiet"], ["stats"], ["copy", "-o", "-"]]
+UNDOING = [["undo", "--dry-run"], ["undo", "-o", "undone.bin"]]
+FOLLOWING = [["list", "--follow"], ["list", "--follow", "--state", "state"], ["json", "--follow"], ["json", "--compact", "--follow"]]
+FOLLOWING += [["stats", "--follow", "--every", "1s"]]
+OTHER_FILES = [["json", "--columns"], ["json", "--compact", "--columns"], ["gtids", "--missing-in"]]
+OTHER_FILES += [[*words, "--later"] for words in UNDOING]
+# How long a run may take that doesn't begin, or has no input.
+SECONDS = 60
+# What is typed on a terminal where the input ends, for each of a few reads.
+END_OF_INPUT = b"\x04" * 4
+
 # The commands that a model has.
 MODELS = (("list", listing_model), ("json", json_model), ("gtids", gtid_model))
 
@@ -130,8 +143,8 @@ class Runner:
     def run(self, words, logs=(), given=b"", **ends):
         for place, log in enumerate(logs):
             (self.folder / f"{place}.bin").write_bytes(log)
-        ends = {"stdout": subprocess.PIPE, "stderr": subprocess.PIPE} | ends
-        return subprocess.run([self.program, *words], cwd=self.folder, input=given, **ends)
+        ends = {"stdout": subprocess.PIPE, "stderr": subprocess.PIPE} | ({} if "stdin" in ends else {"input": given}) | ends
+        return subprocess.run([self.program, *words], cwd=self.folder, **ends)
 
     def check(self, words, wanted, logs=(), given=b""):
         return difference(" ".join(words), self.run(words, logs, given), wanted)
@@ -761,33 +774,55 @@ def unfinished_copies(runner):
             taken.unlink()
 
 
-def copies_to_output(runner):
+def outputs(runner):
     """Standard output isn't added to while it is read, under whichever name."""
     runner.run(["list"], [SAMPLE, GTIDS, b""])
     (runner.folder / "linked.bin").hardlink_to(runner.folder / "1.bin")
     (runner.folder / "named.bin").symlink_to("1.bin")
-    refused = "binlog: standard output is one of the files that are read\n"
     for name in "1.bin", "./1.bin", "linked.bin", "named.bin":
-        with open(runner.folder / "1.bin", "ab") as output:
-            yield from unchanged(runner, ["copy", "-o", "-", "0.bin", name], FAILED, refused, stdout=output)
-    with open(runner.folder / "1.bin", "ab") as output, open(runner.folder / "1.bin", "rb") as log:
-        words = [runner.program, "copy", "-o", "-", "0.bin", "-"]
-        finished = subprocess.run(words, cwd=runner.folder, stdin=log, stdout=output, stderr=subprocess.PIPE)
-    is_right = finished.returncode == FAILED and re.fullmatch(refused, finished.stderr.decode())
-    yield None if is_right else f"copy - >> 1.bin: status {finished.returncode}, {finished.stderr!r}"
-    yield None if (runner.folder / "1.bin").read_bytes() == GTIDS else "copy: a log that is read was added to"
-    # Another file, and what has no bytes of its own.
+        for words in TO_OUTPUT + UNDOING:
+            yield from refused_output(runner, [*words, "0.bin", name])
+        for words in FOLLOWING:
+            yield from refused_output(runner, [*words, name])
+        for words in OTHER_FILES:
+            yield from refused_output(runner, [*words, name, "0.bin"])
+    for words in TO_OUTPUT:
+        for logs in ["0.bin", "-"], ["-"], []:
+            with open(runner.folder / "1.bin", "rb") as log:
+                yield from refused_output(runner, [*words, *logs], stdin=log)
+    yield None if (runner.folder / "1.bin").read_bytes() == GTIDS else "a log that is read was added to"
+    yield from other_outputs(runner)
+
+
+def refused_output(runner, words, **ends):
+    """What is wrong with a run that has to refuse the file `1.bin` as its output."""
     with open(runner.folder / "1.bin", "ab") as output:
-        finished = runner.run(["copy", "-o", "-", "0.bin"], stdout=output)
-    is_right = finished.returncode == FINE and (runner.folder / "1.bin").read_bytes() == GTIDS + SAMPLE
-    yield None if is_right else f"copy 0.bin >> 1.bin: {finished}"
-    ours, theirs = socket.socketpair()
-    with ours, subprocess.Popen([runner.program, "copy", "-o", "-"], stdin=theirs, stdout=theirs) as copying:
-        theirs.close()
-        ours.sendall(SAMPLE)
-        ours.shutdown(socket.SHUT_WR)
-        copied = b"".join(iter(partial(ours.recv, 65536), b""))
-    yield None if copying.returncode == FINE and copied == SAMPLE else f"copy of a socket to itself: status {copying.returncode}"
+        refused = "binlog: standard output is one of the files that are read\n"
+        yield from unchanged(runner, words, FAILED, refused, stdout=output, timeout=SECONDS, **ends)
+
+
+def other_outputs(runner):
+    """Another file, and what has no bytes of its own, are no files that are read."""
+    for words, added in (["copy", "-o", "-"], SAMPLE), (["list"], listing_model.expected(SAMPLE)[0]):
+        (runner.folder / "1.bin").write_bytes(GTIDS)
+        with open(runner.folder / "1.bin", "ab") as output:
+            finished = runner.run([*words, "0.bin"], stdout=output)
+        is_right = finished.returncode == FINE and (runner.folder / "1.bin").read_bytes() == GTIDS + added
+        yield None if is_right else f"{words} 0.bin >> 1.bin: {finished}"
+        ours, theirs = socket.socketpair()
+        with ours, subprocess.Popen([runner.program, *words], stdin=theirs, stdout=theirs) as run:
+            theirs.close()
+            ours.sendall(SAMPLE)
+            ours.shutdown(socket.SHUT_WR)
+            given = b"".join(iter(partial(ours.recv, 65536), b""))
+        yield None if run.returncode == FINE and given == added else f"{words} from a socket to itself: status {run.returncode}"
+        terminal, end = pty.openpty()
+        with open(terminal, "wb", buffering=0) as typed, open(end, "r+b", buffering=0) as shown, open(os.devnull, "r+b") as null:
+            typed.write(END_OF_INPUT)
+            for device in shown, null:
+                finished = runner.run(words, stdin=device, stdout=device, timeout=SECONDS)
+                is_right = finished.returncode == NOT_OPENED and b"standard input: " in finished.stderr
+                yield None if is_right else f"{words} from a device to itself: {finished}"
 
 
 def maria(runner):
@@ -1165,7 +1200,7 @@ def installs(runner):
 
 
 PARTS = (models, damaged, cut_logs, cut_ends, reported, several, filters, positions, gtid_filters, damaged_gtids, names, gtids, maria_gtids, stored, compressed, stats)
-PARTS += (tables, compressed_tables, no_tables, copies, new_copies, copies_to_output, maria, maria_transactions, maria_gtid_filters, no_sets, stored_rows, compact_rows, compact_places, words, ends, progress, followed, installs)
+PARTS += (tables, compressed_tables, no_tables, copies, new_copies, outputs, maria, maria_transactions, maria_gtid_filters, no_sets, stored_rows, compact_rows, compact_places, words, ends, progress, followed, installs)
 
 
 def results_of(build, part):

@@ -16,8 +16,9 @@ from maria_gtid_model import is_maria
 OPERATIONS = {23: "insert", 30: "insert", 24: "update", 31: "update", 39: "update", 25: "delete", 32: "delete"}
 # The events with which a transaction begins: of a GTID of MySQL's, with a tag or without, and of none; of one of MariaDB's.
 GTIDS, ANONYMOUS, MARIA_GTID = (33, 42), 34, 162
-# Events that have their whole lines: those of rows that aren't read, of old servers and MariaDB's compressed ones, and INCIDENT.
-UNREAD, COMPRESSED_ROWS = (20, 21, 22, 26), range(166, 172)
+# Events that have their whole lines: those of rows that aren't read, of old servers, and INCIDENT; and of MariaDB's own the start of
+# encryption and compressed rows.
+WHOLE, WHOLE_OF_MARIA = (20, 21, 22, 26), (164, *range(166, 172))
 
 
 def gtid_text(frame, data, in_force):
@@ -80,9 +81,9 @@ def is_refused(frame, content, found, in_force):
 def is_whole(frame, content, found, in_force):
     """Whether an event that isn't a row event has its whole line."""
     type_number = listing_model.type_number(frame)
-    is_compressed = type_number in COMPRESSED_ROWS and json_model.is_maria_event(frame, in_force)
+    is_of_maria = type_number in WHOLE_OF_MARIA and json_model.is_maria_event(frame, in_force)
     is_unknown = found["data"] is None
-    return is_unknown or is_compressed or type_number in UNREAD or is_refused(frame, content, found, in_force)
+    return is_unknown or is_of_maria or type_number in WHOLE or is_refused(frame, content, found, in_force)
 
 
 def event_lines(place, whole, frame, found, in_force, tables):

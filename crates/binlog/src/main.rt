@@ -1,16 +1,17 @@
 //! Lists, checks, counts and copies the events of binary logs: one program with a command for each.
 #![tactic(auto)]
 
-ghost use Rattle.std.specs.Prelude.{◌≡◌};
+ghost use Rattle.std.specs.Prelude.{◌≡◌, IfErr, OnOk};
 ghost use Rattle.binlog_cli.specs.declared.exit_status.Status.TheVariants.{Usage, Failed};
 ghost use Rattle.clap.specs.Values.{kind_of};
 ghost use Rattle.binlog_inputs.specs.Requests.{EndsUnread};
+ghost use Rattle.binlog_inputs.specs.StandardOutput.{IsApart};
 ghost use Rattle.binlog.specs.Ends.{EndsRefused, IsNoCommand, status_of};
 
 use binlog_cli::{Status, out_of_memory};
 use binlog_event_commands::{changes, commands, copying, gtids, verifying};
 use binlog_following::{StateFile, StateFileError};
-use binlog_inputs::{HostInputs, Request, Terminals};
+use binlog_inputs::{HostInputs, Inputs, Request, Terminals, refuse_output};
 use binlog_statistics_command::stats;
 use binlog_undo_command::{command, run_undo};
 use clap::ArgMatches;
@@ -94,27 +95,46 @@ fn run_command<'a, R: Files<File = File> + Clock + Input + Print + Eprint + Allo
     let request = Request::new(name, matches, terminals);
     let (inputs, output) = (HostInputs::new(rt, None), io::writer(rt));
     match name {
-        "list" => run_lines(rt, name, &request, output),
-        "json" => run_lines(rt, name, &request, output),
+        "list" => run_lines(rt, name, &inputs, &request, output),
+        "json" => run_lines(rt, name, &inputs, &request, output),
         "gtids" => status_of(gtids::gtids(rt, &inputs, &request, output)),
         "verify" => status_of(verifying::verify(rt, &inputs, &request, output)),
         "stats" => status_of(stats(rt, &inputs, &request, output)),
         "copy" => match copying::copy(rt, &inputs, &request, output) {
             Ok(status) | Err(status) => status,
         },
-        "undo" => run_undo(rt, matches, output),
+        "undo" => match undo(rt, &inputs, &request, output) {
+            Ok(status) | Err(status) => status,
+        },
         _ => Status::Usage,
     }
+}
+
+// Runs `undo`, unless standard output, to which it writes its counts, is one of the logs that it reads.
+fn undo<'a, S: Inputs, R: Files + Eprint + AllocGlobal, W: Write + Drop>(
+    rt: &'a R,
+    inputs: &S,
+    request: &Request<'_, 'a>,
+    output: W,
+) -> Result<Status, Status>
+    ensures apart { OnOk result (IsApart (S.has_named inputs.now) (λ name. name.now) request.now.files.now) }
+    ensures later { OnOk result (IsApart (S.has_named inputs.now) (λ name. name.now) request.now.later.now) }
+    ensures err { IfErr result (λ status. status ≡ Failed) }
+{
+    refuse_output(rt, inputs, request.files)?;
+    refuse_output(rt, inputs, request.later)?;
+    Ok(run_undo(rt, request.options, output))
 }
 
 // Runs `list` or `json`, which may follow a log and go on where a state says.
 fn run_lines<'a, R: Files<File = File> + Clock + Input + Eprint + AllocGlobal, W: Write + Drop>(
     rt: &'a R,
     name: &str,
+    inputs: &HostInputs<'a, R>,
     request: &Request<'_, 'a>,
     output: W,
 ) -> Status {
-    let state = match state_of(rt, request) {
+    let state = match state_of(rt, inputs, request) {
         Ok(state) => state,
         Err(status) => return status,
     };
@@ -128,9 +148,11 @@ fn run_lines<'a, R: Files<File = File> + Clock + Input + Eprint + AllocGlobal, W
     }
 }
 
-// The state file that is asked for, if one is. It is that of one log that is followed.
-fn state_of<'a, R: Files<File = File> + Eprint + AllocGlobal>(
+// The state file that is asked for, if one is. It is that of one log that is followed. Opening it may cut standard output back, which
+// isn't that log.
+fn state_of<'a, S: Inputs, R: Files<File = File> + Eprint + AllocGlobal>(
     rt: &'a R,
+    inputs: &S,
     request: &Request<'_, 'a>,
 ) -> Result<Option<StateFile<'a, R>>, Status> {
     let Some(path) = request.state else {
@@ -140,6 +162,7 @@ fn state_of<'a, R: Files<File = File> + Eprint + AllocGlobal>(
         let _ = eprintln!(rt; "binlog: --state is for --follow with one file");
         return Err(Status::Usage);
     }
+    refuse_output(rt, inputs, request.files)?;
     match StateFile::open(rt, path, request.is_synced) {
         Ok(state) => Ok(Some(state)),
         Err(error) => Err(no_state(rt, path, &error)),

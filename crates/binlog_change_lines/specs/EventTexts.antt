@@ -37,8 +37,9 @@ has_mysql_line (mysql.PreGaDeleteRowsEvent bytes) = true
 has_mysql_line (mysql.IncidentEvent event) = true
 has_mysql_line body = false
 
--- Compressed rows, which aren't read.
+-- Compressed rows, which aren't read, and a message that all events behind it are encrypted.
 abbrev pub has_maria_line : MariaEventData → Bool
+has_maria_line (maria.StartEncryptionEvent event) = true
 has_maria_line (maria.RowsCompressedEvent event) = true
 has_maria_line body = false
 

@@ -57,7 +57,7 @@ fn are_bytes(bytes: &[u8])
 {}
 
 // Whether an event with this data, which isn't a row event, has its line: its rows aren't read, those of old servers and compressed ones,
-// or it says that events are lost.
+// or it says that events are lost, or that all behind it are encrypted.
 fn has_line(data: &LogEventData<'_>) -> bool
     ensures { result ≡ has_line data.now }
 {
@@ -68,7 +68,9 @@ fn has_line(data: &LogEventData<'_>) -> bool
             | EventData::PreGaDeleteRowsEvent(_)
             | EventData::IncidentEvent(_),
         ) => true,
-        LogEventData::Maria(MariaEventData::RowsCompressedEvent(_)) => true,
+        LogEventData::Maria(
+            MariaEventData::StartEncryptionEvent(_) | MariaEventData::RowsCompressedEvent(_),
+        ) => true,
         _ => false,
     }
 }
@@ -97,8 +99,9 @@ impl ChangeLines {
     /// all of them can be read by the table map, the one in force for its table id. The whole line of [`JsonLines`] if they can't; if it has
     /// no bytes of rows, since rows of no columns have none; if the
     /// event's type is unknown, or its data can't be read; if it has rows that aren't read, those of old servers and MariaDB's
-    /// compressed ones; and if it is an INCIDENT, which says that events are lost. Nothing for any other event; the events inside a
-    /// compressed transaction have [texts of their own](ChangeLines::part_text).
+    /// compressed ones; and if it is an INCIDENT, which says that events are lost, or a START_ENCRYPTION of MariaDB's, which says that all
+    /// behind it are encrypted. Nothing for any other event; the events inside a compressed transaction have
+    /// [texts of their own](ChangeLines::part_text).
     ///
     /// # Errors
     ///

@@ -1,5 +1,5 @@
 //! The command that writes the rows of logs, a line for each.
-ghost use Rattle.std.specs.Prelude.{◌≡◌, ◌⊎◌, ◌^◌, IfErr, IfOk};
+ghost use Rattle.std.specs.Prelude.{◌≡◌, ◌⊎◌, ◌^◌, IfErr, IfOk, OnOk};
 ghost use Rattle.std.specs.Io.Buffered.{writer_capacity};
 ghost use Rattle.clap.specs.Matches.{found_of};
 ghost use Rattle.binlog_change_lines.specs.Written.{damaged_of, parts_of, writer_of};
@@ -9,15 +9,16 @@ ghost use Rattle.binlog_event_commands.specs.Changes.{ChangesFile, ChangesFiles,
 ghost use Rattle.binlog_event_commands.specs.Columns.{AreColumnFiles, IsUnreadColumns};
 ghost use Rattle.binlog_inputs.specs.Reading.{unless_followed, ShowsFile};
 ghost use Rattle.binlog_inputs.specs.Requests.{StatesTablesOf, lines_capacity};
+ghost use Rattle.binlog_inputs.specs.StandardOutput.{IsApart};
 
 use crate::columns::{read_columns, report_contradictions};
 use binlog_change_lines::ChangeFilter;
-use binlog_cli::{Outcome, Output, Status, filter, out_of_memory};
+use binlog_cli::{Outcome, Status, filter, out_of_memory};
 use binlog_file::{BinlogFileHeader, Error, Retrying};
 use binlog_filters::Filter;
 use binlog_inputs::{
-    CONTENT_LIMIT, Follower, Inputs, Positions, Reading, Reported, Request, follow, goes_on,
-    read_file, report_left_out,
+    CONTENT_LIMIT, Follower, Inputs, Positions, Reading, Reported, Request, begin_output, follow,
+    goes_on, read_file, report_left_out,
 };
 use binlog_json_lines::LineOptions;
 use binlog_payload_filters::PayloadFiltered;
@@ -33,7 +34,7 @@ use std::time::Clock;
 /// # Errors
 ///
 /// The status of a command that can't begin, after its message: [`Status::Usage`] if an option or a file of columns can't be read,
-/// [`Status::Failed`] if there is no memory.
+/// [`Status::Failed`] if there is no memory, or if standard output is one of the files that are read.
 pub fn changes<'a, S: Inputs, R: Clock + Eprint + AllocGlobal, W: Write + Drop>(
     rt: &'a R,
     inputs: &S,
@@ -47,13 +48,16 @@ pub fn changes<'a, S: Inputs, R: Clock + Eprint + AllocGlobal, W: Write + Drop>(
         × AreColumnFiles (λ name. S.bytes inputs.now name.now) request.now.columns.now (writer_of lines).options.files.items
         × (writer_capacity (writer_of lines).output.inner ≡ lines_capacity request.now.reading.is_followed))
         (W.contents writer) ended.0 (W.contents ended.1)) }
+    ensures apart { OnOk result (IsApart (S.has_named inputs.now) (λ name. name.now) request.now.files.now) }
+    ensures columns { OnOk result (IsApart (S.has_named inputs.now) (λ name. name.now) request.now.columns.now) }
     ensures err { IfErr result (λ status. NeverBegins (found_of request.now.options.now) status ⊎ IsUnreadColumns request.now.columns.now status) }
 {
+    let capacity = request.reading.output_capacity();
+    let output = begin_output(rt, inputs, request, capacity, writer)?;
     let files = read_columns(rt, inputs, request.columns)?;
     let mut asked = filter(rt, request.options)?;
     let tables = asked.tables.take();
     let filter = filter(rt, request.options)?;
-    let output = Output::new(rt, request.reading.output_capacity(), writer)?;
     let options = LineOptions {
         keeps_stored: request.keeps_stored,
         files,

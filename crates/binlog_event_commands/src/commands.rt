@@ -1,17 +1,18 @@
 //! The commands that list events. Each is generic over the files that it reads and its writer, which it gives back with its
 //! status. A status in place of a result is that of a command that can't begin.
-ghost use Rattle.std.specs.Prelude.{◌≡◌, ◌⊎◌, ◌^◌, IfErr, IfOk};
+ghost use Rattle.std.specs.Prelude.{◌≡◌, ◌⊎◌, ◌^◌, IfErr, IfOk, OnOk};
 ghost use Rattle.std.specs.Io.Buffered.{writer_capacity};
 ghost use Rattle.clap.specs.Matches.{found_of};
 ghost use Rattle.binlog_cli.specs.FilterWords.{NeverBegins};
 ghost use Rattle.binlog_event_commands.specs.Columns.{AreColumnFiles, IsUnreadColumns};
 ghost use Rattle.binlog_event_commands.specs.Commands.{WritesShown};
 ghost use Rattle.binlog_inputs.specs.Requests.{StatesTablesOf, lines_capacity};
+ghost use Rattle.binlog_inputs.specs.StandardOutput.{IsApart};
 
 use crate::columns::{read_columns, report_contradictions};
 use binlog_cli::{Output, Status, filter};
 use binlog_file::{Counted, Retrying};
-use binlog_inputs::{CONTENT_LIMIT, Inputs, Request, read_all};
+use binlog_inputs::{CONTENT_LIMIT, Inputs, Request, begin_output, read_all};
 use binlog_json_lines::{JsonWriter, LineOptions};
 use binlog_listing::TextLines;
 use binlog_payload_filters::TakenParts;
@@ -25,7 +26,7 @@ use std::time::Clock;
 /// # Errors
 ///
 /// The status of a command that can't begin, after its message: [`Status::Usage`] if an option can't be read, [`Status::Failed`] if
-/// there is no memory.
+/// there is no memory, or if standard output is one of the files that are read.
 pub fn list<'a, S: Inputs, R: Clock + Eprint + AllocGlobal, W: Write + Drop>(
     rt: &'a R,
     inputs: &S,
@@ -37,6 +38,7 @@ pub fn list<'a, S: Inputs, R: Clock + Eprint + AllocGlobal, W: Write + Drop>(
         ⟦<LineWriter<TextLines, Counted<Output<BufWriter<Retrying<W>>>>> as Visitor>⟧.visits ⟦<LineWriter<TextLines, Counted<Output<BufWriter<Retrying<W>>>>> as Visitor>⟧.refuses (λ lines. 0) (λ lines. lines.output.inner)
         (λ lines. writer_capacity lines.output.inner.inner ≡ lines_capacity request.now.reading.is_followed)
         (W.contents writer) ended.0 (W.contents ended.1)) }
+    ensures apart { OnOk result (IsApart (S.has_named inputs.now) (λ name. name.now) request.now.files.now) }
     ensures err { IfErr result (λ status. NeverBegins (found_of request.now.options.now) status) }
 {
     write_lines(rt, inputs, request, TextLines::new(), writer)
@@ -49,7 +51,7 @@ pub fn list<'a, S: Inputs, R: Clock + Eprint + AllocGlobal, W: Write + Drop>(
 /// # Errors
 ///
 /// The status of a command that can't begin, after its message: [`Status::Usage`] if an option or a file of columns can't be read,
-/// [`Status::Failed`] if there is no memory.
+/// [`Status::Failed`] if there is no memory, or if standard output is one of the files that are read.
 pub fn json<'a, S: Inputs, R: Clock + Eprint + AllocGlobal, W: Write + Drop>(
     rt: &'a R,
     inputs: &S,
@@ -65,10 +67,13 @@ pub fn json<'a, S: Inputs, R: Clock + Eprint + AllocGlobal, W: Write + Drop>(
         × AreColumnFiles (λ name. S.bytes inputs.now name.now) request.now.columns.now spliced.visitor.visitor.visitor.options.files.items
         × (writer_capacity spliced.visitor.visitor.visitor.output.inner ≡ lines_capacity request.now.reading.is_followed))
         (W.contents writer) ended.0 (W.contents ended.1)) }
+    ensures apart { OnOk result (IsApart (S.has_named inputs.now) (λ name. name.now) request.now.files.now) }
+    ensures columns { OnOk result (IsApart (S.has_named inputs.now) (λ name. name.now) request.now.columns.now) }
     ensures err { IfErr result (λ status. NeverBegins (found_of request.now.options.now) status ⊎ IsUnreadColumns request.now.columns.now status) }
 {
+    let capacity = request.reading.output_capacity();
+    let output = begin_output(rt, inputs, request, capacity, writer)?;
     let files = read_columns(rt, inputs, request.columns)?;
-    let output = Output::new(rt, request.reading.output_capacity(), writer)?;
     let options = LineOptions {
         keeps_stored: request.keeps_stored,
         files,
@@ -104,9 +109,11 @@ fn write_lines<
         ⟦<LineWriter<L, Counted<Output<BufWriter<Retrying<W>>>>> as Visitor>⟧.visits ⟦<LineWriter<L, Counted<Output<BufWriter<Retrying<W>>>>> as Visitor>⟧.refuses (λ lines. 0) (λ lines. lines.output.inner)
         (λ lines. writer_capacity lines.output.inner.inner ≡ lines_capacity request.now.reading.is_followed)
         (W.contents writer) ended.0 (W.contents ended.1)) }
+    ensures apart { OnOk result (IsApart (S.has_named inputs.now) (λ name. name.now) request.now.files.now) }
     ensures err { IfErr result (λ status. NeverBegins (found_of request.now.options.now) status) }
 {
-    let output = Output::new(rt, request.reading.output_capacity(), writer)?;
+    let capacity = request.reading.output_capacity();
+    let output = begin_output(rt, inputs, request, capacity, writer)?;
     let lines = LineWriter::new(rt.alloc(), lines, Counted::new(output));
     let (outcome, lines) = read_all(rt, inputs, request, lines)?;
     Ok(lines.into_output().into_inner().finish(rt, outcome))

@@ -1,16 +1,20 @@
 //! The command that prints the GTIDs of logs.
-ghost use Rattle.std.specs.Prelude.{◌≡◌, IfErr, IfOk};
+ghost use Rattle.std.specs.Prelude.{◌≡◌, IfErr, IfOk, OnOk};
+ghost use Rattle.std.specs.Option.{option_to_list};
 ghost use Rattle.clap.specs.Matches.{found_of};
 ghost use Rattle.binlog_cli.specs.FilterWords.{NeverBegins};
 ghost use Rattle.binlog_event_commands.specs.Commands.{WritesGtids};
 ghost use Rattle.binlog_event_commands.specs.Gtids.{is_unread, status_read, WritesSet, WritesDifference, WritesUnless, WritesMissing, WritesWanted};
+ghost use Rattle.binlog_inputs.specs.StandardOutput.{IsApart};
 
-use binlog_cli::{BUFFER_SIZE, Outcome, Output, Status, out_of_memory};
+use binlog_cli::{BUFFER_SIZE, Outcome, Status, out_of_memory};
 use binlog_commands::GtidCollector;
 use binlog_file::{Counted, CountedRef, GtidTracker, Retrying};
 use binlog_filters::Filter;
 use binlog_gtid_listing::{LogGtids, write_log_gtids};
-use binlog_inputs::{Inputs, NoFollower, Reading, Request, outcome_of_lines, read_all, read_taken};
+use binlog_inputs::{
+    Inputs, NoFollower, Reading, Request, begin_output, outcome_of_lines, read_all, read_taken,
+};
 use binlog_maria_gtids::MariaGtidTracker;
 use std::io;
 use std::io::{BufWriter, Write};
@@ -21,7 +25,7 @@ use std::time::Clock;
 /// # Errors
 ///
 /// The status of a command that can't begin, after its message: [`Status::Usage`] if an option can't be read, [`Status::Failed`] if
-/// there is no memory.
+/// there is no memory, or if standard output is one of the files that are read.
 pub fn gtids<'a, S: Inputs, R: Clock + Eprint + AllocGlobal, W: Write + Drop>(
     rt: &'a R,
     inputs: &S,
@@ -30,9 +34,11 @@ pub fn gtids<'a, S: Inputs, R: Clock + Eprint + AllocGlobal, W: Write + Drop>(
 ) -> Result<(Status, W), Status>
     ensures ok { IfOk result (λ ended. WritesGtids ⟦<BufWriter<Retrying<W>> as Write>⟧.contents (found_of request.now.options.now) request.now.reading.is_verified request.now.reading.is_followed
         (λ name. S.bytes inputs.now name.now) request.now.files.now request.now.missing_in (W.contents writer) ended.0 (W.contents ended.1)) }
+    ensures apart { OnOk result (IsApart (S.has_named inputs.now) (λ name. name.now) request.now.files.now) }
+    ensures missing { OnOk result (IsApart (S.has_named inputs.now) (λ name. name.now) (option_to_list request.now.missing_in)) }
     ensures err { IfErr result (λ status. NeverBegins (found_of request.now.options.now) status) }
 {
-    let output = Output::new(rt, BUFFER_SIZE, writer)?;
+    let output = begin_output(rt, inputs, request, BUFFER_SIZE, writer)?;
     let collector = GtidCollector::new(rt.alloc(), Counted::new(output));
     let (read, collector) = read_all(rt, inputs, request, collector)?;
     let mut output = collector.output.into_inner();

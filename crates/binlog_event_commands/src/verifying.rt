@@ -1,5 +1,5 @@
 //! The command that verifies checksums.
-ghost use Rattle.std.specs.Prelude.{◌≡◌, IfErr, IfOk};
+ghost use Rattle.std.specs.Prelude.{◌≡◌, IfErr, IfOk, OnOk};
 ghost use Rattle.clap.specs.Matches.{found_of};
 ghost use Rattle.binlog_wire.specs.declared.error.Error.TheVariants.{Writer};
 ghost use Rattle.binlog_cli.specs.FilterWords.{NeverBegins};
@@ -7,12 +7,14 @@ ghost use Rattle.binlog_cli.specs.declared.exit_status.Status.TheVariants.{Fine}
 ghost use Rattle.binlog_event_commands.specs.Commands.{WritesTallies};
 ghost use Rattle.binlog_inputs.specs.Reading.{unless_followed};
 ghost use Rattle.binlog_event_commands.specs.Verifying.{verifying, has_line, tally_of, HasNothing, WritesLine, VerifiesFile, VerifiesFiles};
+ghost use Rattle.binlog_inputs.specs.StandardOutput.{IsApart};
 
-use binlog_cli::{BUFFER_SIZE, Outcome, Output, Status, filter};
+use binlog_cli::{BUFFER_SIZE, Outcome, Status, filter};
 use binlog_commands::Tally;
 use binlog_file::{Error, Retrying};
 use binlog_inputs::{
-    CONTENT_LIMIT, Inputs, Reading, Reported, Request, read_file, report_left_out, shown_name,
+    CONTENT_LIMIT, Inputs, Reading, Reported, Request, begin_output, read_file, report_left_out,
+    shown_name,
 };
 use binlog_payload_filters::PayloadFiltered;
 use binlog_payload_visits::Checked;
@@ -26,7 +28,7 @@ use std::time::Clock;
 /// # Errors
 ///
 /// The status of a command that can't begin, after its message: [`Status::Usage`] if an option can't be read, [`Status::Failed`] if
-/// there is no memory.
+/// there is no memory, or if standard output is one of the files that are read.
 pub fn verify<'a, S: Inputs, R: Clock + Eprint + AllocGlobal, W: Write + Drop>(
     rt: &'a R,
     inputs: &S,
@@ -35,10 +37,11 @@ pub fn verify<'a, S: Inputs, R: Clock + Eprint + AllocGlobal, W: Write + Drop>(
 ) -> Result<(Status, W), Status>
     ensures ok { IfOk result (λ ended. WritesTallies ⟦<BufWriter<Retrying<W>> as Write>⟧.contents (found_of request.now.options.now) request.now.reading.is_verified request.now.reading.is_followed
         (λ name. S.bytes inputs.now name.now) request.now.files.now request.now.is_quiet (λ name. name.now) (W.contents writer) ended.0 (W.contents ended.1)) }
+    ensures apart { OnOk result (IsApart (S.has_named inputs.now) (λ name. name.now) request.now.files.now) }
     ensures err { IfErr result (λ status. NeverBegins (found_of request.now.options.now) status) }
 {
     let filter = filter(rt, request.options)?;
-    let mut output = Output::new(rt, BUFFER_SIZE, writer)?;
+    let mut output = begin_output(rt, inputs, request, BUFFER_SIZE, writer)?;
     let counts = no_counts(rt.alloc());
     let filtered = PayloadFiltered::new(rt.alloc(), CONTENT_LIMIT, filter, counts);
     let mut reported = Reported::new(rt, filtered);

@@ -26,5 +26,5 @@ pub use progress::Progress;
 pub use reported::{CONTENT_LIMIT, Reported, report_left_out, shown_name};
 pub use request::{Reading, Request, Terminals};
 pub use rotations::{follow, goes_on};
-pub use standard_output::refuse_output;
+pub use standard_output::{begin_output, refuse_output};
 pub use taken::{read_all, read_followed, read_taken};

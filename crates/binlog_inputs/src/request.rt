@@ -80,6 +80,8 @@ pub struct Request<'m, 'a> {
     pub keeps_stored: bool,
     /// The names of the files of columns, in order.
     pub columns: &'m [&'a str],
+    /// The names of the logs behind those that are undone, in order.
+    pub later: &'m [&'a str],
     /// The log whose GTIDs aren't written.
     pub missing_in: Option<&'a str>,
     /// How much time there is between two tables of a log that is followed, as 60s.
@@ -103,6 +105,7 @@ impl<'m, 'a> Request<'m, 'a> {
         ensures compact { Flags (one_text (found_of options.now) (codes "compact")) result.is_compact }
         ensures stored { Flags (one_text (found_of options.now) (codes "stored")) result.keeps_stored }
         ensures columns { map (λ file. file.now) result.columns.now ≡ unwrap_or (option_map raw_values (matched_of (found_of options.now) (codes "columns"))) [] }
+        ensures later { map (λ file. file.now) result.later.now ≡ unwrap_or (option_map raw_values (matched_of (found_of options.now) (codes "later"))) [] }
         ensures missing { option_map (λ file. file.now) result.missing_in ≡ first_value (found_of options.now) (codes "missing-in") }
         ensures every { option_map (λ time. time.now) result.every ≡ first_value (found_of options.now) (codes "every") }
         ensures output { result.output.now ≡ unwrap_or (first_value (found_of options.now) (codes "output")) (codes "-") }
@@ -124,6 +127,7 @@ impl<'m, 'a> Request<'m, 'a> {
             is_compact: options.get_flag("compact"),
             keeps_stored: options.get_flag("stored"),
             columns: options.get_strs("columns").unwrap_or(&[]),
+            later: options.get_strs("later").unwrap_or(&[]),
             missing_in: options.get_str("missing-in"),
             every: options.get_str("every"),
             output: options.get_str("output").unwrap_or("-"),

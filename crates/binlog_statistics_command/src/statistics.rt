@@ -1,9 +1,10 @@
 //! `binlog stats`: what is counted together, and how it is written.
-ghost use Rattle.std.specs.Prelude.{◌≡◌, ◌⊎◌, ℕ, List, Option, Some, None, true, IfErr, IfOk};
+ghost use Rattle.std.specs.Prelude.{◌≡◌, ◌⊎◌, ℕ, List, Option, Some, None, true, IfErr, IfOk, OnOk};
 ghost use Rattle.clap.specs.Matches.{found_of};
 ghost use Rattle.binlog_cli.specs.FilterWords.{NeverBegins};
 ghost use Rattle.binlog_cli.specs.declared.exit_status.Outcome.{Outcome};
 ghost use Rattle.binlog_cli.specs.declared.exit_status.Status.TheVariants.{Usage};
+ghost use Rattle.binlog_inputs.specs.StandardOutput.{IsApart};
 ghost use Rattle.binlog_summaries.specs.Options.{fits, StatesOptions, RefusesOptions};
 ghost use Rattle.binlog_summaries.specs.declared.options.StatsOptions.{StatsOptions};
 ghost use Rattle.binlog_statistics_command.specs.CountedFiles.{CountsFrom, WritesCounts};
@@ -13,10 +14,10 @@ ghost use Rattle.binlog_statistics_command.specs.Statistics.{WritesStats};
 use crate::repeated_stats::{RepeatedStats, period_of};
 use crate::transaction_counter::TransactionCounter;
 use crate::transaction_statistics::DEFAULT_TOP;
-use binlog_cli::{BUFFER_SIZE, Outcome, Output, Status, filter};
+use binlog_cli::{BUFFER_SIZE, Outcome, Status, filter};
 use binlog_commands::SplicedStats;
 use binlog_file::Retrying;
-use binlog_inputs::{CONTENT_LIMIT, Inputs, Request, read_all, read_followed};
+use binlog_inputs::{CONTENT_LIMIT, Inputs, Request, begin_output, read_all, read_followed};
 use binlog_payload_filters::TakenParts;
 use binlog_payload_visits::{Noted, PartVisitor, Spliced};
 use binlog_statistics::Counter;
@@ -52,7 +53,7 @@ pub(crate) trait Statistics: PartVisitor {
 /// # Errors
 ///
 /// The status of a command that can't begin, after its message: [`Status::Usage`] if an option can't be read or isn't for
-/// these statistics, [`Status::Failed`] if there is no memory.
+/// these statistics, [`Status::Failed`] if there is no memory, or if standard output is one of the files that are read.
 pub fn stats<'a, S: Inputs, R: Clock + Eprint + AllocGlobal, W: Write + Drop>(
     rt: &'a R,
     inputs: &S,
@@ -63,6 +64,7 @@ pub fn stats<'a, S: Inputs, R: Clock + Eprint + AllocGlobal, W: Write + Drop>(
         × ((period : Option ℕ) × StatesPeriod request.now.reading.is_followed request.now.files.now request.now.every period
         × WritesStats ⟦<BufWriter<Retrying<W>> as Write>⟧.contents (found_of request.now.options.now) request.now.reading.is_verified request.now.reading.is_followed
         (λ name. S.bytes inputs.now name.now) request.now.files.now period options (W.contents writer) ended.0 (W.contents ended.1))) }
+    ensures apart { OnOk result (IsApart (S.has_named inputs.now) (λ name. name.now) request.now.files.now) }
     ensures err { IfErr result (λ status. NeverBegins (found_of request.now.options.now) status
         ⊎ ((status ≡ Usage) × (RefusesOptions (found_of request.now.options.now) ⊎ RefusesPeriod request.now.reading.is_followed request.now.files.now request.now.every))) }
 {
@@ -83,6 +85,7 @@ fn grouped_stats<'a, S: Inputs, R: Clock + Eprint + AllocGlobal, W: Write + Drop
     requires { fits options ≡ true }
     ensures ok { IfOk result (λ ended. WritesStats ⟦<BufWriter<Retrying<W>> as Write>⟧.contents (found_of request.now.options.now) request.now.reading.is_verified request.now.reading.is_followed
         (λ name. S.bytes inputs.now name.now) request.now.files.now period options (W.contents writer) ended.0 (W.contents ended.1)) }
+    ensures apart { OnOk result (IsApart (S.has_named inputs.now) (λ name. name.now) request.now.files.now) }
     ensures err { IfErr result (λ status. NeverBegins (found_of request.now.options.now) status) }
 {
     match options.grouping {
@@ -126,6 +129,7 @@ fn count<'a, S: Inputs, R: Clock + Eprint + AllocGlobal, T: Statistics + Drop, W
 ) -> Result<(Status, W), Status>
     ensures ok { IfOk result (λ ended. WritesCounts ⟦<BufWriter<Retrying<W>> as Write>⟧.contents (found_of request.now.options.now) request.now.reading.is_verified request.now.reading.is_followed
         (λ name. S.bytes inputs.now name.now) request.now.files.now period T.visits T.visits_part T.refuses T.refuses_part (T.writes options) counter (W.contents writer) ended.0 (W.contents ended.1)) }
+    ensures apart { OnOk result (IsApart (S.has_named inputs.now) (λ name. name.now) request.now.files.now) }
     ensures err { IfErr result (λ status. NeverBegins (found_of request.now.options.now) status) }
 {
     match period {
@@ -151,9 +155,10 @@ fn count_once<
 ) -> Result<(Status, W), Status>
     ensures ok { IfOk result (λ ended. WritesCounts ⟦<BufWriter<Retrying<W>> as Write>⟧.contents (found_of request.now.options.now) request.now.reading.is_verified request.now.reading.is_followed
         (λ name. S.bytes inputs.now name.now) request.now.files.now None T.visits T.visits_part T.refuses T.refuses_part (T.writes options) counter (W.contents writer) ended.0 (W.contents ended.1)) }
+    ensures apart { OnOk result (IsApart (S.has_named inputs.now) (λ name. name.now) request.now.files.now) }
     ensures err { IfErr result (λ status. NeverBegins (found_of request.now.options.now) status) }
 {
-    let mut output = Output::new(rt, BUFFER_SIZE, writer)?;
+    let mut output = begin_output(rt, inputs, request, BUFFER_SIZE, writer)?;
     let start = counting(rt, request, counter)?;
     let (read, mut spliced) = read_all(rt, inputs, request, start)?;
     let counter = &mut spliced.visitor.visitor.visitor;
@@ -180,9 +185,10 @@ fn count_repeatedly<
 ) -> Result<(Status, W), Status>
     ensures ok { IfOk result (λ ended. WritesCounts ⟦<BufWriter<Retrying<W>> as Write>⟧.contents (found_of request.now.options.now) request.now.reading.is_verified request.now.reading.is_followed
         (λ name. S.bytes inputs.now name.now) request.now.files.now (Some seconds) T.visits T.visits_part T.refuses T.refuses_part (T.writes options) counter (W.contents writer) ended.0 (W.contents ended.1)) }
+    ensures apart { OnOk result (IsApart (S.has_named inputs.now) (λ name. name.now) request.now.files.now) }
     ensures err { IfErr result (λ status. NeverBegins (found_of request.now.options.now) status) }
 {
-    let output = Output::new(rt, BUFFER_SIZE, writer)?;
+    let output = begin_output(rt, inputs, request, BUFFER_SIZE, writer)?;
     let start = counting(rt, request, counter)?;
     let mut repeated = RepeatedStats::new(rt, options, seconds, output);
     let (read, mut spliced) = read_followed(rt, inputs, request, start, &mut repeated)?;

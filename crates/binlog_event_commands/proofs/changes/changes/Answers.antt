@@ -19,7 +19,7 @@ returns-clause-ok g c = record {
     (c.in_ok-asked.asked, c.in_ok-asked.ensures.ok, c.new-lines.ensures.tables ∙ c.take-tables.ensures.value),
     rw c.new-lines.ensures.options refl,
     rw c.new-lines.ensures.options c.in_ok-files.ensures.ok,
-    rw c.new-lines.ensures.output (c.in_ok-output.ensures.capacity ∙ c.output_capacity.ensures),
+    rw c.new-lines.ensures.output (c.in_ok-output.ensures.capacity ∙ c.output_capacity-capacity.ensures),
   );
   outcome = c.write_files-lines.result.0;
   behind = c.write_files-lines.result.1;

@@ -17,7 +17,7 @@ returns-clause-ok g c = record {
     (c.in_ok-asked.asked, c.in_ok-asked.ensures.ok, rw (c.new-spliced.ensures.visitor, c.new-noted.ensures) (c.new-taken.ensures.tables ∙ c.take-tables.ensures.value)),
     rw (c.new-spliced.ensures.visitor, c.new-noted.ensures, c.new-taken.ensures.visitor, c.new-lines.ensures.options) refl,
     rw (c.new-spliced.ensures.visitor, c.new-noted.ensures, c.new-taken.ensures.visitor, c.new-lines.ensures.options) c.in_ok-files.ensures.ok,
-    rw (c.new-spliced.ensures.visitor, c.new-noted.ensures, c.new-taken.ensures.visitor, c.new-lines.ensures.output) (c.in_ok-output.ensures.capacity ∙ c.output_capacity.ensures),
+    rw (c.new-spliced.ensures.visitor, c.new-noted.ensures, c.new-taken.ensures.visitor, c.new-lines.ensures.output) (c.in_ok-output.ensures.capacity ∙ c.output_capacity-capacity.ensures),
   );
   outcome = c.in_ok-outcome.outcome;
   behind = c.in_ok-outcome.spliced;
