@@ -54,6 +54,8 @@ RUNS = [
     ("reading otherwise", LOG, b"", FAILURE),
     ("row-sums", ROWS, b"80 0 36 221023899081 6859 12625712440 30830151424016384 201521 129772767139 49548929\n", SUCCESS),
     ("typed", LOG, b"17 498 68 278987 0 0 0 0 0 0 0 0\n", SUCCESS),
+    # As `listing_baseline --typed` of bench/baseline prints them: GTIDs, table maps and row events, too.
+    ("typed", ROWS, b"2 18 8 32822 2 0 5015135542018100 2 158 6 11233 980\n", SUCCESS),
     ("verifying", MISMATCHED, LISTING, DAMAGED),
     ("verifying count", MISMATCHED, b"1\n", DAMAGED),
     ("verifying count", CHECKSUMMED, b"0\n", SUCCESS),

@@ -1,16 +1,18 @@
 #!/usr/bin/env python3
 """Counts the instructions that the proved programs take for an event or a row, and compares each count with its limit.
 
-Usage: instruction_counts.py --proved
+Usage: instruction_counts.py [--table] --proved
 
 The programs are those that are built in crates/NAME/out. The logs are those of the benchmark, of 400,000 bytes each, and valgrind counts
-as bench/README.md says: less what it counts on the start of the log. The limits, in the table LIMITS, are some tenth above what was
-counted last, since functions of the C library differ by the processor. A test each: that a count is within its limit, and that `binlog
-list` takes no more than MOST_TIMES the instructions of `binlog_list`. Each count is printed. Where valgrind isn't there, a line says so,
-nothing is run, and both numbers are 0. The last line is `N passed, M failed`; the exit status is 1 if something failed.
+as bench/README.md says: less what it counts on the start of the log. A test each: that a count is within its limit, and that `binlog
+list` takes no more than MOST_TIMES the instructions of `binlog_list`. Each count is printed. The limits are a tenth above what was
+counted last, since functions of the C library differ by the processor; `--table` prints LIMITS and MOST_TIMES with limits so far above
+the counts, and tests nothing. Where valgrind isn't there, a line says so, nothing is run, and both numbers are 0. The last line is
+`N passed, M failed`; the exit status is 1 if something failed.
 """
 
 import argparse
+import math
 import shutil
 import sys
 import tempfile
@@ -43,11 +45,11 @@ class Limit(NamedTuple):
 
 LIMITS = [
     Limit("binlog_list", "", "statements", 530),
-    Limit("binlog_list", "", "rows", 600),
+    Limit("binlog_list", "", "rows", 680),
     Limit("binlog_list", "", "gtids", 1500),
     Limit("binlog_list", "", "maps_1", 1500),
     Limit("binlog", "list", "statements", 1320),
-    Limit("binlog", "json", "statements", 1720),
+    Limit("binlog", "json", "statements", 1750),
     Limit("binlog", "stats", "statements", 540),
     Limit("binlog", "gtids", "statements", 540),
     Limit("binlog", "json", "rows_mysql", 5750),
@@ -60,6 +62,7 @@ LIMITS = [
 ]
 # How many times the instructions of `binlog_list` `binlog list` may take for a statement.
 MOST_TIMES = 2.7
+ROOM = 1.1
 
 
 def command(program, words=""):
@@ -82,6 +85,7 @@ def rows_between(folder, log):
 
 def counted(limit, folder):
     """The instructions for an event or a row; None if they couldn't be counted."""
+    make_log(folder, limit.log)
     words = command(limit.program, limit.words)
     if limit.log in OF_ROWS:
         counts = measure_rows.further(lambda path: words, folder, OF_ROWS[limit.log], rows_between(folder, limit.log))
@@ -99,36 +103,53 @@ def failure(limit, count):
     return None if count <= limit.most else f"{name}: {count:,.0f} instructions, and at most {limit.most:,}"
 
 
-def times_failure(counts):
-    """None if `binlog list` takes few enough instructions beside `binlog_list`, else what is wrong."""
+def times(counts):
+    """How many times what `binlog_list` takes for a statement `binlog list` takes; None if they couldn't be counted."""
     ours, least = counts["binlog", "list", "statements"], counts["binlog_list", "", "statements"]
-    if ours is None or least is None:
+    return ours / least if ours and least else None
+
+
+def times_failure(found):
+    """None if `binlog list` takes few enough instructions beside `binlog_list`, else what is wrong."""
+    if found is None:
         return "binlog list beside binlog_list: the instructions couldn't be counted"
-    print(f"binlog list beside binlog_list: {ours / least:.2f} times, at most {MOST_TIMES}")
-    return None if ours <= MOST_TIMES * least else f"binlog list takes {ours / least:.2f} times what binlog_list takes"
+    print(f"binlog list beside binlog_list: {found:.2f} times, at most {MOST_TIMES}")
+    return None if found <= MOST_TIMES else f"binlog list takes {found:.2f} times what binlog_list takes"
 
 
-def failures(folder):
-    """For each test, None or what is wrong."""
-    counts = {}
-    for limit in LIMITS:
-        make_log(folder, limit.log)
-        counts[limit[:3]] = counted(limit, folder)
-        yield failure(limit, counts[limit[:3]])
-    yield times_failure(counts)
+def failures(counts):
+    """For each test, None or what is wrong. The counts are those of LIMITS."""
+    kept = {}
+    for limit, count in counts:
+        kept[limit[:3]] = count
+        yield failure(limit, count)
+    yield times_failure(times(kept))
+
+
+def print_table(counts):
+    """Prints the table of limits with room above the counts, in tens."""
+    kept = {}
+    for limit, count in counts:
+        kept[limit[:3]] = count
+        most = math.ceil(count * ROOM / 10) * 10
+        print(f'    Limit("{limit.program}", "{limit.words}", "{limit.log}", {most}),', flush=True)
+    print(f"MOST_TIMES = {times(kept) * ROOM:.1f}")
+    return 0
 
 
 def main():
     parser = argparse.ArgumentParser(description="Compares the instructions that the proved programs take with limits.")
     parser.add_argument("--proved", action="store_true", required=True, help="the proved programs")
-    parser.parse_args()
+    parser.add_argument("--table", action="store_true", help="print the limits that follow from the counts, and test nothing")
+    arguments = parser.parse_args()
     for program in {limit.program for limit in LIMITS}:
         if not programs.is_built(command(program)):
             parser.error(f"no program at {command(program)[0]}")
     if shutil.which("valgrind") is None:
         return results.left_out("valgrind isn't there: no instructions are counted.")
     with tempfile.TemporaryDirectory() as folder:
-        return results.report(failures(Path(folder)))
+        counts = ((limit, counted(limit, Path(folder))) for limit in LIMITS)
+        return print_table(counts) if arguments.table else results.report(failures(counts))
 
 
 if __name__ == "__main__":

@@ -23,11 +23,11 @@ use Rattle.binlog_listing.specs.declared.word.Word.TheVariants as words
 
 read_by : (d : FormatDescriptionEvent) (s : List ℕ) (type : Result EventType UnknownEventType) → ChecksAs d s type (Ok true) → word_by d s type ≡ words.Read
 read_by d s (Err unknown) checks = absurd cc
-read_by d s (Ok type) (known, event, is) = rw is refl
+read_by d s (Ok type) (known, (event, is)) = rw is refl
 
 unknown_by : (d : FormatDescriptionEvent) (s : List ℕ) (type : Result EventType UnknownEventType) → ChecksAs d s type (Ok false) → word_by d s type ≡ words.Unknown
 unknown_by d s (Err unknown) checks = refl
-unknown_by d s (Ok type) (known, event, is) = absurd cc
+unknown_by d s (Ok type) (known, (event, is)) = absurd cc
 
 -- Bytes are left after the value.
 left_over : (r : List ℕ) (x : EventData) (read : Read EventData) → read ≡ Ok (x, r) → 0 < length r → read_whole read ≡ words.Refused
