@@ -1,6 +1,5 @@
 -- Whether a version is one of MariaDB's can be told.
 use Rattle.std.specs.Prelude.{codes, slice_index}
-use Rattle.std.specs.List.{take_while}
 use Rattle.std.proofs.Common.{◌≡◌, ◌⊎◌, inl, inr, ℕ, zero, suc, ◌+◌, ◌<◌, ◌≤◌, List, length, sym, subst, arith}
 use Rattle.std.proofs.Math.Logic.{⊎_elim}
 use Rattle.std.proofs.lemmas.Bool.{cases_eq, cases_lt}

@@ -1,5 +1,5 @@
 -- The data of each event reads as something: a value, none of an unknown type, or an error other than a lack of memory.
-use Rattle.std.proofs.Common.{◌≡◌, ◌⊎◌, inl, inr, ℕ, ◌<◌, Bool, true, false, List, [], ◌∷◌, length, take, Option, Some, None, Result, Ok, Err, refl, ap, arith}
+use Rattle.std.proofs.Common.{◌≡◌, ◌⊎◌, inl, inr, ℕ, Bool, true, false, List, [], ◌∷◌, length, take, Option, Some, None, Result, Ok, Err, refl, ap, arith}
 use Rattle.std.proofs.Math.Logic.{⊎_elim}
 use Rattle.binlog_wire.specs.Reading.{Read, ends, invalid, other_type}
 use Rattle.binlog_wire.specs.declared.error.Error.{Error}
