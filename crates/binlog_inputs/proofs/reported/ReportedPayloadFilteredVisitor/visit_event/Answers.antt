@@ -1,7 +1,7 @@
 use Rattle.std.proofs.Common.{refl}
 use Rattle.binlog_payload_filters.specs.Filtering.{FiltersPayloads}
 use Rattle.binlog_inputs.proofs.Reporting.{reported, noted, unnoted}
-use Rattle.binlog_inputs.proofs.reported.ReportedVisitor.visit_event.Goals as goal
+use Rattle.binlog_inputs.proofs.reported.ReportedPayloadFilteredVisitor.visit_event.Goals as goal
 
 pub returns-then-refused-clause-ok : goal.returns-then-refused-clause-ok
 returns-then-refused-clause-ok g c =

@@ -1,7 +1,7 @@
 use Rattle.std.proofs.Common.{refl}
 use Rattle.binlog_payload_filters.specs.Filtering.{FiltersPayloads}
 use Rattle.binlog_inputs.proofs.Reporting.{reported}
-use Rattle.binlog_inputs.proofs.reported.ReportedVisitor.visit_error.Goals as goal
+use Rattle.binlog_inputs.proofs.reported.ReportedPayloadFilteredVisitor.visit_error.Goals as goal
 
 pub returns-clause-ok : goal.returns-clause-ok
 returns-clause-ok g c =
