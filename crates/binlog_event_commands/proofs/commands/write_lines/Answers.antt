@@ -6,8 +6,8 @@ returns-clause-ok g c = record {
   filter = c.in_ok-outcome.ensures.ok.0;
   states = c.in_ok-outcome.ensures.ok.1;
   start = c.new-lines.result;
-  begins = record { has = rw (c.new-lines.ensures.output, c.new-2.ensures) c.in_ok-output.ensures.bytes; fine = rw (c.new-lines.ensures.output, c.new-2.ensures) c.in_ok-output.ensures.fine };
-  made = rw (c.new-lines.ensures.output, c.new-2.ensures) (c.in_ok-output.ensures.capacity ∙ c.output_capacity-capacity.ensures);
+  begins = record { has = rw (c.new-lines.ensures.output, c.new.ensures) c.in_ok-output.ensures.bytes; fine = rw (c.new-lines.ensures.output, c.new.ensures) c.in_ok-output.ensures.fine };
+  made = rw (c.new-lines.ensures.output, c.new.ensures) (c.in_ok-output.ensures.capacity ∙ c.output_capacity-capacity.ensures);
   outcome = c.in_ok-outcome.outcome;
   behind = c.in_ok-outcome.lines;
   shown = c.in_ok-outcome.ensures.ok.2;

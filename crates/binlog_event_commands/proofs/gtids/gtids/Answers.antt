@@ -6,8 +6,8 @@ returns-clause-ok g c = record {
   states = c.in_ok-read.ensures.ok.1;
   start = c.new-collector.result;
   begins = record {
-    has = rw (c.new-collector.ensures.output, c.new-2.ensures) c.in_ok-output.ensures.bytes;
-    fine = rw (c.new-collector.ensures.output, c.new-2.ensures) c.in_ok-output.ensures.fine;
+    has = rw (c.new-collector.ensures.output, c.new.ensures) c.in_ok-output.ensures.bytes;
+    fine = rw (c.new-collector.ensures.output, c.new.ensures) c.in_ok-output.ensures.fine;
   };
   empty = c.new-collector.ensures.gtids;
   none = c.new-collector.ensures.refused;
