@@ -44,24 +44,24 @@ class Limit(NamedTuple):
 
 
 LIMITS = [
-    Limit("binlog_list", "", "statements", 530),
-    Limit("binlog_list", "", "rows", 680),
-    Limit("binlog_list", "", "gtids", 1500),
-    Limit("binlog_list", "", "maps_1", 1500),
-    Limit("binlog", "list", "statements", 1320),
+    Limit("binlog_list", "", "statements", 480),
+    Limit("binlog_list", "", "rows", 540),
+    Limit("binlog_list", "", "gtids", 1250),
+    Limit("binlog_list", "", "maps_1", 740),
+    Limit("binlog", "list", "statements", 680),
     Limit("binlog", "json", "statements", 1750),
     Limit("binlog", "stats", "statements", 540),
     Limit("binlog", "gtids", "statements", 540),
     Limit("binlog", "json", "rows_mysql", 5750),
-    Limit("probe", "slice-listing", "statements", 1300),
-    Limit("probe", "typed", "statements", 410),
-    Limit("probe", "typed", "maps_1", 900),
-    Limit("probe", "typed", "gtids", 1320),
-    Limit("probe", "verifying", "statements_crc32", 1650),
-    Limit("probe", "row-sums", "rows_mysql", 2050),
+    Limit("probe", "slice-listing", "statements", 710),
+    Limit("probe", "typed", "statements", 400),
+    Limit("probe", "typed", "maps_1", 450),
+    Limit("probe", "typed", "gtids", 1310),
+    Limit("probe", "verifying", "statements_crc32", 1140),
+    Limit("probe", "row-sums", "rows_mysql", 1390),
 ]
 # How many times the instructions of `binlog_list` `binlog list` may take for a statement.
-MOST_TIMES = 2.7
+MOST_TIMES = 1.4
 ROOM = 1.1
 
 
