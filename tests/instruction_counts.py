@@ -49,10 +49,10 @@ LIMITS = [
     Limit("binlog_list", "", "gtids", 1250),
     Limit("binlog_list", "", "maps_1", 740),
     Limit("binlog", "list", "statements", 680),
-    Limit("binlog", "json", "statements", 1750),
-    Limit("binlog", "stats", "statements", 540),
-    Limit("binlog", "gtids", "statements", 540),
-    Limit("binlog", "json", "rows_mysql", 5750),
+    Limit("binlog", "json", "statements", 1570),
+    Limit("binlog", "stats", "statements", 400),
+    Limit("binlog", "gtids", "statements", 380),
+    Limit("binlog", "json", "rows_mysql", 5690),
     Limit("probe", "slice-listing", "statements", 710),
     Limit("probe", "typed", "statements", 400),
     Limit("probe", "typed", "maps_1", 450),
@@ -61,7 +61,7 @@ LIMITS = [
     Limit("probe", "row-sums", "rows_mysql", 1390),
 ]
 # How many times the instructions of `binlog_list` `binlog list` may take for a statement.
-MOST_TIMES = 1.4
+MOST_TIMES = 1.5
 ROOM = 1.1
 
 
