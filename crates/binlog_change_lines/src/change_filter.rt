@@ -70,16 +70,14 @@ impl<W> ChangeFilter<W> {
     pub fn filter(&self) -> &Filter
         ensures { result.now ≡ self.now.filtered.filtered.filter }
     {
-        &self.filtered.filtered.filter
+        self.filtered.filtered.filter.filter()
     }
 
     /// Goes on with a filter that takes the positions from `start` on, before `stop` if there is one.
     pub fn take_positions(&mut self, start: u64, stop: Option<u64>)
         ensures { self.new ≡ with_positions self.old start stop }
     {
-        let filter = &mut self.filtered.filtered.filter;
-        filter.start_position = start;
-        filter.stop_position = stop;
+        self.filtered.filtered.filter.set_positions(start, stop);
     }
 
     /// Goes on at this byte of the file: the items in front of it aren't shown.

@@ -3,6 +3,7 @@
 #![tactic(auto)]
 
 mod concern;
+mod conditions;
 mod copying;
 mod filter;
 mod filtered;
@@ -15,6 +16,7 @@ mod state;
 mod tables;
 
 pub use concern::{Concern, RowsConcern};
+pub use conditions::Conditions;
 pub use copying::Copier;
 pub use filter::{Filter, begins_transaction};
 pub use filtered::Filtered;

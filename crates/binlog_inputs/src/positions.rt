@@ -2,7 +2,7 @@
 ghost use Rattle.std.specs.Prelude.{◌≡◌};
 ghost use Rattle.binlog_inputs.specs.Positions.{in_file, in_followed, positions_of, with_positions};
 
-use binlog_filters::Filter;
+use binlog_filters::{Conditions, Filter};
 
 /// Positions that are taken: those from a first one on, before another one.
 #[derive(Clone, Copy, Debug, PartialEq, Eq)]
@@ -53,10 +53,9 @@ impl Positions {
     }
 
     /// Has a filter take these positions.
-    pub(crate) fn put_into(self, filter: &mut Filter)
+    pub(crate) fn put_into(self, filter: &mut Conditions)
         ensures { filter.new ≡ with_positions filter.old self }
     {
-        filter.start_position = self.start;
-        filter.stop_position = self.stop;
+        filter.set_positions(self.start, self.stop);
     }
 }

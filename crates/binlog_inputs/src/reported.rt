@@ -113,7 +113,7 @@ impl<'a, E: Eprint, T> Reported<'a, E, PayloadFiltered<T>> {
     pub fn positions(&self) -> Positions
         ensures { result ≡ positions_of self.now.visitor.filtered.filter }
     {
-        Positions::of(&self.visitor.filtered.filter)
+        Positions::of(self.visitor.filtered.filter.filter())
     }
 
     /// Goes on with a filter that takes these positions.

@@ -180,7 +180,7 @@ fn follow_files<
     let mut path = path;
     let mut place = start;
     let mut visitor = visitor;
-    let named = Positions::of(&visitor.filtered.filter);
+    let named = Positions::of(visitor.filtered.filter.filter());
     'files: for _ in 0..u64::MAX {
         let positions = named.in_followed(path.as_str() == name);
         positions.put_into(&mut visitor.filtered.filter);

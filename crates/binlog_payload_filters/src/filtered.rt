@@ -68,11 +68,11 @@ impl<T: Visitor> PayloadFiltered<T> {
         ensures err { IfErr result (λ e. RefusesTaken T.refuses self.old (state_of reader.now).table_maps index (Ok (view_of event.now)) e self.new) }
         ensures reader { IfErr result IsNoReaderError }
     {
-        match self.filtered.filter.tables.take() {
+        match self.filtered.filter.take_tables() {
             None => self.filtered.visit_event(index, event, reader),
             Some(tables) => {
                 let answer = self.visit_payload(&tables, index, event, reader);
-                self.filtered.filter.tables = Some(tables);
+                self.filtered.filter.set_tables(tables);
                 answer
             }
         }
@@ -96,6 +96,7 @@ impl<T: Visitor> PayloadFiltered<T> {
         let (state, meets) = self
             .filtered
             .filter
+            .filter()
             .decide(self.alloc, self.filtered.state, start, event, reader)?;
         let is_taken = self.takes_if_met(meets, tables, event, reader)?;
         self.filtered.state = state;
