@@ -1,5 +1,5 @@
 -- A visit of an item that a filter takes, by what is inside compressed transactions.
-use Rattle.std.proofs.Common.{◌≡◌, inl, inr, ℕ, true, false, Option, Some, None, Result, Ok, Err, OnOk, IfErr, refl, sym, ap, ◌∙◌}
+use Rattle.std.proofs.Common.{◌≡◌, inl, inr, ℕ, true, false, Option, Some, None, Result, Ok, Err, OnOk, IfErr, refl, sym, ap, subst, ◌∙◌}
 use Rattle.binlog_wire.specs.declared.error.Error.{Error}
 use Rattle.binlog_events.specs.Events.{EventView}
 use Rattle.binlog_file.specs.TableMapsInForce.{TableMaps}
@@ -19,6 +19,10 @@ use Rattle.binlog_payload_filters.proofs.Decided.{taken_inside, taken_outside, t
 restored : (tables : TableFilter) (filter other : Filter) → filter.tables ≡ Some tables → other ≡ record filter { tables = None } → record other { tables = Some tables } ≡ filter
 restored tables filter other asked same =
     ap (λ (f : Filter). record f { tables = Some tables }) same ∙ ap (λ (t : Option TableFilter). record filter { tables = t }) (sym asked)
+
+-- A filter without conditions of tables, of which there were none.
+untabled : (filter : Filter) → filter.tables ≡ None → record filter { tables = None } ≡ filter
+untabled filter none = ap (λ (t : Option TableFilter). record filter { tables = t }) (sym none)
 
 -- ---- an event with a payload
 
@@ -80,6 +84,19 @@ module _ {T : Type 0} where
   payload_refused (Ok x) refuses tables old maps index event behind asked payload shows = tt
   payload_refused (Err e) refuses tables old maps index event behind asked payload shows = refused_by refuses tables old maps index event e behind asked payload shows
 
+  -- The same with another filter.
+  abbrev pub with_filter : Filter → PayloadFiltered T → PayloadFiltered T
+  with_filter filter old = record old { filtered = record old.filtered { filter = filter } }
+
+  -- The conditions of tables are taken out, and put back.
+  pub apart_filtered : {A E : Type 0} (result : Result A E) (visits : VisitRelation T) (tables : TableFilter) (old : PayloadFiltered T) (without : Filter) (maps : TableMaps) (index : ℕ) (event : EventView) (behind : PayloadFiltered T) (again : Filter)
+      → old.filtered.filter.tables ≡ Some tables → is_payload event ≡ true → without ≡ record old.filtered.filter { tables = None } → again ≡ record behind.filtered.filter { tables = Some tables }
+      → OnOk result (ShowsPayload visits tables (with_filter without old) maps index event behind) → OnOk result (FiltersPayloads visits old maps index (Ok event) (with_filter again behind))
+  apart_filtered result visits tables old without maps index event behind again asked payload is_without is_again shows =
+      subst (λ (f : Filter). OnOk result (FiltersPayloads visits old maps index (Ok event) (with_filter f behind))) (sym is_again)
+      (payload_filtered result visits tables old maps index event behind asked payload
+      (subst (λ (f : Filter). OnOk result (ShowsPayload visits tables (with_filter f old) maps index event behind)) is_without shows))
+
   -- ---- an event that is taken as it is outside, and an error
 
   -- The same limit, behind an item.
@@ -108,6 +125,14 @@ module _ {T : Type 0} where
     goes = own_goes visits old maps index (Ok event) new filters;
   }
   unasked_filtered (Err e) visits old maps index event new none filters = filters
+
+  -- The conditions of tables are looked for, and there are none.
+  pub untabled_filtered : {A E : Type 0} (result : Result A E) (visits : VisitRelation T) (old : PayloadFiltered T) (without : Filter) (maps : TableMaps) (index : ℕ) (event : EventView) (new : Filtered T)
+      → old.filtered.filter.tables ≡ None → without ≡ record old.filtered.filter { tables = None }
+      → OnOk result (Filters visits (record old.filtered { filter = without }) maps index (Ok event) new) → OnOk result (FiltersPayloads visits old maps index (Ok event) (behind_it old new))
+  untabled_filtered result visits old without maps index event new none is_without filters =
+      unasked_filtered result visits old maps index event new none
+      (subst (λ (f : Filter). OnOk result (Filters visits (record old.filtered { filter = f }) maps index (Ok event) new)) (is_without ∙ untabled old.filtered.filter none) filters)
 
   pub error_filtered : {A E : Type 0} (result : Result A E) (visits : VisitRelation T) (old : PayloadFiltered T) (maps : TableMaps) (index : ℕ) (error : Error) (new : Filtered T)
       → OnOk result (Filters visits old.filtered maps index (Err error) new) → OnOk result (FiltersPayloads visits old maps index (Err error) (behind_it old new))
