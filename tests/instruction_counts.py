@@ -6,9 +6,9 @@ Usage: instruction_counts.py [--table] --proved
 The programs are those that are built in crates/NAME/out. The logs are those of the benchmark, of 400,000 bytes each, and valgrind counts
 as bench/README.md says: less what it counts on the start of the log. A test each: that a count is within its limit, and that `binlog
 list` takes no more than MOST_TIMES the instructions of `binlog_list`. Each count is printed. The limits are a tenth above what was
-counted last, since functions of the C library differ by the processor; `--table` prints LIMITS and MOST_TIMES with limits so far above
-the counts, and tests nothing. Where valgrind isn't there, a line says so, nothing is run, and both numbers are 0. The last line is
-`N passed, M failed`; the exit status is 1 if something failed.
+counted last, and MOST_TIMES a twentieth, since functions of the C library differ by the processor; `--table` prints LIMITS and
+MOST_TIMES so far above the counts, and tests nothing. Where valgrind isn't there, a line says so, nothing is run, and both numbers are
+0. The last line is `N passed, M failed`; the exit status is 1 if something failed.
 """
 
 import argparse
@@ -44,25 +44,26 @@ class Limit(NamedTuple):
 
 
 LIMITS = [
-    Limit("binlog_list", "", "statements", 480),
-    Limit("binlog_list", "", "rows", 540),
-    Limit("binlog_list", "", "gtids", 1250),
-    Limit("binlog_list", "", "maps_1", 740),
-    Limit("binlog", "list", "statements", 680),
-    Limit("binlog", "json", "statements", 1570),
-    Limit("binlog", "stats", "statements", 400),
-    Limit("binlog", "gtids", "statements", 380),
+    Limit("binlog_list", "", "statements", 460),
+    Limit("binlog_list", "", "rows", 510),
+    Limit("binlog_list", "", "gtids", 1220),
+    Limit("binlog_list", "", "maps_1", 710),
+    Limit("binlog", "list", "statements", 580),
+    Limit("binlog", "json", "statements", 1550),
+    Limit("binlog", "stats", "statements", 380),
+    Limit("binlog", "gtids", "statements", 360),
     Limit("binlog", "json", "rows_mysql", 5690),
-    Limit("probe", "slice-listing", "statements", 710),
+    Limit("probe", "slice-listing", "statements", 640),
     Limit("probe", "typed", "statements", 400),
     Limit("probe", "typed", "maps_1", 450),
     Limit("probe", "typed", "gtids", 1310),
-    Limit("probe", "verifying", "statements_crc32", 1140),
+    Limit("probe", "verifying", "statements_crc32", 1070),
     Limit("probe", "row-sums", "rows_mysql", 1390),
 ]
 # How many times the instructions of `binlog_list` `binlog list` may take for a statement.
-MOST_TIMES = 1.5
+MOST_TIMES = 1.35
 ROOM = 1.1
+TIMES_ROOM = 1.05
 
 
 def command(program, words=""):
@@ -133,7 +134,7 @@ def print_table(counts):
         kept[limit[:3]] = count
         most = math.ceil(count * ROOM / 10) * 10
         print(f'    Limit("{limit.program}", "{limit.words}", "{limit.log}", {most}),', flush=True)
-    print(f"MOST_TIMES = {times(kept) * ROOM:.1f}")
+    print(f"MOST_TIMES = {times(kept) * TIMES_ROOM:.2f}")
     return 0
 
 
