@@ -109,9 +109,12 @@ class Server:
         folder.mkdir()
         self.data, self.socket, self.said = folder / "data", folder / "socket", folder / "said"
         self.data.mkdir()
+        # A server that starts removes the temporary tables of all others that have the same folder for them.
+        temporary = folder / "temporary"
+        temporary.mkdir()
         messages = program.parent.parent / "share/mysql"
         command = [program, *OPTIONS, f"--datadir={self.data}", f"--socket={self.socket}", f"--pid-file={folder / 'pid'}"]
-        command += [f"--lc-messages-dir={messages}", f"--character-sets-dir={messages / 'charsets'}", *options]
+        command += [f"--lc-messages-dir={messages}", f"--character-sets-dir={messages / 'charsets'}", f"--tmpdir={temporary}", *options]
         command += ["--user=root"] if os.geteuid() == 0 else []
         self.command, self.environment = command, environment_of(program)
         self.launch()
