@@ -836,7 +836,7 @@ def unwritten_states(program, folder):
 
 
 def short_outputs(program, folder):
-    """Output that is shorter than the state says has the lines behind the state alone."""
+    """Output that is shorter than the state says has the lines behind the state alone, and there is a message."""
     content = log(PLAIN, XID)
     (folder / "log.000001").write_bytes(content)
     state = folder / "state"
@@ -844,14 +844,20 @@ def short_outputs(program, folder):
     run = with_state(program, folder, "lines", "log.000001", command="list")
     is_saved = lambda: state.exists() and b"position %d\n" % len(content) in state.read_bytes()
     yield None if with_lines(lines_of(content)) and is_within(PATIENCE, is_saved) else "no lines, or no state behind them"
-    run.kill()
-    run.wait()
+    yield said_at_end(run, b"")
     (folder / "lines").write_bytes(b"")
     (folder / "log.000001").write_bytes(content + XID)
     run = with_state(program, folder, "lines", "log.000001", command="list")
     yield None if with_lines(lines_of(content + XID)[len(lines_of(content)) :]) else f"the lines are {(folder / 'lines').read_bytes()!r}"
+    lost = len(lines_of(content))
+    yield said_at_end(run, b"binlog: standard output has %d bytes less than when the state was written, and they don't come again\n" % lost)
+
+
+def said_at_end(run, wanted):
+    """None if these are the messages of a run, which is killed."""
     run.kill()
-    run.wait()
+    _, messages = run.communicate()
+    return None if messages == wanted else f"the messages are {messages!r}"
 
 
 # ---- a mirror of a server's log

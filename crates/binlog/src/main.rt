@@ -164,8 +164,20 @@ fn state_of<'a, S: Inputs, R: Files<File = File> + Eprint + AllocGlobal>(
     }
     refuse_output(rt, inputs, request.files)?;
     match StateFile::open(rt, path, request.is_synced) {
-        Ok(state) => Ok(Some(state)),
+        Ok(state) => {
+            report_missing(rt, state.missing());
+            Ok(Some(state))
+        }
         Err(error) => Err(no_state(rt, path, &error)),
+    }
+}
+
+// The message if standard output has so many bytes less than when the state was written.
+fn report_missing<E: Eprint>(rt: &E, missing: u64) {
+    if missing != 0 {
+        let _ = eprintln!(rt;
+            "binlog: standard output has {missing} bytes less than when the state was written, and they don't come again"
+        );
     }
 }
 

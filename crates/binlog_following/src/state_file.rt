@@ -26,6 +26,8 @@ pub struct StateFile<'a, R> {
     is_synced: bool,
     // The name of the log's file with which following begins, and where in it; None if there was no state.
     start: Option<(String, Checkpoint)>,
+    // How many bytes the output lacks.
+    missing: u64,
     // The locked file.
     _lock: File,
 }
@@ -40,14 +42,12 @@ impl<'a, R: Files<File = File> + AllocGlobal> StateFile<'a, R> {
     pub fn open(rt: &'a R, path: &'a str, is_synced: bool) -> Result<Self, StateFileError> {
         let draft = format!(in rt.alloc(); "{path}.new")?;
         let lock = lock(rt, path)?;
-        let start = match read_state(rt, path)? {
-            Some((state, file)) => {
-                if let Err(error) = cut_output(rt, state.output) {
-                    return Err(StateFileError::Output(error));
-                }
-                Some((file, state.checkpoint))
-            }
-            None => None,
+        let (start, missing) = match read_state(rt, path)? {
+            Some((state, file)) => match cut_output(rt, state.output) {
+                Ok(missing) => (Some((file, state.checkpoint)), missing),
+                Err(error) => return Err(StateFileError::Output(error)),
+            },
+            None => (None, 0),
         };
         Ok(StateFile {
             rt,
@@ -55,8 +55,15 @@ impl<'a, R: Files<File = File> + AllocGlobal> StateFile<'a, R> {
             draft,
             is_synced,
             start,
+            missing,
             _lock: lock,
         })
+    }
+
+    /// How many bytes standard output has less than when the state was written. They don't come again. 0 if it is another file or none,
+    /// and if there was no state.
+    pub fn missing(&self) -> u64 {
+        self.missing
     }
 
     /// The path of the file with which following begins, and where in it: the file that the state names, in the folder of this name;

@@ -35,7 +35,7 @@ pub enum Missing {
     Front,
     /// A list of GTIDs that tells whether this file is whole, where there is a next one.
     GtidList,
-    /// Transactions that the list of GTIDs in the next file has.
+    /// The GTIDs that the list in the next file has, in the place of other ones.
     Transactions,
     /// The rest of an event or of a transaction.
     Rest,
@@ -56,7 +56,7 @@ impl Missing {
             Missing::GtidList =>
                 "the next file is there, but no list of GTIDs tells whether this one is whole",
             Missing::Transactions =>
-                "transactions that are in the next file's list of GTIDs aren't there yet",
+                "the GTIDs that are there so far aren't those in the next file's list of GTIDs",
             Missing::Rest => "the rest of a transaction isn't there yet",
             Missing::File => "the next file isn't there yet",
             Missing::List => "the next file's list of GTIDs isn't there yet",

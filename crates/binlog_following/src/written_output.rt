@@ -33,20 +33,22 @@ fn written_file(file: Option<FileId>) -> WrittenFile {
     }
 }
 
-/// Cuts standard output back to the length that a state has of it, if it is that file, and is longer.
-pub(crate) fn cut_output<R: Files<File = File>>(rt: &R, before: WrittenFile) -> io::Result<()> {
-    if is_longer(before, written_output(rt)) {
+/// Cuts standard output back to the length that a state has of it, if it is that file, and is longer. The result is how many bytes it
+/// has less, if it is that file, and is shorter.
+pub(crate) fn cut_output<R: Files<File = File>>(rt: &R, before: WrittenFile) -> io::Result<u64> {
+    let now = written_output(rt);
+    if !is_same_file(before, now) {
+        return Ok(0);
+    }
+    if now.len > before.len {
         open_output(rt)?.set_len(before.len)?;
     }
-    Ok(())
+    Ok(before.len.saturating_sub(now.len))
 }
 
-// Whether both are one file, which became longer.
-fn is_longer(before: WrittenFile, now: WrittenFile) -> bool {
-    now.inode != 0
-        && now.device == before.device
-        && now.inode == before.inode
-        && now.len > before.len
+// Whether both are one file, of any length.
+fn is_same_file(before: WrittenFile, now: WrittenFile) -> bool {
+    now.inode != 0 && now.device == before.device && now.inode == before.inode
 }
 
 /// Waits until standard output is on its device, if it is a file.
