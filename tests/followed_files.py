@@ -527,7 +527,7 @@ def crashes(program, folder):
 def other_lists(program, folder):
     """A next file whose list has more, or which says nothing, is waited for with a message; a ROTATE leads on, or the transactions."""
     anonymous = {"type_number": samples.ANONYMOUS_GTID}
-    differs, unlisted = rb"transactions that are in the next file's list", rb"the next file is there, but no list"
+    differs, unlisted = rb"the GTIDs that are there so far aren't those in the next file's list", rb"the next file is there, but no list"
     for first, second, more, message in (
         (maria_file(4, 5), maria_file(6, 7), samples.maria_gtid(0, 7, 6, flags=0) + XID, differs),
         (mysql_file(3, 4), mysql_file(5, 6), samples.gtid(5) + BEGIN + XID, differs),

@@ -9,7 +9,7 @@ from maria_daemon import is_within
 # How long what is wanted may take, in seconds: machines stand still at times.
 PATIENCE = 300
 # What is said where something is missing for ten seconds, and of a transaction that a server lost.
-WAITS = rb"the (next file('s list of GTIDs)?|file|rest of a transaction) isn't there( yet)?|the file is shorter than [^\n]*|transactions that are in [^\n]*"
+WAITS = rb"the (next file('s list of GTIDs)?|file|rest of a transaction) isn't there( yet)?|the file is shorter than [^\n]*|the GTIDs that are there so far [^\n]*"
 WAITING = rb"(binlog: [^:\n]*: (" + WAITS + rb"|the next file is there, [^\n]*|what is behind byte \d+ is left out: [^\n]*)\n)*"
 
 
