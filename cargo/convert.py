@@ -1,19 +1,24 @@
 #!/usr/bin/env python3
 """Makes cargo packages of the proved sources.
 
-Usage: convert.py [--debian] [--repository URL] OUT
+Usage: convert.py [--debian] [--repository URL] [--not-laid-out] OUT
 
 OUT gets a workspace of three packages, `binlog`, `binlog-tools` and `binlog-tests`; what it has of an earlier run is
 replaced, and a folder that has anything else is refused. With --debian cargo takes the crates that they depend on from
 Debian's packages there, without network. The manifests name the repository of the sources: that of --repository, or else the
-address of git's remote `origin`. A form that the converter doesn't know stops it with file and line, and status 1.
+address of git's remote `origin`. With --not-laid-out the sources are left as they are made, for a compiler, and rustfmt isn't needed.
+The sources are converted side by side, by as many processes as there are processors. A form that the converter doesn't know
+stops it with file and line, and status 1. Where rustfmt is needed and missing, the status is 69.
 """
 
 import argparse
+import os
 import re
 import shutil
 import subprocess
 import sys
+import tempfile
+from concurrent.futures import ProcessPoolExecutor
 from itertools import chain, product
 from pathlib import Path
 
@@ -53,6 +58,7 @@ directory = "{REGISTRY}"
 [net]
 offline = true
 """
+SETTINGS_FILE = Path(".cargo/config.toml")
 
 
 def sources_of(names):
@@ -102,6 +108,19 @@ def is_by_hand(source, text, file, found):
     return True
 
 
+def converted(out, public, clones, item):
+    """Writes a source, if it isn't by hand in the packages. The rows of tables that this used, and the sources by hand."""
+    crate, path, relative = item
+    used, by_hand = Used(), set()
+    source = path.relative_to(REPOSITORY)
+    file = out / target(crate, relative)
+    if not is_by_hand(source, path.read_text(), file, by_hand):
+        text = rust(source, path.read_text(), place_of(crate, public), public, clones, used)
+        file.parent.mkdir(parents=True, exist_ok=True)
+        file.write_text(MADE.format(source) + text)
+    return used, by_hand
+
+
 def convert(out):
     """Writes the sources of all packages."""
     used = Used()
@@ -109,14 +128,15 @@ def convert(out):
     clones = types_with_fallible_clones()
     facade = TEMPLATES / "binlog/src/lib.rs"
     public = public_names(Source(facade.relative_to(REPOSITORY), facade.read_text()))
-    for crate, path, relative in sources_of(chain.from_iterable(crates.PACKAGES.values())):
-        source = path.relative_to(REPOSITORY)
-        file = out / target(crate, relative)
-        if is_by_hand(source, path.read_text(), file, by_hand):
-            continue
-        text = rust(source, path.read_text(), place_of(crate, public), public, clones, used)
-        file.parent.mkdir(parents=True, exist_ok=True)
-        file.write_text(MADE.format(source) + text)
+    sources = list(sources_of(chain.from_iterable(crates.PACKAGES.values())))
+    with ProcessPoolExecutor(os.cpu_count()) as pool:
+        # Large sources first, so that no process is left with one at the end; the first refusal is still that of the first source.
+        largest = sorted(range(len(sources)), key=lambda index: -sources[index][1].stat().st_size)
+        begun = {index: pool.submit(converted, out, public, clones, sources[index]) for index in largest}
+        for index in range(len(sources)):
+            rows, found = begun[index].result()
+            used.add(rows)
+            by_hand |= found
     unused = ({*CHECKS, *OF_TRAITS} - used.checks) | (set(BOTH_FORMS) - used.both_forms)
     unused |= (set(LEFT_OUT) - used.left_out) | (set(crates.BY_HAND) - by_hand) | (set(INLINED) - used.inlined)
     unused |= (set(SHARED_FORMS) - used.shared_forms) | ({name for _, name in FIXED} - used.lifetimes)
@@ -130,6 +150,14 @@ def lay_out(out):
     roots = [out / package / "src/lib.rs" for package in crates.PACKAGES]
     roots += sorted(out.glob("*/src/bin/*/main.rs"))
     subprocess.run(["rustfmt", "--edition", EDITION, *roots], check=True)
+
+
+def lacks_rustfmt():
+    """Whether rustfmt is missing, which has a message then."""
+    if shutil.which("rustfmt"):
+        return False
+    print("bin/cargo-crate: rustfmt is missing; as root on Debian 12 type: apt-get update && apt-get install rustfmt-web", file=sys.stderr)
+    return True
 
 
 def holds_others(out):
@@ -148,12 +176,10 @@ def add_licences(out):
 
 def set_crates(out, is_debian):
     """Has cargo take crates from Debian's packages, or from its registry."""
-    settings = out / ".cargo/config.toml"
     if is_debian:
-        settings.parent.mkdir(exist_ok=True)
+        settings = out / SETTINGS_FILE
+        settings.parent.mkdir()
         settings.write_text(SETTINGS)
-    else:
-        settings.unlink(missing_ok=True)
 
 
 def origin():
@@ -188,29 +214,61 @@ def read_arguments():
     parser.add_argument(
         "--repository", metavar="URL", default=origin(), help="the repository of the sources, for the manifests"
     )
+    parser.add_argument("--not-laid-out", action="store_true", help="leaves the sources as they are made, without rustfmt")
     parser.add_argument("out", metavar="OUT", type=Path)
     return parser.parse_args()
+
+
+def make(new, arguments):
+    """Makes the packages in a folder that isn't there yet."""
+    shutil.copytree(TEMPLATES, new)
+    add_licences(new)
+    set_crates(new, arguments.debian)
+    if arguments.repository:
+        name_repository(new, arguments.repository)
+    convert(new)
+    if not arguments.not_laid_out:
+        lay_out(new)
+
+
+def files_in(folder):
+    """The files in a folder and those below it, by their paths from there."""
+    return {path.relative_to(folder) for path in folder.rglob("*") if path.is_file()}
+
+
+def put_in_place(new, out):
+    """Gives OUT what was made. A file that has the same bytes already stays as it is, so that cargo builds only what changed."""
+    made = files_in(new)
+    for file in made:
+        source, place = new / file, out / file
+        if place.is_file() and place.read_bytes() == source.read_bytes():
+            continue
+        place.parent.mkdir(parents=True, exist_ok=True)
+        shutil.copy(source, place)
+    for package, folder in product(crates.PACKAGES, ("src", "tests", "examples")):
+        old = {Path(package, folder, file) for file in files_in(out / package / folder)}
+        for file in old - made:
+            (out / file).unlink()
+    if SETTINGS_FILE not in made:
+        (out / SETTINGS_FILE).unlink(missing_ok=True)
 
 
 def main():
     arguments = read_arguments()
     out = arguments.out
+    if not arguments.not_laid_out and lacks_rustfmt():
+        return 69
     if holds_others(out):
         print(f"{out} isn't empty, and isn't a workspace of an earlier run", file=sys.stderr)
         return 1
-    for package, folder in product(crates.PACKAGES, ("src", "tests", "examples")):
-        shutil.rmtree(out / package / folder, ignore_errors=True)
-    shutil.copytree(TEMPLATES, out, dirs_exist_ok=True)
-    add_licences(out)
-    set_crates(out, arguments.debian)
-    if arguments.repository:
-        name_repository(out, arguments.repository)
-    try:
-        convert(out)
-    except Refusal as refusal:
-        print(refusal, file=sys.stderr)
-        return 1
-    lay_out(out)
+    with tempfile.TemporaryDirectory() as folder:
+        new = Path(folder, "packages")
+        try:
+            make(new, arguments)
+        except Refusal as refusal:
+            print(refusal, file=sys.stderr)
+            return 1
+        put_in_place(new, out)
     return 0
 
 

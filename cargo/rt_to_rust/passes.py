@@ -34,6 +34,11 @@ class Used:
         self.shared_forms = set()
         self.versions = set()
 
+    def add(self, other):
+        """Adds the rows that another conversion used."""
+        for name, rows in vars(self).items():
+            rows |= getattr(other, name)
+
 
 def rust(path, text, place, public, clones, used):
     """The Rust source of a Rattle source. `public` has the public names of the library, and `clones` the types whose
