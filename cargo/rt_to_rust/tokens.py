@@ -8,7 +8,12 @@ class Refusal(Exception):
     """A form that the converter doesn't know, with its place."""
 
     def __init__(self, path, line, message):
-        super().__init__(f"{path}:{line}: {message}")
+        # All are kept, so that another process can hand it over.
+        super().__init__(path, line, message)
+
+    def __str__(self):
+        path, line, message = self.args
+        return f"{path}:{line}: {message}"
 
 
 class Token(NamedTuple):

@@ -1,10 +1,12 @@
 """Packages that are put where an earlier run's are."""
 
+import pickle
 import tempfile
 import unittest
 from pathlib import Path
 
 from convert import SETTINGS_FILE, put_in_place
+from rt_to_rust.tokens import Refusal
 
 
 def write(folder, texts):
@@ -37,6 +39,10 @@ class Packages(unittest.TestCase):
         put_in_place(self.new, self.out)
         left = {path.relative_to(self.out).as_posix() for path in self.out.rglob("*") if path.is_file()}
         self.assertEqual(left, {"Cargo.toml", "Cargo.lock", "target/kept"})
+
+    def test_a_refusal_comes_from_another_process(self):
+        refused = pickle.loads(pickle.dumps(Refusal("a.rt", 3, "a form")))
+        self.assertEqual(str(refused), "a.rt:3: a form")
 
 
 if __name__ == "__main__":
