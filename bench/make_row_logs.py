@@ -171,15 +171,20 @@ def maria_start():
 KINDS = {"mysql": (mysql_start, mysql_events, 7), "maria": (maria_start, maria_events, 6)}
 
 
-def make_kind(folder, kind, lengths=LENGTHS):
-    begin, make_events, count = KINDS[kind]
-    events = list(make_events(random.Random("rows")))
+def make_logs(folder, name, kind, generator, lengths):
+    """Makes the files of a log, and its start file, which has the first transaction of each table."""
+    begin, make_events, count = kind
+    events = list(make_events(generator))
     first = list(islice(events, count * TABLES))
     for ending, length in lengths.items():
-        path = folder / f"rows_{kind}{ending}.binlog"
+        path = folder / f"{name}{ending}.binlog"
         if not path.exists():
             write_repeated(path, begin(), events, length)
-    write_repeated(folder / f"start_rows_{kind}.binlog", begin(), first, len(begin()) + sum(map(len, first)))
+    write_repeated(folder / f"start_{name}.binlog", begin(), first, len(begin()) + sum(map(len, first)))
+
+
+def make_kind(folder, kind, lengths=LENGTHS):
+    make_logs(folder, f"rows_{kind}", KINDS[kind], random.Random("rows"), lengths)
 
 
 def main(arguments):

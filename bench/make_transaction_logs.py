@@ -14,19 +14,15 @@ table alone. The contents are the same in every run.
 import random
 import struct
 import sys
-from itertools import islice
 from pathlib import Path
 
 from arguments import arguments
-from make_binlogs import GTID, QUERY, TABLE_MAP, XID, event, gtid_times, untagged_gtid, write_repeated
-from make_row_logs import LENGTHS, MARIA_GTID, MARIA_TYPES, MYSQL_TYPES, maria_start, mysql_start
+from make_binlogs import GTID, QUERY, TABLE_MAP, XID, event, gtid_times, untagged_gtid
+from make_row_logs import FIRST_ID, LENGTHS, MARIA_GTID, MARIA_TYPES, MYSQL_TYPES, TABLES, make_logs, maria_start, mysql_start
 
 import samples  # found by way of make_binlogs
 from row_events import counted, field, first_bits
 
-TABLES = 4
-# The id of the first table.
-FIRST_ID = 100
 TRANSACTIONS = 2048
 DIGITS = b"0123456789"
 
@@ -95,14 +91,7 @@ KINDS = {"mysql": (mysql_start, mysql_events, 5), "maria": (maria_start, maria_e
 
 
 def make_kind(folder, kind, lengths=LENGTHS):
-    begin, make_events, count = KINDS[kind]
-    events = list(make_events(random.Random("transactions")))
-    first = list(islice(events, count * TABLES))
-    for ending, length in lengths.items():
-        path = folder / f"transactions_of_{kind}{ending}.binlog"
-        if not path.exists():
-            write_repeated(path, begin(), events, length)
-    write_repeated(folder / f"start_transactions_of_{kind}.binlog", begin(), first, len(begin()) + sum(map(len, first)))
+    make_logs(folder, f"transactions_of_{kind}", KINDS[kind], random.Random("transactions"), lengths)
 
 
 def main(arguments):
